@@ -1,0 +1,14 @@
+pub mod Lists
+pub mod Paths
+pub mod Flow
+pub mod Queues
+pub mod Marks
+pub mod Standing
+pub mod Routing
+pub mod Receiving
+pub mod Heads
+pub mod Embargoes
+pub mod Making
+pub mod Settling
+pub mod Events
+pub mod Claims

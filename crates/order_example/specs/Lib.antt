@@ -1,0 +1,4 @@
+pub mod Decisions
+pub mod Places
+pub mod Runs
+pub mod Carried
