@@ -1,0 +1,11 @@
+use Rattle.std.proofs.Common.{◌≡◌, drop}
+use Rattle.capn_wire.specs.Trees.{Tree}
+use Rattle.capn_wire.specs.Reading.{root_of}
+use Rattle.capn_wire.specs.Payloads.{tree_read}
+use Rattle.capn_wire.specs.Walking.{capability_at, StandsFor}
+use Rattle.capn_wire.proofs.find.find.Given as goal
+
+-- the rest of the path leads from here where all of it leads from the root
+abbrev pub invariant-loop-op : goal.invariant-loop-op
+invariant-loop-op l = (t : Tree) × StandsFor l.message l.caps l.referent t
+    × (capability_at t (drop l.op-index l.path) ≡ capability_at (tree_read (root_of l.message l.caps)) l.path)

@@ -1,0 +1,12 @@
+pub mod Following
+pub mod Framing
+pub mod Index
+pub mod Layouts
+pub mod Numbers
+pub mod Payloads
+pub mod Pointers
+pub mod Reading
+pub mod Segments
+pub mod Trees
+pub mod Views
+pub mod Walking

@@ -1,0 +1,37 @@
+-- What contracts see of a payload.
+use Rattle.std.specs.Prelude.{◌≡◌, ℕ, Bool, ◌==◌, ◌&&◌, nat_eq, List, Ok, Err, IsOk}
+use Rattle.std.specs.Cmp.{IsEquivalence, and_equiv, on_equiv, nat_eq_equiv}
+use Rattle.std.specs.Cmp.Lexicographic.{pointwise, nat_list_eq_equiv}
+use Rattle.capn_wire.specs.Trees.{Tree, null}
+use Rattle.capn_wire.specs.Reading.{Reading, root_of, message_of}
+use Rattle.capn_wire.specs.Framing.{IsFramed}
+
+-- its bytes, and how many capabilities go with it
+pub record Contents : Type 0 where
+  pub bytes : List ℕ
+  pub caps : ℕ
+
+-- the bytes are a message of the encoding, within the limits, for that many capabilities
+abbrev pub IsEncoded : Contents → Type 0
+IsEncoded p = IsOk (message_of p.bytes p.caps)
+
+abbrev pub tree_read : Reading Tree → Tree
+tree_read (Ok x) = x.0
+tree_read (Err e) = null
+
+-- the tree that a payload is
+abbrev pub tree_of : Contents → Tree
+tree_of p = tree_read (message_of p.bytes p.caps)
+
+-- The bytes are a message of these segments, and its root pointer leads to this tree.
+pub record Says (p : Contents) (m : List (List ℕ)) (t : Tree) : Type 0 where
+  pub framed : IsFramed p.bytes m
+  pub visited : ℕ
+  pub read : root_of m p.caps ≡ Ok (t, visited)
+
+-- equality as a test
+abbrev pub same_contents : Contents → Contents → Bool
+same_contents p q = pointwise nat_eq p.bytes q.bytes && p.caps == q.caps
+
+pub same_contents_equiv : IsEquivalence same_contents
+same_contents_equiv = and_equiv (on_equiv (λ (p : Contents). p.bytes) nat_list_eq_equiv) (on_equiv (λ (p : Contents). p.caps) nat_eq_equiv)

@@ -1,0 +1,73 @@
+//! Why a payload is refused.
+ghost use Rattle.std.specs.Prelude.{◌≡◌};
+ghost use Rattle.capn_wire.specs.Numbers.{number_of};
+
+use thiserror::Error;
+
+/// Memory ran out.
+#[derive(Clone, Copy, Debug, PartialEq, Eq, Error)]
+#[error("out of memory")]
+pub struct Memory;
+
+/// The first check of a payload's encoding that fails.
+#[derive(Clone, Copy, Debug, PartialEq, Eq, Error)]
+pub enum PayloadFault {
+    /// Memory ran out. The bytes are well formed.
+    #[error("out of memory")]
+    Memory,
+    /// The bytes end before the segment table, its padding or the segments do.
+    #[error("the message is cut short")]
+    Short,
+    /// More than 16 segments.
+    #[error("too many segments")]
+    TooManySegments,
+    /// More than 65,536 words in all segments.
+    #[error("too many words")]
+    TooLarge,
+    /// Bytes after the last segment, or padding that is not zero.
+    #[error("trailing bytes")]
+    Trailing,
+    /// A pointer leads out of its segment or to no segment, or there is no root pointer.
+    #[error("a pointer out of bounds")]
+    OutOfBounds,
+    /// A landing pad that is none.
+    #[error("a bad far pointer")]
+    BadFar,
+    /// A composite list whose tag is no struct pointer or promises more than there is.
+    #[error("a bad tag word")]
+    BadTag,
+    /// A pointer of the fourth kind that is no capability.
+    #[error("an unknown kind of pointer")]
+    BadOther,
+    /// A capability that is not in the table.
+    #[error("a capability index out of range")]
+    CapIndex,
+    /// Contents nested more than 64 deep.
+    #[error("nested too deep")]
+    Depth,
+    /// More than 65,536 words visited.
+    #[error("too many words visited")]
+    Traversal,
+}
+
+impl PayloadFault {
+    /// The fault's number.
+    pub fn code(self) -> u16
+        ensures { result ≡ number_of self }
+    {
+        match self {
+            PayloadFault::Memory => 1,
+            PayloadFault::Short => 2,
+            PayloadFault::TooManySegments => 3,
+            PayloadFault::TooLarge => 4,
+            PayloadFault::Trailing => 5,
+            PayloadFault::OutOfBounds => 6,
+            PayloadFault::BadFar => 7,
+            PayloadFault::BadTag => 8,
+            PayloadFault::BadOther => 9,
+            PayloadFault::CapIndex => 10,
+            PayloadFault::Depth => 11,
+            PayloadFault::Traversal => 12,
+        }
+    }
+}

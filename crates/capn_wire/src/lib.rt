@@ -1,0 +1,24 @@
+//! Payloads in the Cap'n Proto encoding: a validating reader, the walk to a capability, and a writer.
+#![tactic(auto)]
+
+mod build;
+mod faults;
+mod find;
+mod layout;
+mod message;
+mod numbers;
+mod path;
+mod payload;
+mod pointer;
+mod referent;
+mod span;
+mod tree;
+mod walk;
+
+pub use faults::{Memory, PayloadFault};
+pub use path::{CapAt, Op};
+pub use payload::Payload;
+pub use tree::{Fields, Items, Tree};
+
+#[cfg(test)]
+mod tests;

@@ -1,0 +1,162 @@
+//! A payload: bytes of the encoding that were read once, and the number of its capabilities.
+ghost use Rattle.std.specs.Prelude.{◌≡◌, ◌⊎◌, ℕ, List, IfOk, IfErr, MatchResult};
+ghost use Rattle.capn_wire.specs.Reading.{message_of, visited_of};
+ghost use Rattle.capn_wire.specs.declared.faults.PayloadFault.TheVariants as faults;
+
+use crate::build::build;
+use crate::faults::{Memory, PayloadFault};
+use crate::find::find;
+use crate::message::Message;
+use crate::path::{CapAt, Op};
+use crate::tree::Tree;
+use crate::walk::walk_pointer;
+use std::alloc::Global;
+use std::marker::Model;
+use std::sync::Arc;
+
+/// The limit on the nesting of contents.
+pub const MOST_LEVELS: u32 = 64;
+
+/// Bytes of the encoding, and the number of the capabilities that go with them. It can't be malformed.
+/// Copies share their bytes.
+#[derive(Debug, Drop)]
+pub struct Payload {
+    bytes: Arc<Vec<u8>>,
+    caps: u32,
+}
+
+impl Model for Payload {
+    ghost use Rattle.std.specs.Arc.{arc_value};
+    ghost use Rattle.capn_wire.specs.Payloads.{Contents, IsEncoded};
+
+    ghost Value = { Contents };
+
+    ghost view = { λ a. record { bytes = (arc_value a.bytes).items; caps = a.caps } };
+
+    ghost invariant = { λ a. IsEncoded (record { bytes = (arc_value a.bytes).items; caps = a.caps }) };
+}
+
+/// The visited words of a message, or the first check that fails.
+#[tactic(auto, unfolding(crate::specs::Reading::message_of, crate::specs::Reading::root_of))]
+fn visited_words(bytes: &[u8], caps: u32) -> Result<u32, PayloadFault>
+    ensures { result ≡ visited_of (message_of bytes.now caps) }
+{
+    let message = Message::parse(bytes)?;
+    if message.size(0).unwrap_or(0) == 0 {
+        return Err(PayloadFault::OutOfBounds);
+    }
+    walk_pointer(&message, caps, 0, 0, MOST_LEVELS, 0)
+}
+
+impl Payload {
+    ghost use Rattle.capn_wire.specs.Payloads.{IsEncoded, Says, tree_of};
+    ghost use Rattle.capn_wire.specs.Trees.{Tree as SpecTree};
+    ghost use Rattle.capn_wire.specs.Views.{view};
+    ghost use Rattle.capn_wire.specs.Walking.{capability_at};
+
+    /// Reads a message of the encoding that goes with `caps` capabilities: "Serialization Over a Stream"
+    /// and "Encoding" of the Cap'n Proto specification, within the limits of docs/encoding.md.
+    pub fn read(alloc: Global, bytes: &[u8], caps: u32) -> Result<Payload, PayloadFault>
+        // What is read is a message of the encoding, and says a tree.
+        ensures found { IfOk result (λ p. (p ≡ record { bytes = bytes.now; caps = caps }) × IsEncoded p) }
+        ensures tree { IfOk result (λ p. (m : List (List ℕ)) × Says p m (tree_of p)) }
+        // What is a message of the encoding and says a tree is read, unless memory runs out.
+        ensures only { (m : List (List ℕ)) (t : SpecTree) → Says (record { bytes = bytes.now; caps = caps }) m t →
+            MatchResult result (λ p. tree_of p ≡ t) (λ e. e ≡ faults.Memory) }
+        // Else the fault is the first check that fails.
+        ensures first { IfErr result (λ e. (e ≡ faults.Memory) ⊎ (message_of bytes.now caps ≡ Err e)) }
+    {
+        Payload::checked(alloc, bytes, caps)
+    }
+
+    /// What `read` answers, by the checks in their order.
+    fn checked(alloc: Global, bytes: &[u8], caps: u32) -> Result<Payload, PayloadFault>
+        ensures found { IfOk result (λ p. (p ≡ record { bytes = bytes.now; caps = caps }) × IsEncoded p) }
+        ensures only { IsEncoded (record { bytes = bytes.now; caps = caps }) → IfErr result (λ e. e ≡ faults.Memory) }
+        ensures first { IfErr result (λ e. (e ≡ faults.Memory) ⊎ (message_of bytes.now caps ≡ Err e)) }
+    {
+        visited_words(bytes, caps)?;
+        let Ok(copy) = Vec::from_slice(alloc, bytes) else {
+            return Err(PayloadFault::Memory);
+        };
+        let Ok(bytes) = Arc::new(alloc, copy) else {
+            return Err(PayloadFault::Memory);
+        };
+        Ok(Payload { bytes, caps })
+    }
+
+    /// The bytes of the message.
+    pub fn bytes(&self) -> &[u8]
+        ensures { result.now ≡ self.now.bytes }
+    {
+        let shared = &self.bytes;
+        shared.as_slice()
+    }
+
+    /// How many capabilities go with it.
+    pub fn caps(&self) -> u32
+        ensures { result ≡ self.now.caps }
+    {
+        let Payload { caps, .. } = self;
+        *caps
+    }
+
+    /// What stands at a path: a capability, null, or something else.
+    pub fn cap_at(&self, path: &[Op]) -> CapAt
+        ensures { result ≡ capability_at (tree_of self.now) path.now }
+    {
+        let Ok(message) = Message::parse(self.bytes.as_slice()) else {
+            unreachable!()
+        };
+        find(&message, self.caps, path)
+    }
+
+    /// What the payload says, as a tree.
+    pub fn tree(&self, alloc: Global) -> Result<Tree, Memory>
+        ensures { IfOk result (λ t. view t ≡ tree_of self.now) }
+    {
+        let Ok(message) = Message::parse(self.bytes.as_slice()) else {
+            unreachable!()
+        };
+        let Ok(tree) = build(alloc, &message, self.caps) else {
+            return Err(Memory);
+        };
+        Ok(tree)
+    }
+
+    /// The same payload again. It shares the bytes, unless there are too many owners to count.
+    pub fn copy(&self, alloc: Global) -> Result<Payload, Memory>
+        ensures { IfOk result (λ p. p ≡ self.now) }
+    {
+        let caps = self.caps;
+        if let Ok(bytes) = Arc::try_clone(&self.bytes) {
+            return Ok(Payload { bytes, caps });
+        }
+        let Ok(copy) = Vec::from_slice(alloc, self.bytes.as_slice()) else {
+            return Err(Memory);
+        };
+        let Ok(bytes) = Arc::new(alloc, copy) else {
+            return Err(Memory);
+        };
+        Ok(Payload { bytes, caps })
+    }
+}
+
+impl PartialEq for Payload {
+    ghost use Rattle.std.specs.Cmp.{partial_equiv_from_equiv};
+    ghost use Rattle.capn_wire.specs.Payloads.{same_contents, same_contents_equiv};
+
+    ghost eq = { same_contents };
+
+    ghost laws = { partial_equiv_from_equiv same_contents_equiv };
+
+    fn eq(&self, other: &Payload) -> bool {
+        self.bytes() == other.bytes() && self.caps == other.caps
+    }
+}
+
+impl Eq for Payload {
+    ghost use Rattle.capn_wire.specs.Payloads.{same_contents_equiv};
+
+    ghost laws = { same_contents_equiv };
+}

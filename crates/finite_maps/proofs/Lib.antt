@@ -1,0 +1,4 @@
+pub mod Coming
+pub mod Gets
+pub mod Tallies
+pub mod Values

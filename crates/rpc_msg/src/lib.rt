@@ -1,0 +1,29 @@
+//! The messages that two vats send each other, as typed values: `rpc.capnp` at levels 0 and 1.
+#![tactic(auto)]
+
+mod exception;
+mod ids;
+mod items;
+mod memory;
+mod message;
+mod parts;
+mod path;
+mod payload;
+#[cfg(test)]
+mod tests;
+mod text;
+
+pub use exception::{Exception, ExceptionKind};
+pub use ids::{
+    CallId, EmbargoId, ExportId, ObjectId, PromiseId, QuestionId, RefId, Stamp, TaskId, Vat,
+};
+pub use items::Items;
+pub use memory::Memory;
+pub use message::{
+    Call, Disembargo, DisembargoContext, Finish, Frame, Message, PlainMessage, Release, Resolve,
+    ResolvedTo, Return, ReturnBody,
+};
+pub use parts::{Descriptor, Target};
+pub use path::{Op, PATH_LIMIT, Path};
+pub use payload::{CapAt, Payload};
+pub use text::Text;

@@ -1,0 +1,14 @@
+pub mod Changes
+pub mod Commands
+pub mod Counting
+pub mod Effects
+pub mod Fresh
+pub mod Keeping
+pub mod Lives
+pub mod Names
+pub mod Numbers
+pub mod Obeying
+pub mod Owing
+pub mod Receiving
+pub mod State
+pub mod Sweeping

@@ -1,0 +1,12 @@
+pub mod Chained
+pub mod ExportLemmas
+pub mod HashNumbers
+pub mod HashTable
+pub mod ImportLemmas
+pub mod Keys
+pub mod Lending
+pub mod NodeKeys
+pub mod Options
+pub mod PoolLemmas
+pub mod RisingKeys
+pub mod SlabTable

@@ -1,0 +1,20 @@
+use Rattle.std.proofs.Common.{sym, subst}
+use Rattle.vat_tables.specs.Chains.{IsPool}
+use Rattle.vat_tables.proofs.PoolLemmas.{other_room}
+use Rattle.vat_tables.proofs.held_pool.HeldPool.reserve.Goals as goal
+
+pub invariant_of-self : goal.invariant_of-self
+invariant_of-self g c = subst (λ s. IsPool s c.self.inside.lists) (sym c.reserve.ensures.rest_kept)
+    (other_room c.self.inside.calls c.self.inside.lists c.reserve.new.self.capacity c.self.inside.lists.capacity c.self.invariant)
+
+pub invariant_of-self-in-Err-reserve : goal.invariant_of-self-in-Err-reserve
+invariant_of-self-in-Err-reserve g c =
+    subst (λ s. IsPool s c.reserve-2.new.self) (sym c.reserve.ensures.rest_kept)
+    (subst (λ s. IsPool (record c.self.inside.calls { capacity = c.reserve.new.self.capacity }) s) (sym c.reserve-2.ensures.rest_kept)
+    (other_room c.self.inside.calls c.self.inside.lists c.reserve.new.self.capacity c.reserve-2.new.self.capacity c.self.invariant))
+
+pub invariant_of-self-2 : goal.invariant_of-self-2
+invariant_of-self-2 g c =
+    subst (λ s. IsPool s c.reserve-2.new.self) (sym c.reserve.ensures.rest_kept)
+    (subst (λ s. IsPool (record c.self.inside.calls { capacity = c.reserve.new.self.capacity }) s) (sym c.reserve-2.ensures.rest_kept)
+    (other_room c.self.inside.calls c.self.inside.lists c.reserve.new.self.capacity c.reserve-2.new.self.capacity c.self.invariant))

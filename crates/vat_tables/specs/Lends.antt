@@ -1,0 +1,28 @@
+-- What a table ends as, where a `&mut` to one of its entries is returned.
+use Rattle.std.specs.Prelude.{ℕ, Option}
+use Rattle.std.specs.Borrow.{Lends, LendsIf, Fml, RattleType, MutBor}
+use Rattle.vat_tables.specs.Table.{Table, with_entry}
+use Rattle.vat_tables.specs.contracts.slots.Slots.{the_row}
+use Rattle.vat_tables.specs.contracts.keyed.Keyed as keyed
+use Rattle.vat_tables.specs.contracts.questions.Questions as questions
+use Rattle.vat_tables.specs.contracts.answers.Answers as answers
+
+-- once the borrow ends, the id has the last value written through it, and no other entry changed
+abbrev pub lends_present : (T : RattleType) → MutBor (Table T.Denot) → ℕ → MutBor T.Denot → Fml
+lends_present T t id r = Lends (the_row T) T t r (with_entry t.now id)
+
+-- the same, where the id may be free: the table then stays as it is
+abbrev pub lends_entry : (T : RattleType) → MutBor (Table T.Denot) → ℕ → Option (MutBor T.Denot) → Fml
+lends_entry T t id r = LendsIf (the_row T) T t r (with_entry t.now id) t.now
+
+-- the same of a table under ids that the peer picks
+abbrev pub lends_keyed : (T : RattleType) → MutBor (Table T.Denot) → ℕ → Option (MutBor T.Denot) → Fml
+lends_keyed T t id r = LendsIf (keyed.the_row T) T t r (with_entry t.now id) t.now
+
+-- the same of a table of questions
+abbrev pub lends_question : (T : RattleType) → MutBor (Table T.Denot) → ℕ → Option (MutBor T.Denot) → Fml
+lends_question T t id r = LendsIf (questions.the_row T) T t r (with_entry t.now id) t.now
+
+-- the same of a table of answers
+abbrev pub lends_answer : (T : RattleType) → MutBor (Table T.Denot) → ℕ → Option (MutBor T.Denot) → Fml
+lends_answer T t id r = LendsIf (answers.the_row T) T t r (with_entry t.now id) t.now
