@@ -1,6 +1,6 @@
 //! Why a payload is refused.
 ghost use Rattle.std.specs.Prelude.{◌≡◌};
-ghost use Rattle.capn_wire.specs.Numbers.{number_of};
+ghost use Rattle.capn_wire.specs.Numbers.{number_of, write_number_of};
 
 use thiserror::Error;
 
@@ -68,6 +68,46 @@ impl PayloadFault {
             PayloadFault::CapIndex => 10,
             PayloadFault::Depth => 11,
             PayloadFault::Traversal => 12,
+        }
+    }
+}
+
+/// Why a tree can't be written. The numbers are those of `PayloadFault`.
+#[derive(Clone, Copy, Debug, PartialEq, Eq, Error)]
+pub enum WriteFault {
+    /// Memory ran out. The tree can be written.
+    #[error("out of memory")]
+    Memory,
+    /// More than 65,536 words, a section of more than 65,535, or a list of more than 536,870,911
+    /// elements without content.
+    #[error("too many words")]
+    TooLarge,
+    /// A struct in a list that has other lengths than the list says.
+    #[error("structs of different sizes in a list")]
+    BadTag,
+    /// A capability that is not in the table.
+    #[error("a capability index out of range")]
+    CapIndex,
+    /// Contents nested more than 64 deep.
+    #[error("nested too deep")]
+    Depth,
+    /// More than 65,536 words would be visited.
+    #[error("too many words visited")]
+    Traversal,
+}
+
+impl WriteFault {
+    /// The fault's number.
+    pub fn code(self) -> u16
+        ensures { result ≡ write_number_of self }
+    {
+        match self {
+            WriteFault::Memory => 1,
+            WriteFault::TooLarge => 4,
+            WriteFault::BadTag => 8,
+            WriteFault::CapIndex => 10,
+            WriteFault::Depth => 11,
+            WriteFault::Traversal => 12,
         }
     }
 }

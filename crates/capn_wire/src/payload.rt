@@ -1,15 +1,19 @@
 //! A payload: bytes of the encoding that were read once, and the number of its capabilities.
-ghost use Rattle.std.specs.Prelude.{◌≡◌, ◌⊎◌, ℕ, List, IfOk, IfErr, MatchResult};
+ghost use Rattle.std.specs.Prelude.{◌≡◌, ◌⊎◌, ℕ, List, IfOk, IfErr, MatchOption, MatchResult, Err};
 ghost use Rattle.capn_wire.specs.Reading.{message_of, visited_of};
 ghost use Rattle.capn_wire.specs.declared.faults.PayloadFault.TheVariants as faults;
+ghost use Rattle.capn_wire.specs.declared.faults.WriteFault.TheVariants as write_faults;
 
 use crate::build::build;
-use crate::faults::{Memory, PayloadFault};
+use crate::faults::{Memory, PayloadFault, WriteFault};
 use crate::find::find;
+use crate::measure::{Measure, measure_tree};
 use crate::message::Message;
 use crate::path::{CapAt, Op};
+use crate::place::place;
 use crate::tree::Tree;
 use crate::walk::walk_pointer;
+use crate::write::{message_of, refusal_of};
 use std::alloc::Global;
 use std::marker::Model;
 use std::sync::Arc;
@@ -53,6 +57,8 @@ impl Payload {
     ghost use Rattle.capn_wire.specs.Trees.{Tree as SpecTree};
     ghost use Rattle.capn_wire.specs.Views.{view};
     ghost use Rattle.capn_wire.specs.Walking.{capability_at};
+    ghost use Rattle.capn_wire.specs.Placing.{written};
+    ghost use Rattle.capn_wire.specs.Writable.{refusal};
 
     /// Reads a message of the encoding that goes with `caps` capabilities: "Serialization Over a Stream"
     /// and "Encoding" of the Cap'n Proto specification, within the limits of docs/encoding.md.
@@ -81,6 +87,30 @@ impl Payload {
         };
         let Ok(bytes) = Arc::new(alloc, copy) else {
             return Err(PayloadFault::Memory);
+        };
+        Ok(Payload { bytes, caps })
+    }
+
+    /// Writes a tree that goes with `caps` capabilities, as a message of one segment.
+    pub fn write(alloc: Global, tree: &Tree, caps: u32) -> Result<Payload, WriteFault>
+        // A tree is refused for the first reason, and one without a reason for want of memory alone.
+        ensures refused { MatchOption (refusal (view tree.now) caps) (IfErr result (λ e. e ≡ write_faults.Memory)) (λ fault. result ≡ Err fault) }
+        ensures placed { IfOk result (λ p. p ≡ record { bytes = written (view tree.now); caps = caps }) }
+        // What is written reads as the tree.
+        ensures tree { IfOk result (λ p. IsEncoded p × (tree_of p ≡ view tree.now)) }
+    {
+        let measure = measure_tree(tree, caps, MOST_LEVELS, Measure::start(1));
+        if let Some(fault) = refusal_of(measure) {
+            return Err(fault);
+        }
+        let Ok(words) = place(alloc, tree, measure.words) else {
+            return Err(WriteFault::Memory);
+        };
+        let Ok(message) = message_of(alloc, &words) else {
+            return Err(WriteFault::Memory);
+        };
+        let Ok(bytes) = Arc::new(alloc, message) else {
+            return Err(WriteFault::Memory);
         };
         Ok(Payload { bytes, caps })
     }

@@ -1,5 +1,5 @@
 //! Worked values of the encoding, refused allocations, and messages that the `capnp` tool made.
-use crate::{CapAt, Items, Op, Payload, PayloadFault, Tree};
+use crate::{CapAt, Fields, Items, Op, Payload, PayloadFault, Tree, WriteFault};
 use std::alloc::Global;
 use std::test::Fail;
 
@@ -227,4 +227,265 @@ fn reads_trees(rt: HostRuntime) -> Result<(), Fail> {
     let payload = Payload::read(rt.alloc(), &bootstrap, 1)?;
     assert!(rt; matches!(payload.tree(rt.alloc())?, Tree::Cap(0)));
     Ok(())
+}
+
+#[test]
+fn writes_a_worked_value(rt: HostRuntime) -> Result<(), Fail> {
+    let mut pointers = Vec::new(rt.alloc());
+    pointers.push(Tree::Cap(0))?;
+    let words = Vec::new(rt.alloc());
+    let tree = Tree::Struct { words, pointers };
+    let payload = Payload::write(rt.alloc(), &tree, 1)?;
+    let bytes = bytes_of(
+        rt.alloc(),
+        "00000000 02000000 0000000000000100 0300000000000000",
+    )?;
+    assert_eq!(rt; payload.bytes(), bytes.as_slice());
+    assert_eq!(rt; payload.caps(), 1);
+    assert_eq!(rt;
+        Payload::write(rt.alloc(), &tree, 0).err(),
+        Some(WriteFault::CapIndex)
+    );
+    Ok(())
+}
+
+#[test]
+fn refuses_uneven_structs(rt: HostRuntime) -> Result<(), Fail> {
+    let mut items = Vec::new(rt.alloc());
+    let words = Vec::new(rt.alloc());
+    let pointers = Vec::new(rt.alloc());
+    items.push(Fields { words, pointers })?;
+    let tree = Tree::List(Items::Structs {
+        data_words: 1,
+        pointer_words: 0,
+        items,
+    });
+    assert_eq!(rt;
+        Payload::write(rt.alloc(), &tree, 0).err(),
+        Some(WriteFault::BadTag)
+    );
+    Ok(())
+}
+
+#[test]
+fn writes_bytes_low_first(rt: HostRuntime) -> Result<(), Fail> {
+    let mut twos = Vec::new(rt.alloc());
+    twos.push(1)?;
+    twos.push(2)?;
+    twos.push(3)?;
+    let tree = Tree::List(Items::Twos(twos));
+    let payload = Payload::write(rt.alloc(), &tree, 0)?;
+    let bytes = bytes_of(
+        rt.alloc(),
+        "00000000 02000000 | 010000001b000000 0100020003000000",
+    )?;
+    assert_eq!(rt; payload.bytes(), bytes.as_slice());
+    Ok(())
+}
+
+/// The bytes that are written for a tree, which are read back as the same payload.
+fn written(alloc: Global, tree: &Tree, caps: u32) -> Result<Vec<u8>, Fail> {
+    let payload = Payload::write(alloc, tree, caps)?;
+    let again = Payload::read(alloc, payload.bytes(), caps)?;
+    if again != payload {
+        return Err("another payload".into());
+    }
+    Ok(Vec::from_slice(alloc, payload.bytes())?)
+}
+
+/// The number of the fault that writing answers, or 0.
+fn write_fault_of(alloc: Global, tree: &Tree, caps: u32) -> u16 {
+    match Payload::write(alloc, tree, caps) {
+        Ok(_) => 0,
+        Err(fault) => fault.code(),
+    }
+}
+
+/// A struct without data, with one pointer.
+fn pointing_at(alloc: Global, tree: Tree) -> Result<Tree, Fail> {
+    let mut pointers = Vec::new(alloc);
+    pointers.push(tree)?;
+    let words = Vec::new(alloc);
+    Ok(Tree::Struct { words, pointers })
+}
+
+/// So many structs around a tree.
+fn nested(alloc: Global, tree: Tree, levels: usize) -> Result<Tree, Fail> {
+    let mut tree = tree;
+    for _ in 0..levels {
+        tree = pointing_at(alloc, tree)?;
+    }
+    Ok(tree)
+}
+
+/// A list of so many structs of size zero, said to have so many data words.
+fn empty_structs(alloc: Global, count: usize, data_words: u16) -> Result<Tree, Fail> {
+    let mut items = Vec::new(alloc);
+    for _ in 0..count {
+        let words = Vec::new(alloc);
+        let pointers = Vec::new(alloc);
+        items.push(Fields { words, pointers })?;
+    }
+    Ok(Tree::List(Items::Structs {
+        data_words,
+        pointer_words: 0,
+        items,
+    }))
+}
+
+/// A list of so many words.
+fn zeros(alloc: Global, count: usize) -> Result<Tree, Fail> {
+    let mut words = Vec::new(alloc);
+    for _ in 0..count {
+        words.push(0)?;
+    }
+    Ok(Tree::List(Items::Eights(words)))
+}
+
+#[test]
+fn writes_what_takes_no_words(rt: HostRuntime) -> Result<(), Fail> {
+    let words = Vec::new(rt.alloc());
+    let pointers = Vec::new(rt.alloc());
+    let empty = Tree::Struct { words, pointers };
+    for (tree, caps, text) in [
+        (Tree::Null, 0, "00000000 01000000 0000000000000000"),
+        (empty, 0, "00000000 01000000 fcffffff00000000"),
+        (Tree::Cap(2), 3, "00000000 01000000 0300000002000000"),
+        (
+            Tree::List(Items::Void(536_870_911)),
+            0,
+            "00000000 01000000 01000000f8ffffff",
+        ),
+    ] {
+        let bytes = bytes_of(rt.alloc(), text)?;
+        assert!(rt; written(rt.alloc(), &tree, caps)? == bytes, "{text}");
+    }
+    Ok(())
+}
+
+#[test]
+fn writes_data_before_pointers(rt: HostRuntime) -> Result<(), Fail> {
+    let mut twos = Vec::new(rt.alloc());
+    twos.extend_from_slice(&[1, 2, 3])?;
+    let mut words = Vec::new(rt.alloc());
+    words.push(7)?;
+    let mut pointers = Vec::new(rt.alloc());
+    pointers.push(Tree::Null)?;
+    pointers.push(Tree::List(Items::Twos(twos)))?;
+    let bytes = bytes_of(
+        rt.alloc(),
+        "00000000 05000000 | 0000000001000200 0700000000000000 0000000000000000 010000001b000000 0100020003000000",
+    )?;
+    let tree = Tree::Struct { words, pointers };
+    assert!(rt; written(rt.alloc(), &tree, 0)? == bytes);
+    Ok(())
+}
+
+#[test]
+fn writes_a_list_of_structs(rt: HostRuntime) -> Result<(), Fail> {
+    let mut items = Vec::new(rt.alloc());
+    for (number, tree) in [(1, Tree::Cap(0)), (2, Tree::Null)] {
+        let mut words = Vec::new(rt.alloc());
+        words.push(number)?;
+        let mut pointers = Vec::new(rt.alloc());
+        pointers.push(tree)?;
+        items.push(Fields { words, pointers })?;
+    }
+    let tree = Tree::List(Items::Structs {
+        data_words: 1,
+        pointer_words: 1,
+        items,
+    });
+    let bytes = bytes_of(
+        rt.alloc(),
+        "00000000 06000000 | 0100000027000000 0800000001000100 0100000000000000 0300000000000000 0200000000000000 0000000000000000",
+    )?;
+    assert!(rt; written(rt.alloc(), &tree, 1)? == bytes);
+    Ok(())
+}
+
+#[test]
+fn writes_contents_in_order(rt: HostRuntime) -> Result<(), Fail> {
+    let mut bits = Vec::new(rt.alloc());
+    bits.extend_from_slice(&[true, false, true])?;
+    let mut words = Vec::new(rt.alloc());
+    words.push(5)?;
+    let inner = Vec::new(rt.alloc());
+    let mut pointers = Vec::new(rt.alloc());
+    pointers.push(Tree::Struct {
+        words,
+        pointers: inner,
+    })?;
+    pointers.push(Tree::List(Items::Bits(bits)))?;
+    let tree = Tree::List(Items::Pointers(pointers));
+    let bytes = bytes_of(
+        rt.alloc(),
+        "00000000 05000000 | 0100000016000000 0400000001000000 0500000019000000 0500000000000000 0500000000000000",
+    )?;
+    assert!(rt; written(rt.alloc(), &tree, 0)? == bytes);
+    Ok(())
+}
+
+#[test]
+fn refuses_to_write_too_many_words(rt: HostRuntime) -> Result<(), Fail> {
+    let void = Tree::List(Items::Void(536_870_912));
+    assert_eq!(rt; write_fault_of(rt.alloc(), &void, 0), 4);
+    assert_eq!(rt;
+        write_fault_of(rt.alloc(), &zeros(rt.alloc(), 65_535)?, 0),
+        0
+    );
+    assert_eq!(rt;
+        write_fault_of(rt.alloc(), &zeros(rt.alloc(), 65_536)?, 0),
+        4
+    );
+    Ok(())
+}
+
+#[test]
+fn refuses_to_write_too_deep(rt: HostRuntime) -> Result<(), Fail> {
+    let most = nested(rt.alloc(), Tree::Null, 64)?;
+    assert_eq!(rt; write_fault_of(rt.alloc(), &most, 0), 0);
+    let more = nested(rt.alloc(), Tree::Null, 65)?;
+    assert_eq!(rt; write_fault_of(rt.alloc(), &more, 0), 11);
+    Ok(())
+}
+
+#[test]
+fn refuses_to_write_too_many_visits(rt: HostRuntime) -> Result<(), Fail> {
+    let most = empty_structs(rt.alloc(), 65_535, 0)?;
+    let bytes = bytes_of(
+        rt.alloc(),
+        "00000000 02000000 | 0100000007000000 fcff030000000000",
+    )?;
+    assert!(rt; written(rt.alloc(), &most, 0)? == bytes);
+    let more = empty_structs(rt.alloc(), 65_536, 0)?;
+    assert_eq!(rt; write_fault_of(rt.alloc(), &more, 0), 12);
+    Ok(())
+}
+
+#[test]
+fn tells_the_first_reason(rt: HostRuntime) -> Result<(), Fail> {
+    // Uneven structs 65 levels deep: the lengths are told before the depth.
+    let uneven = nested(rt.alloc(), empty_structs(rt.alloc(), 1, 1)?, 65)?;
+    assert_eq!(rt; write_fault_of(rt.alloc(), &uneven, 0), 8);
+    // A capability that is not there, 65 levels deep: the depth is told before it.
+    let deep = nested(rt.alloc(), Tree::Cap(0), 65)?;
+    assert_eq!(rt; write_fault_of(rt.alloc(), &deep, 0), 11);
+    let shallow = nested(rt.alloc(), Tree::Cap(0), 64)?;
+    assert_eq!(rt; write_fault_of(rt.alloc(), &shallow, 0), 10);
+    assert_eq!(rt; write_fault_of(rt.alloc(), &shallow, 1), 0);
+    Ok(())
+}
+
+/// Holds whichever allocation is refused: run it with `rt try --test --fail-alloc N` too.
+#[test]
+fn answers_want_of_memory_for_writing(rt: HostRuntime) {
+    match Payload::write(rt.alloc(), &Tree::Cap(0), 1) {
+        Err(fault) => assert_eq!(rt; fault.code(), 1),
+        Ok(payload) => {
+            let bytes = [0, 0, 0, 0, 1, 0, 0, 0, 3, 0, 0, 0, 0, 0, 0, 0];
+            assert_eq!(rt; payload.bytes(), bytes.as_slice());
+            assert_eq!(rt; payload.caps(), 1);
+        }
+    }
 }

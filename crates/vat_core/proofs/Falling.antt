@@ -1,7 +1,7 @@
 -- A step that takes a vat down has the effects of that: one Abort alone, or nothing for a received Abort.
-use Rattle.std.specs.Prelude.{◌≡◌, ◌⊎◌, ℕ, Option, None, Some, IfSome, Ok, Err, List, refl}
+use Rattle.std.specs.Prelude.{◌≡◌, ◌⊎◌, ℕ, Option, None, Some, IfSome, List, refl}
 use Rattle.std.specs.FinMap as map
-use Rattle.std.proofs.Common.{sym, ◌∙◌, ap, subst, inl, inr}
+use Rattle.std.proofs.Common.{sym, ◌∙◌, ap, inl, inr}
 use Rattle.rpc_msg.specs.declared.ids.QuestionId.{QuestionId}
 use Rattle.rpc_msg.specs.declared.ids.RefId.{RefId}
 use Rattle.rpc_msg.specs.declared.ids.ObjectId.{ObjectId}
@@ -26,7 +26,7 @@ use Rattle.vat_core.specs.declared.command.Answer.{Answer}
 use Rattle.vat_core.specs.declared.command.Answer.TheVariants as answer
 use Rattle.vat_core.specs.State.{State}
 use Rattle.vat_core.specs.Effects.{falling, silent}
-use Rattle.vat_core.specs.Commands.{Falls, fallen, Answers, ReturnsTask, ReturnsFrom, NamesField, CallsThrough, Shuts}
+use Rattle.vat_core.specs.Commands.{Falls, Answers, ReturnsTask, ReturnsFrom, NamesField, CallsThrough, Shuts}
 use Rattle.vat_core.specs.Obeying.{Obeys, effects_of}
 use Rattle.vat_core.specs.Receiving.{Meets, Handles, Takes, TakesPlain, TakesBootstrap, Routes, TakesReturn, TakesFinish, falling_by}
 

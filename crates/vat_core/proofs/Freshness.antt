@@ -1,15 +1,14 @@
 -- No number that is to come was given: how each change keeps that.
-use Rattle.std.specs.Prelude.{◌≡◌, ◌≤◌, ◌+◌, ℕ, Option, None, Some}
+use Rattle.std.specs.Prelude.{◌≡◌, ◌+◌, ℕ, Some}
 use Rattle.std.specs.FinMap as map
-use Rattle.std.proofs.Common.{sym, ◌∙◌, ap}
-use Rattle.finite_maps.specs.Tally.{Map}
+use Rattle.std.proofs.Common.{◌∙◌, ap}
 use Rattle.finite_maps.proofs.Coming.{none_yet, next_given, still_none, none_without}
 use Rattle.rpc_msg.specs.declared.ids.QuestionId.{QuestionId}
 use Rattle.rpc_msg.specs.declared.parts.Target.{Target}
 use Rattle.vat_core.specs.declared.entry.Asked.{Asked}
 use Rattle.vat_core.specs.declared.entry.Reference.{Reference}
 use Rattle.vat_core.specs.State.{Asking, Serving, no_asking, no_serving}
-use Rattle.vat_core.specs.Changes.{with_question, with_reference, with_made, with_task, with_returned}
+use Rattle.vat_core.specs.Changes.{with_question, with_reference, with_made, with_task}
 use Rattle.vat_core.specs.Fresh.{AreFresh}
 
 -- A new vat.

@@ -9,3 +9,4 @@ mod Done
 pub mod Freshness
 pub mod Owings
 pub mod Falling
+mod Unused

@@ -1,5 +1,5 @@
 -- What is seen of what is kept.
-use Rattle.std.proofs.Common.{◌≡◌, ℕ, false, Option, None, Some, IfSome, List, [], ◌∷◌, refl, sym, ap, subst, ◌∙◌, arith}
+use Rattle.std.proofs.Common.{◌≡◌, ◌==◌, ◌&&◌, ℕ, false, Option, None, Some, IfSome, List, [], ◌∷◌, refl, sym, ap, subst, ◌∙◌, arith}
 use Rattle.std.specs.Option.{IsSomeAnd}
 use Rattle.std.specs.FinMap as map
 use Rattle.std.specs.FinMap.{get-empty}
@@ -15,6 +15,7 @@ use Rattle.vat_core.specs.declared.entry.QuestionSlot.{QuestionSlot}
 use Rattle.vat_core.specs.declared.entry.Reference.{Reference}
 use Rattle.vat_core.specs.declared.entry.SenderKind.{SenderKind}
 use Rattle.vat_core.specs.State.{Asking, no_asking}
+use Rattle.vat_core.specs.New.{is_nothing_asked}
 use Rattle.vat_core.specs.Names.{one_if, is_brought, is_import, is_pipe, heads_at}
 use Rattle.vat_tables.specs.Imports.{import_counts}
 use Rattle.vat_core.specs.Counting.{id_counts}
@@ -93,3 +94,12 @@ seen_counts questions imports refs calls old seen =
     counts-each (map.entries imports)
     ∙ sym (ap id_counts (entries-map_values (λ x. x.count) imports))
     ∙ ap (λ (a : Asking). id_counts (map.entries a.imports)) seen
+
+-- ---- Whether anything is kept
+
+pub nothing_seen : (questions : map.FinMap nat_cmp QuestionSlot) (imports : map.FinMap nat_cmp (Import SenderKind)) (refs : map.FinMap nat_cmp Reference) (calls : map.FinMap nat_cmp QuestionId) (a : Asking)
+    → asking_of questions imports refs calls ≡ a
+    → (((map.len questions == 0) && (map.len calls == 0)) && ((map.len imports == 0) && (map.len refs == 0))) ≡ is_nothing_asked a
+nothing_seen questions imports refs calls a seen =
+    sym (ap is_nothing_asked (sym seen)
+    ∙ rw (len-map_values (λ (x : QuestionSlot). x.question) questions, len-map_values (λ (x : Import SenderKind). x.count) imports) refl)

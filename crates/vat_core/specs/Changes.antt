@@ -1,5 +1,5 @@
 -- The small changes of what a vat asked for and of what it serves.
-use Rattle.std.specs.Prelude.{◌≢◌, ◌<◌, ◌^◌, ℕ, ◌+◌, ◌-◌, Bool, true, false, Option, None, Some}
+use Rattle.std.specs.Prelude.{◌≢◌, ◌<◌, ◌^◌, ℕ, ◌+◌, Bool, true, false, Option, None, Some}
 use Rattle.std.specs.FinMap as map
 use Rattle.finite_maps.specs.Tally.{Map}
 use Rattle.rpc_msg.specs.declared.ids.QuestionId.{QuestionId}

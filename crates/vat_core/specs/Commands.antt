@@ -1,5 +1,5 @@
 -- Each command: when it is refused, and what it does (docs/protocol.md, "Commands").
-use Rattle.std.specs.Prelude.{◌≡◌, ◌≢◌, ◌⊎◌, ◌<◌, ◌≤◌, ◌^◌, ◌+◌, ℕ, Bool, true, false, Option, None, Some, IsSome, IsNone, IsTrue, is_some, Result, Ok, Err, List, [], ◌∷◌, length}
+use Rattle.std.specs.Prelude.{◌≡◌, ◌⊎◌, ◌<◌, ◌≤◌, ◌^◌, ◌+◌, ℕ, Bool, true, false, Option, None, Some, IsSome, IsTrue, is_some, Result, Ok, Err, List, [], length}
 use Rattle.std.specs.List.{list_all}
 use Rattle.std.specs.FinMap as map
 use Rattle.rpc_msg.specs.declared.ids.CallId.{CallId}
@@ -15,13 +15,10 @@ use Rattle.rpc_msg.specs.declared.message.ReturnBody.TheVariants as body
 use Rattle.rpc_msg.specs.declared.message.PlainMessage.{PlainMessage}
 use Rattle.rpc_msg.specs.declared.message.PlainMessage.TheVariants as plain
 use Rattle.rpc_msg.specs.Paths.{fields}
-use Rattle.rpc_msg.specs.Payloads.{caps_of}
-use Rattle.finite_maps.specs.Tally.{Map}
 use Rattle.vat_core.specs.declared.entry.Asked.{Asked}
 use Rattle.vat_core.specs.declared.entry.Asked.TheVariants as asked
 use Rattle.vat_core.specs.declared.entry.Question.{Question}
 use Rattle.vat_core.specs.declared.entry.AnswerEntry.{AnswerEntry}
-use Rattle.vat_core.specs.declared.entry.AnswerStage.TheVariants.{Returned}
 use Rattle.vat_core.specs.declared.entry.Reference.{Reference}
 use Rattle.vat_core.specs.declared.command.Effects.{Effects}
 use Rattle.vat_core.specs.declared.command.Refusal.{Refusal}

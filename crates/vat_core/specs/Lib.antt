@@ -12,3 +12,4 @@ pub mod Owing
 pub mod Receiving
 pub mod State
 pub mod Sweeping
+pub mod New

@@ -1,6 +1,6 @@
 -- The places that name a wire: references name where they lead, and a returned question names what its Return brought
 -- (docs/protocol.md, "Names").
-use Rattle.std.specs.Prelude.{ℕ, ◌+◌, Bool, true, false, cond, nat_eq, Option, None, Some}
+use Rattle.std.specs.Prelude.{ℕ, ◌+◌, Bool, false, cond, nat_eq, Option, None, Some}
 use Rattle.finite_maps.specs.Tally.{Map, tally}
 use Rattle.rpc_msg.specs.declared.parts.Target.{Target}
 use Rattle.rpc_msg.specs.declared.parts.Target.TheVariants.{ImportedCap, PromisedAnswer}

@@ -1,7 +1,6 @@
 -- Each message: which fault it brings, and what it does (docs/protocol.md, "Messages").
-use Rattle.std.specs.Prelude.{◌≡◌, ◌≢◌, ◌⊎◌, ◌<◌, ◌≤◌, ◌^◌, ◌+◌, ◌-◌, ℕ, Bool, true, false, cond, nat_eq, nat_lt, ◌||◌, not, Option, None, Some, IsSome, is_some, List, [], ◌∷◌, length, codes}
+use Rattle.std.specs.Prelude.{◌≡◌, ◌≢◌, ◌⊎◌, ◌+◌, ℕ, Bool, true, false, nat_eq, nat_lt, ◌||◌, not, Option, None, Some, is_some, List, [], ◌∷◌, length, codes}
 use Rattle.std.specs.FinMap as map
-use Rattle.finite_maps.specs.Tally.{Map}
 use Rattle.rpc_msg.specs.declared.ids.QuestionId.{QuestionId}
 use Rattle.rpc_msg.specs.declared.ids.ExportId.{ExportId}
 use Rattle.rpc_msg.specs.declared.ids.RefId.{RefId}
@@ -41,7 +40,7 @@ use Rattle.vat_core.specs.declared.entry.AnswerStage.{AnswerStage}
 use Rattle.vat_core.specs.declared.entry.AnswerStage.TheVariants as stage
 use Rattle.vat_core.specs.declared.entry.AnswerEntry.{AnswerEntry}
 use Rattle.vat_core.specs.declared.command.Effects.{Effects}
-use Rattle.vat_core.specs.State.{State, Asking}
+use Rattle.vat_core.specs.State.{State}
 use Rattle.vat_core.specs.Changes.{table_limit, HasRoomFor, told, with_answer, with_task, with_brought, with_finish, with_release}
 use Rattle.vat_core.specs.Effects.{quiet, sending, echoing, delivering, falling, silent, failed}
 use Rattle.vat_core.specs.Sweeping.{Sweeps}

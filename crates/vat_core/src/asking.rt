@@ -5,6 +5,7 @@ ghost use Rattle.std.specs.FinMap as map;
 ghost use Rattle.vat_tables.specs.Imports.{released, unheld};
 ghost use Rattle.vat_core.specs.State.{no_asking};
 ghost use Rattle.vat_core.specs.Names.{pipe_names};
+ghost use Rattle.vat_core.specs.New.{is_nothing_asked};
 ghost use Rattle.vat_core.specs.Changes.{with_question, with_reference, with_made, with_brought, told, HasRoomFor, without_call, without_reference};
 ghost use Rattle.vat_core.specs.Counting.{id_counts};
 ghost use Rattle.vat_core.specs.Keeping.{is_free, finish_said, release_said, SweepsQuestion, with_pipes, returned_slot, told_refs, received_once, held_if, HasRoomIn, CanHold, CanName, release_of};
@@ -52,6 +53,15 @@ impl Asking {
             refs: Numbered::new(alloc),
             calls: Numbered::new(alloc),
         }
+    }
+
+    /// Whether nothing is asked for or received.
+    pub(crate) fn is_empty(&self) -> bool
+        ensures { result ≡ is_nothing_asked self.now }
+    {
+        let wants = self.questions.is_empty() & self.calls.is_empty();
+        let has = self.imports.is_empty() & self.refs.is_empty();
+        wants & has
     }
 
     /// The reference with that number.

@@ -3,6 +3,7 @@ ghost use Rattle.std.specs.FinMap as map;
 ghost use Rattle.vat_tables.specs.Exports.{NamedBy, export_counts};
 ghost use Rattle.vat_core.specs.declared.entry.AnswerStage.TheVariants.{Pending};
 ghost use Rattle.vat_core.specs.Changes.{with_answer, with_task, with_returned, with_finish, with_release};
+ghost use Rattle.vat_core.specs.New.{is_nothing_served};
 ghost use Rattle.vat_core.specs.State.{no_serving};
 
 use crate::entry::{AnswerEntry, AnswerStage};
@@ -46,6 +47,14 @@ impl Serving {
             exports: Exports::new(alloc),
             tasks: Numbered::new(alloc),
         }
+    }
+
+    /// Whether nothing is owed or given.
+    pub(crate) fn is_empty(&self) -> bool
+        ensures { result ≡ is_nothing_served self.now }
+    {
+        let owes = self.answers.is_empty() & self.tasks.is_empty();
+        owes & self.exports.is_empty()
     }
 
     /// The answer with that id.

@@ -3,6 +3,7 @@ ghost use Rattle.vat_core.specs.State.{start};
 ghost use Rattle.vat_core.specs.Commands.{IsUp, Falls, Shuts, fallen};
 ghost use Rattle.vat_core.specs.Counting.{counts_of};
 ghost use Rattle.vat_core.specs.Effects.{quiet, silent};
+ghost use Rattle.vat_core.specs.New.{is_unused};
 
 use crate::asking::Asking;
 use crate::command::Effects;
@@ -88,6 +89,21 @@ impl Core {
             Life::Up(_) => None,
             Life::Down(number) => Some(*number),
         }
+    }
+
+    /// Whether it is as `Core::new` gives it: nothing is asked for, owed or numbered, and it is up.
+    pub fn is_new(&self) -> bool
+        ensures { IsTrue result ↔ (self.now ≡ start self.now.vat self.now.bootstrap) }
+    {
+        self.is_unused()
+    }
+
+    fn is_unused(&self) -> bool
+        ensures { result ≡ is_unused self.now }
+    {
+        let numbered = (self.next_ref == 0) & (self.next_call == 0) & (self.next_task == 0);
+        let empty = self.asking.is_empty() & self.serving.is_empty();
+        numbered & empty & self.down().is_none()
     }
 
     /// The counts of its exports and imports, by rising id.

@@ -1,0 +1,4 @@
+pub mod History
+pub mod Sources
+pub mod Meaning
+pub mod OneCall

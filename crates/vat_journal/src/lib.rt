@@ -2,9 +2,11 @@
 #![tactic(auto)]
 
 mod entry;
+mod laws;
 mod report;
 #[cfg(test)]
 mod tests;
 
 pub use entry::{Counts, JournalEntry, MadeCall, Origin};
+pub use laws::one_call_is_read;
 pub use report::{Advanced, Delivery, Ended, Outcome};

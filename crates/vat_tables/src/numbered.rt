@@ -1,4 +1,4 @@
-ghost use Rattle.std.specs.Prelude.{◌≡◌, Some, None, IsTrue, IsOk, IsSome, OnOk, OnErr, IfErr, option_copied};
+ghost use Rattle.std.specs.Prelude.{◌≡◌, ◌==◌, Some, None, IsTrue, IsOk, IsSome, OnOk, OnErr, IfErr, option_copied};
 ghost use Rattle.std.specs.FinMap as map;
 
 use std::alloc::{AllocError, Global};
@@ -33,6 +33,13 @@ impl<Entry> Numbered<Entry> {
         Numbered {
             hashed: HashMap::new(alloc),
         }
+    }
+
+    /// Whether there are no entries. Takes no memory.
+    pub fn is_empty(&self) -> bool
+        ensures { result ≡ (map.len self.now.entries == 0) }
+    {
+        self.hashed.len() == 0
     }
 
     /// Makes room, so that the next `add` is not refused. Refused only where the growth was; the entries stay as they

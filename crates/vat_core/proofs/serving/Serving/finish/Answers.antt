@@ -1,4 +1,4 @@
-use Rattle.std.proofs.Common.{◌≡◌, ◌≢◌, ap, ◌∙◌, sym, refl, subst}
+use Rattle.std.proofs.Common.{ap, ◌∙◌, sym, refl}
 use Rattle.std.specs.FinMap as map
 use Rattle.vat_core.proofs.Owings.{owes_finished, owes_closed, Of_bootstrap, Of_returned}
 use Rattle.vat_core.proofs.serving.Serving.finish.Goals as goal

@@ -1,4 +1,4 @@
-use Rattle.std.proofs.Common.{◌≡◌, ◌≢◌, ap, ◌∙◌, sym, refl, subst}
+use Rattle.std.proofs.Common.{ap, ◌∙◌}
 use Rattle.std.specs.FinMap as map
 use Rattle.finite_maps.proofs.Gets.{get-remove_other, get-insert_other}
 use Rattle.vat_core.proofs.Owings.{owes_given}

@@ -1,4 +1,3 @@
-use Rattle.std.proofs.Common.{◌≡◌, ◌≢◌, ap, ◌∙◌, sym, refl, subst}
 use Rattle.vat_core.proofs.Owings.{owes_named}
 use Rattle.vat_core.proofs.serving.Serving.name.Goals as goal
 

@@ -1,4 +1,4 @@
-use Rattle.std.proofs.Common.{◌≡◌, ◌≢◌, ap, ◌∙◌, sym, refl, subst, rules}
+use Rattle.std.proofs.Common.{ap, ◌∙◌}
 use Rattle.std.specs.FinMap as map
 use Rattle.vat_core.proofs.Owings.{owes_task}
 use Rattle.vat_core.proofs.serving.Serving.open_task.Goals as goal

@@ -1,4 +1,3 @@
-use Rattle.std.proofs.Common.{◌≡◌, ◌≢◌, ap, ◌∙◌, sym, refl, subst}
 use Rattle.vat_core.proofs.Owings.{owes_lowered}
 use Rattle.vat_core.proofs.serving.Serving.release.Goals as goal
 

@@ -1,4 +1,4 @@
-use Rattle.std.proofs.Common.{◌≡◌, ◌≢◌, ap, ◌∙◌, sym, refl, subst, rules}
+use Rattle.std.proofs.Common.{ap, ◌∙◌, sym}
 use Rattle.std.specs.FinMap as map
 use Rattle.vat_core.proofs.Freshness.{fresh_made, fresh_asked}
 use Rattle.vat_core.proofs.vat.Core.call.Goals as goal

@@ -1,4 +1,3 @@
-use Rattle.std.proofs.Common.{◌≡◌, ◌≢◌, ap, ◌∙◌, sym, refl, subst}
 use Rattle.vat_core.proofs.Freshness.{fresh_dropped}
 use Rattle.vat_core.proofs.vat.Core.drop_ref.Goals as goal
 

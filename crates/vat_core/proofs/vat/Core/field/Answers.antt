@@ -1,4 +1,3 @@
-use Rattle.std.proofs.Common.{◌≡◌, ◌≢◌, ap, ◌∙◌, sym, refl, subst}
 use Rattle.vat_core.proofs.Freshness.{fresh_led}
 use Rattle.vat_core.proofs.vat.Core.field.Goals as goal
 

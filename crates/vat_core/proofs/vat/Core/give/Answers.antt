@@ -1,4 +1,4 @@
-use Rattle.std.proofs.Common.{◌≡◌, ◌≢◌, ap, ◌∙◌, sym, refl, subst}
+use Rattle.std.proofs.Common.{ap}
 use Rattle.vat_core.proofs.Freshness.{fresh_answered}
 use Rattle.vat_core.proofs.vat.Core.give.Goals as goal
 

@@ -1,4 +1,3 @@
-use Rattle.std.proofs.Common.{◌≡◌, ◌≢◌, ap, ◌∙◌, sym, refl, subst}
 use Rattle.vat_core.proofs.Freshness.{fresh_start}
 use Rattle.vat_core.proofs.vat.Core.go_down.Goals as goal
 

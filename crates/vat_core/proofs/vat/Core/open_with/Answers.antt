@@ -1,5 +1,4 @@
-use Rattle.std.proofs.Common.{◌≡◌, ◌≢◌, ap, ◌∙◌, sym, refl, subst, rules}
-use Rattle.std.specs.FinMap as map
+use Rattle.std.proofs.Common.{rules}
 use Rattle.vat_core.proofs.vat.Core.open_with.Goals as goal
 
 pub returns-clause-ok : goal.returns-clause-ok

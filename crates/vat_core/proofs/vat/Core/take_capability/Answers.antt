@@ -1,5 +1,3 @@
-use Rattle.std.proofs.Common.{◌≡◌, ◌≢◌, ap, ◌∙◌, sym, refl, subst, rules}
-use Rattle.std.specs.FinMap as map
 use Rattle.vat_core.proofs.Freshness.{fresh_told, fresh_untold}
 use Rattle.vat_core.proofs.vat.Core.take_capability.Goals as goal
 

@@ -1,0 +1,5 @@
+pub mod Machine
+pub mod Logs
+pub mod Merge
+pub mod Laws
+pub mod Crossing

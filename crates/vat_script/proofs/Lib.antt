@@ -1,0 +1,4 @@
+pub mod NameKeys
+pub mod NameTree
+pub mod Numbers
+pub mod Paths

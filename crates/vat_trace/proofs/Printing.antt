@@ -1,0 +1,51 @@
+-- From what was played to what is printed.
+use Rattle.std.proofs.Common.{◌≡◌, ◌⊎◌, ℕ, Option, None, Some, IfSome, List, [], ◌∷◌, ◌++◌, Err, map, inl, inr, ap, subst, ◌∙◌}
+use Rattle.vat_journal.specs.declared.entry.JournalEntry.{JournalEntry}
+use Rattle.vat_journal.specs.declared.entry.JournalEntry.TheVariants as entry
+use Rattle.vat_script.specs.declared.line.Line.{Line}
+use Rattle.vat_script.specs.declared.names.Names.{Names}
+use Rattle.vat_script.specs.Bindings.{no_names}
+use Rattle.vat_world.specs.World.{World, tables_entry}
+use Rattle.vat_trace.specs.declared.fault.ScriptFault.{ScriptFault}
+use Rattle.vat_trace.specs.declared.fault.ScriptFault.TheVariants as fault
+use Rattle.vat_trace.specs.Playing.{Plays, PlaysAll, IsUnboundAt}
+use Rattle.vat_trace.specs.Scripts.{texts_of, said_by}
+use Rattle.vat_trace.specs.Traces.{first_world, trace_text, PrintsLines, FaultsLines, Prints, Faults}
+
+-- The fault of lines that were played from the start.
+pub faults_so : (w new : World) (names bound : Names) (lines : List Line) (f : ScriptFault)
+    → w ≡ first_world → names ≡ no_names → PlaysAll w names lines (Err f) new bound → FaultsLines lines f
+faults_so w new names bound lines (fault.Line number) first unnamed played =
+    subst (λ (n : Names). IsUnboundAt first_world n lines number) unnamed (subst (λ (v : World). IsUnboundAt v names lines number) first played)
+faults_so w new names bound lines fault.Memory first unnamed played = tt
+
+-- The trace of lines that were played from the start, with the counts at its end.
+pub prints_so : (w mid new : World) (names bound : Names) (lines : List Line) (journal : List JournalEntry) (text : List ℕ)
+    → w ≡ first_world → names ≡ no_names → Plays w names lines mid bound
+    → new ≡ record mid { journal = mid.journal ++ tables_entry mid ∷ [] } → journal ≡ new.journal → text ≡ trace_text (entry.Head ∷ journal)
+    → PrintsLines lines text
+prints_so w mid new names bound lines journal text first unnamed played noted is printed = (
+  mid,
+  bound,
+  subst (λ (n : Names). Plays first_world n lines mid bound) unnamed (subst (λ (v : World). Plays v names lines mid bound) first played),
+  printed ∙ ap (λ (es : List JournalEntry). trace_text (entry.Head ∷ es)) is ∙ ap (λ (v : World). trace_text (entry.Head ∷ v.journal)) noted,
+)
+
+-- The lines of a script that was read.
+pub prints_read : (script : List ℕ) (lines : List Line) (text : List ℕ) → said_by (texts_of script) ≡ map Some lines → PrintsLines lines text → Prints script text
+prints_read script lines text said printed = (lines, said, printed)
+
+pub faults_read : (script : List ℕ) (lines : List Line) (f : ScriptFault) → said_by (texts_of script) ≡ map Some lines → FaultsLines lines f → Faults script f
+faults_read script lines (fault.Line number) said failed = inr (lines, said, failed)
+faults_read script lines fault.Memory said failed = tt
+
+-- What holds of the text that was read holds of the bytes that the reader had, where they are known.
+pub known_text : (bytes : Option (List ℕ)) (text : List ℕ) (P : List ℕ → Type 0) → IfSome bytes (λ b. text ≡ b) → P text → IfSome bytes P
+known_text None text P is holds = tt
+known_text (Some b) text P is holds = subst P is holds
+
+-- The same beside something else.
+pub known_or : {X : Type 0} (bytes : Option (List ℕ)) (text lent : List ℕ) (P : List ℕ → Type 0)
+    → IfSome bytes (λ b. text ≡ b) → lent ≡ text → X ⊎ P lent → X ⊎ IfSome bytes P
+known_or bytes text lent P is same (inl x) = inl x
+known_or bytes text lent P is same (inr holds) = inr (known_text bytes text P is (subst P same holds))

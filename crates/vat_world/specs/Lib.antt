@@ -1,0 +1,5 @@
+pub mod Entries
+pub mod World
+pub mod Logging
+pub mod Rooms
+pub mod OneCall

@@ -1,0 +1,85 @@
+ghost use Rattle.std.specs.Prelude.{◌≡◌, ◌+◌, ◌<◌, ◌≤◌, [], ◌∷◌, ◌++◌, length, OnOk, IfOk, IfSome, IfNone};
+
+use rpc_msg::{Memory, Message};
+use std::alloc::Global;
+use std::collections::VecDeque;
+use std::marker::Model;
+
+/// The messages that were sent to a vat and that it did not receive, the oldest first, with room for more: seen by
+/// contracts as the messages, and how many more fit at least.
+#[derive(Drop)]
+pub(crate) struct Link {
+    messages: VecDeque<Message>,
+}
+
+impl Model for Link {
+    ghost use Rattle.std.specs.Prelude.{ℕ, List, ◌-◌};
+    ghost use Rattle.std.specs.VecDeque.{deque_len, deque_capacity};
+    ghost use Rattle.rpc_msg.specs.declared.message.Message.{Message};
+
+    ghost Value = { List Message × ℕ };
+
+    ghost view = { λ a. (a.messages.items, deque_capacity a.messages - deque_len a.messages) };
+}
+
+impl Link {
+    /// No messages, with room for one.
+    pub(crate) fn new(alloc: Global) -> Result<Self, Memory>
+        ensures empty { IfOk result (λ link. link.0 ≡ []) }
+        ensures room { IfOk result (λ link. 0 < link.1) }
+    {
+        let mut messages = VecDeque::new(alloc);
+        match messages.reserve(1) {
+            Ok(()) => Ok(Link { messages }),
+            Err(_) => Err(Memory),
+        }
+    }
+
+    /// Makes room for that many more, beside the place that is kept.
+    pub(crate) fn prepare(&mut self, more: usize) -> Result<(), Memory>
+        ensures same { self.new.0 ≡ self.old.0 }
+        ensures ok { OnOk result (more + 1 ≤ self.new.1) }
+        ensures room { self.old.1 ≤ self.new.1 }
+    {
+        let Some(room) = more.checked_add(1) else {
+            return Err(Memory);
+        };
+        match self.messages.reserve(room) {
+            Ok(()) => return Ok(()),
+            Err(_) => return Err(Memory),
+        }
+    }
+
+    /// Puts these messages at the end, where there is room.
+    pub(crate) fn append(&mut self, mut more: VecDeque<Message>)
+        requires { length more.items ≤ self.old.1 }
+        ensures messages { self.new.0 ≡ self.old.0 ++ more.items }
+        ensures room { self.old.1 ≤ self.new.1 + length more.items }
+    {
+        match self.messages.append(&mut more) {
+            Ok(()) => return,
+            Err(_) => unreachable!(),
+        }
+    }
+
+    /// Puts a message at the end, where there is room.
+    pub(crate) fn push(&mut self, message: Message)
+        requires { 0 < self.old.1 }
+        ensures messages { self.new.0 ≡ self.old.0 ++ message ∷ [] }
+        ensures room { self.old.1 ≤ self.new.1 + 1 }
+    {
+        match self.messages.push_back(message) {
+            Ok(()) => return,
+            Err(_) => unreachable!(),
+        }
+    }
+
+    /// Takes the oldest message out, if there is one.
+    pub(crate) fn pop(&mut self) -> Option<Message>
+        ensures oldest { IfSome result (λ message. self.old.0 ≡ message ∷ self.new.0) }
+        ensures empty { IfNone result ((self.old.0 ≡ []) × (self.new.0 ≡ [])) }
+        ensures room { self.old.1 ≤ self.new.1 }
+    {
+        self.messages.pop_front()
+    }
+}
