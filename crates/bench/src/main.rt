@@ -1,7 +1,8 @@
 //! Measures of the vat's parts. What it prints differs from run to run; `docs/benchmarks.md` has figures.
 //!
-//! `bench pool N` pushes N calls to three waiting lists in turn and takes them out again. `bench payload N` reads a payload of N
-//! small structs. Each prints a mean over many rounds.
+//! `bench pool N` pushes N calls to three waiting lists in turn and takes them out again, over and over.
+//! `bench payload FILE CAPS ROUNDS` reads a file's bytes as a payload that goes with CAPS capabilities, ROUNDS times.
+//! Without arguments it does nothing.
 #![tactic(auto)]
 
 mod payload;
@@ -9,26 +10,41 @@ mod pool;
 
 use anyhow::Result;
 use std::env;
+use std::env::Args;
 use std::process::ExitCode;
-
-fn usage(rt: &impl Print) -> Result<ExitCode> {
-    println!(rt; "usage: bench pool N | bench payload N")?;
-    Ok(ExitCode::from(2))
-}
 
 fn main(rt: HostRuntime) -> Result<ExitCode> {
     let mut words = env::args(&rt)?;
     let _program = words.next();
-    let (Some(what), Some(count)) = (words.next(), words.next()) else {
-        return usage(&rt);
+    let Some(what) = words.next() else {
+        return Ok(ExitCode::SUCCESS);
     };
-    let count: u32 = count.as_str().parse()?;
-    if what.as_str() == "pool" {
-        pool::measure(&rt, count)?;
-    } else if what.as_str() == "payload" {
-        payload::measure(&rt, count.try_into()?)?;
-    } else {
-        return usage(&rt);
+    match what.as_str() {
+        "pool" => measure_pool(&rt, &mut words),
+        "payload" => measure_payload(&rt, &mut words),
+        _ => usage(&rt),
     }
+}
+
+fn usage(rt: &impl Print) -> Result<ExitCode> {
+    println!(rt; "usage: bench pool N | bench payload FILE CAPS ROUNDS")?;
+    Ok(ExitCode::from(2))
+}
+
+fn measure_pool(rt: &HostRuntime, words: &mut Args) -> Result<ExitCode> {
+    let Some(count) = words.next() else {
+        return usage(rt);
+    };
+    pool::measure(rt, count.as_str().parse()?)?;
+    Ok(ExitCode::SUCCESS)
+}
+
+fn measure_payload(rt: &HostRuntime, words: &mut Args) -> Result<ExitCode> {
+    let (Some(file), Some(caps), Some(rounds)) = (words.next(), words.next(), words.next()) else {
+        return usage(rt);
+    };
+    let caps = caps.as_str().parse()?;
+    let rounds = rounds.as_str().parse()?;
+    payload::measure(rt, file.as_str(), caps, rounds)?;
     Ok(ExitCode::SUCCESS)
 }

@@ -13,6 +13,7 @@ mod payload;
 mod place;
 mod pointer;
 mod referent;
+mod round_trip;
 mod span;
 mod tree;
 mod walk;
@@ -21,6 +22,7 @@ mod write;
 pub use faults::{Memory, PayloadFault, WriteFault};
 pub use path::{CapAt, Op};
 pub use payload::Payload;
+pub use round_trip::write_and_read;
 pub use tree::{Fields, Items, Tree};
 
 #[cfg(test)]

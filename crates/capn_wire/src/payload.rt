@@ -91,7 +91,9 @@ impl Payload {
         Ok(Payload { bytes, caps })
     }
 
-    /// Writes a tree that goes with `caps` capabilities, as a message of one segment.
+    /// Writes a tree that goes with `caps` capabilities, as a message of one segment: the bytes that
+    /// docs/encoding.md lays down for it. Refused for the first reason that the page has, each looked for
+    /// in the whole tree, and with `Memory` where memory runs out. The tree is left as it is.
     pub fn write(alloc: Global, tree: &Tree, caps: u32) -> Result<Payload, WriteFault>
         // A tree is refused for the first reason, and one without a reason for want of memory alone.
         ensures refused { MatchOption (refusal (view tree.now) caps) (IfErr result (λ e. e ≡ write_faults.Memory)) (λ fault. result ≡ Err fault) }

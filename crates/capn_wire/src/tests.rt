@@ -1,5 +1,7 @@
 //! Worked values of the encoding, refused allocations, and messages that the `capnp` tool made.
-use crate::{CapAt, Fields, Items, Op, Payload, PayloadFault, Tree, WriteFault};
+mod messages;
+
+use crate::{CapAt, Fields, Items, Op, Payload, PayloadFault, Tree, WriteFault, write_and_read};
 use std::alloc::Global;
 use std::test::Fail;
 
@@ -283,13 +285,9 @@ fn writes_bytes_low_first(rt: HostRuntime) -> Result<(), Fail> {
     Ok(())
 }
 
-/// The bytes that are written for a tree, which are read back as the same payload.
+/// The bytes that are written for a tree, and read again.
 fn written(alloc: Global, tree: &Tree, caps: u32) -> Result<Vec<u8>, Fail> {
-    let payload = Payload::write(alloc, tree, caps)?;
-    let again = Payload::read(alloc, payload.bytes(), caps)?;
-    if again != payload {
-        return Err("another payload".into());
-    }
+    let payload = write_and_read(alloc, tree, caps)??;
     Ok(Vec::from_slice(alloc, payload.bytes())?)
 }
 

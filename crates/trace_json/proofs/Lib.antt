@@ -1,1 +1,6 @@
 mod Floats
+mod Lists
+mod Again
+mod Payloads
+mod Ladder
+mod Depths

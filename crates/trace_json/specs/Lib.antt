@@ -1,3 +1,10 @@
 pub mod Parts
 pub mod Messages
 pub mod Values
+pub mod Fits
+pub mod Filled
+pub mod Reading
+pub mod ReadParts
+pub mod ReadMessages
+pub mod ReadEntries
+pub mod Faults

@@ -27,10 +27,14 @@ abbrev pub version_number : TraceVersion → ℕ
 version_number One = 1
 version_number Two = 2
 
-abbrev pub head_data : TraceVersion → Data
-head_data version = object (
+-- A head that says that number.
+abbrev pub head_of : ℕ → Data
+head_of n = object (
     member (codes "k") (string (codes "head")) (
-    member (codes "version") (nat (version_number version)) no_members))
+    member (codes "version") (nat n) no_members))
+
+abbrev pub head_data : TraceVersion → Data
+head_data version = head_of (version_number version)
 
 abbrev pub born_data : Vat → RefId → Origin → Data
 born_data v r o = object (

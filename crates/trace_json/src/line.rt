@@ -1,6 +1,8 @@
-ghost use Rattle.std.specs.Prelude.{◌≡◌, IfOk, string_bytes};
+ghost use Rattle.std.specs.Prelude.{◌≡◌, Some, IfOk, OnOk, string_bytes};
+ghost use Rattle.serde_json.specs.Read.{read};
 ghost use Rattle.serde_json.specs.Written.{compact_text};
 ghost use Rattle.trace_json.specs.Values.{value};
+ghost use Rattle.trace_json.specs.Fits.{Fits};
 
 use crate::version::TraceVersion;
 use crate::write_entries::write_entry;
@@ -12,9 +14,12 @@ use vat_journal::JournalEntry;
 /// a trace.
 ///
 /// Both versions are written, for as long as the program writes version 1 (one constant of the program decides which).
-/// It fails only where memory is refused.
+/// It fails only where memory is refused. `entry_of` reads the version 2 line as the entry, and the version 1 line where
+/// no flag is true.
 pub fn line_of(alloc: Global, entry: &JournalEntry, version: TraceVersion) -> Result<String, Memory>
-    ensures { IfOk result (λ line. string_bytes line ≡ compact_text (value version entry.now)) }
+    ensures text { IfOk result (λ line. string_bytes line ≡ compact_text (value version entry.now)) }
+    ensures reads_back { IfOk result (λ line. read (string_bytes line) ≡ Some (value version entry.now)) }
+    ensures fits { OnOk result (Fits TraceVersion.Two entry.now) }
 {
     let Ok(value) = write_entry(alloc, entry, version) else {
         return Err(Memory);

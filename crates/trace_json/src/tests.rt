@@ -1,4 +1,4 @@
-use crate::{TraceVersion, line_of};
+use crate::{TraceFault, TraceVersion, entry_of, line_of};
 use rpc_msg::{
     Call, CallId, Descriptor, Exception, ExceptionKind, ExportId, Items, Memory, Message, ObjectId,
     Op, Path, Payload, PlainMessage, QuestionId, RefId, Stamp, Target, TaskId, Text, Vat,
@@ -8,8 +8,11 @@ use std::process::Abort;
 use vat_journal::{Delivery, JournalEntry, MadeCall};
 
 mod entries;
+mod faults;
+mod first_lines;
 mod lists;
 mod messages;
+mod reading;
 mod returns;
 
 // Asserts that an entry has this line in that version.
@@ -25,7 +28,24 @@ fn reads(
     Ok(())
 }
 
-// Asserts that an entry has these lines.
+// Asserts that a line is read, as the entry whose line it is.
+fn comes_back(
+    rt: &impl Abort,
+    alloc: Global,
+    version: TraceVersion,
+    line: &str,
+    want: &str,
+) -> Result<(), Memory> {
+    match entry_of(alloc, line, version) {
+        Ok(entry) => reads(rt, alloc, &entry, version, want),
+        Err(fault) => {
+            assert_eq!(rt; fault, TraceFault::Memory);
+            Err(Memory)
+        }
+    }
+}
+
+// Asserts that an entry has these lines, and that it is what the second of them is read as.
 fn reads_both(
     rt: &impl Abort,
     alloc: Global,
@@ -34,7 +54,8 @@ fn reads_both(
     two: &str,
 ) -> Result<(), Memory> {
     reads(rt, alloc, entry, TraceVersion::One, one)?;
-    reads(rt, alloc, entry, TraceVersion::Two, two)
+    reads(rt, alloc, entry, TraceVersion::Two, two)?;
+    comes_back(rt, alloc, TraceVersion::Two, two, two)
 }
 
 // Asserts that an entry has this line in both versions.

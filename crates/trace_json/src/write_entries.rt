@@ -1,7 +1,8 @@
-ghost use Rattle.std.specs.Prelude.{◌≡◌, IfOk};
+ghost use Rattle.std.specs.Prelude.{◌≡◌, IfOk, OnOk};
 ghost use Rattle.serde_json.specs.View.{view};
 ghost use Rattle.trace_json.specs.Parts.{in_base64};
 ghost use Rattle.trace_json.specs.Values.{version_number, head_data, born_data, asked_data, made_by, delivered_by, answered_by, ended_by, resolved_promise_data, rejected_data, dropped_data, finished_data, advanced_data, refused_data, sent_by, got_data, down_data, tables_data, value};
+ghost use Rattle.trace_json.specs.Fits.{FitsOrigin, FitsMade, FitsDelivery, FitsOutcome, FitsU16, FitsMessage, FitsCounts, Fits};
 
 use crate::version::TraceVersion;
 use crate::write_lists::write_list;
@@ -15,7 +16,7 @@ use serde_json::{Value, json};
 use std::alloc::{AllocError, Global};
 use vat_journal::{Advanced, Counts, Delivery, Ended, JournalEntry, MadeCall, Origin, Outcome};
 
-fn number_of(version: TraceVersion) -> u64
+pub(crate) fn number_of(version: TraceVersion) -> u64
     ensures { result ≡ version_number version }
 {
     match version {
@@ -36,7 +37,8 @@ fn write_born(
     reference: RefId,
     origin: &Origin,
 ) -> Result<Value, AllocError>
-    ensures { IfOk result (λ v. view v ≡ born_data vat reference origin.now) }
+    ensures is { IfOk result (λ v. view v ≡ born_data vat reference origin.now) }
+    ensures fits { OnOk result (FitsOrigin origin.now) }
 {
     let origin = write_origin(alloc, origin)?;
     json!(in alloc; {
@@ -54,7 +56,8 @@ fn write_asked(alloc: Global, vat: Vat, call: CallId) -> Result<Value, AllocErro
 }
 
 fn write_made(alloc: Global, vat: Vat, made: &MadeCall) -> Result<Value, AllocError>
-    ensures { IfOk result (λ v. view v ≡ made_by in_base64 vat made.now) }
+    ensures is { IfOk result (λ v. view v ≡ made_by in_base64 vat made.now) }
+    ensures fits { OnOk result (FitsMade made.now) }
 {
     let payload = write_payload(alloc, &made.payload)?;
     let refs = write_list(alloc, made.refs.as_slice())?;
@@ -72,7 +75,8 @@ fn write_made(alloc: Global, vat: Vat, made: &MadeCall) -> Result<Value, AllocEr
 }
 
 fn write_delivered(alloc: Global, vat: Vat, delivery: &Delivery) -> Result<Value, AllocError>
-    ensures { IfOk result (λ v. view v ≡ delivered_by in_base64 vat delivery.now) }
+    ensures is { IfOk result (λ v. view v ≡ delivered_by in_base64 vat delivery.now) }
+    ensures fits { OnOk result (FitsDelivery delivery.now) }
 {
     let payload = write_payload(alloc, &delivery.payload)?;
     let refs = write_list(alloc, delivery.refs.as_slice())?;
@@ -97,7 +101,8 @@ fn write_answered(
     outcome: &Outcome,
     refs: &[RefId],
 ) -> Result<Value, AllocError>
-    ensures { IfOk result (λ v. view v ≡ answered_by in_base64 vat task outcome.now refs.now) }
+    ensures is { IfOk result (λ v. view v ≡ answered_by in_base64 vat task outcome.now refs.now) }
+    ensures fits { OnOk result (FitsOutcome outcome.now) }
 {
     let outcome = write_outcome(alloc, outcome)?;
     let refs = write_list(alloc, refs)?;
@@ -111,7 +116,8 @@ fn write_answered(
 }
 
 fn write_ended(alloc: Global, vat: Vat, ended: &Ended) -> Result<Value, AllocError>
-    ensures { IfOk result (λ v. view v ≡ ended_by in_base64 vat ended.now) }
+    ensures is { IfOk result (λ v. view v ≡ ended_by in_base64 vat ended.now) }
+    ensures fits { OnOk result (FitsOutcome ended.now.outcome) }
 {
     let outcome = write_outcome(alloc, &ended.outcome)?;
     let refs = write_list(alloc, ended.refs.as_slice())?;
@@ -186,7 +192,8 @@ fn write_advanced(
 }
 
 fn write_refused(alloc: Global, vat: Vat, code: u16) -> Result<Value, AllocError>
-    ensures { IfOk result (λ v. view v ≡ refused_data vat code) }
+    ensures is { IfOk result (λ v. view v ≡ refused_data vat code) }
+    ensures fits { OnOk result (FitsU16 code) }
 {
     json!(in alloc; {"code": code, "k": "refused", "vat": name_of_vat(vat)})
 }
@@ -197,7 +204,8 @@ fn write_sent(
     message: &Message,
     version: TraceVersion,
 ) -> Result<Value, AllocError>
-    ensures { IfOk result (λ v. view v ≡ sent_by version in_base64 vat message.now) }
+    ensures is { IfOk result (λ v. view v ≡ sent_by version in_base64 vat message.now) }
+    ensures fits { OnOk result (FitsMessage TraceVersion.Two message.now) }
 {
     let message = write_message(alloc, message, version)?;
     json!(in alloc; {"k": "sent", "message": message, "vat": name_of_vat(vat)})
@@ -210,13 +218,15 @@ fn write_got(alloc: Global, vat: Vat) -> Result<Value, AllocError>
 }
 
 fn write_down(alloc: Global, vat: Vat, fault: u16) -> Result<Value, AllocError>
-    ensures { IfOk result (λ v. view v ≡ down_data vat fault) }
+    ensures is { IfOk result (λ v. view v ≡ down_data vat fault) }
+    ensures fits { OnOk result (FitsU16 fault) }
 {
     json!(in alloc; {"fault": fault, "k": "down", "vat": name_of_vat(vat)})
 }
 
 fn write_tables(alloc: Global, a: &Counts, b: &Counts) -> Result<Value, AllocError>
-    ensures { IfOk result (λ v. view v ≡ tables_data a.now b.now) }
+    ensures is { IfOk result (λ v. view v ≡ tables_data a.now b.now) }
+    ensures fits { OnOk result (FitsCounts a.now × FitsCounts b.now) }
 {
     let a = write_counts(alloc, a)?;
     let b = write_counts(alloc, b)?;
@@ -228,7 +238,8 @@ pub(crate) fn write_entry(
     entry: &JournalEntry,
     version: TraceVersion,
 ) -> Result<Value, AllocError>
-    ensures { IfOk result (λ v. view v ≡ value version entry.now) }
+    ensures is { IfOk result (λ v. view v ≡ value version entry.now) }
+    ensures fits { OnOk result (Fits TraceVersion.Two entry.now) }
 {
     match entry {
         JournalEntry::Head => write_head(alloc, version),

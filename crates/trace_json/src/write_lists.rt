@@ -1,7 +1,8 @@
-ghost use Rattle.std.specs.Prelude.{◌≡◌, IfOk};
+ghost use Rattle.std.specs.Prelude.{◌≡◌, IfOk, OnOk};
 ghost use Rattle.serde_json.specs.Data.{Data};
 ghost use Rattle.serde_json.specs.View.{view};
 ghost use Rattle.trace_json.specs.Parts.{list, reference_data, op_data, pair_data, descriptor_data};
+ghost use Rattle.trace_json.specs.Fits.{FitsAny, FitsAll, FitsOp, FitsPair, FitsDescriptor};
 
 use crate::write_parts::write_answer_place;
 use rpc_msg::{Descriptor, ExportId, Op, RefId};
@@ -12,12 +13,16 @@ use std::alloc::{AllocError, Global};
 pub(crate) trait Part {
     ghost shown: { Self → Data };
 
+    ghost fits: { Self → Type 0 };
+
     fn write(&self, alloc: Global) -> Result<Value, AllocError>
-        ensures { IfOk result (λ v. view v ≡ shown self.now) };
+        ensures is { IfOk result (λ v. view v ≡ shown self.now) }
+        ensures fits { OnOk result (fits self.now) };
 }
 
 pub(crate) fn write_list<T: Part>(alloc: Global, parts: &[T]) -> Result<Value, AllocError>
-    ensures { IfOk result (λ v. view v ≡ list T.shown parts.now) }
+    ensures is { IfOk result (λ v. view v ≡ list T.shown parts.now) }
+    ensures fits { OnOk result (FitsAll T.fits parts.now) }
 {
     let mut values = Vec::new(alloc);
     for part in parts {
@@ -29,6 +34,8 @@ pub(crate) fn write_list<T: Part>(alloc: Global, parts: &[T]) -> Result<Value, A
 impl Part for RefId {
     ghost shown = { reference_data };
 
+    ghost fits = { FitsAny };
+
     fn write(&self, _alloc: Global) -> Result<Value, AllocError> {
         Ok(Value::from(self.0))
     }
@@ -36,6 +43,8 @@ impl Part for RefId {
 
 impl Part for Op {
     ghost shown = { op_data };
+
+    ghost fits = { FitsOp };
 
     fn write(&self, _alloc: Global) -> Result<Value, AllocError> {
         match self {
@@ -48,6 +57,8 @@ impl Part for Op {
 impl Part for (ExportId, u32) {
     ghost shown = { pair_data };
 
+    ghost fits = { FitsPair };
+
     fn write(&self, alloc: Global) -> Result<Value, AllocError> {
         json!(in alloc; [self.0.0, self.1])
     }
@@ -55,6 +66,8 @@ impl Part for (ExportId, u32) {
 
 impl Part for Descriptor {
     ghost shown = { descriptor_data };
+
+    ghost fits = { FitsDescriptor };
 
     fn write(&self, alloc: Global) -> Result<Value, AllocError> {
         match self {

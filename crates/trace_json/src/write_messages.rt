@@ -1,7 +1,8 @@
-ghost use Rattle.std.specs.Prelude.{◌≡◌, IfOk};
+ghost use Rattle.std.specs.Prelude.{◌≡◌, IfOk, OnOk};
 ghost use Rattle.serde_json.specs.View.{view};
 ghost use Rattle.trace_json.specs.Parts.{in_base64};
 ghost use Rattle.trace_json.specs.Messages.{call_by, body_by, return_by, finish_data, resolved_data, resolve_data, context_data, disembargo_data, plain_by, message_by};
+ghost use Rattle.trace_json.specs.Fits.{FitsCall, FitsBody, FitsReturn, FitsFinish, FitsResolved, FitsResolve, FitsContext, FitsDisembargo, FitsPlain, FitsMessage};
 
 use crate::version::TraceVersion;
 use crate::write_lists::{Part, write_list};
@@ -14,7 +15,8 @@ use serde_json::{Value, json};
 use std::alloc::{AllocError, Global};
 
 fn write_call(alloc: Global, call: &Call) -> Result<Value, AllocError>
-    ensures { IfOk result (λ v. view v ≡ call_by in_base64 call.now) }
+    ensures is { IfOk result (λ v. view v ≡ call_by in_base64 call.now) }
+    ensures fits { OnOk result (FitsCall call.now) }
 {
     let caps = write_list(alloc, call.descriptors.as_slice())?;
     let payload = write_payload(alloc, &call.payload)?;
@@ -32,7 +34,8 @@ fn write_call(alloc: Global, call: &Call) -> Result<Value, AllocError>
 }
 
 fn write_body(alloc: Global, body: &ReturnBody) -> Result<Value, AllocError>
-    ensures { IfOk result (λ v. view v ≡ body_by in_base64 body.now) }
+    ensures is { IfOk result (λ v. view v ≡ body_by in_base64 body.now) }
+    ensures fits { OnOk result (FitsBody body.now) }
 {
     match body {
         ReturnBody::Results(payload, descriptors) => {
@@ -49,7 +52,8 @@ fn write_body(alloc: Global, body: &ReturnBody) -> Result<Value, AllocError>
 }
 
 fn write_return(alloc: Global, said: &Return, version: TraceVersion) -> Result<Value, AllocError>
-    ensures { IfOk result (λ v. view v ≡ return_by version in_base64 said.now) }
+    ensures is { IfOk result (λ v. view v ≡ return_by version in_base64 said.now) }
+    ensures fits { OnOk result (FitsReturn TraceVersion.Two said.now) }
 {
     let answer = said.answer.0;
     let flag = said.release_param_caps;
@@ -63,7 +67,8 @@ fn write_return(alloc: Global, said: &Return, version: TraceVersion) -> Result<V
 }
 
 fn write_finish(alloc: Global, finish: &Finish, version: TraceVersion) -> Result<Value, AllocError>
-    ensures { IfOk result (λ v. view v ≡ finish_data version finish.now) }
+    ensures is { IfOk result (λ v. view v ≡ finish_data version finish.now) }
+    ensures fits { OnOk result (FitsFinish TraceVersion.Two finish.now) }
 {
     let question = finish.question.0;
     let flag = finish.release_result_caps;
@@ -74,7 +79,8 @@ fn write_finish(alloc: Global, finish: &Finish, version: TraceVersion) -> Result
 }
 
 fn write_resolved(alloc: Global, to: &ResolvedTo) -> Result<Value, AllocError>
-    ensures { IfOk result (λ v. view v ≡ resolved_data to.now) }
+    ensures is { IfOk result (λ v. view v ≡ resolved_data to.now) }
+    ensures fits { OnOk result (FitsResolved to.now) }
 {
     match to {
         ResolvedTo::Cap(descriptor) => {
@@ -89,14 +95,16 @@ fn write_resolved(alloc: Global, to: &ResolvedTo) -> Result<Value, AllocError>
 }
 
 fn write_resolve(alloc: Global, resolve: &Resolve) -> Result<Value, AllocError>
-    ensures { IfOk result (λ v. view v ≡ resolve_data resolve.now) }
+    ensures is { IfOk result (λ v. view v ≡ resolve_data resolve.now) }
+    ensures fits { OnOk result (FitsResolve resolve.now) }
 {
     let to = write_resolved(alloc, &resolve.to)?;
     json!(in alloc; {"promise": resolve.promise.0, "to": to})
 }
 
 fn write_context(alloc: Global, context: &DisembargoContext) -> Result<Value, AllocError>
-    ensures { IfOk result (λ v. view v ≡ context_data context.now) }
+    ensures is { IfOk result (λ v. view v ≡ context_data context.now) }
+    ensures fits { OnOk result (FitsContext context.now) }
 {
     match context {
         DisembargoContext::SenderLoopback(id) => json!(in alloc; {"senderLoopback": id.0}),
@@ -105,7 +113,8 @@ fn write_context(alloc: Global, context: &DisembargoContext) -> Result<Value, Al
 }
 
 fn write_disembargo(alloc: Global, disembargo: &Disembargo) -> Result<Value, AllocError>
-    ensures { IfOk result (λ v. view v ≡ disembargo_data disembargo.now) }
+    ensures is { IfOk result (λ v. view v ≡ disembargo_data disembargo.now) }
+    ensures fits { OnOk result (FitsDisembargo disembargo.now) }
 {
     let context = write_context(alloc, &disembargo.context)?;
     let target = write_target(alloc, &disembargo.target)?;
@@ -117,7 +126,8 @@ fn write_plain(
     message: &PlainMessage,
     version: TraceVersion,
 ) -> Result<Value, AllocError>
-    ensures { IfOk result (λ v. view v ≡ plain_by version in_base64 message.now) }
+    ensures is { IfOk result (λ v. view v ≡ plain_by version in_base64 message.now) }
+    ensures fits { OnOk result (FitsPlain TraceVersion.Two message.now) }
 {
     match message {
         PlainMessage::Abort(exception) => {
@@ -159,7 +169,8 @@ pub(crate) fn write_message(
     message: &Message,
     version: TraceVersion,
 ) -> Result<Value, AllocError>
-    ensures { IfOk result (λ v. view v ≡ message_by version in_base64 message.now) }
+    ensures is { IfOk result (λ v. view v ≡ message_by version in_base64 message.now) }
+    ensures fits { OnOk result (FitsMessage TraceVersion.Two message.now) }
 {
     match message {
         Message::Plain(plain) => write_plain(alloc, plain, version),

@@ -1,6 +1,7 @@
-ghost use Rattle.std.specs.Prelude.{◌≡◌, IfOk};
+ghost use Rattle.std.specs.Prelude.{◌≡◌, IfOk, OnOk};
 ghost use Rattle.serde_json.specs.View.{view};
 ghost use Rattle.trace_json.specs.Parts.{vat_name, kind_name, advanced_name, answer_data, target_data, stamp_data, payload_data, in_base64, exception_data, outcome_by, origin_data, counts_data};
+ghost use Rattle.trace_json.specs.Fits.{FitsU32, FitsAll, FitsOp, FitsTarget, FitsPayload, FitsOutcome, FitsOrigin, FitsCounts};
 
 use crate::write_lists::write_list;
 use base64::engine::general_purpose::STANDARD;
@@ -45,14 +46,16 @@ pub(crate) fn write_answer_place(
     question: QuestionId,
     path: &[Op],
 ) -> Result<Value, AllocError>
-    ensures { IfOk result (λ v. view v ≡ answer_data question path.now) }
+    ensures is { IfOk result (λ v. view v ≡ answer_data question path.now) }
+    ensures fits { OnOk result (FitsU32 question.0 × FitsAll FitsOp path.now) }
 {
     let path = write_list(alloc, path)?;
     json!(in alloc; {"path": path, "question": question.0})
 }
 
 pub(crate) fn write_target(alloc: Global, target: &Target) -> Result<Value, AllocError>
-    ensures { IfOk result (λ v. view v ≡ target_data target.now) }
+    ensures is { IfOk result (λ v. view v ≡ target_data target.now) }
+    ensures fits { OnOk result (FitsTarget target.now) }
 {
     match target {
         Target::ImportedCap(id) => json!(in alloc; {"import": id.0}),
@@ -74,7 +77,8 @@ pub(crate) fn write_stamp(alloc: Global, stamp: &Stamp) -> Result<Value, AllocEr
 }
 
 pub(crate) fn write_payload(alloc: Global, payload: &Payload) -> Result<Value, AllocError>
-    ensures { IfOk result (λ v. view v ≡ payload_data (in_base64 payload.now)) }
+    ensures is { IfOk result (λ v. view v ≡ payload_data (in_base64 payload.now)) }
+    ensures fits { OnOk result (FitsPayload payload.now) }
 {
     let bytes = STANDARD.encode(alloc, payload.bytes())?;
     json!(in alloc; {"bytes": &bytes, "caps": payload.caps()})
@@ -87,7 +91,8 @@ pub(crate) fn write_exception(alloc: Global, exception: &Exception) -> Result<Va
 }
 
 pub(crate) fn write_outcome(alloc: Global, outcome: &Outcome) -> Result<Value, AllocError>
-    ensures { IfOk result (λ v. view v ≡ outcome_by in_base64 outcome.now) }
+    ensures is { IfOk result (λ v. view v ≡ outcome_by in_base64 outcome.now) }
+    ensures fits { OnOk result (FitsOutcome outcome.now) }
 {
     match outcome {
         Outcome::Results(payload) => {
@@ -102,7 +107,8 @@ pub(crate) fn write_outcome(alloc: Global, outcome: &Outcome) -> Result<Value, A
 }
 
 pub(crate) fn write_origin(alloc: Global, origin: &Origin) -> Result<Value, AllocError>
-    ensures { IfOk result (λ v. view v ≡ origin_data origin.now) }
+    ensures is { IfOk result (λ v. view v ≡ origin_data origin.now) }
+    ensures fits { OnOk result (FitsOrigin origin.now) }
 {
     match origin {
         Origin::Object(object) => json!(in alloc; {"object": object.0}),
@@ -116,7 +122,8 @@ pub(crate) fn write_origin(alloc: Global, origin: &Origin) -> Result<Value, Allo
 }
 
 pub(crate) fn write_counts(alloc: Global, counts: &Counts) -> Result<Value, AllocError>
-    ensures { IfOk result (λ v. view v ≡ counts_data counts.now) }
+    ensures is { IfOk result (λ v. view v ≡ counts_data counts.now) }
+    ensures fits { OnOk result (FitsCounts counts.now) }
 {
     let exports = write_list(alloc, counts.exports.as_slice())?;
     let imports = write_list(alloc, counts.imports.as_slice())?;

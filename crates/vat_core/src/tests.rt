@@ -13,24 +13,34 @@ fn vat(alloc: Global, vat: Vat, bootstrap: Option<ObjectId>) -> Result<Core, Mem
     Core::new(alloc, vat, bootstrap)
 }
 
-fn ask(core: &mut Core, alloc: Global) -> Result<(CallId, Effects), Refusal> {
-    core.bootstrap(alloc)
+/// Asks for the bootstrap object of the peer, as the call of that number.
+fn ask(rt: &impl Abort, alloc: Global, core: &mut Core, number: u64) -> Result<Effects, Refusal> {
+    match core.bootstrap(alloc) {
+        Ok((call, effects)) => {
+            assert_eq!(rt; call, CallId(number));
+            Ok(effects)
+        }
+        Err(refusal) => Err(refusal),
+    }
 }
 
 fn field(core: &mut Core, call: CallId, path: &[Op]) -> Result<RefId, Refusal> {
     core.field(call, path)
 }
 
+/// Makes a call through reference 0, as the call of that number.
 fn call(
-    core: &mut Core,
+    rt: &impl Abort,
     alloc: Global,
-    reference: RefId,
-    interface: u64,
-    method: u16,
+    core: &mut Core,
     refs: &[RefId],
-) -> Result<(CallId, Effects), Refusal> {
-    match core.call(alloc, reference, interface, method, Payload::Null, refs) {
-        Ok(made) => Ok(made),
+    number: u64,
+) -> Result<Effects, Refusal> {
+    match core.call(alloc, RefId(0), 7, 1, Payload::Null, refs) {
+        Ok((call, effects)) => {
+            assert_eq!(rt; call, CallId(number));
+            Ok(effects)
+        }
         Err((refusal, _)) => Err(refusal),
     }
 }
@@ -75,11 +85,10 @@ fn calls_made(core: &Core, reference: RefId) -> Option<u64> {
 }
 
 fn refusal_of(answer: Result<Effects, Refusal>) -> Option<Refusal> {
-    answer.err()
-}
-
-fn refusal_of_call(answer: Result<(CallId, Effects), Refusal>) -> Option<Refusal> {
-    answer.err()
+    match answer {
+        Ok(_) => None,
+        Err(refusal) => Some(refusal),
+    }
 }
 
 fn sends_of(effects: Effects) -> Vec<Message> {
@@ -102,16 +111,6 @@ fn done(rt: &impl Abort, answer: Result<Effects, Refusal>) -> Effects {
     match answer {
         Ok(effects) => effects,
         Err(_) => panic!(rt; "the command is done"),
-    }
-}
-
-fn made(rt: &impl Abort, answer: Result<(CallId, Effects), Refusal>, number: u64) -> Effects {
-    match answer {
-        Ok((call, effects)) => {
-            assert_eq!(rt; call, CallId(number));
-            effects
-        }
-        Err(_) => panic!(rt; "the call is made"),
     }
 }
 
@@ -178,7 +177,7 @@ fn is_bootstrap(message: &Message, question: u32) -> bool {
 
 /// A's Bootstrap is call 0 and question 0.
 fn asks_for_bootstrap(rt: &impl Abort, alloc: Global, a: &mut Core) -> Message {
-    let effects = made(rt, ask(a, alloc), 0);
+    let effects = done(rt, ask(rt, alloc, a, 0));
     let message = only_send(rt, effects);
     assert!(rt; is_bootstrap(&message, 0));
     message
@@ -214,7 +213,7 @@ fn is_first_call(message: &Message) -> bool {
 /// A's call on the root of its Bootstrap's answer is call 1 and question 1.
 fn calls(rt: &impl Abort, alloc: Global, a: &mut Core) -> Message {
     assert_eq!(rt; field(a, CallId(0), &[]), Ok(RefId(0)));
-    let effects = made(rt, call(a, alloc, RefId(0), 7, 1, &[]), 1);
+    let effects = done(rt, call(rt, alloc, a, &[], 1));
     let message = only_send(rt, effects);
     assert!(rt; is_first_call(&message));
     message
@@ -323,7 +322,8 @@ fn after_bootstrap(rt: &impl Abort, alloc: Global, core: &mut Core, message: Mes
 
 /// A vat that is down refuses commands, and does nothing with messages.
 fn stays_down(rt: &impl Abort, alloc: Global, core: &mut Core) {
-    assert_eq!(rt; refusal_of_call(ask(core, alloc)), Some(Refusal::Down));
+    let refused = refusal_of(ask(rt, alloc, core, 0));
+    assert_eq!(rt; refused, Some(Refusal::Down));
     let bootstrap = Message::Plain(PlainMessage::Bootstrap(QuestionId(9)));
     let more = receive(core, alloc, bootstrap);
     assert!(rt; more.sends.is_empty());
@@ -468,12 +468,12 @@ fn refuses_paths_and_arguments(rt: HostRuntime) -> Result<(), Memory> {
 }
 
 fn refuses_lists(rt: &impl Abort, alloc: Global, core: &mut Core) {
-    let _asked = made(rt, ask(core, alloc), 0);
+    let _asked = done(rt, ask(rt, alloc, core, 0));
     let long = field(core, CallId(0), &[Op::Field(1); 17]);
     assert_eq!(rt; long, Err(Refusal::LongPath));
     assert_eq!(rt; field(core, CallId(0), &[Op::Noop]), Ok(RefId(0)));
     assert_eq!(rt; calls_made(core, RefId(0)), Some(0));
-    let refused = refusal_of_call(call(core, alloc, RefId(0), 1, 2, &[RefId(0)]));
+    let refused = refusal_of(call(rt, alloc, core, &[RefId(0)], 1));
     assert_eq!(rt; refused, Some(Refusal::CapCount));
 }
 

@@ -118,7 +118,7 @@ fn a_delivered_call_is_copied(rt: HostRuntime) -> Result<(), Memory> {
     Ok(())
 }
 
-/// The entries that hold no list and no text: their copies take no memory.
+// The next four entries hold no list and no text: their copies take no memory.
 #[test]
 fn a_born_reference_is_copied(rt: HostRuntime) -> Result<(), Memory> {
     let field = Origin::Field(CallId(2), Path::root());

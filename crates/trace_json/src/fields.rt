@@ -1,0 +1,210 @@
+ghost use Rattle.std.specs.Prelude.{◌≡◌, ◌^◌, IfOk, OnOk};
+ghost use Rattle.serde_json.specs.Data.{Data, boolean, string, object, member, no_members};
+ghost use Rattle.serde_json.specs.View.{view, members_view};
+ghost use Rattle.trace_json.specs.Parts.{nat, list, only};
+ghost use Rattle.trace_json.specs.Fits.{FitsAny, FitsU32, FitsU16, FitsAll, FitsFlag};
+ghost use Rattle.trace_json.specs.Reading.{Read, Gives, members_at, next_at, end_at, field_at, nat_at, u64_at, text_at, word_at, only_at, list_at, flag_at};
+
+use crate::fault::Fault;
+use crate::version::TraceVersion;
+use rpc_msg::{Items, Text};
+use serde_json::Value;
+use std::alloc::Global;
+use std::collections::btree_map::Iter;
+
+/// What is read from a value.
+pub(crate) trait Part: Sized {
+    ghost at: { Data → Read Self };
+
+    ghost shown: { Self → Data };
+
+    ghost fits: { Self → Type 0 };
+
+    fn read(alloc: Global, value: &Value) -> Result<Self, Fault>
+        ensures gives { Gives (λ x. x) result (at (view value.now)) }
+        ensures ok { IfOk result (λ x. (view value.now ≡ shown x) × fits x) };
+}
+
+/// The members of an object that were not read yet, by rising key.
+#[derive(Drop)]
+pub(crate) struct Fields<'v> {
+    rest: Iter<'v, String, Value>,
+}
+
+impl<'v> Fields<'v> {
+    pub(crate) fn of(value: &'v Value) -> Result<Fields<'v>, Fault>
+        ensures gives { Gives (λ f. members_view f.rest) result (members_at (view value.now)) }
+        ensures ok { IfOk result (λ f. view value.now ≡ object (members_view f.rest)) }
+    {
+        match value {
+            Value::Object(map) => Ok(Fields { rest: map.iter() }),
+            _ => Err(Fault::WrongShape),
+        }
+    }
+
+    /// The value of the next member, which has to have that key.
+    pub(crate) fn next(&mut self, key: &str) -> Result<&'v Value, Fault>
+        ensures gives { Gives (λ v. (view v.now, members_view self.new.rest)) result (next_at key.now (members_view self.old.rest)) }
+        ensures ok { IfOk result (λ v. members_view self.old.rest ≡ member key.now (view v.now) (members_view self.new.rest)) }
+    {
+        match self.rest.next() {
+            Some((found, value)) => {
+                if found.as_str() == key {
+                    Ok(value)
+                } else {
+                    Err(Fault::WrongShape)
+                }
+            }
+            None => Err(Fault::WrongShape),
+        }
+    }
+
+    #[tactic(auto, unfolding(crate::specs::Reading::field_at))]
+    pub(crate) fn read<T: Part>(&mut self, alloc: Global, key: &str) -> Result<T, Fault>
+        ensures gives { Gives (λ x. (x, members_view self.new.rest)) result (field_at T.at key.now (members_view self.old.rest)) }
+        ensures ok { IfOk result (λ x. (members_view self.old.rest ≡ member key.now (T.shown x) (members_view self.new.rest)) × T.fits x) }
+    {
+        let value = self.next(key)?;
+        T::read(alloc, value)
+    }
+
+    /// The next member has to be that text.
+    #[tactic(auto, unfolding(crate::specs::Reading::word_at))]
+    pub(crate) fn word(&mut self, key: &str, word: &str) -> Result<(), Fault>
+        ensures gives { Gives (λ u. members_view self.new.rest) result (word_at word.now key.now (members_view self.old.rest)) }
+        ensures ok { OnOk result (members_view self.old.rest ≡ member key.now (string word.now) (members_view self.new.rest)) }
+    {
+        let value = self.next(key)?;
+        if text_of(value)? == word {
+            Ok(())
+        } else {
+            Err(Fault::WrongShape)
+        }
+    }
+
+    pub(crate) fn end(mut self) -> Result<(), Fault>
+        ensures gives { Gives (λ u. u) result (end_at (members_view self.entry.rest)) }
+        ensures ok { OnOk result (members_view self.entry.rest ≡ no_members) }
+    {
+        match self.rest.next() {
+            Some(_) => Err(Fault::WrongShape),
+            None => Ok(()),
+        }
+    }
+}
+
+/// The only member of an object.
+#[tactic(auto, unfolding(crate::specs::Reading::only_at))]
+pub(crate) fn only_member(value: &Value) -> Result<(&str, &Value), Fault>
+    ensures gives { Gives (λ m. (m.0.now, view m.1.now)) result (only_at (view value.now)) }
+    ensures ok { IfOk result (λ m. view value.now ≡ only m.0.now (view m.1.now)) }
+{
+    let mut fields = Fields::of(value)?;
+    match fields.rest.next() {
+        Some((key, value)) => {
+            fields.end()?;
+            Ok((key.as_str(), value))
+        }
+        None => Err(Fault::WrongShape),
+    }
+}
+
+pub(crate) fn text_of(value: &Value) -> Result<&str, Fault>
+    ensures gives { Gives (λ s. s.now) result (text_at (view value.now)) }
+    ensures ok { IfOk result (λ s. view value.now ≡ string s.now) }
+{
+    value.as_str().ok_or(Fault::WrongShape)
+}
+
+/// The flag of a Return or a Finish, which has to be false in version 1.
+pub(crate) fn flag_of(value: &Value, version: TraceVersion) -> Result<bool, Fault>
+    ensures gives { Gives (λ flag. flag) result (flag_at version (view value.now)) }
+    ensures ok { IfOk result (λ flag. (view value.now ≡ boolean flag) × FitsFlag version flag) }
+{
+    match (value, version) {
+        (Value::Bool(false), _) => Ok(false),
+        (Value::Bool(true), TraceVersion::Two) => Ok(true),
+        _ => Err(Fault::WrongShape),
+    }
+}
+
+impl Part for u64 {
+    ghost at = { u64_at };
+
+    ghost shown = { nat };
+
+    ghost fits = { FitsAny };
+
+    fn read(_alloc: Global, value: &Value) -> Result<u64, Fault> {
+        value.as_u64().ok_or(Fault::WrongShape)
+    }
+}
+
+impl Part for u32 {
+    ghost at = { nat_at (2 ^ 32) };
+
+    ghost shown = { nat };
+
+    ghost fits = { FitsU32 };
+
+    fn read(_alloc: Global, value: &Value) -> Result<u32, Fault> {
+        match value.as_u64() {
+            Some(n) if n < 0x1_0000_0000 => Ok(n as u32),
+            _ => Err(Fault::WrongShape),
+        }
+    }
+}
+
+impl Part for u16 {
+    ghost at = { nat_at (2 ^ 16) };
+
+    ghost shown = { nat };
+
+    ghost fits = { FitsU16 };
+
+    fn read(_alloc: Global, value: &Value) -> Result<u16, Fault> {
+        match value.as_u64() {
+            Some(n) if n < 0x1_0000 => Ok(n as u16),
+            _ => Err(Fault::WrongShape),
+        }
+    }
+}
+
+impl Part for Text {
+    ghost at = { text_at };
+
+    ghost shown = { string };
+
+    ghost fits = { FitsAny };
+
+    fn read(alloc: Global, value: &Value) -> Result<Text, Fault> {
+        let text = text_of(value)?;
+        Ok(Text::from_string(String::from_str(alloc, text)?))
+    }
+}
+
+impl<T: Part + Drop> Part for Items<T> {
+    ghost at = { list_at T.at };
+
+    ghost shown = { list T.shown };
+
+    ghost fits = { FitsAll T.fits };
+
+    fn read(alloc: Global, value: &Value) -> Result<Items<T>, Fault> {
+        Ok(Items::from_vec(read_items(alloc, value)?))
+    }
+}
+
+pub(crate) fn read_items<T: Part + Drop>(alloc: Global, value: &Value) -> Result<Vec<T>, Fault>
+    ensures gives { Gives (λ v. v.items) result (list_at T.at (view value.now)) }
+    ensures ok { IfOk result (λ v. (view value.now ≡ list T.shown v.items) × FitsAll T.fits v.items) }
+{
+    let Some(values) = value.as_array() else {
+        return Err(Fault::WrongShape);
+    };
+    let mut items = Vec::new(alloc);
+    for value in values {
+        items.push(T::read(alloc, value)?)?;
+    }
+    Ok(items)
+}

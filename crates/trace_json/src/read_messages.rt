@@ -1,0 +1,332 @@
+ghost use Rattle.std.specs.Prelude.{◌≡◌, codes, IfOk, option_map};
+ghost use Rattle.serde_json.specs.View.{view};
+ghost use Rattle.trace_json.specs.Parts.{nat, only, in_base64};
+ghost use Rattle.trace_json.specs.Messages.{param_caps_key, result_caps_key, call_by, body_by, return_by, finish_data, resolved_data, resolve_data, release_data, context_data, disembargo_data, plain_by, message_by};
+ghost use Rattle.trace_json.specs.Fits.{FitsU32, FitsCall, FitsBody, FitsReturn, FitsFinish, FitsResolved, FitsResolve, FitsRelease, FitsContext, FitsDisembargo, FitsPlain, FitsMessage};
+ghost use Rattle.trace_json.specs.Reading.{Gives};
+ghost use Rattle.trace_json.specs.ReadParts.{stands_for, FitsRaw};
+ghost use Rattle.trace_json.specs.ReadMessages.{call_at, results_at, tagged_body, body_at, return_at, finish_at, resolved_at, resolve_at, release_at, context_at, disembargo_at, bootstrap_at, bare_under, plain_under, plain_at, message_at};
+
+use crate::fault::Fault;
+use crate::fields::{Fields, Part, flag_of, only_member};
+use crate::read_parts::{RawPayload, no_payload, raw_payload_of};
+use crate::version::TraceVersion;
+use rpc_msg::{
+    Call, Disembargo, DisembargoContext, EmbargoId, ExportId, Finish, Message, PlainMessage,
+    QuestionId, Release, Resolve, ResolvedTo, Return, ReturnBody,
+};
+use serde_json::Value;
+use std::alloc::Global;
+
+fn key_of_param_caps(version: TraceVersion) -> &'static str
+    ensures { result.now ≡ param_caps_key version }
+{
+    match version {
+        TraceVersion::One => "release",
+        TraceVersion::Two => "releaseParamCaps",
+    }
+}
+
+fn key_of_result_caps(version: TraceVersion) -> &'static str
+    ensures { result.now ≡ result_caps_key version }
+{
+    match version {
+        TraceVersion::One => "release",
+        TraceVersion::Two => "releaseResultCaps",
+    }
+}
+
+#[tactic(auto, unfolding(crate::specs::ReadMessages::call_at, crate::specs::Reading::field_at))]
+fn call_of(alloc: Global, value: &Value) -> Result<(Call, Option<RawPayload<'_>>), Fault>
+    ensures gives { Gives (λ c. (c.0, option_map (λ r. (r.text.now, r.caps)) c.1)) result (call_at (view value.now)) }
+    ensures ok { IfOk result (λ c. (view value.now ≡ call_by (stands_for (option_map (λ r. (r.text.now, r.caps)) c.1)) c.0)
+        × FitsCall c.0 × FitsRaw (option_map (λ r. (r.text.now, r.caps)) c.1)) }
+{
+    let mut fields = Fields::of(value)?;
+    let descriptors = fields.read(alloc, "caps")?;
+    let interface = fields.read(alloc, "interface")?;
+    let method = fields.read(alloc, "method")?;
+    let raw = raw_payload_of(alloc, fields.next("payload")?)?;
+    let question = fields.read(alloc, "question")?;
+    let stamp = fields.read(alloc, "stamp")?;
+    let target = fields.read(alloc, "target")?;
+    fields.end()?;
+    let call = Call {
+        question: QuestionId(question),
+        target,
+        interface,
+        method,
+        payload: no_payload(),
+        descriptors,
+        stamp,
+    };
+    Ok((call, Some(raw)))
+}
+
+#[tactic(auto, unfolding(crate::specs::ReadMessages::results_at, crate::specs::Reading::field_at))]
+fn results_of(alloc: Global, value: &Value) -> Result<(ReturnBody, Option<RawPayload<'_>>), Fault>
+    ensures gives { Gives (λ b. (b.0, option_map (λ r. (r.text.now, r.caps)) b.1)) result (results_at (view value.now)) }
+    ensures ok { IfOk result (λ b. (only (codes "results") (view value.now) ≡ body_by (stands_for (option_map (λ r. (r.text.now, r.caps)) b.1)) b.0)
+        × FitsBody b.0 × FitsRaw (option_map (λ r. (r.text.now, r.caps)) b.1)) }
+{
+    let mut fields = Fields::of(value)?;
+    let descriptors = fields.read(alloc, "caps")?;
+    let raw = raw_payload_of(alloc, fields.next("payload")?)?;
+    fields.end()?;
+    Ok((ReturnBody::Results(no_payload(), descriptors), Some(raw)))
+}
+
+#[tactic(auto, unfolding(crate::specs::ReadMessages::tagged_body))]
+fn tagged_body_of(
+    alloc: Global,
+    value: &Value,
+) -> Result<(ReturnBody, Option<RawPayload<'_>>), Fault>
+    ensures gives { Gives (λ b. (b.0, option_map (λ r. (r.text.now, r.caps)) b.1)) result (tagged_body (view value.now)) }
+    ensures ok { IfOk result (λ b. (view value.now ≡ body_by (stands_for (option_map (λ r. (r.text.now, r.caps)) b.1)) b.0)
+        × FitsBody b.0 × FitsRaw (option_map (λ r. (r.text.now, r.caps)) b.1)) }
+{
+    let (key, inner) = only_member(value)?;
+    if key == "results" {
+        results_of(alloc, inner)
+    } else if key == "exception" {
+        Ok((ReturnBody::Exception(Part::read(alloc, inner)?), None))
+    } else {
+        Err(Fault::WrongShape)
+    }
+}
+
+fn body_of(alloc: Global, value: &Value) -> Result<(ReturnBody, Option<RawPayload<'_>>), Fault>
+    ensures gives { Gives (λ b. (b.0, option_map (λ r. (r.text.now, r.caps)) b.1)) result (body_at (view value.now)) }
+    ensures ok { IfOk result (λ b. (view value.now ≡ body_by (stands_for (option_map (λ r. (r.text.now, r.caps)) b.1)) b.0)
+        × FitsBody b.0 × FitsRaw (option_map (λ r. (r.text.now, r.caps)) b.1)) }
+{
+    match value {
+        Value::String(name) => {
+            if name.as_str() == "canceled" {
+                Ok((ReturnBody::Canceled, None))
+            } else {
+                Err(Fault::WrongShape)
+            }
+        }
+        Value::Object(_) => tagged_body_of(alloc, value),
+        _ => Err(Fault::WrongShape),
+    }
+}
+
+#[tactic(auto, unfolding(crate::specs::ReadMessages::return_at, crate::specs::Reading::field_at))]
+fn return_of(
+    alloc: Global,
+    value: &Value,
+    version: TraceVersion,
+) -> Result<(Return, Option<RawPayload<'_>>), Fault>
+    ensures gives { Gives (λ m. (m.0, option_map (λ r. (r.text.now, r.caps)) m.1)) result (return_at version (view value.now)) }
+    ensures ok { IfOk result (λ m. (view value.now ≡ return_by version (stands_for (option_map (λ r. (r.text.now, r.caps)) m.1)) m.0)
+        × FitsReturn version m.0 × FitsRaw (option_map (λ r. (r.text.now, r.caps)) m.1)) }
+{
+    let mut fields = Fields::of(value)?;
+    let answer = fields.read(alloc, "answer")?;
+    let (body, raw) = body_of(alloc, fields.next("body")?)?;
+    let release_param_caps = flag_of(fields.next(key_of_param_caps(version))?, version)?;
+    fields.end()?;
+    let said = Return {
+        answer: QuestionId(answer),
+        release_param_caps,
+        body,
+    };
+    Ok((said, raw))
+}
+
+#[tactic(auto, unfolding(crate::specs::ReadMessages::finish_at, crate::specs::Reading::field_at))]
+fn finish_of(alloc: Global, value: &Value, version: TraceVersion) -> Result<Finish, Fault>
+    ensures gives { Gives (λ f. f) result (finish_at version (view value.now)) }
+    ensures ok { IfOk result (λ f. (view value.now ≡ finish_data version f) × FitsFinish version f) }
+{
+    let mut fields = Fields::of(value)?;
+    let question = fields.read(alloc, "question")?;
+    let release_result_caps = flag_of(fields.next(key_of_result_caps(version))?, version)?;
+    fields.end()?;
+    Ok(Finish {
+        question: QuestionId(question),
+        release_result_caps,
+    })
+}
+
+impl Part for ResolvedTo {
+    ghost at = { resolved_at };
+
+    ghost shown = { resolved_data };
+
+    ghost fits = { FitsResolved };
+
+    #[tactic(auto, unfolding(crate::specs::ReadMessages::resolved_at))]
+    fn read(alloc: Global, value: &Value) -> Result<ResolvedTo, Fault> {
+        let (key, inner) = only_member(value)?;
+        if key == "cap" {
+            Ok(ResolvedTo::Cap(Part::read(alloc, inner)?))
+        } else if key == "exception" {
+            Ok(ResolvedTo::Exception(Part::read(alloc, inner)?))
+        } else {
+            Err(Fault::WrongShape)
+        }
+    }
+}
+
+impl Part for Resolve {
+    ghost at = { resolve_at };
+
+    ghost shown = { resolve_data };
+
+    ghost fits = { FitsResolve };
+
+    #[tactic(auto, unfolding(crate::specs::ReadMessages::resolve_at))]
+    fn read(alloc: Global, value: &Value) -> Result<Resolve, Fault> {
+        let mut fields = Fields::of(value)?;
+        let promise = fields.read(alloc, "promise")?;
+        let to = fields.read(alloc, "to")?;
+        fields.end()?;
+        Ok(Resolve {
+            promise: ExportId(promise),
+            to,
+        })
+    }
+}
+
+impl Part for Release {
+    ghost at = { release_at };
+
+    ghost shown = { release_data };
+
+    ghost fits = { FitsRelease };
+
+    #[tactic(auto, unfolding(crate::specs::ReadMessages::release_at))]
+    fn read(alloc: Global, value: &Value) -> Result<Release, Fault> {
+        let mut fields = Fields::of(value)?;
+        let count = fields.read(alloc, "count")?;
+        let id = fields.read(alloc, "id")?;
+        fields.end()?;
+        Ok(Release {
+            export: ExportId(id),
+            count,
+        })
+    }
+}
+
+impl Part for DisembargoContext {
+    ghost at = { context_at };
+
+    ghost shown = { context_data };
+
+    ghost fits = { FitsContext };
+
+    #[tactic(auto, unfolding(crate::specs::ReadMessages::context_at))]
+    fn read(alloc: Global, value: &Value) -> Result<DisembargoContext, Fault> {
+        let (key, inner) = only_member(value)?;
+        if key == "senderLoopback" {
+            Ok(DisembargoContext::SenderLoopback(EmbargoId(u32::read(alloc, inner)?)))
+        } else if key == "receiverLoopback" {
+            Ok(DisembargoContext::ReceiverLoopback(EmbargoId(u32::read(alloc, inner)?)))
+        } else {
+            Err(Fault::WrongShape)
+        }
+    }
+}
+
+impl Part for Disembargo {
+    ghost at = { disembargo_at };
+
+    ghost shown = { disembargo_data };
+
+    ghost fits = { FitsDisembargo };
+
+    #[tactic(auto, unfolding(crate::specs::ReadMessages::disembargo_at))]
+    fn read(alloc: Global, value: &Value) -> Result<Disembargo, Fault> {
+        let mut fields = Fields::of(value)?;
+        let context = fields.read(alloc, "context")?;
+        let target = fields.read(alloc, "target")?;
+        fields.end()?;
+        Ok(Disembargo { target, context })
+    }
+}
+
+#[tactic(auto, unfolding(crate::specs::ReadMessages::bootstrap_at))]
+fn bootstrap_of(alloc: Global, value: &Value) -> Result<QuestionId, Fault>
+    ensures gives { Gives (λ q. q) result (bootstrap_at (view value.now)) }
+    ensures ok { IfOk result (λ q. (view value.now ≡ only (codes "question") (nat q.0)) × FitsU32 q.0) }
+{
+    let mut fields = Fields::of(value)?;
+    let question = fields.read(alloc, "question")?;
+    fields.end()?;
+    Ok(QuestionId(question))
+}
+
+/// A message without a payload, by its kind.
+fn bare_message_of(
+    alloc: Global,
+    key: &str,
+    inner: &Value,
+    version: TraceVersion,
+) -> Result<PlainMessage, Fault>
+    ensures gives { Gives (λ m. m) result (bare_under version key.now (view inner.now)) }
+    ensures ok { IfOk result (λ m. (only key.now (view inner.now) ≡ plain_by version in_base64 m) × FitsPlain version m) }
+{
+    if key == "abort" {
+        Ok(PlainMessage::Abort(Part::read(alloc, inner)?))
+    } else if key == "bootstrap" {
+        Ok(PlainMessage::Bootstrap(bootstrap_of(alloc, inner)?))
+    } else if key == "finish" {
+        Ok(PlainMessage::Finish(finish_of(alloc, inner, version)?))
+    } else if key == "resolve" {
+        Ok(PlainMessage::Resolve(Part::read(alloc, inner)?))
+    } else if key == "release" {
+        Ok(PlainMessage::Release(Part::read(alloc, inner)?))
+    } else if key == "disembargo" {
+        Ok(PlainMessage::Disembargo(Part::read(alloc, inner)?))
+    } else if key == "other" {
+        Ok(PlainMessage::Other(u16::read(alloc, inner)?))
+    } else {
+        Err(Fault::WrongShape)
+    }
+}
+
+/// A message that is no Unimplemented, by its kind.
+fn plain_of<'v>(
+    alloc: Global,
+    key: &str,
+    inner: &'v Value,
+    version: TraceVersion,
+) -> Result<(PlainMessage, Option<RawPayload<'v>>), Fault>
+    ensures gives { Gives (λ m. (m.0, option_map (λ r. (r.text.now, r.caps)) m.1)) result (plain_under version key.now (view inner.now)) }
+    ensures ok { IfOk result (λ m. (only key.now (view inner.now) ≡ plain_by version (stands_for (option_map (λ r. (r.text.now, r.caps)) m.1)) m.0)
+        × FitsPlain version m.0 × FitsRaw (option_map (λ r. (r.text.now, r.caps)) m.1)) }
+{
+    if key == "call" {
+        let (call, raw) = call_of(alloc, inner)?;
+        Ok((PlainMessage::Call(call), raw))
+    } else if key == "return" {
+        let (said, raw) = return_of(alloc, inner, version)?;
+        Ok((PlainMessage::Return(said), raw))
+    } else {
+        Ok((bare_message_of(alloc, key, inner, version)?, None))
+    }
+}
+
+#[tactic(auto, unfolding(crate::specs::ReadMessages::message_at, crate::specs::ReadMessages::plain_at))]
+pub(crate) fn message_of(
+    alloc: Global,
+    value: &Value,
+    version: TraceVersion,
+) -> Result<(Message, Option<RawPayload<'_>>), Fault>
+    ensures gives { Gives (λ m. (m.0, option_map (λ r. (r.text.now, r.caps)) m.1)) result (message_at version (view value.now)) }
+    ensures ok { IfOk result (λ m. (view value.now ≡ message_by version (stands_for (option_map (λ r. (r.text.now, r.caps)) m.1)) m.0)
+        × FitsMessage version m.0 × FitsRaw (option_map (λ r. (r.text.now, r.caps)) m.1)) }
+{
+    let (key, inner) = only_member(value)?;
+    if key == "unimplemented" {
+        let (key, inner) = only_member(inner)?;
+        let (plain, raw) = plain_of(alloc, key, inner, version)?;
+        Ok((Message::Unimplemented(plain), raw))
+    } else {
+        let (plain, raw) = plain_of(alloc, key, inner, version)?;
+        Ok((Message::Plain(plain), raw))
+    }
+}
