@@ -1,8 +1,24 @@
-//! What the machine of a vat is made of. So far: the nodes, to which references lead.
+//! The machine of a vat: what its core holds, in types; what each of its steps does, what two vats do, and what is
+//! promised of them, in the definitions of specs/. It has no code that runs.
 #![tactic(auto)]
 
+mod calls;
+mod command;
+mod entries;
+mod event;
+mod laws;
 mod node;
 #[cfg(test)]
 mod tests;
 
+pub use calls::{Caller, HeldCall, KeptOutcome, OwnCall, Promise, Request, Value, WaitingCall};
+pub use command::{CallCommand, Command, Effects, Granted, Level, Refusal};
+pub use entries::{
+    AnswerEntry, Embargo, Export, Finishing, Import, Question, Reference, Resolution, Returned,
+    Role, SenderKind,
+};
+pub use event::Event;
+pub use laws::{
+    down_stays_down, numbers_only_rise, quiet_when_down, sends_raise_counts, settles_where_it_leads,
+};
 pub use node::{Node, Reason};

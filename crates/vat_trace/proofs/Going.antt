@@ -3,7 +3,6 @@ use Rattle.std.proofs.Common.{◌≡◌, ◌<◌, ◌+◌, ℕ, List, [], ◌∷
 use Rattle.std.specs.List.{take-map}
 use lib.ListN.{get_or}
 use Rattle.std.proofs.lemmas.List.{take_more}
-use Rattle.vat_journal.specs.declared.entry.JournalEntry.{JournalEntry}
 use Rattle.vat_script.specs.declared.line.Line.{Line}
 use Rattle.vat_script.specs.declared.names.Names.{Names}
 use Rattle.vat_script.specs.Lines.{line_of}
@@ -12,7 +11,6 @@ use Rattle.vat_trace.specs.Scripts.{said_by}
 use Rattle.vat_trace.specs.declared.fault.PlayFault.{PlayFault}
 use Rattle.vat_trace.specs.declared.fault.PlayFault.TheVariants.{Unbound}
 use Rattle.vat_trace.specs.Playing.{Plays, PlaysLine, IsUnboundAt}
-use Rattle.vat_trace.specs.Traces.{trace_text, line_text}
 
 map_pushed : {X Y : Type 0} (f : X → Y) (xs : List X) (x : X) → map f (xs ++ x ∷ []) ≡ map f xs ++ f x ∷ []
 map_pushed f [] x = refl
@@ -31,18 +29,6 @@ said_more f xs i d before now line within said is pushed =
     ∙ ap (λ ts. ts ++ f (get_or xs i d) ∷ []) (sym (take-map f i xs)) in
     ap said_by next ∙ map_pushed line_of (take i (map f xs)) (f (get_or xs i d))
     ∙ ap₂ (λ ls l. ls ++ l ∷ []) said is ∙ sym (map_pushed Some before line) ∙ ap (map Some) (sym pushed)
-
-trace_pushed : (es : List JournalEntry) (e : JournalEntry) → trace_text (es ++ e ∷ []) ≡ trace_text es ++ line_text e
-trace_pushed [] e = append-nil (line_text e)
-trace_pushed (x ∷ es) e = ap (λ t. line_text x ++ t) (trace_pushed es e) ∙ sym (append_assoc (line_text x) (trace_text es) (line_text e))
-
--- The text of the entries, where the next one was written.
-pub trace_more : (es : List JournalEntry) (i : ℕ) (e : JournalEntry) (start mid new : List ℕ)
-    → i < length es → e ≡ get_or es i e → mid ≡ start ++ trace_text (take i es) → new ≡ mid ++ line_text e
-    → new ≡ start ++ trace_text (take (i + 1) es)
-trace_more es i e start mid new within is written pushed =
-    pushed ∙ ap (λ t. t ++ line_text e) written ∙ append_assoc start (trace_text (take i es)) (line_text e)
-    ∙ ap (λ t. start ++ t) (sym (trace_pushed (take i es) e)) ∙ ap (λ xs. start ++ trace_text xs) (sym (one_more es i e within is))
 
 plays_pushed : (w mid new : World) (names now bound : Names) (xs : List Line) (x : Line)
     → Plays w names xs mid now → PlaysLine mid now x (Ok tt) new bound → Plays w names (xs ++ x ∷ []) new bound

@@ -9,8 +9,12 @@ use Rattle.vat_world.specs.World.{World, tables_entry}
 use Rattle.vat_trace.specs.declared.fault.ScriptFault.{ScriptFault}
 use Rattle.vat_trace.specs.declared.fault.ScriptFault.TheVariants as fault
 use Rattle.vat_trace.specs.Playing.{Plays, PlaysAll, IsUnboundAt}
+use Rattle.vat_trace.specs.declared.words.Word.{Word}
+use Rattle.vat_trace.specs.Answers.{Answers}
 use Rattle.vat_trace.specs.Scripts.{texts_of, said_by}
-use Rattle.vat_trace.specs.Traces.{first_world, trace_text, PrintsLines, FaultsLines, Prints, Faults}
+use Rattle.trace_json.specs.declared.version.TraceVersion.TheVariants.{One}
+use Rattle.trace_file.specs.Traces.{trace_text}
+use Rattle.vat_trace.specs.Traces.{first_world, PrintsLines, FaultsLines, Prints, Faults}
 
 -- The fault of lines that were played from the start.
 pub faults_so : (w new : World) (names bound : Names) (lines : List Line) (f : ScriptFault)
@@ -22,13 +26,13 @@ faults_so w new names bound lines fault.Memory first unnamed played = tt
 -- The trace of lines that were played from the start, with the counts at its end.
 pub prints_so : (w mid new : World) (names bound : Names) (lines : List Line) (journal : List JournalEntry) (text : List ℕ)
     → w ≡ first_world → names ≡ no_names → Plays w names lines mid bound
-    → new ≡ record mid { journal = mid.journal ++ tables_entry mid ∷ [] } → journal ≡ new.journal → text ≡ trace_text (entry.Head ∷ journal)
+    → new ≡ record mid { journal = mid.journal ++ tables_entry mid ∷ [] } → journal ≡ new.journal → text ≡ trace_text One (entry.Head ∷ journal)
     → PrintsLines lines text
 prints_so w mid new names bound lines journal text first unnamed played noted is printed = (
   mid,
   bound,
   subst (λ (n : Names). Plays first_world n lines mid bound) unnamed (subst (λ (v : World). Plays v names lines mid bound) first played),
-  printed ∙ ap (λ (es : List JournalEntry). trace_text (entry.Head ∷ es)) is ∙ ap (λ (v : World). trace_text (entry.Head ∷ v.journal)) noted,
+  printed ∙ ap (λ (es : List JournalEntry). trace_text One (entry.Head ∷ es)) is ∙ ap (λ (v : World). trace_text One (entry.Head ∷ v.journal)) noted,
 )
 
 -- The lines of a script that was read.
@@ -49,3 +53,9 @@ pub known_or : {X : Type 0} (bytes : Option (List ℕ)) (text lent : List ℕ) (
     → IfSome bytes (λ b. text ≡ b) → lent ≡ text → X ⊎ P lent → X ⊎ IfSome bytes P
 known_or bytes text lent P is same (inl x) = inl x
 known_or bytes text lent P is same (inr holds) = inr (known_text bytes text P is (subst P same holds))
+
+-- A word that something is printed for.
+pub with_word : {X : Type 0} (w : Word) (input : List ℕ) → X ⊎ ((text : List ℕ) × (status : ℕ) × Answers w input text status)
+    → X ⊎ ((v : Word) × (text : List ℕ) × (status : ℕ) × Answers v input text status)
+with_word w input (inl x) = inl x
+with_word w input (inr printed) = inr (w, printed.0, printed.1, printed.2)

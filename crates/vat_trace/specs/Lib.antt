@@ -1,3 +1,5 @@
 pub mod Scripts
 pub mod Playing
 pub mod Traces
+pub mod Words
+pub mod Answers

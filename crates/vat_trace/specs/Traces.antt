@@ -1,11 +1,10 @@
 -- The trace of a script (docs/trace.md).
 use Rattle.std.specs.Prelude.{ℕ, ◌≡◌, ◌⊎◌, Option, Some, List, [], ◌∷◌, ◌++◌, map}
-use Rattle.serde_json.specs.Written.{compact_text}
 use Rattle.rpc_msg.specs.declared.ids.ObjectId.{ObjectId}
 use Rattle.vat_journal.specs.declared.entry.JournalEntry.{JournalEntry}
 use Rattle.vat_journal.specs.declared.entry.JournalEntry.TheVariants as entry
 use Rattle.trace_json.specs.declared.version.TraceVersion.TheVariants.{One}
-use Rattle.trace_json.specs.Values.{value}
+use Rattle.trace_file.specs.Traces.{trace_text}
 use Rattle.vat_script.specs.declared.line.Line.{Line}
 use Rattle.vat_script.specs.declared.names.Names.{Names}
 use Rattle.vat_script.specs.Bindings.{no_names}
@@ -14,14 +13,6 @@ use Rattle.vat_trace.specs.declared.fault.ScriptFault.{ScriptFault}
 use Rattle.vat_trace.specs.declared.fault.ScriptFault.TheVariants as fault
 use Rattle.vat_trace.specs.Scripts.{texts_of, said_by, IsFirstFault}
 use Rattle.vat_trace.specs.Playing.{Plays, IsUnboundAt}
-
--- The text of an entry's line, with the newline that ends it.
-abbrev pub line_text : JournalEntry → List ℕ
-line_text e = compact_text (value One e) ++ 10 ∷ []
-
-abbrev pub trace_text : List JournalEntry → List ℕ
-trace_text [] = []
-trace_text (e ∷ es) = line_text e ++ trace_text es
 
 -- Both vats have bootstrap object 0.
 abbrev pub first_object : Option ObjectId
@@ -32,7 +23,7 @@ first_world = new_world first_object first_object
 
 -- The whole trace of a world: the head, the journal, and the counts at the end.
 abbrev pub trace_of : World → List ℕ
-trace_of w = trace_text (entry.Head ∷ w.journal ++ tables_entry w ∷ [])
+trace_of w = trace_text One (entry.Head ∷ w.journal ++ tables_entry w ∷ [])
 
 -- What the lines of a script print.
 abbrev pub PrintsLines : List Line → List ℕ → Type 0

@@ -19,3 +19,17 @@ pub enum PlayFault {
     /// A name of the line is not bound.
     Unbound,
 }
+
+/// Why the program does not do what it was asked.
+#[derive(Clone, Copy, Debug, PartialEq, Eq, Drop, Error)]
+pub enum InputFault {
+    /// A growth was refused.
+    #[error("out of memory")]
+    Memory,
+    /// The line of the script that is at fault, counted from 1.
+    #[error("script line {0}: fault")]
+    Script(usize),
+    /// The line of the trace that is at fault, counted from 1, and the number of its fault.
+    #[error("trace line {0}: fault {1}")]
+    Trace(usize, u16),
+}

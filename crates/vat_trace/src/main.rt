@@ -1,6 +1,7 @@
-//! Plays scripts on two vats and prints what happens.
+//! Plays scripts on two vats and prints what happens; checks, shows and upgrades traces.
 #![tactic(auto)]
 
+mod answering;
 mod fault;
 mod playing;
 mod program;
@@ -8,14 +9,15 @@ mod run;
 mod script;
 #[cfg(test)]
 mod tests;
-mod trace;
+mod words;
 
-use program::{is_word, play, tell_unreadable, tell_usage};
+use program::{play, tell_unreadable, tell_usage};
 use std::fs::File;
 use std::process::ExitCode;
 use std::{env, io};
+use words::Word;
 
-/// `vat_trace run FILE`; without arguments the script is read from standard input.
+/// `vat_trace run|check|show|upgrade FILE`; without arguments the script is read from standard input.
 fn main(rt: HostRuntime) -> Result<ExitCode, io::Error> {
     let mut words = env::args(&rt)?;
     let _program = words.next();
@@ -44,7 +46,7 @@ fn on_input(rt: &HostRuntime) -> u8 {
 }
 
 fn on_file(rt: &HostRuntime, word: &str, name: &str) -> u8 {
-    if !is_word(word) {
+    if Word::of(word).is_none() {
         return misused(rt);
     }
     match File::open(rt, name) {

@@ -1,26 +1,25 @@
-ghost use Rattle.std.specs.Prelude.{◌≡◌, ◌⊎◌, ℕ, List, IfOk, IfSome, IsTrue, string_bytes, codes};
-ghost use Rattle.std.specs.Str.{bytes_eq};
+ghost use Rattle.std.specs.Prelude.{◌≡◌, ◌≢◌, ◌⊎◌, ℕ, List, Some, IfOk, IfSome, IsTrue, string_bytes};
 ghost use Rattle.std.specs.Io.KnownBytes.{Appends};
-ghost use Rattle.vat_trace.specs.Traces.{Prints};
+ghost use Rattle.vat_trace.specs.declared.words.Word.{Word};
+ghost use Rattle.vat_trace.specs.Words.{word_of};
+ghost use Rattle.vat_trace.specs.Answers.{Answers};
 
-use crate::fault::ScriptFault;
-use crate::run::trace_of_script;
+use crate::answering::answer;
+use crate::fault::InputFault;
+use crate::words::Word;
 use std::alloc::Global;
 use std::io::{ErrorKind, Read, Write};
-
-/// The status of a program that did what it was asked.
-const DONE: u8 = 0;
 
 /// The status of a program that found a fault.
 const FAULT: u8 = 2;
 
 /// How the program is called.
-const USAGE: &str = "usage: vat_trace run FILE";
+const USAGE: &str = "usage: vat_trace run|check|show|upgrade FILE";
 
-/// What the program does with a word and a file, whose name and bytes these are. `run` writes the trace of the script
-/// to `out` and answers 0. Else it answers 2, and says the fault on `err`, in this order: another word, a file that
-/// can't be read or is not UTF-8, a fault of the script; want of memory where it is met. Nothing is written to `out`
-/// then. Where `out` can't be written, it answers 2 and says nothing.
+/// What the program does with a word and a file, whose name and bytes these are. It writes to `out` what the word asks
+/// for, and answers 0, or 3 where it said that an entry breaks a law. Else it answers 2, and says the fault on `err`, in
+/// this order: another word, a file that can't be read or is not UTF-8, a fault of the script or the trace; want of
+/// memory where it is met. Nothing is written to `out` then. Where `out` can't be written, it answers 2 and says nothing.
 pub fn play<R: Read, W: Write, E: Write>(
     alloc: Global,
     word: &str,
@@ -29,30 +28,22 @@ pub fn play<R: Read, W: Write, E: Write>(
     out: &mut W,
     err: &mut E,
 ) -> u8
-    ensures status { (result ≡ 0) ⊎ (result ≡ 2) }
-    ensures silent { (out.new ≡ out.old) ⊎ IfSome (R.remaining reader.old) (λ script. (text : List ℕ) × Prints script text) }
-    ensures printed { result ≡ 0 → IfSome (R.remaining reader.old) (λ script. (text : List ℕ) × Prints script text × Appends (W.contents out.old) (W.contents out.new) text) }
+    ensures silent { (out.new ≡ out.old) ⊎ IfSome (R.remaining reader.old) (λ input. (w : Word) × (text : List ℕ) × (status : ℕ) × Answers w input text status) }
+    ensures printed { result ≢ 2 → IfSome (R.remaining reader.old) (λ input. (w : Word) × (word_of word.now ≡ Some w) × (text : List ℕ) × Answers w input text result × Appends (W.contents out.old) (W.contents out.new) text) }
 {
-    if !is_word(word) {
+    let Some(word) = Word::of(word) else {
         return tell_usage(err);
-    }
-    let script = match read_text(alloc, reader) {
-        Ok(script) => script,
+    };
+    let input = match read_text(alloc, reader) {
+        Ok(input) => input,
         Err(ReadFault::Memory) => {
             say(err, "out of memory");
             return FAULT;
         }
         Err(ReadFault::Unreadable) => return tell_unreadable(name, err),
     };
-    let status = run(alloc, script.as_str(), out, err);
+    let status = print(alloc, word, input.as_str(), out, err);
     status
-}
-
-/// Whether the program has that word.
-pub fn is_word(word: &str) -> bool
-    ensures { result ≡ bytes_eq word.now (codes "run") }
-{
-    word == "run"
 }
 
 /// How the program is called is said on `err`; answers the status of a fault.
@@ -91,15 +82,14 @@ fn read_text<R: Read>(alloc: Global, reader: &mut R) -> Result<String, ReadFault
     }
 }
 
-fn run<W: Write, E: Write>(alloc: Global, script: &str, out: &mut W, err: &mut E) -> u8
-    ensures status { (result ≡ 0) ⊎ (result ≡ 2) }
-    ensures silent { (out.new ≡ out.old) ⊎ ((text : List ℕ) × Prints script.now text) }
-    ensures printed { result ≡ 0 → (text : List ℕ) × Prints script.now text × Appends (W.contents out.old) (W.contents out.new) text }
+fn print<W: Write, E: Write>(alloc: Global, word: Word, input: &str, out: &mut W, err: &mut E) -> u8
+    ensures silent { (out.new ≡ out.old) ⊎ ((text : List ℕ) × (status : ℕ) × Answers word input.now text status) }
+    ensures printed { result ≢ 2 → (text : List ℕ) × Answers word input.now text result × Appends (W.contents out.old) (W.contents out.new) text }
 {
-    match trace_of_script(alloc, script) {
-        Ok(text) => {
-            if write_text(out, text.as_str()) {
-                return DONE;
+    match answer(alloc, word, input) {
+        Ok(printed) => {
+            if write_text(out, printed.text.as_str()) {
+                return printed.status;
             }
             FAULT
         }
@@ -125,6 +115,6 @@ fn say<E: Write>(err: &mut E, text: &str) {
     let _said = writeln!(err, "{text}");
 }
 
-fn say_fault<E: Write>(err: &mut E, fault: ScriptFault) {
+fn say_fault<E: Write>(err: &mut E, fault: InputFault) {
     let _said = writeln!(err, "{fault}");
 }

@@ -1,20 +1,26 @@
 ghost use Rattle.std.specs.Prelude.{◌≡◌, ◌∷◌, IfOk, IfErr, string_bytes};
 ghost use Rattle.vat_journal.specs.declared.entry.JournalEntry.TheVariants as entry;
 ghost use Rattle.vat_script.specs.Bindings.{no_names};
-ghost use Rattle.vat_trace.specs.Traces.{Prints, Faults, PrintsLines, FaultsLines, first_world, trace_text};
+ghost use Rattle.trace_json.specs.declared.version.TraceVersion.TheVariants.{One};
+ghost use Rattle.trace_file.specs.Traces.{trace_text};
+ghost use Rattle.vat_trace.specs.Traces.{Prints, Faults, PrintsLines, FaultsLines, first_world};
 
 use crate::fault::ScriptFault;
 use crate::playing::play_lines;
 use crate::script::read_script;
-use crate::trace::{write_entries, write_entry};
 use rpc_msg::{Memory, ObjectId};
 use std::alloc::Global;
+use trace_file::{write_entries, write_entry};
+use trace_json::TraceVersion;
 use vat_journal::JournalEntry;
 use vat_script::{Line, Names};
 use vat_world::World;
 
 /// The object of both vats that the other asks for.
 const FIRST_OBJECT: ObjectId = ObjectId(0);
+
+/// The version of the traces that the program writes.
+const VERSION: TraceVersion = TraceVersion::One;
 
 /// What a script prints: the lines are played in order on two new vats that both have bootstrap object 0, and the
 /// trace has a head, the journal, and the counts at the end. `Line` with the number of the first line that is no line
@@ -81,10 +87,10 @@ fn trace_in(
 
 /// The trace of a journal, with its head.
 fn print(alloc: Global, journal: &[JournalEntry]) -> Result<String, Memory>
-    ensures { IfOk result (λ text. string_bytes text ≡ trace_text (entry.Head ∷ journal.now)) }
+    ensures { IfOk result (λ text. string_bytes text ≡ trace_text One (entry.Head ∷ journal.now)) }
 {
     let mut text = String::new(alloc);
-    write_entry(alloc, &mut text, &JournalEntry::Head)?;
-    write_entries(alloc, &mut text, journal)?;
+    write_entry(alloc, &mut text, &JournalEntry::Head, VERSION)?;
+    write_entries(alloc, &mut text, journal, VERSION)?;
     Ok(text)
 }

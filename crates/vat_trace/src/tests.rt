@@ -1,4 +1,5 @@
 //! What the program prints and says, and with which status it ends.
+mod traces;
 
 use crate::program::play;
 use std::alloc::Global;
@@ -86,7 +87,7 @@ fn another_word_is_told_how_it_is_used(rt: HostRuntime) {
         rt.alloc(),
         "play",
         b"",
-        (2, "", "usage: vat_trace run FILE\n"),
+        (2, "", "usage: vat_trace run|check|show|upgrade FILE\n"),
     );
 }
 

@@ -1,0 +1,9 @@
+pub mod Counting
+pub mod Given
+pub mod OneWay
+pub mod Evens
+pub mod Growing
+pub mod Turns
+pub mod Called
+pub mod Moving
+pub mod First

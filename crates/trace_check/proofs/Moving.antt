@@ -1,0 +1,207 @@
+-- The messages on their way, and who is down, after another entry.
+use Rattle.std.specs.Prelude.{◌≡◌, ℕ, zero, suc, ◌+◌, ◌<◌, ◌≤◌, Bool, true, false, cond, not, ◌&&◌, ◌||◌, None, Some, List, [], ◌∷◌, ◌++◌, length, drop}
+use Rattle.std.proofs.Common.{refl, sym, ◌∙◌, ap, subst, arith}
+use Rattle.std.proofs.lemmas.List.{length-append, drop-append-le}
+use Rattle.std.proofs.lemmas.List.Folds.{list_any-append}
+use Rattle.rpc_msg.specs.declared.ids.Vat.{Vat}
+use Rattle.rpc_msg.specs.declared.ids.Vat.TheVariants.{A, B}
+use Rattle.rpc_msg.specs.declared.message.Message.{Message}
+use Rattle.rpc_msg.specs.Vats.{other_vat}
+use Rattle.vat_journal.specs.declared.entry.Counts.{Counts}
+use Rattle.vat_journal.specs.declared.entry.JournalEntry.{JournalEntry}
+use Rattle.vat_journal.specs.declared.entry.JournalEntry.TheVariants as entry
+use Rattle.vat_journal.specs.History.{in_front}
+use Rattle.trace_check.specs.declared.way.Way.{Way}
+use Rattle.trace_check.specs.declared.ways.Ways.{Ways}
+use Rattle.trace_check.specs.declared.downs.Downs.{Downs}
+use Rattle.trace_check.specs.Breaches.{sent_one, sent, is_got, got, on_the_way, none_left, gets_nothing, falls, is_down, counted_on_the_way, agrees, miscounts}
+use Rattle.trace_check.specs.Counts.{CountsById, count_of, same_counts, handed_on, released, of_each}
+use Rattle.trace_check.specs.Kept.{amount, IsWay, IsWayOf, WaysFor, way_of, rest_of, is_some_left, DownsFor}
+use Rattle.trace_check.proofs.Counting.{count_of-append}
+use Rattle.trace_check.proofs.Growing.{all_that_more, all_that_same, count_more}
+
+abbrev pub with_way : Ways → Vat → Way → Ways
+with_way w A n = record { a = n; b = w.b }
+with_way w B n = record { a = w.a; b = n }
+
+-- ---- One way
+
+got_same : (h : List JournalEntry) (e : JournalEntry) (v : Vat) → is_got v e ≡ false → got (h ++ e ∷ []) v ≡ got h v
+got_same h e v nope = count_more (is_got v) h e ∙ ap (λ b. got h v + cond b 1 0) nope ∙ omega arith
+
+got_one : (h : List JournalEntry) (e : JournalEntry) (v : Vat) → is_got v e ≡ true → got (h ++ e ∷ []) v ≡ suc (got h v)
+got_one h e v is = count_more (is_got v) h e ∙ ap (λ b. got h v + cond b 1 0) is ∙ omega arith
+
+pub way_stays : (w : Way) (v : Vat) (h : List JournalEntry) (e : JournalEntry) → sent_one v e ≡ None → is_got (other_vat v) e ≡ false → IsWayOf w v h → IsWayOf w v (h ++ e ∷ [])
+way_stays w v h e none nope is =
+    let s = all_that_same (sent_one v) h e none in
+    let g = got_same h e (other_vat v) nope in
+    record {
+      way = subst (λ (n : ℕ). IsWay w (drop n (sent (h ++ e ∷ []) v))) (sym g) (subst (λ (ms : List Message). IsWay w (drop (got h (other_vat v)) ms)) (sym s) is.way);
+      fewer = subst (λ (n : ℕ). n ≤ length (sent (h ++ e ∷ []) v)) (sym g) (subst (λ (ms : List Message). got h (other_vat v) ≤ length ms) (sym s) is.fewer);
+    }
+
+way_sent : (w n : Way) (v : Vat) (m : Message) (h : List JournalEntry) (e : JournalEntry) → sent_one v e ≡ Some m → is_got (other_vat v) e ≡ false → IsWayOf w v h → IsWay n (on_the_way h v ++ m ∷ []) → IsWayOf n v (h ++ e ∷ [])
+way_sent w n v m h e one nope is new =
+    let s : sent (h ++ e ∷ []) v ≡ sent h v ++ m ∷ [] = all_that_more (sent_one v) h e ∙ ap (λ o. sent h v ++ in_front o []) one in
+    let g = got_same h e (other_vat v) nope in
+    let k = got h (other_vat v) in
+    record {
+      way = subst (IsWay n) (sym (ap (λ (j : ℕ). drop j (sent (h ++ e ∷ []) v)) g ∙ ap (drop k) s ∙ drop-append-le k (sent h v) (m ∷ []) is.fewer)) new;
+      fewer = omega (arith, g, ap length s, length-append (sent h v) (m ∷ []), is.fewer);
+    }
+
+rest-drop : (n : ℕ) (xs : List Message) → rest_of (drop n xs) ≡ drop (suc n) xs
+rest-drop zero [] = refl
+rest-drop zero (x ∷ xs) = refl
+rest-drop (suc n) [] = refl
+rest-drop (suc n) (x ∷ xs) = rest-drop n xs
+
+left_below : (n : ℕ) (xs : List Message) → is_some_left (drop n xs) ≡ true → n < length xs
+left_below zero [] left = absurd (let f : false ≡ true = left in cc)
+left_below zero (x ∷ xs) left = omega arith
+left_below (suc n) [] left = absurd (let f : false ≡ true = left in cc)
+left_below (suc n) (x ∷ xs) left = omega (arith, left_below n xs left)
+
+way_got : (w n : Way) (v : Vat) (h : List JournalEntry) (e : JournalEntry) → sent_one v e ≡ None → is_got (other_vat v) e ≡ true → IsWayOf w v h → is_some_left (on_the_way h v) ≡ true → IsWay n (rest_of (on_the_way h v)) → IsWayOf n v (h ++ e ∷ [])
+way_got w n v h e none is_one is left new =
+    let s = all_that_same (sent_one v) h e none in
+    let g = got_one h e (other_vat v) is_one in
+    let k = got h (other_vat v) in
+    record {
+      way = subst (IsWay n) (rest-drop k (sent h v) ∙ sym (ap (λ (j : ℕ). drop j (sent (h ++ e ∷ []) v)) g ∙ ap (drop (suc k)) s)) new;
+      fewer = omega (arith, g, ap length s, left_below k (sent h v) left);
+    }
+
+-- ---- Both
+
+pub ways_sent : (w : Ways) (n : Way) (v : Vat) (m : Message) (h : List JournalEntry) (e : JournalEntry) → e ≡ entry.Sent v m → WaysFor w h → ((ms : List Message) → IsWay (way_of w v) ms → IsWay n (ms ++ m ∷ [])) → WaysFor (with_way w v n) (h ++ e ∷ [])
+ways_sent w n v m h e is now new = subst (λ x. WaysFor (with_way w v n) (h ++ x ∷ [])) (sym is) (sends v new)
+  where
+    sends : (v : Vat) → ((ms : List Message) → IsWay (way_of w v) ms → IsWay n (ms ++ m ∷ [])) → WaysFor (with_way w v n) (h ++ entry.Sent v m ∷ [])
+    sends A new A = way_sent w.a n A m h (entry.Sent A m) refl refl (now A) (new _ (now A).way)
+    sends A new B = way_stays w.b B h (entry.Sent A m) refl refl (now B)
+    sends B new A = way_stays w.a A h (entry.Sent B m) refl refl (now A)
+    sends B new B = way_sent w.b n B m h (entry.Sent B m) refl refl (now B) (new _ (now B).way)
+
+left_told : (ms : List Message) → is_some_left ms ≡ not (none_left ms)
+left_told [] = refl
+left_told (m ∷ ms) = refl
+
+-- Vat v receives: a message of the other goes.
+pub ways_told : (w : Ways) (v : Vat) (h : List JournalEntry) (e : JournalEntry) → e ≡ entry.Got (other_vat v) → WaysFor w h → (b : Bool) → ((ms : List Message) → IsWay (way_of w v) ms → b ≡ is_some_left ms) → b ≡ not (gets_nothing h e)
+ways_told w A h e is now b told = told _ (now A).way ∙ left_told (on_the_way h A) ∙ ap (λ x. not (gets_nothing h x)) (sym is)
+ways_told w B h e is now b told = told _ (now B).way ∙ left_told (on_the_way h B) ∙ ap (λ x. not (gets_nothing h x)) (sym is)
+
+pub ways_got : (w : Ways) (n : Way) (v : Vat) (h : List JournalEntry) (e : JournalEntry) → e ≡ entry.Got (other_vat v) → WaysFor w h → ((ms : List Message) → IsWay (way_of w v) ms → true ≡ is_some_left ms) → ((ms : List Message) → IsWay (way_of w v) ms → IsWay n (rest_of ms)) → WaysFor (with_way w v n) (h ++ e ∷ [])
+ways_got w n v h e is now told new = subst (λ x. WaysFor (with_way w v n) (h ++ x ∷ [])) (sym is) (gets v told new)
+  where
+    gets : (v : Vat) → ((ms : List Message) → IsWay (way_of w v) ms → true ≡ is_some_left ms) → ((ms : List Message) → IsWay (way_of w v) ms → IsWay n (rest_of ms)) → WaysFor (with_way w v n) (h ++ entry.Got (other_vat v) ∷ [])
+    gets A told new A = way_got w.a n A h (entry.Got B) refl refl (now A) (sym (told _ (now A).way)) (new _ (now A).way)
+    gets A told new B = way_stays w.b B h (entry.Got B) refl refl (now B)
+    gets B told new A = way_stays w.a A h (entry.Got A) refl refl (now A)
+    gets B told new B = way_got w.b n B h (entry.Got A) refl refl (now B) (sym (told _ (now B).way)) (new _ (now B).way)
+
+pub record IsStill (e : JournalEntry) : Type 0 where
+  pub not_sent : (v : Vat) → sent_one v e ≡ None
+  pub not_got : (v : Vat) → is_got v e ≡ false
+  pub gets : (h : List JournalEntry) → gets_nothing h e ≡ false
+
+pub is_still : (e : JournalEntry) → ((v : Vat) (m : Message) → e ≡ entry.Sent v m → ⊥) → ((v : Vat) → e ≡ entry.Got v → ⊥) → IsStill e
+is_still entry.Head f g = record { not_sent = λ u. refl; not_got = λ u. refl; gets = λ h. refl }
+is_still (entry.Born v r o) f g = record { not_sent = λ u. refl; not_got = λ u. refl; gets = λ h. refl }
+is_still (entry.Asked v c) f g = record { not_sent = λ u. refl; not_got = λ u. refl; gets = λ h. refl }
+is_still (entry.Made v m) f g = record { not_sent = λ u. refl; not_got = λ u. refl; gets = λ h. refl }
+is_still (entry.Delivered v d) f g = record { not_sent = λ u. refl; not_got = λ u. refl; gets = λ h. refl }
+is_still (entry.Answered v t o rs) f g = record { not_sent = λ u. refl; not_got = λ u. refl; gets = λ h. refl }
+is_still (entry.Ended v x) f g = record { not_sent = λ u. refl; not_got = λ u. refl; gets = λ h. refl }
+is_still (entry.Resolved v p x) f g = record { not_sent = λ u. refl; not_got = λ u. refl; gets = λ h. refl }
+is_still (entry.Rejected v p x) f g = record { not_sent = λ u. refl; not_got = λ u. refl; gets = λ h. refl }
+is_still (entry.Dropped v x) f g = record { not_sent = λ u. refl; not_got = λ u. refl; gets = λ h. refl }
+is_still (entry.Finished v c) f g = record { not_sent = λ u. refl; not_got = λ u. refl; gets = λ h. refl }
+is_still (entry.Advanced v x a) f g = record { not_sent = λ u. refl; not_got = λ u. refl; gets = λ h. refl }
+is_still (entry.Refused v n) f g = record { not_sent = λ u. refl; not_got = λ u. refl; gets = λ h. refl }
+is_still (entry.Sent v m) f g = absurd (f v m refl)
+is_still (entry.Got v) f g = absurd (g v refl)
+is_still (entry.Down v n) f g = record { not_sent = λ u. refl; not_got = λ u. refl; gets = λ h. refl }
+is_still (entry.Tables a b) f g = record { not_sent = λ u. refl; not_got = λ u. refl; gets = λ h. refl }
+
+pub ways_stay : (w : Ways) (h : List JournalEntry) (e : JournalEntry) → IsStill e → WaysFor w h → WaysFor w (h ++ e ∷ [])
+ways_stay w h e still now v = way_stays (way_of w v) v h e (still.not_sent v) (still.not_got (other_vat v)) (now v)
+
+-- ---- Down
+
+down_more : (h : List JournalEntry) (e : JournalEntry) (v : Vat) (b : Bool) → falls v e ≡ b → is_down (h ++ e ∷ []) v ≡ (is_down h v || (b || false))
+down_more h e v b is = list_any-append (falls v) h (e ∷ []) ∙ ap (λ x. is_down h v || (x || false)) is
+
+or_true : (b : Bool) → (b || true) ≡ true
+or_true true = refl
+or_true false = refl
+
+or_false : (b : Bool) → (b || false) ≡ b
+or_false true = refl
+or_false false = refl
+
+pub falls_now : (h : List JournalEntry) (e : JournalEntry) (v : Vat) → falls v e ≡ true → true ≡ is_down (h ++ e ∷ []) v
+falls_now h e v is = sym (down_more h e v true is ∙ or_true (is_down h v))
+
+pub stays_so : (h : List JournalEntry) (e : JournalEntry) (v : Vat) (b : Bool) → falls v e ≡ false → b ≡ is_down h v → b ≡ is_down (h ++ e ∷ []) v
+stays_so h e v b is so = so ∙ sym (down_more h e v false is ∙ or_false (is_down h v))
+
+abbrev pub with_down : Downs → Vat → Downs
+with_down d A = record { a = true; b = d.b }
+with_down d B = record { a = d.a; b = true }
+
+pub down_falls : (d : Downs) (u v : Vat) (n : ℕ) (h : List JournalEntry) (e : JournalEntry) → u ≡ v → e ≡ entry.Down u n → DownsFor d h → DownsFor (with_down d v) (h ++ e ∷ [])
+down_falls d u v n h e same is now = subst (λ x. DownsFor (with_down d v) (h ++ x ∷ [])) (sym (is ∙ ap (λ x. entry.Down x n) same)) (drops v)
+  where
+    drops : (v : Vat) → DownsFor (with_down d v) (h ++ entry.Down v n ∷ [])
+    drops A A = falls_now h (entry.Down A n) A refl
+    drops A B = stays_so h (entry.Down A n) B d.b refl (now B)
+    drops B A = stays_so h (entry.Down B n) A d.a refl (now A)
+    drops B B = falls_now h (entry.Down B n) B refl
+
+-- ---- Counts on the way
+
+pub counts_told : (w : Ways) (h : List JournalEntry) (v : Vat) → WaysFor w h → (e : ℕ) → amount (way_of w v).handed_on e + amount (way_of w (other_vat v)).released e ≡ count_of e (counted_on_the_way h v)
+counts_told w h v now e = omega (arith, (now v).way.handed e, (now (other_vat v)).way.given_back e, count_of-append e (of_each handed_on (on_the_way h v)) (of_each released (on_the_way h (other_vat v))))
+
+pub agrees_told : (w : Ways) (h : List JournalEntry) (v : Vat) (b : Bool) (xs ys exports imports : CountsById) → WaysFor w h → xs ≡ exports → ys ≡ imports
+    → ((way : CountsById) → ((e : ℕ) → amount (way_of w v).handed_on e + amount (way_of w (other_vat v)).released e ≡ count_of e way) → b ≡ same_counts xs (ys ++ way))
+    → b ≡ agrees h v exports imports
+agrees_told w h v b xs ys exports imports now x y told =
+    told (counted_on_the_way h v) (counts_told w h v now)
+    ∙ ap (λ (zs : CountsById). same_counts zs (ys ++ counted_on_the_way h v)) x
+    ∙ ap (λ (zs : CountsById). same_counts exports (zs ++ counted_on_the_way h v)) y
+
+pub both_agree : (a b x y : Bool) → a ≡ x → b ≡ y → a ≡ true → b ≡ (x && y)
+both_agree a b x y first second so = second ∙ ap (λ t. t && y) (sym so ∙ first)
+
+pub one_differs : (a x y : Bool) → a ≡ x → a ≡ false → a ≡ (x && y)
+one_differs a x y first off = off ∙ ap (λ t. t && y) (sym off ∙ first)
+
+-- ---- Counts of both vats
+
+excused : (x y z : Bool) → (x || y) ≡ true → false ≡ (not x && not y && z)
+excused true y z one = refl
+excused false true z one = refl
+excused false false z one = absurd (let f : false ≡ true = one in cc)
+
+asked : (x y z : Bool) → (x || y) ≡ false → z ≡ (not x && not y && z)
+asked true y z none = absurd (let f : true ≡ false = none in cc)
+asked false true z none = absurd (let f : true ≡ false = none in cc)
+asked false false z none = refl
+
+both_so : (d : Downs) (h : List JournalEntry) (b : Bool) → DownsFor d h → (d.a || d.b) ≡ b → (is_down h A || is_down h B) ≡ b
+both_so d h b now so = ap (λ x. x || is_down h B) (sym (now A)) ∙ ap (λ x. d.a || x) (sym (now B)) ∙ so
+
+pub down_excuses : (d : Downs) (h : List JournalEntry) (a b : Counts) (e : JournalEntry) → e ≡ entry.Tables a b → DownsFor d h → (d.a || d.b) ≡ true → false ≡ miscounts h e
+down_excuses d h a b e is now one =
+    excused (is_down h A) (is_down h B) (not (agrees h A a.exports b.imports && agrees h B b.exports a.imports)) (both_so d h true now one)
+    ∙ ap (miscounts h) (sym is)
+
+pub counts_asked : (d : Downs) (h : List JournalEntry) (a b : Counts) (e : JournalEntry) (fits : Bool) → e ≡ entry.Tables a b → DownsFor d h → (d.a || d.b) ≡ false → fits ≡ (agrees h A a.exports b.imports && agrees h B b.exports a.imports) → not fits ≡ miscounts h e
+counts_asked d h a b e fits is now none so =
+    ap not so
+    ∙ asked (is_down h A) (is_down h B) (not (agrees h A a.exports b.imports && agrees h B b.exports a.imports)) (both_so d h false now none)
+    ∙ ap (miscounts h) (sym is)

@@ -1,0 +1,4 @@
+pub mod Counts
+pub mod Breaches
+pub mod Kept
+pub mod Laws

@@ -1,0 +1,411 @@
+//! Verdicts of short traces, and of the trace of one bootstrapped call with changes.
+use crate::{Checker, Verdict, check};
+use rpc_msg::{
+    Call, CallId, Descriptor, ExportId, Finish, Items, Memory, Message, ObjectId, Path, Payload,
+    PlainMessage, QuestionId, RefId, Release, Resolve, ResolvedTo, Return, ReturnBody, Stamp,
+    Target, TaskId, Vat,
+};
+use std::alloc::Global;
+use std::process::Abort;
+use vat_journal::{Counts, Delivery, Ended, JournalEntry, MadeCall, Origin, Outcome};
+
+fn one<T: Drop>(alloc: Global, item: T) -> Result<Items<T>, Memory> {
+    Items::one(alloc, item).ok().ok_or(Memory)
+}
+
+fn stamp(vat: Vat, index: u64) -> Stamp {
+    Stamp {
+        vat,
+        reference: RefId(0),
+        index,
+    }
+}
+
+fn made(alloc: Global, vat: Vat, index: u64) -> JournalEntry {
+    let made = MadeCall {
+        reference: RefId(0),
+        index,
+        call: CallId(1),
+        interface: 7,
+        method: 1,
+        payload: Payload::Null,
+        refs: Items::new(alloc),
+    };
+    JournalEntry::Made(vat, made)
+}
+
+fn delivered(alloc: Global, stamp: Stamp, vat: Vat, object: u64) -> JournalEntry {
+    let delivery = Delivery {
+        task: TaskId(0),
+        object: ObjectId(object),
+        stamp,
+        interface: 7,
+        method: 1,
+        payload: Payload::Null,
+        refs: Items::new(alloc),
+    };
+    JournalEntry::Delivered(vat, delivery)
+}
+
+fn answered(alloc: Global, vat: Vat) -> JournalEntry {
+    let outcome = Outcome::Results(Payload::Null);
+    JournalEntry::Answered(vat, TaskId(0), outcome, Items::new(alloc))
+}
+
+fn ended(alloc: Global, call: u64) -> JournalEntry {
+    let ended = Ended {
+        call: CallId(call),
+        outcome: Outcome::Results(Payload::Null),
+        refs: Items::new(alloc),
+    };
+    JournalEntry::Ended(Vat::A, ended)
+}
+
+fn sent(vat: Vat, message: PlainMessage) -> JournalEntry {
+    JournalEntry::Sent(vat, Message::Plain(message))
+}
+
+fn call(question: u32, target: Target, descriptors: Items<Descriptor>) -> PlainMessage {
+    PlainMessage::Call(Call {
+        question: QuestionId(question),
+        target,
+        interface: 7,
+        method: 1,
+        payload: Payload::Null,
+        descriptors,
+        stamp: stamp(Vat::A, 0),
+    })
+}
+
+fn results(answer: u32, descriptors: Items<Descriptor>) -> PlainMessage {
+    PlainMessage::Return(Return {
+        answer: QuestionId(answer),
+        release_param_caps: false,
+        body: ReturnBody::Results(Payload::Null, descriptors),
+    })
+}
+
+fn finish(question: u32) -> PlainMessage {
+    PlainMessage::Finish(Finish {
+        question: QuestionId(question),
+        release_result_caps: false,
+    })
+}
+
+fn resolve(descriptor: Descriptor) -> PlainMessage {
+    PlainMessage::Resolve(Resolve {
+        promise: ExportId(9),
+        to: ResolvedTo::Cap(descriptor),
+    })
+}
+
+const RELEASE: PlainMessage = PlainMessage::Release(Release {
+    export: ExportId(0),
+    count: 1,
+});
+
+const HOSTED: Descriptor = Descriptor::SenderHosted(ExportId(0));
+
+/// The entries of one bootstrapped call of A at B, in order, from 0; 27 is that B goes down.
+const CALL: [u32; 27] = [
+    0, 1, 2, 3, 4, 5, 6, 7, 8, 9, 10, 11, 12, 13, 14, 15, 16, 17, 18, 19, 20, 21, 22, 23, 24, 25,
+    26,
+];
+
+fn of_call(alloc: Global, number: u32) -> Result<JournalEntry, Memory> {
+    match number {
+        0 => Ok(JournalEntry::Head),
+        1 => Ok(JournalEntry::Asked(Vat::A, CallId(0))),
+        2 => Ok(sent(Vat::A, PlainMessage::Bootstrap(QuestionId(0)))),
+        3 => Ok(born()),
+        4 => Ok(made(alloc, Vat::A, 0)),
+        5 => Ok(sent(Vat::A, call(1, bootstrapped(), Items::new(alloc)))),
+        7 => {
+            let hosted = one(alloc, HOSTED)?;
+            Ok(sent(Vat::B, results(0, hosted)))
+        }
+        9 => Ok(delivered(alloc, stamp(Vat::A, 0), Vat::B, 0)),
+        11 => Ok(ended(alloc, 0)),
+        12 => Ok(answered(alloc, Vat::B)),
+        13 => Ok(sent(Vat::B, results(1, Items::new(alloc)))),
+        15 => Ok(ended(alloc, 1)),
+        _ => Ok(of_call_end(alloc, number)),
+    }
+}
+
+fn bootstrapped() -> Target {
+    Target::PromisedAnswer(QuestionId(0), Path::root())
+}
+
+fn born() -> JournalEntry {
+    JournalEntry::Born(Vat::A, RefId(0), Origin::Field(CallId(0), Path::root()))
+}
+
+fn of_call_end(alloc: Global, number: u32) -> JournalEntry {
+    match number {
+        16 => JournalEntry::Finished(Vat::A, CallId(1)),
+        17 => sent(Vat::A, finish(1)),
+        18 => JournalEntry::Finished(Vat::A, CallId(0)),
+        19 => JournalEntry::Dropped(Vat::A, RefId(0)),
+        20 => sent(Vat::A, finish(0)),
+        23 => JournalEntry::Dropped(Vat::A, RefId(1)),
+        24 => sent(Vat::A, RELEASE),
+        10 | 14 => JournalEntry::Got(Vat::A),
+        26 => JournalEntry::Tables(no_counts(alloc), no_counts(alloc)),
+        27 => JournalEntry::Down(Vat::B, 33),
+        _ => JournalEntry::Got(Vat::B),
+    }
+}
+
+fn no_counts(alloc: Global) -> Counts {
+    Counts {
+        exports: Items::new(alloc),
+        imports: Items::new(alloc),
+    }
+}
+
+/// Calls and deliveries of reference 0 of either vat.
+fn of_order(alloc: Global, number: u32) -> JournalEntry {
+    match number {
+        30 => made(alloc, Vat::A, 0),
+        31 => made(alloc, Vat::A, 1),
+        32 => made(alloc, Vat::B, 0),
+        33 => delivered(alloc, stamp(Vat::A, 0), Vat::B, 0),
+        34 => delivered(alloc, stamp(Vat::A, 1), Vat::B, 0),
+        35 => delivered(alloc, stamp(Vat::A, 1), Vat::B, 1),
+        36 => delivered(alloc, stamp(Vat::A, 1), Vat::A, 0),
+        37 => delivered(alloc, stamp(Vat::B, 0), Vat::A, 0),
+        38 => JournalEntry::Down(Vat::A, 33),
+        _ => answered(alloc, Vat::A),
+    }
+}
+
+/// Messages with descriptors, and Releases.
+fn of_counts(alloc: Global, number: u32) -> Result<JournalEntry, Memory> {
+    match number {
+        50 => {
+            let hosted = one(alloc, HOSTED)?;
+            let target = Target::ImportedCap(ExportId(4));
+            Ok(sent(Vat::A, call(0, target, hosted)))
+        }
+        51 => Ok(JournalEntry::Got(Vat::B)),
+        52 => Ok(sent(Vat::B, RELEASE)),
+        53 => Ok(JournalEntry::Got(Vat::A)),
+        54 => Ok(sent(Vat::A, resolve(Descriptor::SenderPromise(ExportId(0))))),
+        55 => Ok(sent(Vat::A, resolve(Descriptor::ReceiverHosted(ExportId(0))))),
+        56 => Ok(JournalEntry::Sent(Vat::A, Message::Unimplemented(resolve(HOSTED)))),
+        _ => Ok(sent(Vat::B, resolve(Descriptor::SenderHosted(ExportId(2))))),
+    }
+}
+
+/// Number 1xy: A's export 0 has count x, and B's import 0 has count y.
+fn of_tables(alloc: Global, number: u32) -> Result<JournalEntry, Memory> {
+    let exports = one(alloc, (ExportId(0), (number / 10) % 10))?;
+    let imports = one(alloc, (ExportId(0), number % 10))?;
+    let a = Counts {
+        exports,
+        imports: Items::new(alloc),
+    };
+    let b = Counts {
+        exports: Items::new(alloc),
+        imports,
+    };
+    Ok(JournalEntry::Tables(a, b))
+}
+
+fn doubled(alloc: Global) -> Result<JournalEntry, Memory> {
+    let mut exports = one(alloc, (ExportId(0), 1))?;
+    if exports.push((ExportId(0), 2)).is_err() {
+        return Err(Memory);
+    }
+    let imports = one(alloc, (ExportId(0), 3))?;
+    let a = Counts {
+        exports,
+        imports: Items::new(alloc),
+    };
+    let b = Counts {
+        exports: Items::new(alloc),
+        imports,
+    };
+    Ok(JournalEntry::Tables(a, b))
+}
+
+fn entry(alloc: Global, number: u32) -> Result<JournalEntry, Memory> {
+    match number {
+        0..=27 => of_call(alloc, number),
+        28..=49 => Ok(of_order(alloc, number)),
+        50..=98 => of_counts(alloc, number),
+        99 => doubled(alloc),
+        _ => of_tables(alloc, number),
+    }
+}
+
+fn entries(alloc: Global, numbers: &[u32]) -> Result<Vec<JournalEntry>, Memory> {
+    let mut entries = Vec::new(alloc);
+    for number in numbers {
+        let entry = entry(alloc, *number)?;
+        if entries.push(entry).is_err() {
+            return Err(Memory);
+        }
+    }
+    Ok(entries)
+}
+
+/// The verdict of the entries with those numbers, one by one.
+fn read(alloc: Global, numbers: &[u32]) -> Result<Verdict, Memory> {
+    let mut checker = Checker::new(alloc);
+    for number in numbers {
+        let entry = entry(alloc, *number)?;
+        checker = checker.take(alloc, &entry)?;
+    }
+    Ok(checker.verdict())
+}
+
+/// Where the first try has no memory for it, the second has.
+fn check_twice(alloc: Global, entries: &[JournalEntry]) -> Result<Verdict, Memory> {
+    match check(alloc, entries) {
+        Ok(verdict) => Ok(verdict),
+        Err(Memory) => check(alloc, entries),
+    }
+}
+
+fn says(rt: &impl Abort, alloc: Global, numbers: &[u32], verdict: Verdict) -> Result<(), Memory> {
+    let entries = match entries(alloc, numbers) {
+        Ok(entries) => entries,
+        Err(Memory) => entries(alloc, numbers)?,
+    };
+    let whole = check_twice(alloc, &entries)?;
+    assert_eq!(rt; whole, verdict);
+    let read = match read(alloc, numbers) {
+        Ok(verdict) => verdict,
+        Err(Memory) => read(alloc, numbers)?,
+    };
+    assert_eq!(rt; read, verdict);
+    Ok(())
+}
+
+/// Holds whichever allocation is refused, as do the others: run them with `rt try --test --fail-alloc N` too.
+#[test]
+fn a_call_is_good(rt: HostRuntime) -> Result<(), Memory> {
+    says(&rt, rt.alloc(), &CALL, Verdict::Good(1))
+}
+
+/// No beginning of a good trace breaks a law.
+#[test]
+fn a_cut_trace_is_good(rt: HostRuntime) -> Result<(), Memory> {
+    for end in 0..CALL.len() {
+        let delivered = if end < 10 { 0 } else { 1 };
+        says(&rt, rt.alloc(), &CALL[..end], Verdict::Good(delivered))?;
+    }
+    Ok(())
+}
+
+#[test]
+fn a_call_that_was_not_made(rt: HostRuntime) -> Result<(), Memory> {
+    let numbers = [
+        0, 1, 2, 3, 5, 6, 7, 8, 9, 10, 11, 12, 13, 14, 15, 16, 17, 18, 19, 20, 21, 22, 23, 24, 25,
+        26,
+    ];
+    says(&rt, rt.alloc(), &numbers, Verdict::Order(9))
+}
+
+#[test]
+fn a_message_that_was_not_sent(rt: HostRuntime) -> Result<(), Memory> {
+    let numbers = [
+        0, 1, 2, 3, 4, 5, 6, 8, 9, 10, 11, 12, 13, 14, 15, 16, 17, 18, 19, 20, 21, 22, 23, 24, 25,
+        26,
+    ];
+    says(&rt, rt.alloc(), &numbers, Verdict::Unmatched(10))
+}
+
+#[test]
+fn a_release_that_was_sent_twice(rt: HostRuntime) -> Result<(), Memory> {
+    let numbers = [
+        0, 1, 2, 3, 4, 5, 6, 7, 8, 9, 10, 11, 12, 13, 14, 15, 16, 17, 18, 19, 20, 21, 22, 23, 24,
+        24, 25, 26,
+    ];
+    says(&rt, rt.alloc(), &numbers, Verdict::Count(28))
+}
+
+#[test]
+fn a_vat_that_was_down(rt: HostRuntime) -> Result<(), Memory> {
+    let numbers = [0, 1, 2, 3, 4, 5, 6, 7, 8, 9, 10, 11, 27, 12, 13];
+    says(&rt, rt.alloc(), &numbers, Verdict::AfterDown(14))
+}
+
+#[test]
+fn calls_in_order(rt: HostRuntime) -> Result<(), Memory> {
+    let alloc = rt.alloc();
+    says(&rt, alloc, &[], Verdict::Good(0))?;
+    says(&rt, alloc, &[30, 31, 33, 34], Verdict::Good(2))?;
+    says(&rt, alloc, &[30, 33, 31, 34], Verdict::Good(2))?;
+    says(&rt, alloc, &[30, 32, 33, 37], Verdict::Good(2))
+}
+
+#[test]
+fn calls_out_of_order(rt: HostRuntime) -> Result<(), Memory> {
+    let alloc = rt.alloc();
+    says(&rt, alloc, &[30, 31, 34, 33], Verdict::Order(3))?;
+    says(&rt, alloc, &[30, 33, 33], Verdict::Order(3))?;
+    says(&rt, alloc, &[33, 30, 33], Verdict::Order(1))?;
+    says(&rt, alloc, &[32, 33], Verdict::Order(2))
+}
+
+#[test]
+fn calls_at_two_places(rt: HostRuntime) -> Result<(), Memory> {
+    let alloc = rt.alloc();
+    says(&rt, alloc, &[30, 31, 33, 35], Verdict::Order(4))?;
+    says(&rt, alloc, &[30, 31, 33, 36], Verdict::Order(4))
+}
+
+#[test]
+fn nothing_to_receive(rt: HostRuntime) -> Result<(), Memory> {
+    let alloc = rt.alloc();
+    says(&rt, alloc, &[53], Verdict::Unmatched(1))?;
+    says(&rt, alloc, &[50, 53], Verdict::Unmatched(2))?;
+    says(&rt, alloc, &[50, 51, 51], Verdict::Unmatched(3))
+}
+
+/// A vat that is down receives, and the other goes on.
+#[test]
+fn acts_of_a_vat_that_is_down(rt: HostRuntime) -> Result<(), Memory> {
+    let alloc = rt.alloc();
+    says(&rt, alloc, &[38, 50], Verdict::AfterDown(2))?;
+    says(&rt, alloc, &[38, 39], Verdict::AfterDown(2))?;
+    says(&rt, alloc, &[38, 11], Verdict::AfterDown(2))?;
+    says(&rt, alloc, &[32, 38, 37], Verdict::AfterDown(3))?;
+    says(&rt, alloc, &[38, 37], Verdict::Order(2))?;
+    says(&rt, alloc, &[52, 38, 53, 30, 33], Verdict::Good(1))
+}
+
+/// The counts of an export of A as it is sent to B twice and released once.
+#[test]
+fn counts_of_an_export(rt: HostRuntime) -> Result<(), Memory> {
+    let numbers = [50, 110, 51, 111, 52, 110, 50, 120, 53, 110, 51, 111];
+    says(&rt, rt.alloc(), &numbers, Verdict::Good(0))
+}
+
+#[test]
+fn counts_that_differ(rt: HostRuntime) -> Result<(), Memory> {
+    let alloc = rt.alloc();
+    says(&rt, alloc, &[50, 111], Verdict::Count(2))?;
+    says(&rt, alloc, &[50, 51, 110], Verdict::Count(3))?;
+    says(&rt, alloc, &[50, 51, 52, 100], Verdict::Count(4))?;
+    says(&rt, alloc, &[57, 100], Verdict::Count(2))?;
+    says(&rt, alloc, &[27, 110], Verdict::Good(0))
+}
+
+#[test]
+fn what_counts(rt: HostRuntime) -> Result<(), Memory> {
+    let alloc = rt.alloc();
+    says(&rt, alloc, &[54, 110], Verdict::Good(0))?;
+    says(&rt, alloc, &[54, 100], Verdict::Count(2))?;
+    says(&rt, alloc, &[55, 100], Verdict::Good(0))?;
+    says(&rt, alloc, &[56, 100], Verdict::Good(0))
+}
+
+/// An id that stands twice in a list has the sum.
+#[test]
+fn doubled_ids_add_up(rt: HostRuntime) -> Result<(), Memory> {
+    says(&rt, rt.alloc(), &[99], Verdict::Good(0))
+}

@@ -1,0 +1,4 @@
+pub mod Going
+pub mod Ends
+pub mod TableText
+pub mod Tallied
