@@ -1,5 +1,5 @@
 -- What contracts see of a payload.
-use Rattle.std.specs.Prelude.{◌≡◌, ℕ, Bool, ◌==◌, ◌&&◌, nat_eq, List, Ok, Err, IsOk}
+use Rattle.std.specs.Prelude.{◌≡◌, ◌<◌, ℕ, slice_index, Bool, ◌==◌, ◌&&◌, nat_eq, List, [], ◌∷◌, Ok, Err, IsOk}
 use Rattle.std.specs.Cmp.{IsEquivalence, and_equiv, on_equiv, nat_eq_equiv}
 use Rattle.std.specs.Cmp.Lexicographic.{pointwise, nat_list_eq_equiv}
 use Rattle.capn_wire.specs.Trees.{Tree, null}
@@ -15,6 +15,11 @@ pub record Contents : Type 0 where
 abbrev pub IsEncoded : Contents → Type 0
 IsEncoded p = IsOk (message_of p.bytes p.caps)
 
+-- what holds of every payload
+pub record IsPayload (p : Contents) : Type 0 where
+  pub encoded : IsEncoded p
+  pub bytes : (i : ℕ) → slice_index p.bytes i < 256
+
 abbrev pub tree_read : Reading Tree → Tree
 tree_read (Ok x) = x.0
 tree_read (Err e) = null
@@ -28,6 +33,14 @@ pub record Says (p : Contents) (m : List (List ℕ)) (t : Tree) : Type 0 where
   pub framed : IsFramed p.bytes m
   pub visited : ℕ
   pub read : root_of m p.caps ≡ Ok (t, visited)
+
+-- the payload of a null pointer, with no capabilities: one segment of one word, after the word that says so
+abbrev pub null_payload : Contents
+null_payload = record { bytes = 0 ∷ 0 ∷ 0 ∷ 0 ∷ 1 ∷ 0 ∷ 0 ∷ 0 ∷ 0 ∷ 0 ∷ 0 ∷ 0 ∷ 0 ∷ 0 ∷ 0 ∷ 0 ∷ []; caps = 0 }
+
+-- the payload of a pointer to capability 0, the only one
+abbrev pub root_payload : Contents
+root_payload = record { bytes = 0 ∷ 0 ∷ 0 ∷ 0 ∷ 1 ∷ 0 ∷ 0 ∷ 0 ∷ 3 ∷ 0 ∷ 0 ∷ 0 ∷ 0 ∷ 0 ∷ 0 ∷ 0 ∷ []; caps = 1 }
 
 -- equality as a test
 abbrev pub same_contents : Contents → Contents → Bool

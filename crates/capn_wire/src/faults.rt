@@ -4,13 +4,13 @@ ghost use Rattle.capn_wire.specs.Numbers.{number_of, write_number_of};
 
 use thiserror::Error;
 
-/// Memory ran out.
-#[derive(Clone, Copy, Debug, PartialEq, Eq, Error)]
+/// Want of memory: a growth was refused.
+#[derive(Clone, Copy, Debug, PartialEq, Eq, Drop, Error)]
 #[error("out of memory")]
 pub struct Memory;
 
 /// The first check of a payload's encoding that fails.
-#[derive(Clone, Copy, Debug, PartialEq, Eq, Error)]
+#[derive(Clone, Copy, Debug, PartialEq, Eq, Drop, Error)]
 pub enum PayloadFault {
     /// Memory ran out. The bytes are well formed.
     #[error("out of memory")]
@@ -73,7 +73,7 @@ impl PayloadFault {
 }
 
 /// Why a tree can't be written. The numbers are those of `PayloadFault`.
-#[derive(Clone, Copy, Debug, PartialEq, Eq, Error)]
+#[derive(Clone, Copy, Debug, PartialEq, Eq, Drop, Error)]
 pub enum WriteFault {
     /// Memory ran out. The tree can be written.
     #[error("out of memory")]

@@ -1,7 +1,7 @@
 //! Paths from a payload's root to a capability.
 
-/// A step of a path.
-#[derive(Clone, Copy, Debug, PartialEq, Eq)]
+/// One step of a path (`PromisedAnswer.Op`).
+#[derive(Clone, Copy, Debug, PartialEq, Eq, PartialOrd, Ord, Hash, Drop)]
 pub enum Op {
     /// Stays.
     Noop,
@@ -10,7 +10,7 @@ pub enum Op {
 }
 
 /// What stands at a path.
-#[derive(Clone, Copy, Debug, PartialEq, Eq)]
+#[derive(Clone, Copy, Debug, PartialEq, Eq, Drop)]
 pub enum CapAt {
     /// The capability of that index.
     Cap(u32),

@@ -14,7 +14,7 @@ use crate::place::place;
 use crate::tree::Tree;
 use crate::walk::walk_pointer;
 use crate::write::{message_of, refusal_of};
-use std::alloc::Global;
+use std::alloc::{AllocError, Global};
 use std::marker::Model;
 use std::sync::Arc;
 
@@ -31,13 +31,13 @@ pub struct Payload {
 
 impl Model for Payload {
     ghost use Rattle.std.specs.Arc.{arc_value};
-    ghost use Rattle.capn_wire.specs.Payloads.{Contents, IsEncoded};
+    ghost use Rattle.capn_wire.specs.Payloads.{Contents, IsPayload};
 
     ghost Value = { Contents };
 
     ghost view = { λ a. record { bytes = (arc_value a.bytes).items; caps = a.caps } };
 
-    ghost invariant = { λ a. IsEncoded (record { bytes = (arc_value a.bytes).items; caps = a.caps }) };
+    ghost invariant = { λ a. IsPayload (record { bytes = (arc_value a.bytes).items; caps = a.caps }) };
 }
 
 /// The visited words of a message, or the first check that fails.
@@ -53,8 +53,8 @@ fn visited_words(bytes: &[u8], caps: u32) -> Result<u32, PayloadFault>
 }
 
 impl Payload {
-    ghost use Rattle.capn_wire.specs.Payloads.{IsEncoded, Says, tree_of};
-    ghost use Rattle.capn_wire.specs.Trees.{Tree as SpecTree};
+    ghost use Rattle.capn_wire.specs.Payloads.{IsEncoded, IsPayload, Says, tree_of, null_payload, root_payload};
+    ghost use Rattle.capn_wire.specs.Trees.{Tree as SpecTree, null, capability};
     ghost use Rattle.capn_wire.specs.Views.{view};
     ghost use Rattle.capn_wire.specs.Walking.{capability_at};
     ghost use Rattle.capn_wire.specs.Placing.{written};
@@ -85,9 +85,18 @@ impl Payload {
         let Ok(copy) = Vec::from_slice(alloc, bytes) else {
             return Err(PayloadFault::Memory);
         };
-        let Ok(bytes) = Arc::new(alloc, copy) else {
+        let Ok(payload) = Payload::sharing(alloc, copy, caps) else {
             return Err(PayloadFault::Memory);
         };
+        Ok(payload)
+    }
+
+    /// The payload of these bytes, which its copies will share.
+    fn sharing(alloc: Global, bytes: Vec<u8>, caps: u32) -> Result<Payload, AllocError>
+        requires { IsEncoded (record { bytes = bytes.items; caps = caps }) }
+        ensures { IfOk result (λ p. p ≡ record { bytes = bytes.items; caps = caps }) }
+    {
+        let bytes = Arc::new(alloc, bytes)?;
         Ok(Payload { bytes, caps })
     }
 
@@ -111,15 +120,36 @@ impl Payload {
         let Ok(message) = message_of(alloc, &words) else {
             return Err(WriteFault::Memory);
         };
-        let Ok(bytes) = Arc::new(alloc, message) else {
+        let Ok(payload) = Payload::sharing(alloc, message, caps) else {
             return Err(WriteFault::Memory);
         };
-        Ok(Payload { bytes, caps })
+        Ok(payload)
+    }
+
+    /// The payload of a null pointer, which goes with no capabilities.
+    pub fn null(alloc: Global) -> Result<Payload, Memory>
+        ensures { IfOk result (λ p. (p ≡ null_payload) × (tree_of p ≡ null)) }
+    {
+        let Ok(payload) = Payload::write(alloc, &Tree::Null, 0) else {
+            return Err(Memory);
+        };
+        Ok(payload)
+    }
+
+    /// The payload of a pointer to the only capability that goes with it.
+    pub fn root_capability(alloc: Global) -> Result<Payload, Memory>
+        ensures { IfOk result (λ p. (p ≡ root_payload) × (tree_of p ≡ capability 0)) }
+    {
+        let Ok(payload) = Payload::write(alloc, &Tree::Cap(0), 1) else {
+            return Err(Memory);
+        };
+        Ok(payload)
     }
 
     /// The bytes of the message.
     pub fn bytes(&self) -> &[u8]
-        ensures { result.now ≡ self.now.bytes }
+        ensures value { result.now ≡ self.now.bytes }
+        ensures payload { IsPayload self.now }
     {
         let shared = &self.bytes;
         shared.as_slice()
@@ -167,10 +197,10 @@ impl Payload {
         let Ok(copy) = Vec::from_slice(alloc, self.bytes.as_slice()) else {
             return Err(Memory);
         };
-        let Ok(bytes) = Arc::new(alloc, copy) else {
+        let Ok(payload) = Payload::sharing(alloc, copy, caps) else {
             return Err(Memory);
         };
-        Ok(Payload { bytes, caps })
+        Ok(payload)
     }
 }
 

@@ -1,7 +1,9 @@
 //! Worked values of the encoding, refused allocations, and messages that the `capnp` tool made.
 mod messages;
 
-use crate::{CapAt, Fields, Items, Op, Payload, PayloadFault, Tree, WriteFault, write_and_read};
+use crate::{
+    CapAt, Fields, Items, Memory, Op, Payload, PayloadFault, Tree, WriteFault, write_and_read,
+};
 use std::alloc::Global;
 use std::test::Fail;
 
@@ -189,6 +191,28 @@ fn copies_its_bytes_and_capabilities(rt: HostRuntime) -> Result<(), Fail> {
     assert_eq!(rt; copy.caps(), 1);
     let other = Payload::read(rt.alloc(), &bytes, 2)?;
     assert!(rt; copy != other);
+    Ok(())
+}
+
+#[test]
+fn a_null_payload_is_one_word_after_its_head(rt: HostRuntime) -> Result<(), Memory> {
+    let null = Payload::null(rt.alloc())?;
+    let bytes = [0, 0, 0, 0, 1, 0, 0, 0, 0, 0, 0, 0, 0, 0, 0, 0];
+    assert_eq!(rt; null.bytes(), bytes.as_slice());
+    assert_eq!(rt; null.caps(), 0);
+    assert_eq!(rt; null.cap_at(&[Op::Noop, Op::Field(0)]), CapAt::Null);
+    Ok(())
+}
+
+#[test]
+fn a_root_capability_is_one_word_after_its_head(rt: HostRuntime) -> Result<(), Memory> {
+    let root = Payload::root_capability(rt.alloc())?;
+    let bytes = [0, 0, 0, 0, 1, 0, 0, 0, 3, 0, 0, 0, 0, 0, 0, 0];
+    assert_eq!(rt; root.bytes(), bytes.as_slice());
+    assert_eq!(rt; root.caps(), 1);
+    assert_eq!(rt; root.cap_at(&[]), CapAt::Cap(0));
+    assert_eq!(rt; root.cap_at(&[Op::Noop]), CapAt::Cap(0));
+    assert_eq!(rt; root.cap_at(&[Op::Noop, Op::Field(0)]), CapAt::NotCap);
     Ok(())
 }
 

@@ -3,8 +3,8 @@ use Rattle.std.specs.Prelude.{ℕ, suc, ◌+◌, ◌-◌, ◌≡◌, ◌<◌, Li
 use Rattle.std.proofs.Common.{arith, sym, ◌∙◌, ap, append_assoc}
 use Rattle.std.proofs.lemmas.List.{length-take-le, length-append, take_more_set, length-set}
 use Rattle.std.proofs.Math.Seq.{set-append_seam}
-use Rattle.rpc_msg.specs.declared.path.Op.{Op}
-use Rattle.rpc_msg.specs.declared.path.Op.TheVariants.{Noop}
+use Rattle.capn_wire.specs.declared.path.Op.{Op}
+use Rattle.capn_wire.specs.declared.path.Op.TheVariants.{Noop}
 use Rattle.rpc_msg.specs.Places.{padded, IsPadded}
 
 padded_split : (xs : List Op) (k n : ℕ) → n ≡ suc k → xs ++ replicate n Noop ≡ xs ++ Noop ∷ replicate k Noop

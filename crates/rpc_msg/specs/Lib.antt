@@ -1,5 +1,4 @@
 pub mod Messages
 pub mod Paths
-pub mod Payloads
 pub mod Places
 pub mod Vats

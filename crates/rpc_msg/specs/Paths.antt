@@ -1,7 +1,7 @@
 -- Paths into payloads (PromisedAnswer.Op).
 use Rattle.std.specs.Prelude.{List, [], ◌∷◌}
-use Rattle.rpc_msg.specs.declared.path.Op.{Op}
-use Rattle.rpc_msg.specs.declared.path.Op.TheVariants.{Noop, Field}
+use Rattle.capn_wire.specs.declared.path.Op.{Op}
+use Rattle.capn_wire.specs.declared.path.Op.TheVariants.{Noop, Field}
 
 -- A path without its Noops, which lead nowhere.
 abbrev pub fields : List Op → List Op

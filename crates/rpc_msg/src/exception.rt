@@ -1,7 +1,7 @@
 ghost use Rattle.std.specs.Prelude.{◌≡◌, IfOk};
 
-use crate::memory::Memory;
 use crate::text::Text;
+use capn_wire::Memory;
 use std::alloc::Global;
 
 /// What went wrong, by what a caller may do about it (`Exception.Type`).

@@ -4,26 +4,23 @@
 mod exception;
 mod ids;
 mod items;
-mod memory;
 mod message;
 mod parts;
 mod path;
-mod payload;
 #[cfg(test)]
 mod tests;
 mod text;
 
+pub use capn_wire::{CapAt, Memory, Op, Payload, PayloadFault, Tree};
 pub use exception::{Exception, ExceptionKind};
 pub use ids::{
     CallId, EmbargoId, ExportId, ObjectId, PromiseId, QuestionId, RefId, Stamp, TaskId, Vat,
 };
 pub use items::Items;
-pub use memory::Memory;
 pub use message::{
     Call, Disembargo, DisembargoContext, Finish, Frame, Message, PlainMessage, Release, Resolve,
     ResolvedTo, Return, ReturnBody,
 };
 pub use parts::{Descriptor, Target};
-pub use path::{Op, PATH_LIMIT, Path};
-pub use payload::{CapAt, Payload};
+pub use path::{PATH_LIMIT, Path};
 pub use text::Text;

@@ -4,9 +4,8 @@ ghost use Rattle.rpc_msg.specs.Messages.{descriptors_of};
 use crate::exception::Exception;
 use crate::ids::{EmbargoId, ExportId, QuestionId, Stamp};
 use crate::items::Items;
-use crate::memory::Memory;
 use crate::parts::{Descriptor, Target};
-use crate::payload::Payload;
+use capn_wire::{Memory, Payload};
 use std::alloc::Global;
 
 /// Asks for the outcome of a method of an object (`Call`).

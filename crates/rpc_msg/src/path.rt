@@ -1,16 +1,8 @@
 ghost use Rattle.std.specs.Prelude.{◌≡◌, ◌≤◌, ◌<◌, ◌↔◌, [], ◌∷◌, ◌++◌, length, IfSome, IsNone};
 ghost use Rattle.rpc_msg.specs.Paths.{fields};
 
+use capn_wire::Op;
 use std::marker::Model;
-
-/// One step of a path (`PromisedAnswer.Op`).
-#[derive(Clone, Copy, Debug, PartialEq, Eq, PartialOrd, Ord, Hash, Drop)]
-pub enum Op {
-    /// Stays where it is.
-    Noop,
-    /// The pointer field of that number, counted in the pointer section from 0 (`getPointerField`).
-    Field(u16),
-}
 
 /// The most steps that a path may have.
 pub const PATH_LIMIT: usize = 16;
@@ -25,7 +17,7 @@ pub struct Path {
 
 impl Model for Path {
     ghost use Rattle.std.specs.Prelude.{List, length, take};
-    ghost use Rattle.rpc_msg.specs.declared.path.Op.{Op};
+    ghost use Rattle.capn_wire.specs.declared.path.Op.{Op};
 
     ghost Value = { List Op };
 

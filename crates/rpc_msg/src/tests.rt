@@ -1,7 +1,7 @@
 use crate::{
-    Call, CapAt, Descriptor, Disembargo, DisembargoContext, EmbargoId, Exception, ExceptionKind,
-    ExportId, Finish, Frame, Items, Memory, Message, Op, Path, Payload, PlainMessage, QuestionId,
-    RefId, Release, Resolve, ResolvedTo, Return, ReturnBody, Stamp, Target, Text, Vat,
+    Call, Descriptor, Disembargo, DisembargoContext, EmbargoId, Exception, ExceptionKind, ExportId,
+    Finish, Frame, Items, Memory, Message, Op, Path, Payload, PlainMessage, QuestionId, RefId,
+    Release, Resolve, ResolvedTo, Return, ReturnBody, Stamp, Target, Text, Vat,
 };
 use std::alloc::Global;
 use std::process::Abort;
@@ -10,28 +10,6 @@ use std::process::Abort;
 fn each_vat_has_the_other(rt: HostRuntime) {
     assert_eq!(rt; Vat::A.other(), Vat::B);
     assert_eq!(rt; Vat::B.other(), Vat::A);
-}
-
-#[test]
-fn a_null_payload_is_one_word_after_its_head(rt: HostRuntime) -> Result<(), Memory> {
-    let null = Payload::Null.copy(rt.alloc())?;
-    let bytes = [0, 0, 0, 0, 1, 0, 0, 0, 0, 0, 0, 0, 0, 0, 0, 0];
-    assert_eq!(rt; null.bytes(), bytes.as_slice());
-    assert_eq!(rt; null.caps(), 0);
-    assert_eq!(rt; null.cap_at(&[Op::Noop, Op::Field(0)]), CapAt::Null);
-    Ok(())
-}
-
-#[test]
-fn a_root_capability_is_one_word_after_its_head(rt: HostRuntime) -> Result<(), Memory> {
-    let root = Payload::RootCapability.copy(rt.alloc())?;
-    let bytes = [0, 0, 0, 0, 1, 0, 0, 0, 3, 0, 0, 0, 0, 0, 0, 0];
-    assert_eq!(rt; root.bytes(), bytes.as_slice());
-    assert_eq!(rt; root.caps(), 1);
-    assert_eq!(rt; root.cap_at(&[]), CapAt::Cap(0));
-    assert_eq!(rt; root.cap_at(&[Op::Noop]), CapAt::Cap(0));
-    assert_eq!(rt; root.cap_at(&[Op::Noop, Op::Field(0)]), CapAt::NotCap);
-    Ok(())
 }
 
 // A path of these steps. Where they are too many it is the root.
@@ -176,33 +154,36 @@ fn descriptors(alloc: Global) -> Result<Items<Descriptor>, Memory> {
     Ok(descriptors)
 }
 
-fn call_with(descriptors: Items<Descriptor>) -> Call {
-    Call {
+fn call_with(alloc: Global, descriptors: Items<Descriptor>) -> Result<Call, Memory> {
+    let payload = Payload::root_capability(alloc)?;
+    Ok(Call {
         question: QuestionId(6),
         target: Target::PromisedAnswer(QuestionId(5), path(&[Op::Field(2)])),
         interface: 0xffff_ffff_ffff_ffff,
         method: 8,
-        payload: Payload::RootCapability,
+        payload,
         descriptors,
         stamp: Stamp {
             vat: Vat::B,
             reference: RefId(9),
             index: 10,
         },
-    }
+    })
 }
 
 fn call(alloc: Global) -> Result<PlainMessage, Memory> {
     let descriptors = descriptors(alloc)?;
-    Ok(PlainMessage::Call(call_with(descriptors)))
+    let call = call_with(alloc, descriptors)?;
+    Ok(PlainMessage::Call(call))
 }
 
 fn results(alloc: Global) -> Result<PlainMessage, Memory> {
     let descriptors = descriptors(alloc)?;
+    let payload = Payload::root_capability(alloc)?;
     Ok(PlainMessage::Return(Return {
         answer: QuestionId(6),
         release_param_caps: true,
-        body: ReturnBody::Results(Payload::RootCapability, descriptors),
+        body: ReturnBody::Results(payload, descriptors),
     }))
 }
 

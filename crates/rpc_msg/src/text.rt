@@ -1,6 +1,6 @@
 ghost use Rattle.std.specs.Prelude.{◌≡◌, string_bytes, IfOk};
 
-use crate::memory::Memory;
+use capn_wire::Memory;
 use std::alloc::Global;
 use std::marker::Model;
 

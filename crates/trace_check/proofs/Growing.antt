@@ -8,7 +8,7 @@ use Rattle.std.proofs.lemmas.Bool.{and_from}
 use Rattle.vat_journal.specs.declared.entry.JournalEntry.{JournalEntry}
 use Rattle.vat_journal.specs.History.{in_front, all_that}
 
-in_front-append : {X : Type 0} (o : Option X) (xs ys : List X) → in_front o (xs ++ ys) ≡ in_front o xs ++ ys
+pub in_front-append : {X : Type 0} (o : Option X) (xs ys : List X) → in_front o (xs ++ ys) ≡ in_front o xs ++ ys
 in_front-append None xs ys = refl
 in_front-append (Some x) xs ys = refl
 

@@ -3,6 +3,7 @@ pub mod Given
 pub mod OneWay
 pub mod Evens
 pub mod Growing
+pub mod Saying
 pub mod Turns
 pub mod Called
 pub mod Moving

@@ -11,14 +11,16 @@ use Rattle.vat_journal.specs.declared.entry.Counts.{Counts}
 use Rattle.vat_journal.specs.declared.entry.JournalEntry.{JournalEntry}
 use Rattle.vat_journal.specs.declared.entry.JournalEntry.TheVariants as entry
 use Rattle.vat_journal.specs.History.{in_front}
+use Rattle.trace_check.specs.declared.said.Said.{Said}
 use Rattle.trace_check.specs.declared.way.Way.{Way}
 use Rattle.trace_check.specs.declared.ways.Ways.{Ways}
 use Rattle.trace_check.specs.declared.downs.Downs.{Downs}
-use Rattle.trace_check.specs.Breaches.{sent_one, sent, is_got, got, on_the_way, none_left, gets_nothing, falls, is_down, counted_on_the_way, agrees, miscounts}
-use Rattle.trace_check.specs.Counts.{CountsById, count_of, same_counts, handed_on, released, of_each}
-use Rattle.trace_check.specs.Kept.{amount, IsWay, IsWayOf, WaysFor, way_of, rest_of, is_some_left, DownsFor}
+use Rattle.trace_check.specs.Breaches.{sent_one, sent, sendings, is_got, got, on_the_way, none_left, gets_nothing, falls, is_down, counted_on_the_way, agrees, miscounts}
+use Rattle.trace_check.specs.Counts.{CountsById, count_of, same_counts, Sending, gives, releases, of_each}
+use Rattle.trace_check.specs.Kept.{amount, IsSaid, IsWay, IsWayOf, WaysFor, way_of, rest_of, is_some_left, DownsFor}
 use Rattle.trace_check.proofs.Counting.{count_of-append}
 use Rattle.trace_check.proofs.Growing.{all_that_more, all_that_same, count_more}
+use Rattle.trace_check.proofs.Saying.{sendings_more, sendings_same}
 
 abbrev pub with_way : Ways → Vat → Way → Ways
 with_way w A n = record { a = n; b = w.b }
@@ -34,73 +36,84 @@ got_one h e v is = count_more (is_got v) h e ∙ ap (λ b. got h v + cond b 1 0)
 
 pub way_stays : (w : Way) (v : Vat) (h : List JournalEntry) (e : JournalEntry) → sent_one v e ≡ None → is_got (other_vat v) e ≡ false → IsWayOf w v h → IsWayOf w v (h ++ e ∷ [])
 way_stays w v h e none nope is =
-    let s = all_that_same (sent_one v) h e none in
+    let s = sendings_same h e v none in
     let g = got_same h e (other_vat v) nope in
     record {
-      way = subst (λ (n : ℕ). IsWay w (drop n (sent (h ++ e ∷ []) v))) (sym g) (subst (λ (ms : List Message). IsWay w (drop (got h (other_vat v)) ms)) (sym s) is.way);
-      fewer = subst (λ (n : ℕ). n ≤ length (sent (h ++ e ∷ []) v)) (sym g) (subst (λ (ms : List Message). got h (other_vat v) ≤ length ms) (sym s) is.fewer);
+      way = subst (λ (n : ℕ). IsWay w (drop n (sendings (h ++ e ∷ []) v))) (sym g) (subst (λ (ss : List Sending). IsWay w (drop (got h (other_vat v)) ss)) (sym s) is.way);
+      fewer = subst (λ (n : ℕ). n ≤ length (sendings (h ++ e ∷ []) v)) (sym g) (subst (λ (ss : List Sending). got h (other_vat v) ≤ length ss) (sym s) is.fewer);
+      said = subst (IsSaid w.said) (sym (all_that_same (sent_one v) h e none)) is.said;
     }
 
-way_sent : (w n : Way) (v : Vat) (m : Message) (h : List JournalEntry) (e : JournalEntry) → sent_one v e ≡ Some m → is_got (other_vat v) e ≡ false → IsWayOf w v h → IsWay n (on_the_way h v ++ m ∷ []) → IsWayOf n v (h ++ e ∷ [])
-way_sent w n v m h e one nope is new =
-    let s : sent (h ++ e ∷ []) v ≡ sent h v ++ m ∷ [] = all_that_more (sent_one v) h e ∙ ap (λ o. sent h v ++ in_front o []) one in
+way_sent : (w n : Way) (v : Vat) (m : Message) (h : List JournalEntry) (e : JournalEntry) → sent_one v e ≡ Some m → is_got (other_vat v) e ≡ false → IsWayOf w v h
+    → IsWay n (on_the_way h v ++ record { message = m; before = sent h (other_vat v) } ∷ []) → IsSaid n.said (sent h v ++ m ∷ []) → IsWayOf n v (h ++ e ∷ [])
+way_sent w n v m h e one nope is new said =
+    let x : Sending = record { message = m; before = sent h (other_vat v) } in
+    let s : sendings (h ++ e ∷ []) v ≡ sendings h v ++ x ∷ [] = sendings_more h e v m one in
     let g = got_same h e (other_vat v) nope in
     let k = got h (other_vat v) in
     record {
-      way = subst (IsWay n) (sym (ap (λ (j : ℕ). drop j (sent (h ++ e ∷ []) v)) g ∙ ap (drop k) s ∙ drop-append-le k (sent h v) (m ∷ []) is.fewer)) new;
-      fewer = omega (arith, g, ap length s, length-append (sent h v) (m ∷ []), is.fewer);
+      way = subst (IsWay n) (sym (ap (λ (j : ℕ). drop j (sendings (h ++ e ∷ []) v)) g ∙ ap (drop k) s ∙ drop-append-le k (sendings h v) (x ∷ []) is.fewer)) new;
+      fewer = omega (arith, g, ap length s, length-append (sendings h v) (x ∷ []), is.fewer);
+      said = subst (IsSaid n.said) (sym (all_that_more (sent_one v) h e ∙ ap (λ o. sent h v ++ in_front o []) one)) said;
     }
 
-rest-drop : (n : ℕ) (xs : List Message) → rest_of (drop n xs) ≡ drop (suc n) xs
+rest-drop : (n : ℕ) (xs : List Sending) → rest_of (drop n xs) ≡ drop (suc n) xs
 rest-drop zero [] = refl
 rest-drop zero (x ∷ xs) = refl
 rest-drop (suc n) [] = refl
 rest-drop (suc n) (x ∷ xs) = rest-drop n xs
 
-left_below : (n : ℕ) (xs : List Message) → is_some_left (drop n xs) ≡ true → n < length xs
+left_below : (n : ℕ) (xs : List Sending) → is_some_left (drop n xs) ≡ true → n < length xs
 left_below zero [] left = absurd (let f : false ≡ true = left in cc)
 left_below zero (x ∷ xs) left = omega arith
 left_below (suc n) [] left = absurd (let f : false ≡ true = left in cc)
 left_below (suc n) (x ∷ xs) left = omega (arith, left_below n xs left)
 
-way_got : (w n : Way) (v : Vat) (h : List JournalEntry) (e : JournalEntry) → sent_one v e ≡ None → is_got (other_vat v) e ≡ true → IsWayOf w v h → is_some_left (on_the_way h v) ≡ true → IsWay n (rest_of (on_the_way h v)) → IsWayOf n v (h ++ e ∷ [])
-way_got w n v h e none is_one is left new =
-    let s = all_that_same (sent_one v) h e none in
+way_got : (w n : Way) (v : Vat) (h : List JournalEntry) (e : JournalEntry) → sent_one v e ≡ None → is_got (other_vat v) e ≡ true → IsWayOf w v h → is_some_left (on_the_way h v) ≡ true → IsWay n (rest_of (on_the_way h v)) → n.said ≡ w.said → IsWayOf n v (h ++ e ∷ [])
+way_got w n v h e none is_one is left new same =
+    let s = sendings_same h e v none in
     let g = got_one h e (other_vat v) is_one in
     let k = got h (other_vat v) in
     record {
-      way = subst (IsWay n) (rest-drop k (sent h v) ∙ sym (ap (λ (j : ℕ). drop j (sent (h ++ e ∷ []) v)) g ∙ ap (drop (suc k)) s)) new;
-      fewer = omega (arith, g, ap length s, left_below k (sent h v) left);
+      way = subst (IsWay n) (rest-drop k (sendings h v) ∙ sym (ap (λ (j : ℕ). drop j (sendings (h ++ e ∷ []) v)) g ∙ ap (drop (suc k)) s)) new;
+      fewer = omega (arith, g, ap length s, left_below k (sendings h v) left);
+      said = subst (λ x. IsSaid x (sent (h ++ e ∷ []) v)) (sym same) (subst (IsSaid w.said) (sym (all_that_same (sent_one v) h e none)) is.said);
     }
 
 -- ---- Both
 
-pub ways_sent : (w : Ways) (n : Way) (v : Vat) (m : Message) (h : List JournalEntry) (e : JournalEntry) → e ≡ entry.Sent v m → WaysFor w h → ((ms : List Message) → IsWay (way_of w v) ms → IsWay n (ms ++ m ∷ [])) → WaysFor (with_way w v n) (h ++ e ∷ [])
+-- What a way does with a message that is sent while the other vat has said some.
+abbrev pub Sends : (w n : Way) → Said → Message → Type 0
+Sends w n other m =
+    ((ss : List Sending) (before : List Message) → IsWay w ss → IsSaid other before → IsWay n (ss ++ record { message = m; before = before } ∷ []))
+    × ((ms : List Message) → IsSaid w.said ms → IsSaid n.said (ms ++ m ∷ []))
+
+pub ways_sent : (w : Ways) (n : Way) (v : Vat) (m : Message) (h : List JournalEntry) (e : JournalEntry) → e ≡ entry.Sent v m → WaysFor w h → Sends (way_of w v) n (way_of w (other_vat v)).said m → WaysFor (with_way w v n) (h ++ e ∷ [])
 ways_sent w n v m h e is now new = subst (λ x. WaysFor (with_way w v n) (h ++ x ∷ [])) (sym is) (sends v new)
   where
-    sends : (v : Vat) → ((ms : List Message) → IsWay (way_of w v) ms → IsWay n (ms ++ m ∷ [])) → WaysFor (with_way w v n) (h ++ entry.Sent v m ∷ [])
-    sends A new A = way_sent w.a n A m h (entry.Sent A m) refl refl (now A) (new _ (now A).way)
+    sends : (v : Vat) → Sends (way_of w v) n (way_of w (other_vat v)).said m → WaysFor (with_way w v n) (h ++ entry.Sent v m ∷ [])
+    sends A new A = way_sent w.a n A m h (entry.Sent A m) refl refl (now A) (new.0 _ _ (now A).way (now B).said) (new.1 _ (now A).said)
     sends A new B = way_stays w.b B h (entry.Sent A m) refl refl (now B)
     sends B new A = way_stays w.a A h (entry.Sent B m) refl refl (now A)
-    sends B new B = way_sent w.b n B m h (entry.Sent B m) refl refl (now B) (new _ (now B).way)
+    sends B new B = way_sent w.b n B m h (entry.Sent B m) refl refl (now B) (new.0 _ _ (now B).way (now A).said) (new.1 _ (now B).said)
 
-left_told : (ms : List Message) → is_some_left ms ≡ not (none_left ms)
+left_told : (ss : List Sending) → is_some_left ss ≡ not (none_left ss)
 left_told [] = refl
-left_told (m ∷ ms) = refl
+left_told (s ∷ ss) = refl
 
 -- Vat v receives: a message of the other goes.
-pub ways_told : (w : Ways) (v : Vat) (h : List JournalEntry) (e : JournalEntry) → e ≡ entry.Got (other_vat v) → WaysFor w h → (b : Bool) → ((ms : List Message) → IsWay (way_of w v) ms → b ≡ is_some_left ms) → b ≡ not (gets_nothing h e)
+pub ways_told : (w : Ways) (v : Vat) (h : List JournalEntry) (e : JournalEntry) → e ≡ entry.Got (other_vat v) → WaysFor w h → (b : Bool) → ((ss : List Sending) → IsWay (way_of w v) ss → b ≡ is_some_left ss) → b ≡ not (gets_nothing h e)
 ways_told w A h e is now b told = told _ (now A).way ∙ left_told (on_the_way h A) ∙ ap (λ x. not (gets_nothing h x)) (sym is)
 ways_told w B h e is now b told = told _ (now B).way ∙ left_told (on_the_way h B) ∙ ap (λ x. not (gets_nothing h x)) (sym is)
 
-pub ways_got : (w : Ways) (n : Way) (v : Vat) (h : List JournalEntry) (e : JournalEntry) → e ≡ entry.Got (other_vat v) → WaysFor w h → ((ms : List Message) → IsWay (way_of w v) ms → true ≡ is_some_left ms) → ((ms : List Message) → IsWay (way_of w v) ms → IsWay n (rest_of ms)) → WaysFor (with_way w v n) (h ++ e ∷ [])
-ways_got w n v h e is now told new = subst (λ x. WaysFor (with_way w v n) (h ++ x ∷ [])) (sym is) (gets v told new)
+pub ways_got : (w : Ways) (n : Way) (v : Vat) (h : List JournalEntry) (e : JournalEntry) → e ≡ entry.Got (other_vat v) → WaysFor w h → ((ss : List Sending) → IsWay (way_of w v) ss → true ≡ is_some_left ss) → ((ss : List Sending) → IsWay (way_of w v) ss → IsWay n (rest_of ss)) → n.said ≡ (way_of w v).said → WaysFor (with_way w v n) (h ++ e ∷ [])
+ways_got w n v h e is now told new same = subst (λ x. WaysFor (with_way w v n) (h ++ x ∷ [])) (sym is) (gets v told new same)
   where
-    gets : (v : Vat) → ((ms : List Message) → IsWay (way_of w v) ms → true ≡ is_some_left ms) → ((ms : List Message) → IsWay (way_of w v) ms → IsWay n (rest_of ms)) → WaysFor (with_way w v n) (h ++ entry.Got (other_vat v) ∷ [])
-    gets A told new A = way_got w.a n A h (entry.Got B) refl refl (now A) (sym (told _ (now A).way)) (new _ (now A).way)
-    gets A told new B = way_stays w.b B h (entry.Got B) refl refl (now B)
-    gets B told new A = way_stays w.a A h (entry.Got A) refl refl (now A)
-    gets B told new B = way_got w.b n B h (entry.Got A) refl refl (now B) (sym (told _ (now B).way)) (new _ (now B).way)
+    gets : (v : Vat) → ((ss : List Sending) → IsWay (way_of w v) ss → true ≡ is_some_left ss) → ((ss : List Sending) → IsWay (way_of w v) ss → IsWay n (rest_of ss)) → n.said ≡ (way_of w v).said → WaysFor (with_way w v n) (h ++ entry.Got (other_vat v) ∷ [])
+    gets A told new same A = way_got w.a n A h (entry.Got B) refl refl (now A) (sym (told _ (now A).way)) (new _ (now A).way) same
+    gets A told new same B = way_stays w.b B h (entry.Got B) refl refl (now B)
+    gets B told new same A = way_stays w.a A h (entry.Got A) refl refl (now A)
+    gets B told new same B = way_got w.b n B h (entry.Got A) refl refl (now B) (sym (told _ (now B).way)) (new _ (now B).way) same
 
 pub record IsStill (e : JournalEntry) : Type 0 where
   pub not_sent : (v : Vat) → sent_one v e ≡ None
@@ -164,7 +177,7 @@ down_falls d u v n h e same is now = subst (λ x. DownsFor (with_down d v) (h ++
 -- ---- Counts on the way
 
 pub counts_told : (w : Ways) (h : List JournalEntry) (v : Vat) → WaysFor w h → (e : ℕ) → amount (way_of w v).handed_on e + amount (way_of w (other_vat v)).released e ≡ count_of e (counted_on_the_way h v)
-counts_told w h v now e = omega (arith, (now v).way.handed e, (now (other_vat v)).way.given_back e, count_of-append e (of_each handed_on (on_the_way h v)) (of_each released (on_the_way h (other_vat v))))
+counts_told w h v now e = omega (arith, (now v).way.handed e, (now (other_vat v)).way.given_back e, count_of-append e (of_each gives (on_the_way h v)) (of_each releases (on_the_way h (other_vat v))))
 
 pub agrees_told : (w : Ways) (h : List JournalEntry) (v : Vat) (b : Bool) (xs ys exports imports : CountsById) → WaysFor w h → xs ≡ exports → ys ≡ imports
     → ((way : CountsById) → ((e : ℕ) → amount (way_of w v).handed_on e + amount (way_of w (other_vat v)).released e ≡ count_of e way) → b ≡ same_counts xs (ys ++ way))

@@ -9,10 +9,10 @@ use Rattle.rpc_msg.specs.declared.message.Message.{Message}
 use Rattle.rpc_msg.specs.Vats.{other_vat}
 use Rattle.vat_journal.specs.declared.entry.JournalEntry.{JournalEntry}
 use Rattle.vat_journal.specs.declared.entry.JournalEntry.TheVariants as entry
-use Rattle.vat_journal.specs.History.{Ref, DeliveredAt, same_vat, same_stamp, caller, if_so, all_that, or_rest, made, deliveries, delivered}
+use Rattle.vat_journal.specs.History.{Ref, DeliveredAt, same_vat, same_stamp, caller, if_so, in_front, all_that, or_rest, made, deliveries, delivered}
 use Rattle.trace_check.specs.declared.verdict.Verdict.{Verdict}
 use Rattle.trace_check.specs.declared.verdict.Verdict.TheVariants.{Good, Order, Unmatched, AfterDown, Count}
-use Rattle.trace_check.specs.Counts.{CountsById, same_counts, handed_on, released, of_each}
+use Rattle.trace_check.specs.Counts.{CountsById, same_counts, Sending, gives, releases, of_each}
 
 -- ---- Order
 
@@ -47,6 +47,21 @@ sent_one v e = None
 abbrev pub sent : List JournalEntry → Vat → List Message
 sent h v = all_that (sent_one v) h
 
+abbrev pub sending : List Message → Option Message → Option Sending
+sending before None = None
+sending before (Some m) = Some (record { message = m; before = before })
+
+-- What an entry sends, and what the other vat had sent before.
+abbrev pub sending_one : Vat → List JournalEntry → JournalEntry → Option Sending
+sending_one v before e = sending (sent before (other_vat v)) (sent_one v e)
+
+abbrev pub sendings_after : List JournalEntry → List JournalEntry → Vat → List Sending
+sendings_after before [] v = []
+sendings_after before (e ∷ es) v = in_front (sending_one v before e) (sendings_after (before ++ e ∷ []) es v)
+
+abbrev pub sendings : List JournalEntry → Vat → List Sending
+sendings h v = sendings_after [] h v
+
 abbrev pub is_got : Vat → JournalEntry → Bool
 is_got v (entry.Got w) = same_vat v w
 is_got v e = false
@@ -56,12 +71,12 @@ abbrev pub got : List JournalEntry → Vat → ℕ
 got h v = length (filter (is_got v) h)
 
 -- The messages that a vat sent and the other did not receive, the oldest first.
-abbrev pub on_the_way : List JournalEntry → Vat → List Message
-on_the_way h v = drop (got h (other_vat v)) (sent h v)
+abbrev pub on_the_way : List JournalEntry → Vat → List Sending
+on_the_way h v = drop (got h (other_vat v)) (sendings h v)
 
-abbrev pub none_left : List Message → Bool
+abbrev pub none_left : List Sending → Bool
 none_left [] = true
-none_left (m ∷ ms) = false
+none_left (s ∷ ss) = false
 
 abbrev pub gets_nothing : List JournalEntry → JournalEntry → Bool
 gets_nothing before (entry.Got v) = none_left (on_the_way before (other_vat v))
@@ -88,7 +103,7 @@ acts_after_down before e = false
 
 -- The exports of a vat that messages on their way name: its own messages hand them on, the other's release them.
 abbrev pub counted_on_the_way : List JournalEntry → Vat → CountsById
-counted_on_the_way h v = of_each handed_on (on_the_way h v) ++ of_each released (on_the_way h (other_vat v))
+counted_on_the_way h v = of_each gives (on_the_way h v) ++ of_each releases (on_the_way h (other_vat v))
 
 abbrev pub agrees : List JournalEntry → Vat → CountsById → CountsById → Bool
 agrees h v exports imports = same_counts exports (imports ++ counted_on_the_way h v)

@@ -5,6 +5,8 @@ use Rattle.std.specs.Ordering.{nat_cmp}
 use Rattle.std.specs.Option.{unwrap_or}
 use Rattle.rpc_msg.specs.declared.message.Message.{Message}
 use Rattle.trace_check.specs.declared.amounts.Amounts.{Amounts}
+use Rattle.trace_check.specs.declared.said.Lasts.{Lasts}
+use Rattle.trace_check.specs.declared.said.Said.{Said}
 use Rattle.rpc_msg.specs.declared.ids.Vat.{Vat}
 use Rattle.rpc_msg.specs.declared.ids.Vat.TheVariants.{A, B}
 use Rattle.rpc_msg.specs.declared.ids.Stamp.{Stamp}
@@ -21,8 +23,8 @@ use Rattle.trace_check.specs.declared.ways.Ways.{Ways}
 use Rattle.trace_check.specs.declared.downs.Downs.{Downs}
 use Rattle.trace_check.specs.declared.pending.Pending.{Pending}
 use Rattle.trace_check.specs.declared.checker.Checker.{Checker}
-use Rattle.trace_check.specs.Breaches.{is_beginning, at_one_place, sent, got, on_the_way, is_down, is_delivered, first_breach}
-use Rattle.trace_check.specs.Counts.{count_of, handed_on, released, of_each}
+use Rattle.trace_check.specs.Breaches.{is_beginning, at_one_place, sent, sendings, got, on_the_way, is_down, is_delivered, first_breach}
+use Rattle.trace_check.specs.Counts.{CountsById, count_of, is_question, is_answer, last_that, handed_on_by, Sending, gives, releases, of_each}
 
 -- How much an id has.
 abbrev pub amount : Amounts → ℕ → ℕ
@@ -35,22 +37,31 @@ is_even x y h r e = nat_eq (amount x e) (amount y e + (amount h e + amount r e))
 abbrev pub AllAgree : (exported imported handed_on released : Amounts) → Type 0
 AllAgree x y h r = (e : ℕ) → is_even x y h r e ≡ true
 
-abbrev pub parcel_of : Message → Parcel
-parcel_of m = record { handed_on = handed_on m; released = released m }
+-- What is kept of an id.
+abbrev pub listed : Lasts → ℕ → CountsById
+listed l q = unwrap_or (get nat_cmp l.by_id q) []
 
-abbrev pub is_some_left : List Message → Bool
+-- A vat that sent these messages has handed that on by the last of each id.
+pub record IsSaid (s : Said) (ms : List Message) : Type 0 where
+  pub questions : (q : ℕ) → listed s.questions q ≡ handed_on_by (last_that (is_question q) ms)
+  pub answers : (q : ℕ) → listed s.answers q ≡ handed_on_by (last_that (is_answer q) ms)
+
+abbrev pub parcel_of : Sending → Parcel
+parcel_of s = record { handed_on = gives s; released = releases s }
+
+abbrev pub is_some_left : List Sending → Bool
 is_some_left [] = false
-is_some_left (m ∷ ms) = true
+is_some_left (s ∷ ss) = true
 
-abbrev pub rest_of : List Message → List Message
+abbrev pub rest_of : List Sending → List Sending
 rest_of [] = []
-rest_of (m ∷ ms) = ms
+rest_of (s ∷ ss) = ss
 
 -- These messages are on their way.
-pub record IsWay (w : Way) (ms : List Message) : Type 0 where
-  pub parcels : w.parcels.items ≡ map parcel_of ms
-  pub handed : (e : ℕ) → amount w.handed_on e ≡ count_of e (of_each handed_on ms)
-  pub given_back : (e : ℕ) → amount w.released e ≡ count_of e (of_each released ms)
+pub record IsWay (w : Way) (ss : List Sending) : Type 0 where
+  pub parcels : w.parcels.items ≡ map parcel_of ss
+  pub handed : (e : ℕ) → amount w.handed_on e ≡ count_of e (of_each gives ss)
+  pub given_back : (e : ℕ) → amount w.released e ≡ count_of e (of_each releases ss)
 
 -- What is known of a reference: the indices of its calls that were made and not delivered, and the place of the first
 -- delivery.
@@ -117,10 +128,11 @@ abbrev pub way_of : Ways → Vat → Way
 way_of w A = w.a
 way_of w B = w.b
 
--- No more was received than was sent, and the rest is on its way.
+-- No more was received than was sent, the rest is on its way, and what was said last is kept.
 pub record IsWayOf (w : Way) (v : Vat) (h : List JournalEntry) : Type 0 where
   pub way : IsWay w (on_the_way h v)
-  pub fewer : got h (other_vat v) ≤ length (sent h v)
+  pub fewer : got h (other_vat v) ≤ length (sendings h v)
+  pub said : IsSaid w.said (sent h v)
 
 abbrev pub WaysFor : Ways → List JournalEntry → Type 0
 WaysFor w h = (v : Vat) → IsWayOf (way_of w v) v h

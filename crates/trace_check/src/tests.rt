@@ -21,74 +21,92 @@ fn stamp(vat: Vat, index: u64) -> Stamp {
     }
 }
 
-fn made(alloc: Global, vat: Vat, index: u64) -> JournalEntry {
+fn made(alloc: Global, vat: Vat, index: u64) -> Result<JournalEntry, Memory> {
+    let payload = Payload::null(alloc)?;
     let made = MadeCall {
         reference: RefId(0),
         index,
         call: CallId(1),
         interface: 7,
         method: 1,
-        payload: Payload::Null,
+        payload,
         refs: Items::new(alloc),
     };
-    JournalEntry::Made(vat, made)
+    Ok(JournalEntry::Made(vat, made))
 }
 
-fn delivered(alloc: Global, stamp: Stamp, vat: Vat, object: u64) -> JournalEntry {
+fn delivered(alloc: Global, stamp: Stamp, vat: Vat, object: u64) -> Result<JournalEntry, Memory> {
+    let payload = Payload::null(alloc)?;
     let delivery = Delivery {
         task: TaskId(0),
         object: ObjectId(object),
         stamp,
         interface: 7,
         method: 1,
-        payload: Payload::Null,
+        payload,
         refs: Items::new(alloc),
     };
-    JournalEntry::Delivered(vat, delivery)
+    Ok(JournalEntry::Delivered(vat, delivery))
 }
 
-fn answered(alloc: Global, vat: Vat) -> JournalEntry {
-    let outcome = Outcome::Results(Payload::Null);
-    JournalEntry::Answered(vat, TaskId(0), outcome, Items::new(alloc))
+fn answered(alloc: Global, vat: Vat) -> Result<JournalEntry, Memory> {
+    let payload = Payload::null(alloc)?;
+    let outcome = Outcome::Results(payload);
+    Ok(JournalEntry::Answered(vat, TaskId(0), outcome, Items::new(alloc)))
 }
 
-fn ended(alloc: Global, call: u64) -> JournalEntry {
+fn ended(alloc: Global, call: u64) -> Result<JournalEntry, Memory> {
+    let payload = Payload::null(alloc)?;
     let ended = Ended {
         call: CallId(call),
-        outcome: Outcome::Results(Payload::Null),
+        outcome: Outcome::Results(payload),
         refs: Items::new(alloc),
     };
-    JournalEntry::Ended(Vat::A, ended)
+    Ok(JournalEntry::Ended(Vat::A, ended))
 }
 
 fn sent(vat: Vat, message: PlainMessage) -> JournalEntry {
     JournalEntry::Sent(vat, Message::Plain(message))
 }
 
-fn call(question: u32, target: Target, descriptors: Items<Descriptor>) -> PlainMessage {
-    PlainMessage::Call(Call {
+fn call(
+    alloc: Global,
+    question: u32,
+    target: Target,
+    descriptors: Items<Descriptor>,
+) -> Result<PlainMessage, Memory> {
+    let payload = Payload::null(alloc)?;
+    Ok(PlainMessage::Call(Call {
         question: QuestionId(question),
         target,
         interface: 7,
         method: 1,
-        payload: Payload::Null,
+        payload,
         descriptors,
         stamp: stamp(Vat::A, 0),
-    })
+    }))
 }
 
-fn results(answer: u32, descriptors: Items<Descriptor>) -> PlainMessage {
+fn results(answer: u32, payload: Payload, descriptors: Items<Descriptor>) -> PlainMessage {
     PlainMessage::Return(Return {
         answer: QuestionId(answer),
         release_param_caps: false,
-        body: ReturnBody::Results(Payload::Null, descriptors),
+        body: ReturnBody::Results(payload, descriptors),
     })
 }
 
-fn finish(question: u32) -> PlainMessage {
+fn canceled(answer: u32, release: bool) -> PlainMessage {
+    PlainMessage::Return(Return {
+        answer: QuestionId(answer),
+        release_param_caps: release,
+        body: ReturnBody::Canceled,
+    })
+}
+
+fn finish(question: u32, release: bool) -> PlainMessage {
     PlainMessage::Finish(Finish {
         question: QuestionId(question),
-        release_result_caps: false,
+        release_result_caps: release,
     })
 }
 
@@ -118,17 +136,24 @@ fn of_call(alloc: Global, number: u32) -> Result<JournalEntry, Memory> {
         1 => Ok(JournalEntry::Asked(Vat::A, CallId(0))),
         2 => Ok(sent(Vat::A, PlainMessage::Bootstrap(QuestionId(0)))),
         3 => Ok(born()),
-        4 => Ok(made(alloc, Vat::A, 0)),
-        5 => Ok(sent(Vat::A, call(1, bootstrapped(), Items::new(alloc)))),
-        7 => {
-            let hosted = one(alloc, HOSTED)?;
-            Ok(sent(Vat::B, results(0, hosted)))
+        4 => made(alloc, Vat::A, 0),
+        5 => {
+            let call = call(alloc, 1, bootstrapped(), Items::new(alloc))?;
+            Ok(sent(Vat::A, call))
         }
-        9 => Ok(delivered(alloc, stamp(Vat::A, 0), Vat::B, 0)),
-        11 => Ok(ended(alloc, 0)),
-        12 => Ok(answered(alloc, Vat::B)),
-        13 => Ok(sent(Vat::B, results(1, Items::new(alloc)))),
-        15 => Ok(ended(alloc, 1)),
+        7 => {
+            let payload = Payload::root_capability(alloc)?;
+            let hosted = one(alloc, HOSTED)?;
+            Ok(sent(Vat::B, results(0, payload, hosted)))
+        }
+        9 => delivered(alloc, stamp(Vat::A, 0), Vat::B, 0),
+        11 => ended(alloc, 0),
+        12 => answered(alloc, Vat::B),
+        13 => {
+            let payload = Payload::null(alloc)?;
+            Ok(sent(Vat::B, results(1, payload, Items::new(alloc))))
+        }
+        15 => ended(alloc, 1),
         _ => Ok(of_call_end(alloc, number)),
     }
 }
@@ -144,10 +169,10 @@ fn born() -> JournalEntry {
 fn of_call_end(alloc: Global, number: u32) -> JournalEntry {
     match number {
         16 => JournalEntry::Finished(Vat::A, CallId(1)),
-        17 => sent(Vat::A, finish(1)),
+        17 => sent(Vat::A, finish(1, false)),
         18 => JournalEntry::Finished(Vat::A, CallId(0)),
         19 => JournalEntry::Dropped(Vat::A, RefId(0)),
-        20 => sent(Vat::A, finish(0)),
+        20 => sent(Vat::A, finish(0, false)),
         23 => JournalEntry::Dropped(Vat::A, RefId(1)),
         24 => sent(Vat::A, RELEASE),
         10 | 14 => JournalEntry::Got(Vat::A),
@@ -165,7 +190,7 @@ fn no_counts(alloc: Global) -> Counts {
 }
 
 /// Calls and deliveries of reference 0 of either vat.
-fn of_order(alloc: Global, number: u32) -> JournalEntry {
+fn of_order(alloc: Global, number: u32) -> Result<JournalEntry, Memory> {
     match number {
         30 => made(alloc, Vat::A, 0),
         31 => made(alloc, Vat::A, 1),
@@ -175,7 +200,7 @@ fn of_order(alloc: Global, number: u32) -> JournalEntry {
         35 => delivered(alloc, stamp(Vat::A, 1), Vat::B, 1),
         36 => delivered(alloc, stamp(Vat::A, 1), Vat::A, 0),
         37 => delivered(alloc, stamp(Vat::B, 0), Vat::A, 0),
-        38 => JournalEntry::Down(Vat::A, 33),
+        38 => Ok(JournalEntry::Down(Vat::A, 33)),
         _ => answered(alloc, Vat::A),
     }
 }
@@ -183,11 +208,7 @@ fn of_order(alloc: Global, number: u32) -> JournalEntry {
 /// Messages with descriptors, and Releases.
 fn of_counts(alloc: Global, number: u32) -> Result<JournalEntry, Memory> {
     match number {
-        50 => {
-            let hosted = one(alloc, HOSTED)?;
-            let target = Target::ImportedCap(ExportId(4));
-            Ok(sent(Vat::A, call(0, target, hosted)))
-        }
+        50 => hosted(alloc, Vat::A, 0),
         51 => Ok(JournalEntry::Got(Vat::B)),
         52 => Ok(sent(Vat::B, RELEASE)),
         53 => Ok(JournalEntry::Got(Vat::A)),
@@ -198,19 +219,64 @@ fn of_counts(alloc: Global, number: u32) -> Result<JournalEntry, Memory> {
     }
 }
 
-/// Number 1xy: A's export 0 has count x, and B's import 0 has count y.
+fn hosted(alloc: Global, vat: Vat, question: u32) -> Result<JournalEntry, Memory> {
+    let hosted = one(alloc, HOSTED)?;
+    let target = Target::ImportedCap(ExportId(4));
+    let call = call(alloc, question, target, hosted)?;
+    Ok(sent(vat, call))
+}
+
+/// A hands export 0 on by Calls 1 and 2 and Return 3, and B releases it by flags.
+fn of_flags(alloc: Global, number: u32) -> Result<JournalEntry, Memory> {
+    match number {
+        60 => hosted(alloc, Vat::A, 1),
+        61 => hosted(alloc, Vat::A, 2),
+        62 => Ok(sent(Vat::B, canceled(1, true))),
+        63 => Ok(sent(Vat::B, canceled(1, false))),
+        64 => Ok(sent(Vat::B, canceled(2, false))),
+        65 => Ok(JournalEntry::Dropped(Vat::B, RefId(0))),
+        66 => {
+            let hosted = one(alloc, HOSTED)?;
+            let payload = Payload::root_capability(alloc)?;
+            Ok(sent(Vat::A, results(3, payload, hosted)))
+        }
+        67 => Ok(sent(Vat::B, finish(3, true))),
+        68 => Ok(sent(Vat::B, finish(3, false))),
+        71 => {
+            let call = call(alloc, 1, bootstrapped(), Items::new(alloc))?;
+            Ok(sent(Vat::A, call))
+        }
+        _ => Ok(of_other_flags(number)),
+    }
+}
+
+fn of_other_flags(number: u32) -> JournalEntry {
+    match number {
+        70 => sent(Vat::A, PlainMessage::Bootstrap(QuestionId(1))),
+        72 => sent(Vat::A, canceled(3, false)),
+        73 => sent(Vat::A, canceled(1, true)),
+        74 => sent(Vat::B, finish(1, true)),
+        75 => sent(Vat::B, canceled(3, true)),
+        _ => JournalEntry::Sent(Vat::B, Message::Unimplemented(canceled(1, true))),
+    }
+}
+
+/// Number 1xy: A's export 0 has count x, and B's import 0 has count y. Number 2xy: the other way round.
 fn of_tables(alloc: Global, number: u32) -> Result<JournalEntry, Memory> {
     let exports = one(alloc, (ExportId(0), (number / 10) % 10))?;
     let imports = one(alloc, (ExportId(0), number % 10))?;
-    let a = Counts {
+    let exporter = Counts {
         exports,
         imports: Items::new(alloc),
     };
-    let b = Counts {
+    let importer = Counts {
         exports: Items::new(alloc),
         imports,
     };
-    Ok(JournalEntry::Tables(a, b))
+    match number / 100 {
+        1 => Ok(JournalEntry::Tables(exporter, importer)),
+        _ => Ok(JournalEntry::Tables(importer, exporter)),
+    }
 }
 
 fn doubled(alloc: Global) -> Result<JournalEntry, Memory> {
@@ -233,8 +299,10 @@ fn doubled(alloc: Global) -> Result<JournalEntry, Memory> {
 fn entry(alloc: Global, number: u32) -> Result<JournalEntry, Memory> {
     match number {
         0..=27 => of_call(alloc, number),
-        28..=49 => Ok(of_order(alloc, number)),
-        50..=98 => of_counts(alloc, number),
+        28..=49 => of_order(alloc, number),
+        50..=59 => of_counts(alloc, number),
+        60..=79 => of_flags(alloc, number),
+        80 => hosted(alloc, Vat::B, 1),
         99 => doubled(alloc),
         _ => of_tables(alloc, number),
     }
@@ -402,6 +470,81 @@ fn what_counts(rt: HostRuntime) -> Result<(), Memory> {
     says(&rt, alloc, &[54, 100], Verdict::Count(2))?;
     says(&rt, alloc, &[55, 100], Verdict::Good(0))?;
     says(&rt, alloc, &[56, 100], Verdict::Good(0))
+}
+
+/// B drops what A's Call 1 handed on, and answers.
+#[test]
+fn a_flag_releases_what_the_call_handed_on(rt: HostRuntime) -> Result<(), Memory> {
+    let numbers = [60, 110, 51, 111, 65, 111, 62, 110, 53, 100];
+    says(&rt, rt.alloc(), &numbers, Verdict::Good(0))
+}
+
+#[test]
+fn a_flag_of_either_vat(rt: HostRuntime) -> Result<(), Memory> {
+    let numbers = [80, 210, 53, 211, 73, 210, 51, 200];
+    says(&rt, rt.alloc(), &numbers, Verdict::Good(0))
+}
+
+/// B keeps what A's Call 1 handed on, and drops it later.
+#[test]
+fn a_false_flag_releases_nothing(rt: HostRuntime) -> Result<(), Memory> {
+    let numbers = [60, 110, 51, 111, 63, 111, 53, 111, 65, 52, 110, 53, 100];
+    says(&rt, rt.alloc(), &numbers, Verdict::Good(0))
+}
+
+/// B drops the reference of Call 1 and keeps that of Call 2.
+#[test]
+fn a_flag_of_one_of_two_calls(rt: HostRuntime) -> Result<(), Memory> {
+    let numbers = [60, 61, 51, 51, 122, 65, 62, 121, 53, 111, 64, 111, 53, 111];
+    says(&rt, rt.alloc(), &numbers, Verdict::Good(0))
+}
+
+#[test]
+fn a_flag_releases_what_the_return_handed_on(rt: HostRuntime) -> Result<(), Memory> {
+    let alloc = rt.alloc();
+    says(
+        &rt,
+        alloc,
+        &[66, 110, 51, 111, 65, 67, 110, 53, 100],
+        Verdict::Good(0),
+    )?;
+    says(&rt, alloc, &[66, 51, 68, 111, 53, 111], Verdict::Good(0))
+}
+
+#[test]
+fn flags_that_were_not_counted(rt: HostRuntime) -> Result<(), Memory> {
+    let alloc = rt.alloc();
+    says(&rt, alloc, &[60, 51, 62, 111], Verdict::Count(4))?;
+    says(&rt, alloc, &[60, 51, 62, 100], Verdict::Count(4))?;
+    says(&rt, alloc, &[60, 51, 62, 53, 110], Verdict::Count(5))?;
+    says(&rt, alloc, &[66, 51, 67, 111], Verdict::Count(4))
+}
+
+/// The last one with that id before the flag was sent, whatever it handed on.
+#[test]
+fn the_last_of_an_id(rt: HostRuntime) -> Result<(), Memory> {
+    let alloc = rt.alloc();
+    says(&rt, alloc, &[60, 51, 71, 51, 62, 111], Verdict::Good(0))?;
+    says(&rt, alloc, &[60, 51, 70, 51, 62, 111], Verdict::Good(0))?;
+    says(&rt, alloc, &[71, 51, 60, 51, 62, 110], Verdict::Good(0))?;
+    says(&rt, alloc, &[66, 51, 72, 51, 67, 111], Verdict::Good(0))
+}
+
+#[test]
+fn what_comes_after_a_flag(rt: HostRuntime) -> Result<(), Memory> {
+    let alloc = rt.alloc();
+    says(&rt, alloc, &[60, 51, 62, 71, 110], Verdict::Good(0))?;
+    says(&rt, alloc, &[71, 51, 62, 60, 110], Verdict::Good(0))
+}
+
+/// A Finish releases nothing of a Call, a Return nothing of a Return, and neither what its own vat handed on.
+#[test]
+fn what_flags_do_not_release(rt: HostRuntime) -> Result<(), Memory> {
+    let alloc = rt.alloc();
+    says(&rt, alloc, &[60, 51, 74, 111], Verdict::Good(0))?;
+    says(&rt, alloc, &[66, 51, 75, 111], Verdict::Good(0))?;
+    says(&rt, alloc, &[60, 51, 73, 111], Verdict::Good(0))?;
+    says(&rt, alloc, &[60, 51, 76, 111], Verdict::Good(0))
 }
 
 /// An id that stands twice in a list has the sum.

@@ -1,11 +1,12 @@
 ghost use Rattle.std.specs.Prelude.{◌≡◌, ◌++◌, [], ◌∷◌, IfOk, OnOk, List};
-ghost use Rattle.rpc_msg.specs.Messages.{descriptors_of, given};
 ghost use Rattle.rpc_msg.specs.declared.message.Message.{Message as AMessage};
-ghost use Rattle.trace_check.specs.Counts.{released, one_each};
-ghost use Rattle.trace_check.specs.Kept.{IsWay, parcel_of, rest_of, is_some_left};
+ghost use Rattle.trace_check.specs.Counts.{Sending};
+ghost use Rattle.trace_check.specs.Kept.{IsWay, IsSaid, parcel_of, rest_of, is_some_left};
 
 use crate::amounts::Amounts;
-use rpc_msg::{Descriptor, ExportId, Items, Memory, Message, PlainMessage};
+use crate::handing::handed_on;
+use crate::said::Said;
+use rpc_msg::{ExportId, Items, Memory, Message};
 use std::alloc::Global;
 use std::collections::VecDeque;
 
@@ -17,11 +18,11 @@ pub(crate) struct Parcel {
 }
 
 impl Parcel {
-    fn of(alloc: Global, message: &Message) -> Result<Self, Memory>
-        ensures { IfOk result (λ parcel. parcel ≡ parcel_of message.now) }
+    fn of(alloc: Global, message: &Message, receiver: &Said) -> Result<Self, Memory>
+        ensures { IfOk result (λ parcel. (ms : List AMessage) → IsSaid receiver.now ms → parcel ≡ parcel_of (record { message = message.now; before = ms })) }
     {
-        let handed_on = handed_on_by(alloc, message.descriptors())?;
-        let released = released_by(alloc, message)?;
+        let handed_on = handed_on(alloc, message)?;
+        let released = receiver.released_by(alloc, message)?;
         Ok(Parcel {
             handed_on,
             released,
@@ -29,76 +30,43 @@ impl Parcel {
     }
 }
 
-fn handed_on_by(alloc: Global, descriptors: &[Descriptor]) -> Result<Items<(ExportId, u32)>, Memory>
-    ensures { IfOk result (λ ids. ids ≡ one_each (given descriptors.now)) }
-{
-    let mut ids = Items::new(alloc);
-    for descriptor in descriptors {
-        hand_on(&mut ids, descriptor)?;
-    }
-    Ok(ids)
-}
-
-fn hand_on(ids: &mut Items<(ExportId, u32)>, descriptor: &Descriptor) -> Result<(), Memory>
-    ensures { OnOk result (ids.new ≡ ids.old ++ one_each (given (descriptor.now ∷ []))) }
-{
-    match descriptor {
-        Descriptor::SenderHosted(id) => put(ids, *id),
-        Descriptor::SenderPromise(id) => put(ids, *id),
-        _ => Ok(()),
-    }
-}
-
-fn put(ids: &mut Items<(ExportId, u32)>, id: ExportId) -> Result<(), Memory>
-    ensures { OnOk result (ids.new ≡ ids.old ++ (id, 1) ∷ []) }
-{
-    match ids.push((id, 1)) {
-        Ok(()) => return Ok(()),
-        Err(_) => return Err(Memory),
-    }
-}
-
-fn released_by(alloc: Global, message: &Message) -> Result<Items<(ExportId, u32)>, Memory>
-    ensures { IfOk result (λ ids. ids ≡ released message.now) }
-{
-    match message {
-        Message::Plain(PlainMessage::Release(release)) => {
-            match Items::one(alloc, (release.export, release.count)) {
-                Ok(ids) => return Ok(ids),
-                Err(_) => return Err(Memory),
-            }
-        }
-        _ => return Ok(Items::new(alloc)),
-    }
-}
-
-/// The messages that a vat sent and the other did not receive: what each adds to the counts, the oldest first, and
-/// what they add together.
+/// What a vat sent: of the messages that the other did not receive what each adds to the counts, the oldest first,
+/// and what they add together; of all its messages what a flag can release.
 #[derive(Drop)]
 pub(crate) struct Way {
     pub(crate) parcels: VecDeque<Parcel>,
     pub(crate) handed_on: Amounts,
     pub(crate) released: Amounts,
+    pub(crate) said: Said,
 }
 
 impl Way {
     pub(crate) fn new(alloc: Global) -> Self
-        ensures { IsWay result [] }
+        ensures way { IsWay result [] }
+        ensures said { IsSaid result.said [] }
     {
         Way {
             parcels: VecDeque::new(alloc),
             handed_on: Amounts::new(alloc),
             released: Amounts::new(alloc),
+            said: Said::new(alloc),
         }
     }
 
-    /// A message is sent. After a refusal nothing is known of the rest.
-    pub(crate) fn send(&mut self, alloc: Global, message: &Message) -> Result<(), Memory>
-        ensures { OnOk result ((ms : List AMessage) → IsWay self.old ms → IsWay self.new (ms ++ message.now ∷ [])) }
+    /// A message is sent to the vat that said that. After a refusal nothing is known of the rest.
+    pub(crate) fn send(
+        &mut self,
+        alloc: Global,
+        message: &Message,
+        receiver: &Said,
+    ) -> Result<(), Memory>
+        ensures way { OnOk result ((ss : List Sending) (before : List AMessage) → IsWay self.old ss → IsSaid receiver.now before → IsWay self.new (ss ++ record { message = message.now; before = before } ∷ [])) }
+        ensures said { OnOk result ((ms : List AMessage) → IsSaid self.old.said ms → IsSaid self.new.said (ms ++ message.now ∷ [])) }
     {
-        let parcel = Parcel::of(alloc, message)?;
+        let parcel = Parcel::of(alloc, message, receiver)?;
         self.handed_on.add_all(parcel.handed_on.as_slice())?;
         self.released.add_all(parcel.released.as_slice())?;
+        self.said.send(alloc, message)?;
         match self.parcels.push_back(parcel) {
             Ok(()) => return Ok(()),
             Err(_) => return Err(Memory),
@@ -107,8 +75,9 @@ impl Way {
 
     /// The oldest message is received, if there is one.
     pub(crate) fn receive(&mut self) -> bool
-        ensures left { (ms : List AMessage) → IsWay self.old ms → result ≡ is_some_left ms }
-        ensures rest { (ms : List AMessage) → IsWay self.old ms → IsWay self.new (rest_of ms) }
+        ensures left { (ss : List Sending) → IsWay self.old ss → result ≡ is_some_left ss }
+        ensures rest { (ss : List Sending) → IsWay self.old ss → IsWay self.new (rest_of ss) }
+        ensures said { self.new.said ≡ self.old.said }
     {
         let Some(parcel) = self.parcels.pop_front() else {
             return false;

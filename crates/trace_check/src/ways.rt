@@ -68,8 +68,8 @@ impl Ways {
         ensures { OnOk result ((h : List Entry) → WaysFor self.old h → WaysFor self.new (h ++ entry.Sent vat message.now ∷ [])) }
     {
         match vat {
-            Vat::A => self.a.send(alloc, message)?,
-            Vat::B => self.b.send(alloc, message)?,
+            Vat::A => self.a.send(alloc, message, &self.b.said)?,
+            Vat::B => self.b.send(alloc, message, &self.a.said)?,
         }
         Ok(())
     }

@@ -4,8 +4,7 @@ use Rattle.base64.specs.Engines.{standard}
 use Rattle.base64.specs.GeneralPurpose.{encode_of, decode_of, IsBytes}
 use Rattle.base64.proofs.EngineFacts.{decode_of-encode_of}
 use Rattle.serde_json.specs.Data.{Data}
-use Rattle.rpc_msg.specs.Payloads.{bytes_of, caps_of, null_payload}
-use Rattle.rpc_msg.specs.declared.payload.Payload.{Payload}
+use Rattle.capn_wire.specs.Payloads.{Contents as Payload, IsEncoded, null_payload}
 use Rattle.rpc_msg.specs.declared.message.ReturnBody.{ReturnBody}
 use Rattle.rpc_msg.specs.declared.message.ReturnBody.TheVariants as body
 use Rattle.rpc_msg.specs.declared.message.PlainMessage.{PlainMessage}
@@ -28,7 +27,7 @@ use Rattle.trace_json.specs.Filled.{payload_of_outcome, filled_outcome, payload_
 use Rattle.trace_json.specs.ReadParts.{Raw}
 use Rattle.trace_json.specs.ReadEntries.{head_at, entry_at}
 use Rattle.trace_json.specs.Faults.{IsShaped, IsDecoded, IsEntry, IsFault, IsShapeFault, IsTextFault, IsPayloadFault, IsRawFault, IsVersionFault}
-use Rattle.trace_json.proofs.Payloads.{null_fits, same_bytes, same_base64}
+use Rattle.trace_json.proofs.Payloads.{null_fits, same_parts, same_bytes, same_base64}
 use Rattle.trace_json.proofs.Again.{entry_again, head_of_again}
 
 -- ---- the one payload of an entry
@@ -321,7 +320,7 @@ decoded_of_entry : (v : TraceVersion) (d : Data) → IsEntry v d → IsDecoded v
 decoded_of_entry v d s =
     let p : Payload = payload_or (payload_in s.0) in
     let h : FitsPayload p = entry_payload v s.0 s.1 in
-    (bytes_of p, caps_of p, s.0, h.bytes, h.caps, s.1, s.2 ∙ value_one v in_base64 s.0)
+    (p.bytes, p.caps, s.0, h.bytes, h.caps, s.1, s.2 ∙ value_one v in_base64 s.0)
 
 shaped_of_decoded : (v : TraceVersion) (d : Data) → IsDecoded v d → IsShaped v d
 shaped_of_decoded v d s = (encode_of standard s.0, s.1, s.2, s.4, s.5, s.6)
@@ -411,13 +410,14 @@ not_err text bytes h b e =
     let s : true ≡ false = sym r ∙ ap (λ q. is_err q) (decode_of-encode_of standard bytes refl b) in cc
 
 missed_payload : (v : TraceVersion) (d : Data) (x : JournalEntry) (raw : List ℕ × ℕ) (bytes : List ℕ) → entry_at v d ≡ Ok (x, Some raw) → raw.0 ≡ encode_of standard bytes → IsBytes bytes
-    → ((p : Payload) → bytes_of p ≡ bytes → ¬ (caps_of p ≡ raw.1)) → IsEntry v d → ⊥
+    → ¬ IsEncoded (record { bytes = bytes; caps = raw.1 }) → IsEntry v d → ⊥
 unfolding entry_raw
 missed_payload v d x raw bytes read e b h s =
     let p : Payload = payload_or (payload_in s.0) in
     let fit : FitsPayload p = entry_payload v s.0 s.1 in
     let same : in_base64 p ≡ raw = same_raw v d x raw read (entry_raw s.0) (entry_caps v s.0 s.1) s.0 s.1 (entry_stands v d s.0 s.2) in
-    h p (same_bytes (bytes_of p) bytes fit.bytes b (ap (λ r. r.0) same ∙ e)) (ap (λ r. r.1) same)
+    let whole : p ≡ record { bytes = bytes; caps = raw.1 } = same_parts p (record { bytes = bytes; caps = raw.1 }) (same_bytes p.bytes bytes fit.bytes b (ap (λ r. r.0) same ∙ e)) (ap (λ r. r.1) same) in
+    h (subst (λ (q : Payload). IsEncoded q) whole fit.encoded)
 
 -- A fault of a text, or of the bytes that it is, is one of what stands for a payload.
 pub raw_text : (f : TraceFault) (text : List ℕ) (caps : ℕ) → IsTextFault f text → IsRawFault f (text, caps)

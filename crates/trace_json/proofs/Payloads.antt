@@ -1,11 +1,13 @@
--- The payloads that there are, their bytes and base64.
+-- Payloads, their bytes and base64.
 use Rattle.std.proofs.Common.{◌≡◌, ℕ, ◌<◌, zero, suc, List, [], ◌∷◌, Ok, replicate, refl, sym, ap, ◌∙◌, arith}
 use Rattle.base64.specs.Engines.{standard}
 use Rattle.base64.specs.GeneralPurpose.{encode_of, decode_of, IsBytes}
 use Rattle.base64.proofs.EngineFacts.{decode_of-encode_of}
-use Rattle.rpc_msg.specs.Payloads.{bytes_of, caps_of, null_payload}
-use Rattle.rpc_msg.specs.declared.payload.Payload.{Payload}
-use Rattle.rpc_msg.specs.declared.payload.Payload.TheVariants as payload
+use Rattle.capn_wire.specs.Segments.{little_numbers, segments_in}
+use Rattle.capn_wire.specs.Framing.{framing, segment_count, sizes}
+use Rattle.capn_wire.specs.Following.{leads}
+use Rattle.capn_wire.specs.Reading.{message_of, root_of, reading, deep}
+use Rattle.capn_wire.specs.Payloads.{Contents as Payload, IsEncoded, null_payload}
 use Rattle.trace_json.specs.Parts.{in_base64}
 use Rattle.trace_json.specs.Fits.{FitsPayload}
 
@@ -20,7 +22,7 @@ zeros : (n : ℕ) → IsBytes (replicate n 0)
 zeros zero = bytes_nil
 zeros (suc n) = bytes_cons 0 (replicate n 0) (omega arith) (zeros n)
 
-null_bytes : IsBytes (bytes_of null_payload)
+null_bytes : IsBytes null_payload.bytes
 null_bytes =
     bytes_cons 0 (0 ∷ 0 ∷ 0 ∷ 1 ∷ replicate 11 0) (omega arith)
     (bytes_cons 0 (0 ∷ 0 ∷ 1 ∷ replicate 11 0) (omega arith)
@@ -28,37 +30,22 @@ null_bytes =
     (bytes_cons 0 (1 ∷ replicate 11 0) (omega arith)
     (bytes_cons 1 (replicate 11 0) (omega arith) (zeros 11)))))
 
+null_encoded : IsEncoded null_payload
+unfolding message_of root_of reading deep framing segment_count sizes leads little_numbers segments_in
+null_encoded = refl
+
 pub null_fits : FitsPayload null_payload
-null_fits = record { bytes = null_bytes; caps = omega arith }
-
-three : IsBytes (3 ∷ replicate 7 0)
-three = bytes_cons 3 (replicate 7 0) (omega arith) (zeros 7)
-
-root_bytes : IsBytes (bytes_of payload.RootCapability)
-root_bytes =
-    bytes_cons 0 (0 ∷ 0 ∷ 0 ∷ 1 ∷ 0 ∷ 0 ∷ 0 ∷ 3 ∷ replicate 7 0) (omega arith)
-    (bytes_cons 0 (0 ∷ 0 ∷ 1 ∷ 0 ∷ 0 ∷ 0 ∷ 3 ∷ replicate 7 0) (omega arith)
-    (bytes_cons 0 (0 ∷ 1 ∷ 0 ∷ 0 ∷ 0 ∷ 3 ∷ replicate 7 0) (omega arith)
-    (bytes_cons 0 (1 ∷ 0 ∷ 0 ∷ 0 ∷ 3 ∷ replicate 7 0) (omega arith)
-    (bytes_cons 1 (0 ∷ 0 ∷ 0 ∷ 3 ∷ replicate 7 0) (omega arith)
-    (bytes_cons 0 (0 ∷ 0 ∷ 3 ∷ replicate 7 0) (omega arith)
-    (bytes_cons 0 (0 ∷ 3 ∷ replicate 7 0) (omega arith)
-    (bytes_cons 0 (3 ∷ replicate 7 0) (omega arith) three)))))))
-
-pub payload_fits : (p : Payload) → FitsPayload p
-payload_fits payload.Null = null_fits
-payload_fits payload.RootCapability = record { bytes = root_bytes; caps = omega arith }
+null_fits = record { encoded = null_encoded; bytes = null_bytes; caps = omega arith }
 
 -- A payload is its bytes and the number of its capabilities.
-same_payload : (p q : Payload) → bytes_of p ≡ bytes_of q → caps_of p ≡ caps_of q → p ≡ q
-same_payload payload.Null payload.Null b c = refl
-same_payload payload.Null payload.RootCapability b c = cc
-same_payload payload.RootCapability payload.Null b c = cc
-same_payload payload.RootCapability payload.RootCapability b c = refl
+pub same_parts : (p q : Payload) → p.bytes ≡ q.bytes → p.caps ≡ q.caps → p ≡ q
+same_parts p q b c =
+    let of : List ℕ → ℕ → Payload = λ bytes caps. record { bytes = bytes; caps = caps } in
+    ap (λ (bytes : List ℕ). of bytes p.caps) b ∙ ap (λ (caps : ℕ). of q.bytes caps) c
 
 pub same_bytes : (b c : List ℕ) → IsBytes b → IsBytes c → encode_of standard b ≡ encode_of standard c → b ≡ c
 same_bytes b c hb hc e =
     let r : Ok b ≡ Ok c = sym (decode_of-encode_of standard b refl hb) ∙ ap (decode_of standard) e ∙ decode_of-encode_of standard c refl hc in cc
 
 pub same_base64 : (p q : Payload) → FitsPayload p → FitsPayload q → in_base64 p ≡ in_base64 q → p ≡ q
-same_base64 p q hp hq e = same_payload p q (same_bytes (bytes_of p) (bytes_of q) hp.bytes hq.bytes (ap (λ r. r.0) e)) (ap (λ r. r.1) e)
+same_base64 p q hp hq e = same_parts p q (same_bytes p.bytes q.bytes hp.bytes hq.bytes (ap (λ r. r.0) e)) (ap (λ r. r.1) e)

@@ -3,8 +3,7 @@ use Rattle.std.specs.Prelude.{◌≡◌, ℕ, List, Option, Some, None, Err, IsE
 use Rattle.base64.specs.Engines.{standard}
 use Rattle.base64.specs.GeneralPurpose.{encode_of, decode_of, IsBytes}
 use Rattle.serde_json.specs.Data.{Data}
-use Rattle.rpc_msg.specs.Payloads.{bytes_of, caps_of}
-use Rattle.rpc_msg.specs.declared.payload.Payload.{Payload}
+use Rattle.capn_wire.specs.Payloads.{IsEncoded}
 use Rattle.vat_journal.specs.declared.entry.JournalEntry.{JournalEntry}
 use Rattle.trace_json.specs.declared.version.TraceVersion.{TraceVersion}
 use Rattle.trace_json.specs.declared.fault.TraceFault.{TraceFault}
@@ -80,7 +79,7 @@ IsPayloadFault fault.Memory bytes caps = Unit {0}
 IsPayloadFault fault.NotJson bytes caps = ⊥
 IsPayloadFault fault.WrongShape bytes caps = ⊥
 IsPayloadFault fault.BadBase64 bytes caps = ⊥
-IsPayloadFault fault.BadPayload bytes caps = (p : Payload) → bytes_of p ≡ bytes → ¬ (caps_of p ≡ caps)
+IsPayloadFault fault.BadPayload bytes caps = ¬ IsEncoded (record { bytes = bytes; caps = caps })
 IsPayloadFault fault.Version bytes caps = ⊥
 
 -- What a fault of what stands for a payload says of its text and number.
@@ -89,7 +88,7 @@ IsRawFault fault.Memory raw = Unit {0}
 IsRawFault fault.NotJson raw = ⊥
 IsRawFault fault.WrongShape raw = ⊥
 IsRawFault fault.BadBase64 raw = IsErr (decode_of standard raw.0)
-IsRawFault fault.BadPayload raw = (bytes : List ℕ) × (raw.0 ≡ encode_of standard bytes) × IsBytes bytes × ((p : Payload) → bytes_of p ≡ bytes → ¬ (caps_of p ≡ raw.1))
+IsRawFault fault.BadPayload raw = (bytes : List ℕ) × (raw.0 ≡ encode_of standard bytes) × IsBytes bytes × (¬ IsEncoded (record { bytes = bytes; caps = raw.1 }))
 IsRawFault fault.Version raw = ⊥
 
 -- What the fault of a value that has no shape of an entry says of it.

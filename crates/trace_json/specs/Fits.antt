@@ -2,16 +2,15 @@
 use Rattle.std.specs.Prelude.{◌≡◌, ℕ, ◌^◌, ◌<◌, ◌≤◌, List, length, Bool, false}
 use Rattle.std.specs.List.{AllByRecursion}
 use Rattle.base64.specs.GeneralPurpose.{IsBytes}
-use Rattle.rpc_msg.specs.Payloads.{bytes_of, caps_of}
+use Rattle.capn_wire.specs.Payloads.{Contents as Payload, IsEncoded}
 use Rattle.rpc_msg.specs.declared.ids.ExportId.{ExportId}
 use Rattle.rpc_msg.specs.declared.ids.QuestionId.{QuestionId}
-use Rattle.rpc_msg.specs.declared.path.Op.{Op}
-use Rattle.rpc_msg.specs.declared.path.Op.TheVariants.{Noop, Field}
+use Rattle.capn_wire.specs.declared.path.Op.{Op}
+use Rattle.capn_wire.specs.declared.path.Op.TheVariants.{Noop, Field}
 use Rattle.rpc_msg.specs.declared.parts.Descriptor.{Descriptor}
 use Rattle.rpc_msg.specs.declared.parts.Descriptor.TheVariants as descriptor
 use Rattle.rpc_msg.specs.declared.parts.Target.{Target}
 use Rattle.rpc_msg.specs.declared.parts.Target.TheVariants.{ImportedCap, PromisedAnswer}
-use Rattle.rpc_msg.specs.declared.payload.Payload.{Payload}
 use Rattle.rpc_msg.specs.declared.message.Call.{Call}
 use Rattle.rpc_msg.specs.declared.message.ReturnBody.{ReturnBody}
 use Rattle.rpc_msg.specs.declared.message.ReturnBody.TheVariants as body
@@ -77,10 +76,11 @@ abbrev pub FitsTarget : Target → Type 0
 FitsTarget (ImportedCap id) = FitsU32 id.0
 FitsTarget (PromisedAnswer question path) = FitsAnswer (question, path)
 
--- Bytes, and a number of capabilities: so are those of every payload.
+-- Bytes of the encoding for a number of capabilities: so are those of every payload.
 pub record FitsPayload (p : Payload) : Type 0 where
-  pub bytes : IsBytes (bytes_of p)
-  pub caps : FitsU32 (caps_of p)
+  pub encoded : IsEncoded p
+  pub bytes : IsBytes p.bytes
+  pub caps : FitsU32 p.caps
 
 abbrev pub FitsOutcome : Outcome → Type 0
 FitsOutcome (outcome.Results p) = FitsPayload p

@@ -4,20 +4,19 @@ use Rattle.base64.specs.Engines.{standard}
 use Rattle.base64.specs.GeneralPurpose.{encode_of}
 use Rattle.serde_json.specs.Data.{Data, null, number, string, array, object, unsigned, no_items, item, no_members, member}
 use Rattle.serde_json.specs.View.{items_of}
-use Rattle.rpc_msg.specs.Payloads.{bytes_of, caps_of}
+use Rattle.capn_wire.specs.Payloads.{Contents as Payload}
 use Rattle.rpc_msg.specs.declared.ids.Vat.{Vat}
 use Rattle.rpc_msg.specs.declared.ids.Vat.TheVariants.{A, B}
 use Rattle.rpc_msg.specs.declared.ids.ExportId.{ExportId}
 use Rattle.rpc_msg.specs.declared.ids.QuestionId.{QuestionId}
 use Rattle.rpc_msg.specs.declared.ids.RefId.{RefId}
 use Rattle.rpc_msg.specs.declared.ids.Stamp.{Stamp}
-use Rattle.rpc_msg.specs.declared.path.Op.{Op}
-use Rattle.rpc_msg.specs.declared.path.Op.TheVariants.{Noop, Field}
+use Rattle.capn_wire.specs.declared.path.Op.{Op}
+use Rattle.capn_wire.specs.declared.path.Op.TheVariants.{Noop, Field}
 use Rattle.rpc_msg.specs.declared.parts.Descriptor.{Descriptor}
 use Rattle.rpc_msg.specs.declared.parts.Descriptor.TheVariants as descriptor
 use Rattle.rpc_msg.specs.declared.parts.Target.{Target}
 use Rattle.rpc_msg.specs.declared.parts.Target.TheVariants.{ImportedCap, PromisedAnswer}
-use Rattle.rpc_msg.specs.declared.payload.Payload.{Payload}
 use Rattle.rpc_msg.specs.declared.exception.ExceptionKind.{ExceptionKind}
 use Rattle.rpc_msg.specs.declared.exception.ExceptionKind.TheVariants as kind
 use Rattle.rpc_msg.specs.declared.exception.Exception.{Exception}
@@ -81,7 +80,7 @@ stamp_data s = object (
 
 -- The text and the number that stand for a payload: its bytes in base64, and how many capabilities go with it.
 abbrev pub in_base64 : Payload → List ℕ × ℕ
-in_base64 p = (encode_of standard (bytes_of p), caps_of p)
+in_base64 p = (encode_of standard p.bytes, p.caps)
 
 abbrev pub payload_data : List ℕ × ℕ → Data
 payload_data p = object (

@@ -1,12 +1,12 @@
 -- What an entry is as JSON: docs/trace.md, "Entries". The keys of each object stand in rising byte order.
 use Rattle.std.specs.Prelude.{ℕ, List, codes}
 use Rattle.serde_json.specs.Data.{Data, string, object, no_members, member}
+use Rattle.capn_wire.specs.Payloads.{Contents as Payload}
 use Rattle.rpc_msg.specs.declared.ids.Vat.{Vat}
 use Rattle.rpc_msg.specs.declared.ids.CallId.{CallId}
 use Rattle.rpc_msg.specs.declared.ids.RefId.{RefId}
 use Rattle.rpc_msg.specs.declared.ids.TaskId.{TaskId}
 use Rattle.rpc_msg.specs.declared.ids.PromiseId.{PromiseId}
-use Rattle.rpc_msg.specs.declared.payload.Payload.{Payload}
 use Rattle.rpc_msg.specs.declared.exception.Exception.{Exception}
 use Rattle.rpc_msg.specs.declared.message.Message.{Message}
 use Rattle.vat_journal.specs.declared.entry.Origin.{Origin}

@@ -201,7 +201,7 @@ fn made_of(alloc: Global, value: &Value) -> Result<(Vat, MadeCall, Option<RawPay
         call: CallId(call),
         interface,
         method,
-        payload: no_payload(),
+        payload: no_payload(alloc)?,
         refs,
     };
     Ok((vat, made, Some(raw)))
@@ -243,13 +243,14 @@ fn delivered_of(
     let object = fields.read(alloc, "object")?;
     let raw = raw_payload_of(alloc, fields.next("payload")?)?;
     let (refs, stamp, task, vat) = rest_of_delivered(alloc, fields)?;
+    let payload = no_payload(alloc)?;
     let delivery = Delivery {
         task: TaskId(task),
         object: ObjectId(object),
         stamp,
         interface,
         method,
-        payload: no_payload(),
+        payload,
         refs,
     };
     Ok((vat, delivery, Some(raw)))

@@ -1,13 +1,12 @@
 ghost use Rattle.std.specs.Prelude.{◌≡◌, Some, IfOk, IfErr, IsOkUnless};
 ghost use Rattle.base64.specs.Engines.{standard};
 ghost use Rattle.base64.specs.GeneralPurpose.{encode_of, IsBytes};
-ghost use Rattle.rpc_msg.specs.Payloads.{bytes_of, caps_of};
+ghost use Rattle.capn_wire.specs.Payloads.{Contents as Payload, IsEncoded};
 ghost use Rattle.serde_json.specs.Read.{read};
 ghost use Rattle.serde_json.specs.View.{view};
 ghost use Rattle.vat_journal.specs.declared.entry.JournalEntry.{JournalEntry};
 ghost use Rattle.trace_json.specs.Parts.{in_base64};
 ghost use Rattle.trace_json.specs.Values.{head_data, value as value_of_entry};
-ghost use Rattle.rpc_msg.specs.declared.payload.Payload.{Payload};
 ghost use Rattle.trace_json.specs.Fits.{FitsPayload, Fits};
 ghost use Rattle.trace_json.specs.Filled.{filled};
 ghost use Rattle.trace_json.specs.Faults.{IsFault, IsParseFault, IsVersionFault, IsShapeFault, IsTextFault, IsPayloadFault, IsRawFault};
@@ -18,7 +17,7 @@ use crate::read_entries::{head_number, read_entry};
 use crate::version::TraceVersion;
 use base64::DecodeAllocError;
 use base64::engine::general_purpose::STANDARD;
-use rpc_msg::Payload;
+use rpc_msg::{Payload, PayloadFault};
 use serde_json::Value;
 use std::alloc::Global;
 use vat_journal::JournalEntry;
@@ -35,16 +34,14 @@ fn decode(alloc: Global, text: &str) -> Result<Vec<u8>, TraceFault>
 }
 
 /// The payload of these bytes, for that many capabilities.
-fn payload_of(bytes: &[u8], caps: u32) -> Result<Payload, TraceFault>
-    ensures ok { IfOk result (λ p. (bytes_of p ≡ bytes.now) × (caps_of p ≡ caps)) }
+fn payload_of(alloc: Global, bytes: &[u8], caps: u32) -> Result<Payload, TraceFault>
+    ensures ok { IfOk result (λ p. (p ≡ record { bytes = bytes.now; caps = caps }) × IsEncoded p) }
     ensures fault { IfErr result (λ f. IsPayloadFault f bytes.now caps) }
 {
-    if bytes == Payload::Null.bytes() && caps == Payload::Null.caps() {
-        Ok(Payload::Null)
-    } else if bytes == Payload::RootCapability.bytes() && caps == Payload::RootCapability.caps() {
-        Ok(Payload::RootCapability)
-    } else {
-        Err(TraceFault::BadPayload)
+    match Payload::read(alloc, bytes, caps) {
+        Ok(payload) => Ok(payload),
+        Err(PayloadFault::Memory) => Err(TraceFault::Memory),
+        Err(_) => Err(TraceFault::BadPayload),
     }
 }
 
@@ -65,7 +62,7 @@ fn read_payload(alloc: Global, text: &str, caps: u32) -> Result<Payload, TraceFa
     ensures fault { IfErr result (λ f. IsRawFault f (text.now, caps)) }
 {
     let bytes = decode(alloc, text)?;
-    payload_of(bytes.as_slice(), caps)
+    payload_of(alloc, bytes.as_slice(), caps)
 }
 
 /// The entry with the payload that a text and a number stand for.

@@ -56,7 +56,7 @@ fn call_of(alloc: Global, value: &Value) -> Result<(Call, Option<RawPayload<'_>>
         target,
         interface,
         method,
-        payload: no_payload(),
+        payload: no_payload(alloc)?,
         descriptors,
         stamp,
     };
@@ -73,7 +73,8 @@ fn results_of(alloc: Global, value: &Value) -> Result<(ReturnBody, Option<RawPay
     let descriptors = fields.read(alloc, "caps")?;
     let raw = raw_payload_of(alloc, fields.next("payload")?)?;
     fields.end()?;
-    Ok((ReturnBody::Results(no_payload(), descriptors), Some(raw)))
+    let payload = no_payload(alloc)?;
+    Ok((ReturnBody::Results(payload, descriptors), Some(raw)))
 }
 
 #[tactic(auto, unfolding(crate::specs::ReadMessages::tagged_body))]

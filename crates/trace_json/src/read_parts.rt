@@ -1,10 +1,11 @@
-ghost use Rattle.std.specs.Prelude.{◌≡◌, ◌^◌, codes, IfOk, option_map};
+ghost use Rattle.std.specs.Prelude.{◌≡◌, ◌^◌, codes, IfOk, IfErr, option_map};
 ghost use Rattle.serde_json.specs.Data.{string};
 ghost use Rattle.serde_json.specs.View.{view};
-ghost use Rattle.rpc_msg.specs.Payloads.{null_payload};
+ghost use Rattle.capn_wire.specs.Payloads.{null_payload};
 ghost use Rattle.trace_json.specs.Parts.{only, reference_data, vat_data, op_data, path_data, answer_data, target_data, descriptor_data, stamp_data, payload_data, kind_name, exception_data, outcome_by, origin_data, advanced_name, pair_data, counts_data};
 ghost use Rattle.trace_json.specs.Fits.{FitsAny, FitsU32, FitsOp, FitsPath, FitsAnswer, FitsTarget, FitsDescriptor, FitsPayload, FitsOutcome, FitsOrigin, FitsPair, FitsCounts};
 ghost use Rattle.trace_json.specs.Reading.{Gives};
+ghost use Rattle.trace_json.specs.declared.fault.Fault.TheVariants as fault;
 ghost use Rattle.trace_json.specs.ReadParts.{stands_for, FitsRaw, vat_at, reference_at, op_at, path_at, answer_at, target_at, tagged_descriptor, descriptor_at, stamp_at, raw_at, kind_at, exception_at, outcome_at, field_origin_at, origin_at, advanced_at, pair_at, counts_at};
 
 use crate::fault::Fault;
@@ -25,11 +26,15 @@ pub(crate) struct RawPayload<'v> {
 }
 
 /// What is in a payload's place until it is decoded.
-pub(crate) fn no_payload() -> Payload
-    ensures is { result ≡ null_payload }
-    ensures fits { FitsPayload result }
+pub(crate) fn no_payload(alloc: Global) -> Result<Payload, Fault>
+    ensures is { IfOk result (λ p. p ≡ null_payload) }
+    ensures fits { IfOk result (λ p. FitsPayload p) }
+    ensures fault { IfErr result (λ f. f ≡ fault.Memory) }
 {
-    Payload::Null
+    match Payload::null(alloc) {
+        Ok(payload) => Ok(payload),
+        Err(_) => Err(Fault::Memory),
+    }
 }
 
 #[tactic(auto, unfolding(crate::specs::ReadParts::raw_at, crate::specs::Reading::field_at))]
@@ -259,7 +264,7 @@ pub(crate) fn outcome_of(
     let (key, inner) = only_member(value)?;
     if key == "results" {
         let raw = raw_payload_of(alloc, inner)?;
-        Ok((Outcome::Results(no_payload()), Some(raw)))
+        Ok((Outcome::Results(no_payload(alloc)?), Some(raw)))
     } else if key == "exception" {
         Ok((Outcome::Exception(Part::read(alloc, inner)?), None))
     } else {

@@ -126,73 +126,86 @@ fn stamp() -> Stamp {
 }
 
 // The call of the documentation's example: the first through reference 0 of vat A, with no arguments.
-fn call(alloc: Global) -> Call {
-    Call {
+fn call(alloc: Global) -> Result<Call, Memory> {
+    let payload = Payload::null(alloc)?;
+    Ok(Call {
         question: QuestionId(1),
         target: Target::PromisedAnswer(QuestionId(0), Path::root()),
         interface: 7,
         method: 1,
-        payload: Payload::Null,
+        payload,
         descriptors: Items::new(alloc),
         stamp: stamp(),
-    }
+    })
 }
 
-fn made(alloc: Global) -> MadeCall {
-    MadeCall {
+fn made(alloc: Global) -> Result<MadeCall, Memory> {
+    let payload = Payload::null(alloc)?;
+    Ok(MadeCall {
         reference: RefId(0),
         index: 0,
         call: CallId(1),
         interface: 7,
         method: 1,
-        payload: Payload::Null,
+        payload,
         refs: Items::new(alloc),
-    }
+    })
 }
 
-fn delivery(alloc: Global) -> Delivery {
-    Delivery {
+fn delivery(alloc: Global) -> Result<Delivery, Memory> {
+    let payload = Payload::null(alloc)?;
+    Ok(Delivery {
         task: TaskId(0),
         object: ObjectId(0),
         stamp: stamp(),
         interface: 7,
         method: 1,
-        payload: Payload::Null,
+        payload,
         refs: Items::new(alloc),
-    }
+    })
 }
 
 #[test]
 fn the_first_call_is_made(rt: HostRuntime) -> Result<(), Memory> {
+    let made = made(rt.alloc())?;
     says(
         &rt,
         rt.alloc(),
-        JournalEntry::Made(Vat::A, made(rt.alloc())),
+        JournalEntry::Made(Vat::A, made),
         r#"{"call":1,"index":0,"interface":7,"k":"made","method":1,"payload":{"bytes":"AAAAAAEAAAAAAAAAAAAAAA==","caps":0},"ref":0,"refs":[],"vat":"a"}"#,
     )
 }
 
 #[test]
 fn the_first_call_is_sent(rt: HostRuntime) -> Result<(), Memory> {
+    let call = call(rt.alloc())?;
     sends(
         &rt,
         rt.alloc(),
-        PlainMessage::Call(call(rt.alloc())),
+        PlainMessage::Call(call),
         r#"{"k":"sent","message":{"call":{"caps":[],"interface":7,"method":1,"payload":{"bytes":"AAAAAAEAAAAAAAAAAAAAAA==","caps":0},"question":1,"stamp":{"index":0,"ref":0,"vat":"a"},"target":{"answer":{"path":[],"question":0}}}},"vat":"a"}"#,
     )
 }
 
 #[test]
 fn the_first_call_is_delivered(rt: HostRuntime) -> Result<(), Memory> {
+    let delivery = delivery(rt.alloc())?;
     says(
         &rt,
         rt.alloc(),
-        JournalEntry::Delivered(Vat::B, delivery(rt.alloc())),
+        JournalEntry::Delivered(Vat::B, delivery),
         r#"{"interface":7,"k":"delivered","method":1,"object":0,"payload":{"bytes":"AAAAAAEAAAAAAAAAAAAAAA==","caps":0},"refs":[],"stamp":{"index":0,"ref":0,"vat":"a"},"task":0,"vat":"b"}"#,
     )
 }
 
 // The line of an entry, where the first try or the second has the memory.
+fn call_twice(alloc: Global) -> Result<Call, Memory> {
+    match call(alloc) {
+        Ok(call) => Ok(call),
+        Err(Memory) => call(alloc),
+    }
+}
+
 fn read_twice(alloc: Global, entry: &JournalEntry) -> Result<String, Memory> {
     match line_of(alloc, entry, TraceVersion::Two) {
         Ok(line) => Ok(line),
@@ -204,7 +217,8 @@ fn read_twice(alloc: Global, entry: &JournalEntry) -> Result<String, Memory> {
 #[test]
 fn a_refused_allocation_is_said(rt: HostRuntime) -> Result<(), Memory> {
     let alloc = rt.alloc();
-    let entry = JournalEntry::Sent(Vat::A, Message::Plain(PlainMessage::Call(call(alloc))));
+    let call = call_twice(alloc)?;
+    let entry = JournalEntry::Sent(Vat::A, Message::Plain(PlainMessage::Call(call)));
     let line = read_twice(alloc, &entry)?;
     assert_eq!(rt;
         line.as_str(),

@@ -80,8 +80,9 @@ pub(crate) fn write_payload(alloc: Global, payload: &Payload) -> Result<Value, A
     ensures is { IfOk result (λ v. view v ≡ payload_data (in_base64 payload.now)) }
     ensures fits { OnOk result (FitsPayload payload.now) }
 {
+    let caps = payload.caps();
     let bytes = STANDARD.encode(alloc, payload.bytes())?;
-    json!(in alloc; {"bytes": &bytes, "caps": payload.caps()})
+    json!(in alloc; {"bytes": &bytes, "caps": caps})
 }
 
 pub(crate) fn write_exception(alloc: Global, exception: &Exception) -> Result<Value, AllocError>

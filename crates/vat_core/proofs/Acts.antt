@@ -7,7 +7,7 @@ use Rattle.finite_maps.proofs.Gets.{at_each, each_inserted, each_removed, get-in
 use Rattle.rpc_msg.specs.declared.ids.QuestionId.{QuestionId}
 use Rattle.rpc_msg.specs.declared.ids.ExportId.{ExportId}
 use Rattle.rpc_msg.specs.declared.parts.Target.TheVariants.{ImportedCap, PromisedAnswer}
-use Rattle.rpc_msg.specs.declared.path.Op.{Op}
+use Rattle.capn_wire.specs.declared.path.Op.{Op}
 use Rattle.vat_tables.specs.Imports.{released, unheld}
 use Rattle.vat_core.specs.declared.entry.Brought.TheVariants.{Nothing, Capability}
 use Rattle.vat_core.specs.declared.entry.QuestionSlot.{QuestionSlot}

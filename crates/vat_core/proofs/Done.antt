@@ -9,7 +9,7 @@ use Rattle.rpc_msg.specs.declared.ids.QuestionId.{QuestionId}
 use Rattle.rpc_msg.specs.declared.ids.ExportId.{ExportId}
 use Rattle.rpc_msg.specs.declared.ids.RefId.{RefId}
 use Rattle.rpc_msg.specs.declared.ids.CallId.{CallId}
-use Rattle.rpc_msg.specs.declared.path.Op.{Op}
+use Rattle.capn_wire.specs.declared.path.Op.{Op}
 use Rattle.rpc_msg.specs.declared.parts.Target.TheVariants.{ImportedCap, PromisedAnswer}
 use Rattle.vat_tables.specs.Imports.{released, unheld}
 use Rattle.vat_core.specs.declared.entry.Asked.{Asked}

@@ -2,11 +2,11 @@
 use Rattle.std.specs.Prelude.{◌≡◌, ◌⊎◌, ◌<◌, ◌≤◌, ◌^◌, ◌+◌, ℕ, Bool, true, false, Option, None, Some, IsSome, IsTrue, is_some, Result, Ok, Err, List, [], length}
 use Rattle.std.specs.List.{list_all}
 use Rattle.std.specs.FinMap as map
+use Rattle.capn_wire.specs.Payloads.{Contents as Payload}
 use Rattle.rpc_msg.specs.declared.ids.CallId.{CallId}
 use Rattle.rpc_msg.specs.declared.ids.QuestionId.{QuestionId}
 use Rattle.rpc_msg.specs.declared.ids.RefId.{RefId}
-use Rattle.rpc_msg.specs.declared.path.Op.{Op}
-use Rattle.rpc_msg.specs.declared.payload.Payload.{Payload}
+use Rattle.capn_wire.specs.declared.path.Op.{Op}
 use Rattle.rpc_msg.specs.declared.parts.Target.{Target}
 use Rattle.rpc_msg.specs.declared.parts.Target.TheVariants.{PromisedAnswer}
 use Rattle.rpc_msg.specs.declared.exception.Exception.{Exception}

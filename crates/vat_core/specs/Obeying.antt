@@ -3,9 +3,8 @@ use Rattle.std.specs.Prelude.{◌≡◌, ℕ, Result, Ok, Err, List}
 use Rattle.rpc_msg.specs.declared.ids.CallId.{CallId}
 use Rattle.rpc_msg.specs.declared.ids.RefId.{RefId}
 use Rattle.rpc_msg.specs.declared.exception.Exception.{Exception}
-use Rattle.rpc_msg.specs.declared.path.Op.{Op}
-use Rattle.rpc_msg.specs.declared.payload.Payload.{Payload}
-use Rattle.rpc_msg.specs.Payloads.{caps_of}
+use Rattle.capn_wire.specs.declared.path.Op.{Op}
+use Rattle.capn_wire.specs.Payloads.{Contents as Payload}
 use Rattle.vat_core.specs.declared.command.Effects.{Effects}
 use Rattle.vat_core.specs.declared.command.Refusal.{Refusal}
 use Rattle.vat_core.specs.declared.command.CallCommand.{CallCommand}
@@ -21,8 +20,8 @@ use Rattle.vat_core.specs.Commands.{AnswersBootstrap, AnswersField, AnswersCall,
 abbrev pub IsBuilt : Command → Type 0
 IsBuilt command.Bootstrap = Unit {0}
 IsBuilt (command.Field call path) = Unit {0}
-IsBuilt (command.Call c) = caps_of c.payload ≡ 0
-IsBuilt (command.Answer task payload refs) = caps_of payload ≡ 0
+IsBuilt (command.Call c) = c.payload.caps ≡ 0
+IsBuilt (command.Answer task payload refs) = payload.caps ≡ 0
 IsBuilt (command.Fail task exception) = Unit {0}
 IsBuilt (command.Finish call) = Unit {0}
 IsBuilt (command.DropRef reference) = Unit {0}

@@ -5,10 +5,9 @@ use Rattle.rpc_msg.specs.declared.ids.QuestionId.{QuestionId}
 use Rattle.rpc_msg.specs.declared.ids.ExportId.{ExportId}
 use Rattle.rpc_msg.specs.declared.ids.RefId.{RefId}
 use Rattle.rpc_msg.specs.declared.ids.ObjectId.{ObjectId}
-use Rattle.rpc_msg.specs.declared.path.Op.{Op}
-use Rattle.rpc_msg.specs.declared.payload.Payload.{Payload}
-use Rattle.rpc_msg.specs.declared.payload.CapAt.{CapAt}
-use Rattle.rpc_msg.specs.declared.payload.CapAt.TheVariants as at
+use Rattle.capn_wire.specs.declared.path.Op.{Op}
+use Rattle.capn_wire.specs.declared.path.CapAt.{CapAt}
+use Rattle.capn_wire.specs.declared.path.CapAt.TheVariants as at
 use Rattle.rpc_msg.specs.declared.parts.Target.{Target}
 use Rattle.rpc_msg.specs.declared.parts.Target.TheVariants.{ImportedCap, PromisedAnswer}
 use Rattle.rpc_msg.specs.declared.parts.Descriptor.{Descriptor}
@@ -21,7 +20,9 @@ use Rattle.rpc_msg.specs.declared.message.PlainMessage.{PlainMessage}
 use Rattle.rpc_msg.specs.declared.message.PlainMessage.TheVariants as plain
 use Rattle.rpc_msg.specs.declared.message.Message.{Message}
 use Rattle.rpc_msg.specs.declared.message.Message.TheVariants as message
-use Rattle.rpc_msg.specs.Payloads.{cap_at, caps_of, root_payload}
+use Rattle.capn_wire.specs.Trees.{capability}
+use Rattle.capn_wire.specs.Walking.{capability_at}
+use Rattle.capn_wire.specs.Payloads.{Contents as Payload, root_payload}
 use Rattle.vat_machine.specs.declared.node.Node.{Node}
 use Rattle.vat_machine.specs.declared.node.Node.TheVariants as node
 use Rattle.vat_machine.specs.declared.node.Reason.{Reason}
@@ -48,7 +49,8 @@ use Rattle.vat_core.specs.Commands.{IsLast, Falls, fallen, return_message}
 
 -- ---- Where a call goes
 
--- What stands at a path of the outcome of a Bootstrap: that of an exception is broken.
+-- What stands at a path of the outcome of a Bootstrap: its payload says the capability itself; that of an exception is
+-- broken.
 abbrev pub bootstrap_cap : ObjectId → CapAt → Node
 bootstrap_cap o (at.Cap i) = node.Object o
 bootstrap_cap o at.Null = node.Broken NullCapability
@@ -56,7 +58,7 @@ bootstrap_cap o at.NotCap = node.Broken NotACapability
 
 abbrev pub bootstrap_field : Option ObjectId → List Op → Node
 bootstrap_field None path = node.Broken BrokenPromise
-bootstrap_field (Some o) path = bootstrap_cap o (cap_at root_payload path)
+bootstrap_field (Some o) path = bootstrap_cap o (capability_at (capability 0) path)
 
 abbrev pub export_node : Option Export → Option Node
 export_node None = None
@@ -98,7 +100,7 @@ in_use s q = is_some (map.get s.serving.answers q.0)
 
 -- The payload's capabilities and the descriptors differ in number.
 abbrev pub miscounts : Payload → List Descriptor → Bool
-miscounts payload ds = not (nat_eq (caps_of payload) (length ds))
+miscounts payload ds = not (nat_eq payload.caps (length ds))
 
 abbrev pub is_some_descriptor : List Descriptor → Bool
 is_some_descriptor [] = false

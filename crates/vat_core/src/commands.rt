@@ -1,7 +1,6 @@
 ghost use Rattle.std.specs.Prelude.{◌≡◌, ◌+◌, ◌<◌, ◌≤◌, ◌++◌, [], length, None, Some, IsSome, false, IfOk, IfErr, IfSome, OnOk, ◌^◌};
 ghost use Rattle.std.specs.Option.{IsSomeAnd};
 ghost use Rattle.std.specs.FinMap as map;
-ghost use Rattle.rpc_msg.specs.Payloads.{caps_of};
 ghost use Rattle.rpc_msg.specs.declared.message.ReturnBody.TheVariants as body;
 ghost use Rattle.vat_core.specs.Effects.{sending, sending_all};
 ghost use Rattle.vat_core.specs.Keeping.{finish_said, release_said};
@@ -94,7 +93,7 @@ impl Core {
         payload: Payload,
         refs: &[RefId],
     ) -> Result<(CallId, Effects), (Refusal, Payload)>
-        requires { caps_of payload ≡ 0 }
+        requires { payload.caps ≡ 0 }
         ensures { AnswersCall self.old reference interface method payload refs.now result self.new }
     {
         if self.down().is_some() {
@@ -150,7 +149,7 @@ impl Core {
         payload: Payload,
         refs: &[RefId],
     ) -> Result<Effects, (Refusal, Payload)>
-        requires { caps_of payload ≡ 0 }
+        requires { payload.caps ≡ 0 }
         ensures { AnswersAnswer self.old task.0 payload refs.now result self.new }
     {
         if self.down().is_some() {

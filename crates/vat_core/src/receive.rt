@@ -1,4 +1,7 @@
-ghost use Rattle.std.specs.Prelude.{◌≡◌, ◌+◌, ◌++◌, [], ◌∷◌, length, ◌⊎◌, ◌<◌, None, Some, IsSome, IfOk, IfSome, OnErr};
+ghost use Rattle.std.specs.Prelude.{◌≡◌, ◌+◌, ◌++◌, [], ◌∷◌, length, ◌⊎◌, ◌<◌, if◌then◌else◌, None, Some, IsSome, IfOk, IfSome, OnErr};
+ghost use Rattle.capn_wire.specs.declared.path.CapAt.TheVariants as at;
+ghost use Rattle.capn_wire.specs.Trees.{capability};
+ghost use Rattle.capn_wire.specs.Walking.{capability_at};
 ghost use Rattle.vat_machine.specs.declared.node.Node.TheVariants as node;
 ghost use Rattle.vat_core.specs.declared.entry.Brought.TheVariants as brought;
 ghost use Rattle.vat_core.specs.Keeping.{release_said};
@@ -35,8 +38,8 @@ use crate::entry::{AnswerStage, Asked, Brought, Question};
 use crate::room::Room;
 use crate::vat::Core;
 use rpc_msg::{
-    Call, CapAt, Descriptor, Exception, ExceptionKind, ExportId, Finish, Items, Memory, Message,
-    ObjectId, Path, Payload, PlainMessage, QuestionId, RefId, Release, Return, ReturnBody, Target,
+    Call, Descriptor, Exception, ExceptionKind, ExportId, Finish, Items, Memory, Message, ObjectId,
+    Op, Path, Payload, PlainMessage, QuestionId, RefId, Release, Return, ReturnBody, Target,
     TaskId, Text,
 };
 use std::alloc::Global;
@@ -152,6 +155,7 @@ impl Core {
     {
         let mut sends = Room::new(alloc, 1)?;
         let mut descriptors = Room::new(alloc, 1)?;
+        let payload = Payload::root_capability(alloc)?;
         match self.serving.open(question, AnswerStage::Bootstrap) {
             Ok(()) => {}
             Err(_) => return Err(Memory),
@@ -160,7 +164,7 @@ impl Core {
             return Err(Memory);
         };
         descriptors.push(Descriptor::SenderHosted(export));
-        let body = ReturnBody::Results(Payload::RootCapability, descriptors.into_items());
+        let body = ReturnBody::Results(payload, descriptors.into_items());
         sends.push(return_of(question, body));
         Ok(Effects::sending(alloc, sends.into_items()))
     }
@@ -507,11 +511,23 @@ fn bootstrap_field(bootstrap: Option<ObjectId>, path: Path) -> Node
     let Some(object) = bootstrap else {
         return Node::Broken(Reason::BrokenPromise);
     };
-    match Payload::RootCapability.cap_at(path.as_slice()) {
-        CapAt::Cap(_) => Node::Object(object),
-        CapAt::Null => Node::Broken(Reason::NullCapability),
-        CapAt::NotCap => Node::Broken(Reason::NotACapability),
+    if stays_at_root(path.as_slice()) {
+        Node::Object(object)
+    } else {
+        Node::Broken(Reason::NotACapability)
     }
+}
+
+// Whether a path has no field, so that it stays at the root. Of a capability a field is nothing.
+fn stays_at_root(path: &[Op]) -> bool
+    ensures { capability_at (capability 0) path.now ≡ (if result then at.Cap 0 else at.NotCap) }
+{
+    for op in path {
+        if let Op::Field(_) = op {
+            return false;
+        }
+    }
+    true
 }
 
 // Whether a Return's body has a fault, for a question that asked for that.

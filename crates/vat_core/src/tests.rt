@@ -36,7 +36,10 @@ fn call(
     refs: &[RefId],
     number: u64,
 ) -> Result<Effects, Refusal> {
-    match core.call(alloc, RefId(0), 7, 1, Payload::Null, refs) {
+    let Ok(payload) = Payload::null(alloc) else {
+        return Err(Refusal::Memory);
+    };
+    match core.call(alloc, RefId(0), 7, 1, payload, refs) {
         Ok((call, effects)) => {
             assert_eq!(rt; call, CallId(number));
             Ok(effects)
@@ -46,7 +49,10 @@ fn call(
 }
 
 fn answer(core: &mut Core, alloc: Global, task: TaskId) -> Result<Effects, Refusal> {
-    match core.answer(alloc, task, Payload::Null, &[]) {
+    let Ok(payload) = Payload::null(alloc) else {
+        return Err(Refusal::Memory);
+    };
+    match core.answer(alloc, task, payload, &[]) {
         Ok(effects) => Ok(effects),
         Err((refusal, _)) => Err(refusal),
     }
@@ -114,6 +120,18 @@ fn done(rt: &impl Abort, answer: Result<Effects, Refusal>) -> Effects {
     }
 }
 
+/// A message of one segment of one word, that word zero.
+fn is_null(payload: &Payload) -> bool {
+    payload.caps() == 0
+        && payload.bytes() == [0, 0, 0, 0, 1, 0, 0, 0, 0, 0, 0, 0, 0, 0, 0, 0].as_slice()
+}
+
+/// The same, but that the word is capability 0.
+fn is_root(payload: &Payload) -> bool {
+    payload.caps() == 1
+        && payload.bytes() == [0, 0, 0, 0, 1, 0, 0, 0, 3, 0, 0, 0, 0, 0, 0, 0].as_slice()
+}
+
 fn is_return(message: &Message, question: u32, export: Option<u32>) -> bool {
     let Message::Plain(PlainMessage::Return(said)) = message else {
         return false;
@@ -123,10 +141,10 @@ fn is_return(message: &Message, question: u32, export: Option<u32>) -> bool {
     }
     match (&said.body, export) {
         (ReturnBody::Results(payload, descriptors), None) => {
-            *payload == Payload::Null && descriptors.is_empty()
+            is_null(payload) && descriptors.is_empty()
         }
         (ReturnBody::Results(payload, descriptors), Some(export)) => {
-            *payload == Payload::RootCapability
+            is_root(payload)
                 && descriptors.as_slice() == [Descriptor::SenderHosted(ExportId(export))].as_slice()
         }
         _ => false,
@@ -205,7 +223,7 @@ fn is_first_call(message: &Message) -> bool {
         && call.question == QuestionId(1)
         && call.interface == 7
         && call.method == 1
-        && call.payload == Payload::Null
+        && is_null(&call.payload)
         && call.descriptors.is_empty()
         && call.stamp == stamp
 }

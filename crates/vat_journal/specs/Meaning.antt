@@ -3,11 +3,12 @@ use Rattle.std.specs.Prelude.{◌≡◌, ℕ, zero, suc, Option, None, Some, Lis
 use Rattle.rpc_msg.specs.declared.ids.Vat.{Vat}
 use Rattle.rpc_msg.specs.declared.ids.Vat.TheVariants.{A, B}
 use Rattle.rpc_msg.specs.declared.ids.Stamp.{Stamp}
-use Rattle.rpc_msg.specs.declared.path.Op.{Op}
-use Rattle.rpc_msg.specs.declared.payload.CapAt.{CapAt}
-use Rattle.rpc_msg.specs.declared.payload.CapAt.TheVariants.{Cap, Null, NotCap}
+use Rattle.capn_wire.specs.declared.path.Op.{Op}
+use Rattle.capn_wire.specs.declared.path.CapAt.{CapAt}
+use Rattle.capn_wire.specs.declared.path.CapAt.TheVariants.{Cap, Null, NotCap}
 use Rattle.rpc_msg.specs.Paths.{fields}
-use Rattle.rpc_msg.specs.Payloads.{cap_at}
+use Rattle.capn_wire.specs.Payloads.{tree_of}
+use Rattle.capn_wire.specs.Walking.{capability_at}
 use Rattle.rpc_msg.specs.Vats.{other_vat}
 use Rattle.vat_journal.specs.declared.report.Outcome.{Outcome}
 use Rattle.vat_journal.specs.declared.report.Outcome.TheVariants as outcome
@@ -73,7 +74,7 @@ module _ (h : History) (rest : Ref → Option Meaning) where
   by_cap refs NotCap = Some Broken
 
   abbrev pub by_outcome : List Op → List Ref → Outcome → Option Meaning
-  by_outcome path refs (outcome.Results payload) = by_cap refs (cap_at payload path)
+  by_outcome path refs (outcome.Results payload) = by_cap refs (capability_at (tree_of payload) path)
   by_outcome path refs (outcome.Exception exception) = Some Broken
 
   -- A field of a call is broken where the call's reference is.

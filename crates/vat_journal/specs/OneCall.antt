@@ -2,7 +2,7 @@
 use Rattle.std.specs.Prelude.{◌≡◌, Some, None, List, [], ◌∷◌}
 use Rattle.rpc_msg.specs.declared.ids.Vat.TheVariants.{A, B}
 use Rattle.rpc_msg.specs.declared.ids.Stamp.{Stamp}
-use Rattle.rpc_msg.specs.declared.payload.Payload.TheVariants as payload
+use Rattle.capn_wire.specs.Payloads.{null_payload, root_payload}
 use Rattle.vat_journal.specs.declared.report.Outcome.TheVariants as outcome
 use Rattle.vat_journal.specs.declared.entry.Origin.TheVariants as origin
 use Rattle.vat_journal.specs.declared.entry.JournalEntry.{JournalEntry}
@@ -18,11 +18,11 @@ abbrev pub one_call : List JournalEntry
 one_call =
     entry.Asked A (record { 0 = 0 })
     ∷ entry.Born A (record { 0 = 0 }) (origin.Field (record { 0 = 0 }) [])
-    ∷ entry.Made A (record { reference = record { 0 = 0 }; index = 0; call = record { 0 = 1 }; interface = 7; method = 1; payload = payload.Null; refs = [] })
-    ∷ entry.Delivered B (record { task = record { 0 = 0 }; object = record { 0 = 0 }; stamp = first_stamp; interface = 7; method = 1; payload = payload.Null; refs = [] })
-    ∷ entry.Ended A (record { call = record { 0 = 0 }; outcome = outcome.Results payload.RootCapability; refs = record { 0 = 1 } ∷ [] })
-    ∷ entry.Answered B (record { 0 = 0 }) (outcome.Results payload.Null) []
-    ∷ entry.Ended A (record { call = record { 0 = 1 }; outcome = outcome.Results payload.Null; refs = [] })
+    ∷ entry.Made A (record { reference = record { 0 = 0 }; index = 0; call = record { 0 = 1 }; interface = 7; method = 1; payload = null_payload; refs = [] })
+    ∷ entry.Delivered B (record { task = record { 0 = 0 }; object = record { 0 = 0 }; stamp = first_stamp; interface = 7; method = 1; payload = null_payload; refs = [] })
+    ∷ entry.Ended A (record { call = record { 0 = 0 }; outcome = outcome.Results root_payload; refs = record { 0 = 1 } ∷ [] })
+    ∷ entry.Answered B (record { 0 = 0 }) (outcome.Results null_payload) []
+    ∷ entry.Ended A (record { call = record { 0 = 1 }; outcome = outcome.Results null_payload; refs = [] })
     ∷ []
 
 abbrev pub one_history : History

@@ -1,7 +1,7 @@
 use crate::{Advanced, Counts, Delivery, Ended, JournalEntry, MadeCall, Origin, Outcome};
 use rpc_msg::{
-    CallId, Exception, ExceptionKind, ExportId, Items, Memory, Message, ObjectId, Path, Payload,
-    PlainMessage, PromiseId, RefId, Stamp, TaskId, Text, Vat,
+    CallId, CapAt, Exception, ExceptionKind, ExportId, Items, Memory, Message, ObjectId, Path,
+    Payload, PlainMessage, PromiseId, RefId, Stamp, TaskId, Text, Vat,
 };
 use std::alloc::Global;
 use std::process::Abort;
@@ -49,14 +49,19 @@ fn references(alloc: Global) -> Result<Items<RefId>, Memory> {
     }
 }
 
-fn made(refs: Items<RefId>) -> MadeCall {
+// Whether that is the payload that goes with one capability, its root.
+fn is_root(payload: &Payload) -> bool {
+    payload.caps() == 1 && payload.cap_at(&[]) == CapAt::Cap(0)
+}
+
+fn made(payload: Payload, refs: Items<RefId>) -> MadeCall {
     MadeCall {
         reference: RefId(0),
         index: 2,
         call: CallId(1),
         interface: 7,
         method: 8,
-        payload: Payload::RootCapability,
+        payload,
         refs,
     }
 }
@@ -66,7 +71,7 @@ fn is_made(entry: &JournalEntry) -> bool {
         JournalEntry::Made(vat, copy) => {
             (*vat, copy.reference, copy.index) == (Vat::B, RefId(0), 2)
                 && (copy.call, copy.interface, copy.method) == (CallId(1), 7, 8)
-                && copy.payload == Payload::RootCapability
+                && is_root(&copy.payload)
                 && copy.refs.as_slice() == REFS.as_slice()
         }
         _ => false,
@@ -75,8 +80,9 @@ fn is_made(entry: &JournalEntry) -> bool {
 
 #[test]
 fn a_made_call_is_copied(rt: HostRuntime) -> Result<(), Memory> {
+    let payload = Payload::root_capability(rt.alloc())?;
     let refs = references(rt.alloc())?;
-    let copy = copy_of(rt.alloc(), JournalEntry::Made(Vat::B, made(refs)))?;
+    let copy = copy_of(rt.alloc(), JournalEntry::Made(Vat::B, made(payload, refs)))?;
     assert!(rt; is_made(&copy));
     Ok(())
 }
@@ -87,14 +93,14 @@ const STAMP: Stamp = Stamp {
     index: 2,
 };
 
-fn delivery(refs: Items<RefId>) -> Delivery {
+fn delivery(payload: Payload, refs: Items<RefId>) -> Delivery {
     Delivery {
         task: TaskId(5),
         object: ObjectId(6),
         stamp: STAMP,
         interface: 7,
         method: 8,
-        payload: Payload::RootCapability,
+        payload,
         refs,
     }
 }
@@ -112,8 +118,12 @@ fn is_delivered(entry: &JournalEntry) -> bool {
 
 #[test]
 fn a_delivered_call_is_copied(rt: HostRuntime) -> Result<(), Memory> {
+    let payload = Payload::root_capability(rt.alloc())?;
     let refs = references(rt.alloc())?;
-    let copy = copy_of(rt.alloc(), JournalEntry::Delivered(Vat::A, delivery(refs)))?;
+    let copy = copy_of(
+        rt.alloc(),
+        JournalEntry::Delivered(Vat::A, delivery(payload, refs)),
+    )?;
     assert!(rt; is_delivered(&copy));
     Ok(())
 }
@@ -202,23 +212,21 @@ fn one_reference(alloc: Global) -> Result<Items<RefId>, Memory> {
     Items::one(alloc, RefId(2)).ok().ok_or(Memory)
 }
 
+fn is_answered(entry: &JournalEntry) -> bool {
+    match entry {
+        JournalEntry::Answered(Vat::B, TaskId(3), Outcome::Results(payload), _) => is_root(payload),
+        _ => false,
+    }
+}
+
 #[test]
 fn an_answered_task_is_copied(rt: HostRuntime) -> Result<(), Memory> {
     let refs = one_reference(rt.alloc())?;
-    let outcome = Outcome::Results(Payload::RootCapability);
+    let payload = Payload::root_capability(rt.alloc())?;
+    let outcome = Outcome::Results(payload);
     let answered = JournalEntry::Answered(Vat::B, TaskId(3), outcome, refs);
     let copy = copy_of(rt.alloc(), answered)?;
-    assert!(rt;
-        matches!(
-            &copy,
-            JournalEntry::Answered(
-                Vat::B,
-                TaskId(3),
-                Outcome::Results(Payload::RootCapability),
-                _
-            )
-        )
-    );
+    assert!(rt; is_answered(&copy));
     Ok(())
 }
 

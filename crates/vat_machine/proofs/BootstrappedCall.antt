@@ -12,7 +12,11 @@ use Rattle.rpc_msg.specs.declared.message.PlainMessage.TheVariants as plain
 use Rattle.rpc_msg.specs.declared.message.Message.{Message}
 use Rattle.rpc_msg.specs.declared.message.Message.TheVariants as message
 use Rattle.rpc_msg.specs.declared.message.Call.{Call}
-use Rattle.rpc_msg.specs.declared.payload.CapAt.TheVariants.{Cap}
+use Rattle.capn_wire.specs.declared.path.CapAt.TheVariants.{Cap}
+use Rattle.capn_wire.specs.Segments.{little_numbers, segments_in}
+use Rattle.capn_wire.specs.Framing.{framing, segment_count, sizes}
+use Rattle.capn_wire.specs.Following as following
+use Rattle.capn_wire.specs.Reading.{message_of, root_of, reading, deep}
 use Rattle.vat_machine.specs.Payloads.{bootstrap_payload, cap_at}
 use Rattle.vat_machine.specs.declared.node.Node.{Node}
 use Rattle.vat_machine.specs.declared.node.Node.TheVariants as node
@@ -290,6 +294,7 @@ abbrev field_node : Node
 field_node = node.Field 0 []
 
 root_leads : cap_at bootstrap_payload [] ≡ Cap 0
+unfolding message_of root_of reading deep framing segment_count sizes following.leads little_numbers segments_in
 root_leads = refl
 
 leads : next b_called field_node ≡ object

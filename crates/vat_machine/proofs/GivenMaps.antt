@@ -21,8 +21,7 @@ use Rattle.vat_machine.specs.Progress.{Progress}
 use Rattle.vat_machine.specs.Collecting.{IsTight, IsLoosePromise, IsLooseOutcome, IsLooseImport, Tight}
 use Rattle.vat_machine.specs.Lists.{from_each, how_many}
 use Rattle.vat_machine.specs.Places.{named_by_reference, named_by_embargo, named_by_promise, named_by_outcome, named_by_question, named_by_import, named_by_export, named_by_answer, names}
-use Rattle.rpc_msg.specs.declared.payload.Payload.{Payload}
-use Rattle.rpc_msg.specs.Payloads.{null_payload}
+use Rattle.capn_wire.specs.Payloads.{Contents as Payload, null_payload}
 use Rattle.vat_machine.specs.Settling.{NoneLeft}
 use Rattle.vat_machine.specs.Steps.{staying_up, Ends}
 use Rattle.vat_machine.specs.Sweeping.{IsToFinish, Over, FinishesEach, release_each, Sweeps}

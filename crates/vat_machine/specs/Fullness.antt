@@ -6,7 +6,7 @@ use Rattle.std.specs.List.{list_any}
 use Rattle.std.specs.FinMap as map
 use Rattle.finite_maps.specs.Tally.{Map}
 use Rattle.rpc_msg.specs.declared.ids.EmbargoId.{EmbargoId}
-use Rattle.rpc_msg.specs.declared.path.Op.{Op}
+use Rattle.capn_wire.specs.declared.path.Op.{Op}
 use Rattle.rpc_msg.specs.declared.parts.Descriptor.{Descriptor}
 use Rattle.rpc_msg.specs.declared.parts.Descriptor.TheVariants as descriptor
 use Rattle.vat_machine.specs.declared.command.Command.{Command}

@@ -1,11 +1,11 @@
 -- What the names of a script stand for (docs/script.md, "Names").
 use Rattle.std.specs.Prelude.{◌≡◌, [], Option, Some, None, IsSome, option_map, Result, Ok, Err}
 use Rattle.std.specs.FinMap as map
+use Rattle.capn_wire.specs.Payloads.{null_payload}
 use Rattle.rpc_msg.specs.declared.ids.Vat.{Vat}
 use Rattle.rpc_msg.specs.declared.ids.Vat.TheVariants as vat
 use Rattle.rpc_msg.specs.declared.ids.CallId.{CallId}
 use Rattle.rpc_msg.specs.declared.ids.RefId.{RefId}
-use Rattle.rpc_msg.specs.declared.payload.Payload.TheVariants as payload
 use Rattle.vat_core.specs.declared.command.Command.{Command}
 use Rattle.vat_core.specs.declared.command.Command.TheVariants as command
 use Rattle.vat_core.specs.declared.command.Answer.{Answer}
@@ -39,9 +39,9 @@ command_for names (said.Bootstrap call) = Some command.Bootstrap
 command_for names (said.Field l) = option_map (λ (c : CallId). command.Field c l.path) (map.get names.calls l.call)
 command_for names (said.Call l) =
     option_map
-    (λ (r : RefId). command.Call (record { reference = r; interface = l.interface; method = l.method; payload = payload.Null; refs = [] }))
+    (λ (r : RefId). command.Call (record { reference = r; interface = l.interface; method = l.method; payload = null_payload; refs = [] }))
     (map.get names.references l.reference)
-command_for names (said.Answer task) = Some (command.Answer task payload.Null [])
+command_for names (said.Answer task) = Some (command.Answer task null_payload [])
 command_for names (said.Finish call) = option_map command.Finish (map.get names.calls call)
 command_for names (said.DropRef name) = option_map command.DropRef (map.get names.references name)
 

@@ -1,7 +1,7 @@
 -- What the lines of a script say (docs/script.md, "Lines").
 use Rattle.std.specs.Prelude.{ℕ, ◌≡◌, ◌==◌, Bool, true, if◌then◌else◌, List, [], ◌∷◌, Option, Some, None, option_map, option_and_then, Result, Ok, Err, codes}
 use Rattle.std.specs.List.{slice_split}
-use Rattle.rpc_msg.specs.declared.path.Op.{Op}
+use Rattle.capn_wire.specs.declared.path.Op.{Op}
 use Rattle.vat_script.specs.declared.line.Line.{Line}
 use Rattle.vat_script.specs.declared.line.Line.TheVariants as line
 use Rattle.vat_script.specs.declared.line.LineCommand.{LineCommand}

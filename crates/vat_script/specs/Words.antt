@@ -6,8 +6,8 @@ use Rattle.std.specs.Str.{all_ascii_digits, bytes_eq}
 use Rattle.std.specs.Str.Parse.{digits_value}
 use Rattle.rpc_msg.specs.declared.ids.Vat.{Vat}
 use Rattle.rpc_msg.specs.declared.ids.Vat.TheVariants as vat
-use Rattle.rpc_msg.specs.declared.path.Op.{Op}
-use Rattle.rpc_msg.specs.declared.path.Op.TheVariants as op
+use Rattle.capn_wire.specs.declared.path.Op.{Op}
+use Rattle.capn_wire.specs.declared.path.Op.TheVariants as op
 
 -- The word is that text.
 abbrev pub is_text : List ℕ → List ℕ → Bool

@@ -1,7 +1,9 @@
-ghost use Rattle.std.specs.Prelude.{◌≡◌, IfOk, OnOk, OnErr};
+ghost use Rattle.std.specs.Prelude.{◌≡◌, IfOk, IfErr, OnOk, OnErr};
+ghost use Rattle.capn_wire.specs.Payloads.{null_payload};
 ghost use Rattle.vat_core.specs.Obeying.{IsBuilt};
 ghost use Rattle.vat_script.specs.Bindings.{Gives, unnamed, no_names, names_of, command_for, bind_call, bind_reference, binds_of_vat, binds};
 ghost use Rattle.vat_script.specs.declared.line.LineCommand.TheVariants as said;
+ghost use Rattle.vat_script.specs.declared.names.NameFault.TheVariants as faults;
 
 use crate::bound::Bound;
 use crate::line::{CallLine, FieldLine, LineCommand};
@@ -71,6 +73,16 @@ impl Names {
     }
 }
 
+fn null_payload(alloc: Global) -> Result<Payload, NameFault>
+    ensures is { IfOk result (λ payload. payload ≡ null_payload) }
+    ensures fault { IfErr result (λ fault. fault ≡ faults.Memory) }
+{
+    match Payload::null(alloc) {
+        Ok(payload) => Ok(payload),
+        Err(Memory) => Err(NameFault::Memory),
+    }
+}
+
 impl VatNames {
     fn new(alloc: Global) -> Self
         ensures { result ≡ unnamed }
@@ -90,7 +102,8 @@ impl VatNames {
             LineCommand::Field(line) => self.field(alloc, line),
             LineCommand::Call(line) => self.call(alloc, line),
             LineCommand::Answer(task) => {
-                Ok(Command::Answer(*task, Payload::Null, Items::new(alloc)))
+                let payload = null_payload(alloc)?;
+                Ok(Command::Answer(*task, payload, Items::new(alloc)))
             }
             LineCommand::Finish(call) => match self.calls.get(*call) {
                 Some(call) => Ok(Command::Finish(call)),
@@ -120,16 +133,17 @@ impl VatNames {
         ensures given { Gives (command_for self.now (said.Call line.now)) result }
         ensures built { IfOk result (λ command. IsBuilt command) }
     {
-        match self.references.get(line.reference) {
-            Some(reference) => Ok(Command::Call(CallCommand {
-                reference,
-                interface: line.interface,
-                method: line.method,
-                payload: Payload::Null,
-                refs: Items::new(alloc),
-            })),
-            None => Err(NameFault::Unbound),
-        }
+        let Some(reference) = self.references.get(line.reference) else {
+            return Err(NameFault::Unbound);
+        };
+        let payload = null_payload(alloc)?;
+        Ok(Command::Call(CallCommand {
+            reference,
+            interface: line.interface,
+            method: line.method,
+            payload,
+            refs: Items::new(alloc),
+        }))
     }
 
     fn bind(&mut self, said: &LineCommand, answer: &Answer) -> Result<(), Memory>

@@ -3,7 +3,7 @@ use Rattle.std.proofs.Common.{◌≡◌, ℕ, Bool, Option, Result, Ok, Err, IfO
 use Rattle.std.specs.Result.{IsOkAnd}
 use Rattle.std.specs.Option.{option_to_list}
 use Rattle.rpc_msg.specs.declared.ids.Vat.{Vat}
-use Rattle.rpc_msg.specs.declared.memory.Memory.{Memory}
+use Rattle.capn_wire.specs.declared.faults.Memory.{Memory}
 use Rattle.vat_journal.specs.declared.entry.JournalEntry.{JournalEntry}
 use Rattle.vat_core.specs.declared.command.Answer.{Answer}
 use Rattle.vat_core.specs.declared.command.Command.{Command}

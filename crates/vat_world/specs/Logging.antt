@@ -2,7 +2,7 @@
 use Rattle.std.specs.Prelude.{◌≡◌, ◌⊎◌, ℕ, Bool, true, false, Option, Result, Ok, Err, List, []}
 use Rattle.std.specs.Option.{option_to_list}
 use Rattle.rpc_msg.specs.declared.ids.Vat.{Vat}
-use Rattle.rpc_msg.specs.declared.memory.Memory.{Memory}
+use Rattle.capn_wire.specs.declared.faults.Memory.{Memory}
 use Rattle.vat_journal.specs.declared.entry.JournalEntry.{JournalEntry}
 use Rattle.vat_core.specs.declared.command.Effects.{Effects}
 use Rattle.vat_core.specs.Effects.{falling, silent}

@@ -8,7 +8,7 @@ use Rattle.rpc_msg.specs.declared.message.ReturnBody.TheVariants as body
 use Rattle.rpc_msg.specs.declared.message.PlainMessage.{PlainMessage}
 use Rattle.rpc_msg.specs.declared.message.PlainMessage.TheVariants as plain
 use Rattle.rpc_msg.specs.declared.message.Message.TheVariants as message
-use Rattle.rpc_msg.specs.Payloads.{root_payload}
+use Rattle.capn_wire.specs.Payloads.{root_payload}
 use Rattle.vat_machine.specs.declared.node.Node.TheVariants as node
 use Rattle.vat_journal.specs.declared.entry.JournalEntry.TheVariants as entry
 use Rattle.vat_core.specs.declared.command.Command.TheVariants as command

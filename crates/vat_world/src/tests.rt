@@ -1,3 +1,4 @@
+ghost use Rattle.std.specs.Prelude.{◌≡◌, IfOk};
 ghost use Rattle.vat_world.specs.World.{IsBuiltEvent, AreBuilt};
 
 use crate::{JournalEntry, StepAnswer, World, WorldEvent};
@@ -20,14 +21,23 @@ const FIRST_STAMP: Stamp = Stamp {
 /// The events of one bootstrapped call of A at B, by their numbers: from the Bootstrap to the last Release.
 const EVENTS: u32 = 15;
 
-fn event(alloc: Global, number: u32) -> WorldEvent
+fn event(alloc: Global, number: u32) -> Result<WorldEvent, Memory>
+    ensures { IfOk result (λ event. IsBuiltEvent event) }
+{
+    match number {
+        2 => calls(alloc),
+        6 => answers(alloc),
+        _ => Ok(bare_event(alloc, number)),
+    }
+}
+
+/// An event without a payload.
+fn bare_event(alloc: Global, number: u32) -> WorldEvent
     ensures { IsBuiltEvent result }
 {
     match number {
         0 => WorldEvent::Command(Vat::A, Command::Bootstrap),
         1 => WorldEvent::Command(Vat::A, Command::Field(CallId(0), Items::new(alloc))),
-        2 => calls(alloc),
-        6 => answers(alloc),
         8 => WorldEvent::Command(Vat::A, Command::Finish(CallId(1))),
         9 => WorldEvent::Command(Vat::A, Command::Finish(CallId(0))),
         10 => WorldEvent::Command(Vat::A, Command::DropRef(RefId(0))),
@@ -37,31 +47,56 @@ fn event(alloc: Global, number: u32) -> WorldEvent
     }
 }
 
-fn calls(alloc: Global) -> WorldEvent
-    ensures { IsBuiltEvent result }
+/// The null payload. A refused allocation is tried again.
+fn null(alloc: Global) -> Result<Payload, Memory>
+    ensures { IfOk result (λ payload. payload.caps ≡ 0) }
 {
+    match Payload::null(alloc) {
+        Ok(payload) => Ok(payload),
+        Err(Memory) => Payload::null(alloc),
+    }
+}
+
+fn calls(alloc: Global) -> Result<WorldEvent, Memory>
+    ensures { IfOk result (λ event. IsBuiltEvent event) }
+{
+    let payload = null(alloc)?;
     let call = CallCommand {
         reference: RefId(0),
         interface: 7,
         method: 1,
-        payload: Payload::Null,
+        payload,
         refs: Items::new(alloc),
     };
-    WorldEvent::Command(Vat::A, Command::Call(call))
+    Ok(WorldEvent::Command(Vat::A, Command::Call(call)))
 }
 
-fn answers(alloc: Global) -> WorldEvent
-    ensures { IsBuiltEvent result }
+fn answers(alloc: Global) -> Result<WorldEvent, Memory>
+    ensures { IfOk result (λ event. IsBuiltEvent event) }
 {
+    let payload = null(alloc)?;
     let refs = Items::new(alloc);
-    WorldEvent::Command(Vat::B, Command::Answer(TaskId(0), Payload::Null, refs))
+    Ok(WorldEvent::Command(Vat::B, Command::Answer(TaskId(0), payload, refs)))
 }
 
-fn vat_of(event: &WorldEvent) -> Vat {
-    match event {
-        WorldEvent::Command(vat, _) => *vat,
-        WorldEvent::Deliver(vat) => *vat,
+/// The vat of an event, by its number.
+fn vat_of(number: u32) -> Vat {
+    match number {
+        0..=2 | 5 | 7..=11 => Vat::A,
+        _ => Vat::B,
     }
+}
+
+/// A message of one segment of one word, that word zero.
+fn is_null_payload(payload: &Payload) -> bool {
+    payload.caps() == 0
+        && payload.bytes() == [0, 0, 0, 0, 1, 0, 0, 0, 0, 0, 0, 0, 0, 0, 0, 0].as_slice()
+}
+
+/// The same, but that the word is capability 0.
+fn is_root_payload(payload: &Payload) -> bool {
+    payload.caps() == 1
+        && payload.bytes() == [0, 0, 0, 0, 1, 0, 0, 0, 3, 0, 0, 0, 0, 0, 0, 0].as_slice()
 }
 
 /// The vat of an entry, its kind, and the number of what it names.
@@ -133,7 +168,7 @@ fn is_first_made(made: &MadeCall) -> bool {
         && made.index == 0
         && made.interface == 7
         && made.method == 1
-        && made.payload == Payload::Null
+        && is_null_payload(&made.payload)
         && made.refs.is_empty()
 }
 
@@ -142,13 +177,13 @@ fn is_first_delivery(delivery: &Delivery) -> bool {
         && delivery.stamp == FIRST_STAMP
         && delivery.interface == 7
         && delivery.method == 1
-        && delivery.payload == Payload::Null
+        && is_null_payload(&delivery.payload)
         && delivery.refs.is_empty()
 }
 
 fn is_null(outcome: &Outcome) -> bool {
     match outcome {
-        Outcome::Results(payload) => *payload == Payload::Null,
+        Outcome::Results(payload) => is_null_payload(payload),
         Outcome::Exception(_) => false,
     }
 }
@@ -160,7 +195,7 @@ fn is_end(ended: &Ended) -> bool {
     }
     match &ended.outcome {
         Outcome::Results(payload) => {
-            *payload == Payload::RootCapability && ended.refs.as_slice() == [RefId(1)].as_slice()
+            is_root_payload(payload) && ended.refs.as_slice() == [RefId(1)].as_slice()
         }
         Outcome::Exception(_) => false,
     }
@@ -176,7 +211,7 @@ fn is_first_call(call: &Call) -> bool {
     is_at_root
         && call.interface == 7
         && call.method == 1
-        && call.payload == Payload::Null
+        && is_null_payload(&call.payload)
         && call.descriptors.is_empty()
         && call.stamp == FIRST_STAMP
 }
@@ -186,9 +221,9 @@ fn is_return(said: &Return) -> bool {
         return false;
     };
     if said.answer == QuestionId(1) {
-        return *payload == Payload::Null && descriptors.is_empty();
+        return is_null_payload(payload) && descriptors.is_empty();
     }
-    *payload == Payload::RootCapability
+    is_root_payload(payload)
         && descriptors.as_slice() == [Descriptor::SenderHosted(ExportId(0))].as_slice()
 }
 
@@ -224,7 +259,10 @@ fn take(world: &mut World, alloc: Global, event: WorldEvent) -> Brief
 }
 
 fn take_number(world: &mut World, alloc: Global, number: u32) -> Brief {
-    take(world, alloc, event(alloc, number))
+    match event(alloc, number) {
+        Ok(event) => take(world, alloc, event),
+        Err(Memory) => Brief::Refused(Refusal::Memory),
+    }
 }
 
 fn run(world: &mut World, alloc: Global, events: Vec<WorldEvent>)
@@ -307,8 +345,9 @@ fn a_run_is_its_steps(rt: HostRuntime) -> Result<(), Fail> {
     let alloc = rt.alloc();
     let asks = WorldEvent::Command(Vat::A, Command::Bootstrap);
     let names = WorldEvent::Command(Vat::A, Command::Field(CallId(0), Items::new(alloc)));
+    let calls = calls(alloc)?;
     let gets = WorldEvent::Deliver(Vat::B);
-    let events = vec![in alloc; asks, names, calls(alloc), gets]?;
+    let events = vec![in alloc; asks, names, calls, gets]?;
     runs(&rt, alloc, events)?;
     Ok(())
 }
@@ -497,7 +536,7 @@ fn ends_refused(entries: &[JournalEntry], vat: Vat) -> bool {
 /// An event that is refused for want of memory is written as that, and is taken the second time. Answers whether its
 /// vat is up.
 fn takes(rt: &impl Abort, alloc: Global, world: &mut World, number: u32) -> bool {
-    let vat = vat_of(&event(alloc, number));
+    let vat = vat_of(number);
     let said = take_number(world, alloc, number);
     if down(world, vat).is_some() {
         assert!(rt; ends_overflown(entries(world), vat));

@@ -161,19 +161,36 @@ fn no_base64(rt: HostRuntime) -> Result<(), Memory> {
 }
 
 #[test]
-fn no_payload(rt: HostRuntime) -> Result<(), Memory> {
+fn a_payload_cut_short(rt: HostRuntime) -> Result<(), Memory> {
     fails(
         &rt,
         rt.alloc(),
         TraceVersion::Two,
         r#"{"call":1,"index":0,"interface":7,"k":"made","method":1,"payload":{"bytes":"AAAA","caps":0},"ref":0,"refs":[],"vat":"a"}"#,
         TraceFault::BadPayload,
-    )?;
+    )
+}
+
+// The root is a struct of a word that lies behind the segment.
+#[test]
+fn a_payload_with_a_pointer_out_of_bounds(rt: HostRuntime) -> Result<(), Memory> {
     fails(
         &rt,
         rt.alloc(),
         TraceVersion::Two,
-        r#"{"call":1,"index":0,"interface":7,"k":"made","method":1,"payload":{"bytes":"AAAAAAEAAAAAAAAAAAAAAA==","caps":1},"ref":0,"refs":[],"vat":"a"}"#,
+        r#"{"call":1,"index":0,"interface":7,"k":"made","method":1,"payload":{"bytes":"AAAAAAEAAAAAAAAAAQAAAA==","caps":0},"ref":0,"refs":[],"vat":"a"}"#,
+        TraceFault::BadPayload,
+    )
+}
+
+// The root is capability 0, and no capability goes with it.
+#[test]
+fn a_payload_without_its_capability(rt: HostRuntime) -> Result<(), Memory> {
+    fails(
+        &rt,
+        rt.alloc(),
+        TraceVersion::Two,
+        r#"{"call":1,"index":0,"interface":7,"k":"made","method":1,"payload":{"bytes":"AAAAAAEAAAADAAAAAAAAAA==","caps":0},"ref":0,"refs":[],"vat":"a"}"#,
         TraceFault::BadPayload,
     )
 }

@@ -3,25 +3,26 @@ use rpc_msg::{CallId, ExceptionKind, Items, Memory, Payload, RefId, TaskId, Vat}
 use std::alloc::Global;
 use vat_journal::{Counts, Ended, JournalEntry, MadeCall, Outcome};
 
-fn made_with_arguments(refs: Items<RefId>) -> MadeCall {
+fn made_with_arguments(payload: Payload, refs: Items<RefId>) -> MadeCall {
     MadeCall {
         reference: RefId(2),
         index: 9,
         call: CallId(5),
         interface: u64::MAX,
         method: 65535,
-        payload: Payload::RootCapability,
+        payload,
         refs,
     }
 }
 
 #[test]
 fn a_call_with_arguments_is_made(rt: HostRuntime) -> Result<(), Memory> {
+    let payload = Payload::root_capability(rt.alloc())?;
     let refs = references(rt.alloc(), &[3, u64::MAX])?;
     says(
         &rt,
         rt.alloc(),
-        JournalEntry::Made(Vat::B, made_with_arguments(refs)),
+        JournalEntry::Made(Vat::B, made_with_arguments(payload, refs)),
         r#"{"call":5,"index":9,"interface":18446744073709551615,"k":"made","method":65535,"payload":{"bytes":"AAAAAAEAAAADAAAAAAAAAA==","caps":1},"ref":2,"refs":[3,18446744073709551615],"vat":"b"}"#,
     )
 }
@@ -29,7 +30,8 @@ fn a_call_with_arguments_is_made(rt: HostRuntime) -> Result<(), Memory> {
 #[test]
 fn a_task_is_answered(rt: HostRuntime) -> Result<(), Memory> {
     let refs = references(rt.alloc(), &[7])?;
-    let results = Outcome::Results(Payload::RootCapability);
+    let payload = Payload::root_capability(rt.alloc())?;
+    let results = Outcome::Results(payload);
     says(
         &rt,
         rt.alloc(),
@@ -64,7 +66,8 @@ fn ended(call: CallId, outcome: Outcome, refs: Items<RefId>) -> JournalEntry {
 #[test]
 fn a_call_ends_with_results(rt: HostRuntime) -> Result<(), Memory> {
     let refs = references(rt.alloc(), &[0])?;
-    let results = Outcome::Results(Payload::RootCapability);
+    let payload = Payload::root_capability(rt.alloc())?;
+    let results = Outcome::Results(payload);
     says(
         &rt,
         rt.alloc(),

@@ -120,3 +120,14 @@ fn a_refused_allocation_is_said_of_a_line(rt: HostRuntime) -> Result<(), Memory>
         }
     }
 }
+
+// A far pointer in the first of two segments leads to a pad of two words in the second.
+#[test]
+fn a_payload_of_two_segments(rt: HostRuntime) -> Result<(), Memory> {
+    same(
+        &rt,
+        rt.alloc(),
+        TraceVersion::Two,
+        r#"{"call":1,"index":0,"interface":7,"k":"made","method":1,"payload":{"bytes":"AQAAAAIAAAACAAAAAAAAAAYAAAABAAAAAwAAAAAAAAAKAAAAAAAAAAAAAAAAAAEA","caps":1},"ref":0,"refs":[3],"vat":"a"}"#,
+    )
+}

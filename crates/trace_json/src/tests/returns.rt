@@ -30,21 +30,23 @@ fn each_kind(alloc: Global) -> Result<Items<Descriptor>, Memory> {
     )
 }
 
-fn call_with(alloc: Global, descriptors: Items<Descriptor>) -> Call {
-    Call {
+fn call_with(alloc: Global, descriptors: Items<Descriptor>) -> Result<Call, Memory> {
+    let call = call(alloc)?;
+    Ok(Call {
         target: Target::ImportedCap(ExportId(8)),
         descriptors,
-        ..call(alloc)
-    }
+        ..call
+    })
 }
 
 #[test]
 fn a_call_with_capabilities(rt: HostRuntime) -> Result<(), Memory> {
     let kinds = each_kind(rt.alloc())?;
+    let call = call_with(rt.alloc(), kinds)?;
     sends(
         &rt,
         rt.alloc(),
-        PlainMessage::Call(call_with(rt.alloc(), kinds)),
+        PlainMessage::Call(call),
         r#"{"k":"sent","message":{"call":{"caps":["none",{"senderHosted":3},{"senderPromise":4},{"receiverHosted":5},{"receiverAnswer":{"path":[1,null,0],"question":6}}],"interface":7,"method":1,"payload":{"bytes":"AAAAAAEAAAAAAAAAAAAAAA==","caps":0},"question":1,"stamp":{"index":0,"ref":0,"vat":"a"},"target":{"import":8}}},"vat":"a"}"#,
     )
 }
@@ -60,7 +62,8 @@ fn return_of(answer: QuestionId, release_param_caps: bool, body: ReturnBody) -> 
 #[test]
 fn a_return_of_results(rt: HostRuntime) -> Result<(), Memory> {
     let caps = descriptors(rt.alloc(), &[Descriptor::SenderHosted(ExportId(0))])?;
-    let results = ReturnBody::Results(Payload::RootCapability, caps);
+    let payload = Payload::root_capability(rt.alloc())?;
+    let results = ReturnBody::Results(payload, caps);
     sends_both(
         &rt,
         rt.alloc(),

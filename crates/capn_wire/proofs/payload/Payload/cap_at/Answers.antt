@@ -10,16 +10,16 @@ use Rattle.capn_wire.proofs.payload.Payload.cap_at.Goals as goal
 pub unreachable-requires : goal.unreachable-requires
 unreachable-requires c =
     let same = c.as_slice.ensures.value ∙ ap (λ (v : Vec ℕ). v.items) c.deref.ensures in
-    not_unframed (arc_value c.self.inside.bytes).items c.self.inside.caps c.in_default.field-0 c.self.invariant (rw same at c.in_default.ensures)
+    not_unframed (arc_value c.self.inside.bytes).items c.self.inside.caps c.in_default.field-0 c.self.invariant.encoded (rw same at c.in_default.ensures)
 
 pub find-requires : goal.find-requires
 find-requires c =
     let same = c.as_slice.ensures.value ∙ ap (λ (v : Vec ℕ). v.items) c.deref.ensures in
-    (framed_read (arc_value c.self.inside.bytes).items c.self.inside.caps c.in-Ok.message c.self.invariant (rw same at c.in-Ok.ensures)).0
+    (framed_read (arc_value c.self.inside.bytes).items c.self.inside.caps c.in-Ok.message c.self.invariant.encoded (rw same at c.in-Ok.ensures)).0
 
 pub returns : goal.returns
 returns c =
     let same = c.as_slice.ensures.value ∙ ap (λ (v : Vec ℕ). v.items) c.deref.ensures in
     c.find.ensures
-    ∙ ap (λ (t : Tree). capability_at t c.args.path.now) (framed_read (arc_value c.self.inside.bytes).items c.self.inside.caps c.in-Ok.message c.self.invariant (rw same at c.in-Ok.ensures)).1
+    ∙ ap (λ (t : Tree). capability_at t c.args.path.now) (framed_read (arc_value c.self.inside.bytes).items c.self.inside.caps c.in-Ok.message c.self.invariant.encoded (rw same at c.in-Ok.ensures)).1
     ∙ ap (λ (p : Contents). capability_at (tree_of p) c.args.path.now) c.self.view_is

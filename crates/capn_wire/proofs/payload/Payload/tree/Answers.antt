@@ -8,16 +8,16 @@ use Rattle.capn_wire.proofs.payload.Payload.tree.Goals as goal
 pub unreachable-requires : goal.unreachable-requires
 unreachable-requires c =
     let same = c.as_slice.ensures.value ∙ ap (λ (v : Vec ℕ). v.items) c.deref.ensures in
-    not_unframed (arc_value c.self.inside.bytes).items c.self.inside.caps c.in_default.field-0 c.self.invariant (rw same at c.in_default.ensures)
+    not_unframed (arc_value c.self.inside.bytes).items c.self.inside.caps c.in_default.field-0 c.self.invariant.encoded (rw same at c.in_default.ensures)
 
 pub build-requires : goal.build-requires
 build-requires c =
     let same = c.as_slice.ensures.value ∙ ap (λ (v : Vec ℕ). v.items) c.deref.ensures in
-    (framed_read (arc_value c.self.inside.bytes).items c.self.inside.caps c.in-Ok.message c.self.invariant (rw same at c.in-Ok.ensures)).0
+    (framed_read (arc_value c.self.inside.bytes).items c.self.inside.caps c.in-Ok.message c.self.invariant.encoded (rw same at c.in-Ok.ensures)).0
 
 pub returns : goal.returns
 returns c =
     let same = c.as_slice.ensures.value ∙ ap (λ (v : Vec ℕ). v.items) c.deref.ensures in
     c.in-Ok-build.ensures
-    ∙ (framed_read (arc_value c.self.inside.bytes).items c.self.inside.caps c.in-Ok.message c.self.invariant (rw same at c.in-Ok.ensures)).1
+    ∙ (framed_read (arc_value c.self.inside.bytes).items c.self.inside.caps c.in-Ok.message c.self.invariant.encoded (rw same at c.in-Ok.ensures)).1
     ∙ ap tree_of c.self.view_is

@@ -1,6 +1,5 @@
-use Rattle.std.proofs.Common.{◌≡◌, ℕ, sym, subst, refl, ◌∙◌}
-use Rattle.std.specs.Global.{Vec}
-use Rattle.capn_wire.specs.Payloads.{IsEncoded, tree_of}
+use Rattle.std.proofs.Common.{◌≡◌, sym, subst, refl, ◌∙◌}
+use Rattle.capn_wire.specs.Payloads.{Contents, IsEncoded, tree_of}
 use Rattle.capn_wire.specs.Views.{view}
 use Rattle.capn_wire.proofs.Writing.{told_so, can_write, sizes_at_root, room_at_root, short_segment, says_written, no_reason, some_reason}
 use Rattle.capn_wire.proofs.payload.Payload.write.Goals as goal
@@ -35,17 +34,17 @@ returns-in_default-message_of-clause-refused c =
     let none = told_so (view c.args.tree.now) c.args.caps c.start.result c.measure_tree-measure.result c.start.ensures c.measure_tree-measure.ensures c.in_default.ensures in
     no_reason (view c.args.tree.now) c.args.caps _ _ none refl
 
-pub returns-in_default-new-clause-refused : goal.returns-in_default-new-clause-refused
-returns-in_default-new-clause-refused c =
+pub returns-in_default-sharing-clause-refused : goal.returns-in_default-sharing-clause-refused
+returns-in_default-sharing-clause-refused c =
     let none = told_so (view c.args.tree.now) c.args.caps c.start.result c.measure_tree-measure.result c.start.ensures c.measure_tree-measure.ensures c.in_default.ensures in
     no_reason (view c.args.tree.now) c.args.caps _ _ none refl
 
-pub invariant_of-result : goal.invariant_of-result
-invariant_of-result c =
+pub sharing-requires : goal.sharing-requires
+sharing-requires c =
     let none = told_so (view c.args.tree.now) c.args.caps c.start.result c.measure_tree-measure.result c.start.ensures c.measure_tree-measure.ensures c.in_default.ensures in
     let same : c.deref.result.now ≡ c.in-Ok.words.items = c.deref.ensures.value in
     let says = says_written (view c.args.tree.now) c.args.caps c.deref.result.now c.in-Ok-message_of.message.items (can_write (view c.args.tree.now) c.args.caps none) c.in-Ok.ensures.fits (same ∙ c.in-Ok.ensures.placed) c.in-Ok-message_of.ensures.fit c.in-Ok-message_of.ensures.bytes in
-    subst (λ (v : Vec ℕ). IsEncoded (record { bytes = v.items; caps = c.args.caps })) (sym c.in-Ok-new.ensures.ok) says.0
+    says.0
 
 pub returns-clause-refused : goal.returns-clause-refused
 returns-clause-refused c =
@@ -57,4 +56,4 @@ returns-clause-tree c =
     let none = told_so (view c.args.tree.now) c.args.caps c.start.result c.measure_tree-measure.result c.start.ensures c.measure_tree-measure.ensures c.in_default.ensures in
     let same : c.deref.result.now ≡ c.in-Ok.words.items = c.deref.ensures.value in
     let says = says_written (view c.args.tree.now) c.args.caps c.deref.result.now c.in-Ok-message_of.message.items (can_write (view c.args.tree.now) c.args.caps none) c.in-Ok.ensures.fits (same ∙ c.in-Ok.ensures.placed) c.in-Ok-message_of.ensures.fit c.in-Ok-message_of.ensures.bytes in
-    subst (λ (v : Vec ℕ). IsEncoded (record { bytes = v.items; caps = c.args.caps }) × (tree_of (record { bytes = v.items; caps = c.args.caps }) ≡ view c.args.tree.now)) (sym c.in-Ok-new.ensures.ok) says
+    subst (λ (p : Contents). IsEncoded p × (tree_of p ≡ view c.args.tree.now)) (sym c.in-Ok-sharing.ensures) says

@@ -9,11 +9,11 @@ returns-in-A-clause-matched c = λ h now. ways_told c.args.self.now B h _ (ap (�
 
 pub returns-in-A-clause-rest : goal.returns-in-A-clause-rest
 returns-in-A-clause-rest c = λ kept h now.
-    ways_got c.args.self.now c.receive.new.self B h _ (ap (λ v. entry.Got v) c.in-A.is) now (λ ms way. sym kept ∙ c.receive.ensures.left ms way) c.receive.ensures.rest
+    ways_got c.args.self.now c.receive.new.self B h _ (ap (λ v. entry.Got v) c.in-A.is) now (λ ms way. sym kept ∙ c.receive.ensures.left ms way) c.receive.ensures.rest c.receive.ensures.said
 
 pub returns-in-B-clause-matched : goal.returns-in-B-clause-matched
 returns-in-B-clause-matched c = λ h now. ways_told c.args.self.now A h _ (ap (λ v. entry.Got v) c.in-B.is) now _ c.receive-in-B.ensures.left
 
 pub returns-in-B-clause-rest : goal.returns-in-B-clause-rest
 returns-in-B-clause-rest c = λ kept h now.
-    ways_got c.args.self.now c.receive-in-B.new.self A h _ (ap (λ v. entry.Got v) c.in-B.is) now (λ ms way. sym kept ∙ c.receive-in-B.ensures.left ms way) c.receive-in-B.ensures.rest
+    ways_got c.args.self.now c.receive-in-B.new.self A h _ (ap (λ v. entry.Got v) c.in-B.is) now (λ ms way. sym kept ∙ c.receive-in-B.ensures.left ms way) c.receive-in-B.ensures.rest c.receive-in-B.ensures.said

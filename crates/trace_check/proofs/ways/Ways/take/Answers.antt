@@ -1,4 +1,5 @@
-use Rattle.std.proofs.Common.{ap, sym, not}
+use Rattle.std.proofs.Common.{[], ◌∷◌, ◌++◌, ap, sym, subst, not}
+use Rattle.trace_check.specs.Kept.{WaysFor}
 use Rattle.trace_check.proofs.Moving.{is_still, ways_stay}
 use Rattle.trace_check.proofs.ways.Ways.take.Goals as goal
 
@@ -9,3 +10,9 @@ returns-in_default c =
       matched = λ h now. ap not (sym (still.gets h));
       rest = λ kept h now. ways_stay c.args.self.now h c.args.entry.now still now;
     }
+
+pub returns-in_ok-send-in-Sent-clause-rest : goal.returns-in_ok-send-in-Sent-clause-rest
+returns-in_ok-send-in-Sent-clause-rest c = λ kept h now. subst (λ x. WaysFor c.send.new.self (h ++ x ∷ [])) (sym c.in-Sent.is) (c.in_ok-send-in-Sent.ensures h now)
+
+pub returns-in-Got-clause-rest : goal.returns-in-Got-clause-rest
+returns-in-Got-clause-rest c = λ kept h now. subst (λ x. WaysFor c.receive.new.self (h ++ x ∷ [])) (sym c.in-Got.is) (c.receive.ensures.rest kept h now)
