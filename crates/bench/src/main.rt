@@ -2,11 +2,13 @@
 //!
 //! `bench pool N` pushes N calls to three waiting lists in turn and takes them out again, over and over.
 //! `bench payload FILE CAPS ROUNDS` reads a file's bytes as a payload that goes with CAPS capabilities, ROUNDS times.
+//! `bench trace FILE` reads a trace and checks it, apart and together.
 //! Without arguments it does nothing.
 #![tactic(auto)]
 
 mod payload;
 mod pool;
+mod trace;
 
 use anyhow::Result;
 use std::env;
@@ -22,12 +24,13 @@ fn main(rt: HostRuntime) -> Result<ExitCode> {
     match what.as_str() {
         "pool" => measure_pool(&rt, &mut words),
         "payload" => measure_payload(&rt, &mut words),
+        "trace" => measure_trace(&rt, &mut words),
         _ => usage(&rt),
     }
 }
 
 fn usage(rt: &impl Print) -> Result<ExitCode> {
-    println!(rt; "usage: bench pool N | bench payload FILE CAPS ROUNDS")?;
+    println!(rt; "usage: bench pool N | bench payload FILE CAPS ROUNDS | bench trace FILE")?;
     Ok(ExitCode::from(2))
 }
 
@@ -46,5 +49,13 @@ fn measure_payload(rt: &HostRuntime, words: &mut Args) -> Result<ExitCode> {
     let caps = caps.as_str().parse()?;
     let rounds = rounds.as_str().parse()?;
     payload::measure(rt, file.as_str(), caps, rounds)?;
+    Ok(ExitCode::SUCCESS)
+}
+
+fn measure_trace(rt: &HostRuntime, words: &mut Args) -> Result<ExitCode> {
+    let Some(file) = words.next() else {
+        return usage(rt);
+    };
+    trace::measure(rt, file.as_str())?;
     Ok(ExitCode::SUCCESS)
 }

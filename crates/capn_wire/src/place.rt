@@ -186,11 +186,11 @@ fn push_eights(eights: &[u64], words: &mut Vec<u64>) -> Result<(), AllocError>
 }
 
 /// Puts words into the place of others.
-fn put(words: &mut Vec<u64>, at: usize, data: &[u64])
-    requires { at + length data.now ≤ length words.old.items }
-    ensures { words.new.items ≡ take at words.old.items ++ (data.now ++ drop (at + length data.now) words.old.items) }
+fn put(words: &mut Vec<u64>, at: usize, others: &[u64])
+    requires { at + length others.now ≤ length words.old.items }
+    ensures { words.new.items ≡ take at words.old.items ++ (others.now ++ drop (at + length others.now) words.old.items) }
 {
-    words[at..at + data.len()].copy_from_slice(data);
+    words[at..at + others.len()].copy_from_slice(others);
 }
 
 /// The pointer at word `at` to a tree, whose content is laid down behind all words with all that it leads to.
@@ -346,26 +346,26 @@ fn place_structs(
     Ok(())
 }
 
-/// A struct in its place from word `at` on, and what it leads to behind all words.
+/// A struct in its place from word `at` on, its data section first, and what it leads to behind all words.
 #[cycle(place)]
 fn place_fields(
     alloc: Global,
     pointers: &[Tree],
-    data: &[u64],
+    section: &[u64],
     at: usize,
     words: &mut Vec<u64>,
 ) -> Result<(), AllocError>
-    requires inside { at + length data.now + length pointers.now ≤ length words.old.items }
+    requires inside { at + length section.now + length pointers.now ≤ length words.old.items }
     requires sizes { HaveSizes (parts_of_all (trees_view pointers.now) 0) }
     requires room { length words.old.items + all_words words_taken (parts_of_all (trees_view pointers.now) 0) ≤ 65536 }
     ensures placed { OnOk result (words.new.items ≡ filled words.old.items at (
-      data.now ++ (placed_all (trees_view pointers.now) (at + length data.now) (length words.old.items)).0,
-      (placed_all (trees_view pointers.now) (at + length data.now) (length words.old.items)).1,
+      section.now ++ (placed_all (trees_view pointers.now) (at + length section.now) (length words.old.items)).0,
+      (placed_all (trees_view pointers.now) (at + length section.now) (length words.old.items)).1,
     )) }
     ensures fits { OnOk result (FitsAll (trees_view pointers.now)) }
 {
-    put(words, at, data);
-    place_trees(alloc, pointers, at + data.len(), words)
+    put(words, at, section);
+    place_trees(alloc, pointers, at + section.len(), words)
 }
 
 /// Pointers in their places from word `at` on, and what they lead to behind all words.

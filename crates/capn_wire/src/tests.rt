@@ -231,6 +231,37 @@ fn answers_want_of_memory(rt: HostRuntime) {
     }
 }
 
+/// A struct of the word 7 and two pointers: null, and the numbers 1, 2 and 3 of two bytes.
+fn is_three_numbers(tree: &Tree) -> bool {
+    let Tree::Struct { words, pointers } = tree else {
+        return false;
+    };
+    let [Tree::Null, Tree::List(Items::Twos(twos))] = pointers.as_slice() else {
+        return false;
+    };
+    words.as_slice() == [7].as_slice() && twos.as_slice() == [1, 2, 3].as_slice()
+}
+
+/// Holds whichever allocation is refused, as above.
+#[test]
+fn answers_want_of_memory_for_trees_and_copies(rt: HostRuntime) {
+    let text = [
+        0, 0, 0, 0, 5, 0, 0, 0, 0, 0, 0, 0, 1, 0, 2, 0, 7, 0, 0, 0, 0, 0, 0, 0, 0, 0, 0, 0, 0, 0,
+        0, 0, 1, 0, 0, 0, 27, 0, 0, 0, 1, 0, 2, 0, 3, 0, 0, 0,
+    ];
+    let Ok(payload) = Payload::read(rt.alloc(), &text, 0) else {
+        return;
+    };
+    if let Ok(tree) = payload.tree(rt.alloc()) {
+        assert!(rt; is_three_numbers(&tree));
+    }
+    if let Ok(copy) = payload.copy(rt.alloc()) {
+        assert!(rt; copy == payload);
+    }
+    assert_eq!(rt; payload.bytes(), text.as_slice());
+    assert_eq!(rt; payload.caps(), 0);
+}
+
 #[test]
 fn reads_trees(rt: HostRuntime) -> Result<(), Fail> {
     // A struct of one data word and two pointers: null, and a list of three numbers of two bytes.

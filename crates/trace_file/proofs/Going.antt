@@ -6,9 +6,9 @@ use Rattle.serde_json.specs.Read.{read}
 use Rattle.std.proofs.lemmas.List.{take_more}
 use Rattle.vat_journal.specs.declared.entry.JournalEntry.{JournalEntry}
 use Rattle.vat_journal.specs.declared.entry.JournalEntry.TheVariants as entry
-use Rattle.trace_json.specs.declared.version.TraceVersion.{TraceVersion}
-use Rattle.trace_json.specs.declared.version.TraceVersion.TheVariants.{Two}
-use Rattle.trace_json.specs.Values.{head_data}
+use Rattle.trace_write.specs.declared.version.TraceVersion.{TraceVersion}
+use Rattle.trace_write.specs.declared.version.TraceVersion.TheVariants.{Two}
+use Rattle.trace_write.specs.Values.{head_data}
 use Rattle.trace_json.specs.declared.fault.TraceFault.{TraceFault}
 use Rattle.trace_file.specs.Faults.{IsLaterFault, IsFaultAt}
 use Rattle.trace_file.specs.Traces.{trace_text, line_text, IsEntryLine, AreEntryLines, AreLines, Follows}

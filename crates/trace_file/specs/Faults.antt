@@ -4,10 +4,10 @@ use Rattle.std.specs.List.{slice_get}
 use Rattle.serde_json.specs.Data.{Data}
 use Rattle.serde_json.specs.Read.{read}
 use Rattle.vat_journal.specs.declared.entry.JournalEntry.{JournalEntry}
-use Rattle.trace_json.specs.declared.version.TraceVersion.{TraceVersion}
+use Rattle.trace_write.specs.declared.version.TraceVersion.{TraceVersion}
 use Rattle.trace_json.specs.declared.fault.TraceFault.{TraceFault}
 use Rattle.trace_json.specs.declared.fault.TraceFault.TheVariants as fault
-use Rattle.trace_json.specs.Values.{head_of, head_data}
+use Rattle.trace_write.specs.Values.{head_of, head_data}
 use Rattle.trace_json.specs.Faults.{IsFault, IsVersionFault}
 use Rattle.trace_file.specs.declared.fault.FileFault.{FileFault}
 use Rattle.trace_file.specs.declared.fault.FileFault.TheVariants as file

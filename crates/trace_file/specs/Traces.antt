@@ -4,9 +4,9 @@ use Rattle.serde_json.specs.Read.{read}
 use Rattle.serde_json.specs.Written.{compact_text}
 use Rattle.vat_journal.specs.declared.entry.JournalEntry.{JournalEntry}
 use Rattle.vat_journal.specs.declared.entry.JournalEntry.TheVariants as entry
-use Rattle.trace_json.specs.declared.version.TraceVersion.{TraceVersion}
-use Rattle.trace_json.specs.Values.{value, head_data}
-use Rattle.trace_json.specs.Fits.{Fits}
+use Rattle.trace_write.specs.declared.version.TraceVersion.{TraceVersion}
+use Rattle.trace_write.specs.Values.{value, head_data}
+use Rattle.trace_write.specs.Fits.{Fits}
 use Rattle.trace_file.specs.Lines.{lines_of}
 
 -- Behind the first line stands no head.

@@ -1,6 +1,6 @@
 ghost use Rattle.std.specs.Prelude.{◌≡◌, ◌++◌, ◌∷◌, [], List, IfOk, IfErr, OnOk, string_bytes};
 ghost use Rattle.vat_journal.specs.declared.entry.JournalEntry.{JournalEntry};
-ghost use Rattle.trace_json.specs.declared.version.TraceVersion.{TraceVersion};
+ghost use Rattle.trace_write.specs.declared.version.TraceVersion.{TraceVersion};
 ghost use Rattle.trace_check.specs.Breaches.{verdict_of};
 ghost use Rattle.trace_check.specs.Kept.{HasTaken};
 ghost use Rattle.trace_file.specs.Traces.{IsTrace};

@@ -1,7 +1,7 @@
 ghost use Rattle.std.specs.Prelude.{◌≡◌, ◌++◌, List, IfOk, IfErr, string_bytes};
 ghost use Rattle.vat_journal.specs.declared.entry.JournalEntry.{JournalEntry};
-ghost use Rattle.trace_json.specs.declared.version.TraceVersion.{TraceVersion};
-ghost use Rattle.trace_json.specs.declared.version.TraceVersion.TheVariants.{Two};
+ghost use Rattle.trace_write.specs.declared.version.TraceVersion.{TraceVersion};
+ghost use Rattle.trace_write.specs.declared.version.TraceVersion.TheVariants.{Two};
 ghost use Rattle.trace_file.specs.Traces.{IsTrace, line_text, trace_text};
 ghost use Rattle.trace_file.specs.Faults.{IsFileFault};
 

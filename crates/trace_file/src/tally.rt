@@ -1,6 +1,6 @@
 ghost use Rattle.std.specs.Prelude.{◌≡◌, OnOk, List, IfOk, IfErr, string_bytes};
 ghost use Rattle.vat_journal.specs.declared.entry.JournalEntry.{JournalEntry};
-ghost use Rattle.trace_json.specs.declared.version.TraceVersion.{TraceVersion};
+ghost use Rattle.trace_write.specs.declared.version.TraceVersion.{TraceVersion};
 ghost use Rattle.trace_file.specs.Traces.{IsTrace};
 ghost use Rattle.trace_file.specs.Faults.{IsFileFault};
 ghost use Rattle.rpc_msg.specs.declared.ids.Vat.TheVariants.{A, B};

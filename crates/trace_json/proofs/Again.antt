@@ -45,12 +45,12 @@ use Rattle.vat_journal.specs.declared.report.Outcome.{Outcome}
 use Rattle.vat_journal.specs.declared.report.Outcome.TheVariants as outcome
 use Rattle.vat_journal.specs.declared.report.Advanced.{Advanced}
 use Rattle.vat_journal.specs.declared.report.Advanced.TheVariants as advanced
-use Rattle.trace_json.specs.declared.version.TraceVersion.{TraceVersion}
-use Rattle.trace_json.specs.declared.version.TraceVersion.TheVariants.{One, Two}
-use Rattle.trace_json.specs.Parts.{nat, only, vat_data, reference_data, op_data, path_data, answer_data, target_data, descriptor_data, stamp_data, payload_data, kind_name, exception_data, outcome_by, origin_data, advanced_name, pair_data, counts_data}
-use Rattle.trace_json.specs.Messages.{call_by, body_by, return_by, finish_data, resolved_data, resolve_data, release_data, context_data, disembargo_data, plain_by, message_by}
-use Rattle.trace_json.specs.Values.{head_of, value_by}
-use Rattle.trace_json.specs.Fits.{FitsU32, FitsFlag, FitsOp, FitsPath, FitsAnswer, FitsDescriptor, FitsTarget, FitsOrigin, FitsPair, FitsCounts, FitsCall, FitsBody, FitsReturn, FitsFinish, FitsResolved, FitsResolve, FitsRelease, FitsContext, FitsDisembargo, FitsPlain, FitsMessage, Fits}
+use Rattle.trace_write.specs.declared.version.TraceVersion.{TraceVersion}
+use Rattle.trace_write.specs.declared.version.TraceVersion.TheVariants.{One, Two}
+use Rattle.trace_write.specs.Parts.{nat, only, vat_data, reference_data, op_data, path_data, answer_data, target_data, descriptor_data, stamp_data, payload_data, kind_name, exception_data, outcome_by, origin_data, advanced_name, pair_data, counts_data}
+use Rattle.trace_write.specs.Messages.{call_by, body_by, return_by, finish_data, resolved_data, resolve_data, release_data, context_data, disembargo_data, plain_by, message_by}
+use Rattle.trace_write.specs.Values.{head_of, value_by}
+use Rattle.trace_write.specs.Fits.{FitsU32, FitsFlag, FitsOp, FitsPath, FitsAnswer, FitsDescriptor, FitsTarget, FitsOrigin, FitsPair, FitsCounts, FitsCall, FitsBody, FitsReturn, FitsFinish, FitsResolved, FitsResolve, FitsRelease, FitsContext, FitsDisembargo, FitsPlain, FitsMessage, Fits}
 use Rattle.trace_json.specs.Filled.{payload_of_outcome, filled_outcome, payload_of_body, filled_body, payload_of_plain, filled_plain, payload_of_message, filled_message, payload_in, filled}
 use Rattle.trace_json.specs.Reading.{Read, nat_at, flag_at, field_at, word_at, only_at, items_at}
 use Rattle.trace_json.specs.ReadParts.{vat_at, reference_at, op_at, path_at, answer_at, target_at, tagged_descriptor, descriptor_at, stamp_at, raw_at, kind_at, exception_at, outcome_at, field_origin_at, origin_at, advanced_at, pair_at, counts_at}

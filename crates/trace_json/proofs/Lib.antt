@@ -1,6 +1,4 @@
-mod Floats
 mod Lists
 mod Again
 mod Payloads
 mod Ladder
-mod Depths

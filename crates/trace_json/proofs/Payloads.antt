@@ -8,8 +8,8 @@ use Rattle.capn_wire.specs.Framing.{framing, segment_count, sizes}
 use Rattle.capn_wire.specs.Following.{leads}
 use Rattle.capn_wire.specs.Reading.{message_of, root_of, reading, deep}
 use Rattle.capn_wire.specs.Payloads.{Contents as Payload, IsEncoded, null_payload}
-use Rattle.trace_json.specs.Parts.{in_base64}
-use Rattle.trace_json.specs.Fits.{FitsPayload}
+use Rattle.trace_write.specs.Parts.{in_base64}
+use Rattle.trace_write.specs.Fits.{FitsPayload}
 
 bytes_nil : IsBytes []
 bytes_nil i = omega arith

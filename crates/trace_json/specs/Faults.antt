@@ -5,12 +5,12 @@ use Rattle.base64.specs.GeneralPurpose.{encode_of, decode_of, IsBytes}
 use Rattle.serde_json.specs.Data.{Data}
 use Rattle.capn_wire.specs.Payloads.{IsEncoded}
 use Rattle.vat_journal.specs.declared.entry.JournalEntry.{JournalEntry}
-use Rattle.trace_json.specs.declared.version.TraceVersion.{TraceVersion}
+use Rattle.trace_write.specs.declared.version.TraceVersion.{TraceVersion}
 use Rattle.trace_json.specs.declared.fault.TraceFault.{TraceFault}
 use Rattle.trace_json.specs.declared.fault.TraceFault.TheVariants as fault
 use Rattle.trace_json.specs.declared.fault.Fault.TheVariants as shape
-use Rattle.trace_json.specs.Values.{version_number, head_of, value_by, value}
-use Rattle.trace_json.specs.Fits.{FitsU32, Fits}
+use Rattle.trace_write.specs.Values.{version_number, head_of, value_by, value}
+use Rattle.trace_write.specs.Fits.{FitsU32, Fits}
 use Rattle.trace_json.specs.ReadEntries.{head_at}
 
 abbrev pub number_of_fault : TraceFault → ℕ

@@ -1,7 +1,3 @@
-pub mod Parts
-pub mod Messages
-pub mod Values
-pub mod Fits
 pub mod Filled
 pub mod Reading
 pub mod ReadParts

@@ -1,16 +1,16 @@
 ghost use Rattle.std.specs.Prelude.{◌≡◌, ◌^◌, IfOk, OnOk};
 ghost use Rattle.serde_json.specs.Data.{Data, boolean, string, object, member, no_members};
 ghost use Rattle.serde_json.specs.View.{view, members_view};
-ghost use Rattle.trace_json.specs.Parts.{nat, list, only};
-ghost use Rattle.trace_json.specs.Fits.{FitsAny, FitsU32, FitsU16, FitsAll, FitsFlag};
+ghost use Rattle.trace_write.specs.Parts.{nat, list, only};
+ghost use Rattle.trace_write.specs.Fits.{FitsAny, FitsU32, FitsU16, FitsAll, FitsFlag};
 ghost use Rattle.trace_json.specs.Reading.{Read, Gives, members_at, next_at, end_at, field_at, nat_at, u64_at, text_at, word_at, only_at, list_at, flag_at};
 
 use crate::fault::Fault;
-use crate::version::TraceVersion;
 use rpc_msg::{Items, Text};
 use serde_json::Value;
 use std::alloc::Global;
 use std::collections::btree_map::Iter;
+use trace_write::TraceVersion;
 
 /// What is read from a value.
 pub(crate) trait Part: Sized {

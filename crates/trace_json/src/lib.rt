@@ -1,23 +1,18 @@
-//! Journals as lines of JSON, in both versions of the trace format (`docs/trace.md`).
+//! Journals as lines of JSON, in both versions of the trace format (`docs/trace.md`): how they are read. What writes and
+//! checks them is given out from here too.
 #![tactic(auto)]
 
 mod fault;
 mod fields;
 mod fill;
-mod line;
 mod read_entries;
 mod read_line;
 mod read_messages;
 mod read_parts;
 #[cfg(test)]
 mod tests;
-mod version;
-mod write_entries;
-mod write_lists;
-mod write_messages;
-mod write_parts;
 
 pub use fault::TraceFault;
-pub use line::line_of;
 pub use read_line::{entry_of, version_of};
-pub use version::TraceVersion;
+pub use trace_check::{Verdict, check};
+pub use trace_write::{TraceVersion, line_of};

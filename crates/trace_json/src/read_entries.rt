@@ -1,9 +1,9 @@
 ghost use Rattle.std.specs.Prelude.{◌≡◌, codes, IfOk, option_map};
 ghost use Rattle.serde_json.specs.Data.{member, no_members};
 ghost use Rattle.serde_json.specs.View.{view, members_view};
-ghost use Rattle.trace_json.specs.Parts.{nat, list, reference_data, stamp_data, vat_data, in_base64};
-ghost use Rattle.trace_json.specs.Values.{version_number, head_of, born_data, asked_data, made_by, delivered_by, answered_by, ended_by, resolved_promise_data, rejected_data, dropped_data, finished_data, advanced_data, refused_data, sent_by, got_data, down_data, tables_data, value_by, value as value_of_entry};
-ghost use Rattle.trace_json.specs.Fits.{FitsOrigin, FitsMade, FitsDelivery, FitsOutcome, FitsMessage, FitsU16, FitsCounts, Fits};
+ghost use Rattle.trace_write.specs.Parts.{nat, list, reference_data, stamp_data, vat_data, in_base64};
+ghost use Rattle.trace_write.specs.Values.{version_number, head_of, born_data, asked_data, made_by, delivered_by, answered_by, ended_by, resolved_promise_data, rejected_data, dropped_data, finished_data, advanced_data, refused_data, sent_by, got_data, down_data, tables_data, value_by, value as value_of_entry};
+ghost use Rattle.trace_write.specs.Fits.{FitsOrigin, FitsMade, FitsDelivery, FitsOutcome, FitsMessage, FitsU16, FitsCounts, Fits};
 ghost use Rattle.trace_json.specs.Reading.{Gives};
 ghost use Rattle.trace_json.specs.ReadParts.{stands_for, FitsRaw};
 ghost use Rattle.trace_json.specs.ReadEntries.{head_at, born_at, asked_at, made_at, delivered_rest, delivered_at, answered_rest, answered_at, ended_at, resolved_promise_at, rejected_at, dropped_at, finished_at, entry_advanced_at, refused_at, sent_at, got_at, down_at, tables_at, command_under, bare_entry_under, entry_under, entry_at};
@@ -12,11 +12,10 @@ use crate::fault::Fault;
 use crate::fields::{Fields, Part};
 use crate::read_messages::message_of;
 use crate::read_parts::{RawPayload, no_payload, outcome_of, raw_payload_of};
-use crate::version::TraceVersion;
-use crate::write_entries::number_of;
 use rpc_msg::{CallId, Exception, Items, Message, ObjectId, PromiseId, RefId, Stamp, TaskId, Vat};
 use serde_json::Value;
 use std::alloc::Global;
+use trace_write::TraceVersion;
 use vat_journal::{Advanced, Counts, Delivery, Ended, JournalEntry, MadeCall, Origin, Outcome};
 
 /// The number that a head says.
@@ -389,7 +388,7 @@ fn bare_entry_of(
         let (a, b) = tables_of(alloc, value)?;
         Ok(JournalEntry::Tables(a, b))
     } else if kind == "head" {
-        if head_number(alloc, value)? == number_of(version) {
+        if head_number(alloc, value)? == version.number() {
             Ok(JournalEntry::Head)
         } else {
             Err(Fault::WrongShape)

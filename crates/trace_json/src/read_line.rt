@@ -5,21 +5,21 @@ ghost use Rattle.capn_wire.specs.Payloads.{Contents as Payload, IsEncoded};
 ghost use Rattle.serde_json.specs.Read.{read};
 ghost use Rattle.serde_json.specs.View.{view};
 ghost use Rattle.vat_journal.specs.declared.entry.JournalEntry.{JournalEntry};
-ghost use Rattle.trace_json.specs.Parts.{in_base64};
-ghost use Rattle.trace_json.specs.Values.{head_data, value as value_of_entry};
-ghost use Rattle.trace_json.specs.Fits.{FitsPayload, Fits};
+ghost use Rattle.trace_write.specs.Parts.{in_base64};
+ghost use Rattle.trace_write.specs.Values.{head_data, value as value_of_entry};
+ghost use Rattle.trace_write.specs.Fits.{FitsPayload, Fits};
 ghost use Rattle.trace_json.specs.Filled.{filled};
 ghost use Rattle.trace_json.specs.Faults.{IsFault, IsParseFault, IsVersionFault, IsShapeFault, IsTextFault, IsPayloadFault, IsRawFault};
 
 use crate::fault::{Fault, TraceFault};
 use crate::fill::fill;
 use crate::read_entries::{head_number, read_entry};
-use crate::version::TraceVersion;
 use base64::DecodeAllocError;
 use base64::engine::general_purpose::STANDARD;
 use rpc_msg::{Payload, PayloadFault};
 use serde_json::Value;
 use std::alloc::Global;
+use trace_write::TraceVersion;
 use vat_journal::JournalEntry;
 
 fn decode(alloc: Global, text: &str) -> Result<Vec<u8>, TraceFault>

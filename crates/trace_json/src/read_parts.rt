@@ -2,8 +2,8 @@ ghost use Rattle.std.specs.Prelude.{◌≡◌, ◌^◌, codes, IfOk, IfErr, opti
 ghost use Rattle.serde_json.specs.Data.{string};
 ghost use Rattle.serde_json.specs.View.{view};
 ghost use Rattle.capn_wire.specs.Payloads.{null_payload};
-ghost use Rattle.trace_json.specs.Parts.{only, reference_data, vat_data, op_data, path_data, answer_data, target_data, descriptor_data, stamp_data, payload_data, kind_name, exception_data, outcome_by, origin_data, advanced_name, pair_data, counts_data};
-ghost use Rattle.trace_json.specs.Fits.{FitsAny, FitsU32, FitsOp, FitsPath, FitsAnswer, FitsTarget, FitsDescriptor, FitsPayload, FitsOutcome, FitsOrigin, FitsPair, FitsCounts};
+ghost use Rattle.trace_write.specs.Parts.{only, reference_data, vat_data, op_data, path_data, answer_data, target_data, descriptor_data, stamp_data, payload_data, kind_name, exception_data, outcome_by, origin_data, advanced_name, pair_data, counts_data};
+ghost use Rattle.trace_write.specs.Fits.{FitsAny, FitsU32, FitsOp, FitsPath, FitsAnswer, FitsTarget, FitsDescriptor, FitsPayload, FitsOutcome, FitsOrigin, FitsPair, FitsCounts};
 ghost use Rattle.trace_json.specs.Reading.{Gives};
 ghost use Rattle.trace_json.specs.declared.fault.Fault.TheVariants as fault;
 ghost use Rattle.trace_json.specs.ReadParts.{stands_for, FitsRaw, vat_at, reference_at, op_at, path_at, answer_at, target_at, tagged_descriptor, descriptor_at, stamp_at, raw_at, kind_at, exception_at, outcome_at, field_origin_at, origin_at, advanced_at, pair_at, counts_at};

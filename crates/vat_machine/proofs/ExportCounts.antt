@@ -1,5 +1,5 @@
 -- What a step adds to an export's count, it sends as descriptors.
-use Rattle.std.proofs.Common.{◌≡◌, inl, inr, ℕ, zero, suc, ◌+◌, Bool, true, false, cond, nat_eq, List, [], ◌∷◌, ◌++◌, Option, None, Some, refl, sym, ap, ◌∙◌, arith, slice_set}
+use Rattle.std.proofs.Common.{◌≡◌, inl, inr, ℕ, suc, ◌+◌, Bool, true, false, cond, nat_eq, List, [], ◌∷◌, ◌++◌, Option, None, Some, refl, sym, ap, ◌∙◌, arith}
 use Rattle.std.specs.Ordering.{nat_cmp, eq_by_cmp}
 use Rattle.std.specs.Cmp.{nat_cmp_total}
 use Rattle.std.specs.FinMap as map
@@ -36,7 +36,7 @@ use Rattle.vat_machine.specs.Descriptors.{ExportedAs, Described, DescribesAll, g
 use Rattle.vat_machine.specs.Routing.{Asks, WaitsForPromise, WaitsForField, RoutedTo, Routes, RoutesAll, RoutesHeld}
 use Rattle.vat_machine.specs.Collecting.{Goes, PromiseGoes, OutcomeGoes, ImportGoes, Collects, Tight, Loose}
 use Rattle.vat_machine.specs.Flags.{give_if, flag_for}
-use Rattle.vat_machine.specs.Settling.{Untangles, Fits, TellsCall, SaysBack, Returns, TellsPeer, Tells, ResolvesTo, ResolvesBy, ResolvesEach, SettlesOpen, SettlesFrom, SettlesOutcome, Drains, NoneLeft, OneMore}
+use Rattle.vat_machine.specs.Settling.{PutsIn, Untangles, Fits, TellsCall, SaysBack, Returns, TellsPeer, Tells, ResolvesTo, ResolvesBy, ResolvesEach, SettlesOpen, SettlesFrom, SettlesOutcome, Drains, NoneLeft, OneMore}
 use Rattle.vat_machine.specs.Limits.{export_count}
 
 -- The count of the export e.
@@ -152,16 +152,18 @@ routes_held : (e : ℕ) (d : Progress) (o : ℕ) (hs : List HeldCall) (new : Pro
 routes_held e d o [] new h = rw h refl
 routes_held e d o (x ∷ xs) new h = then e d h.0 new (routes e d x.call (node.Field o x.path) h.0 h.1) (routes_held e h.0 o xs new h.2)
 
-untangles : (e : ℕ) (s : State) (o : ℕ) (who : Caller) (w : List HeldCall) (payload : Payload) (caps : List Node) (i n : ℕ) (out : List Node) (new : State) → Untangles s o who w payload caps i n out new → new.exports ≡ s.exports
-untangles e s o who w payload caps i zero out new h = ap (λ t. t.exports) h.1
-untangles e s o who w payload caps i (suc n) out new (inl h) = untangles e s o who w payload caps (i + 1) n out new h.1
-untangles e s o who w payload caps i (suc n) out new (inr h) =
-    let g = h.1 in
-    untangles e (record s { promises = map.insert s.promises g.0 (promise.Open []) }) o who w payload (slice_set caps i (node.Promise g.0)) (i + 1) n out new g.2
+placed : (s : State) (o : ℕ) (who : Caller) (w : List HeldCall) (payload : Payload) (i : ℕ) (n : Node) (rest out : List Node) (new : State) → PutsIn s o who w payload i n rest out new → new.exports ≡ s.exports
+placed s o who w payload i n rest out new (inl h) = ap (λ t. t.exports) h.2
+placed s o who w payload i n rest out new (inr h) = let g = h.1 in ap (λ t. t.exports) g.3
+
+untangles : (e : ℕ) (s : State) (o : ℕ) (who : Caller) (w : List HeldCall) (payload : Payload) (i : ℕ) (caps out : List Node) (new : State) → Untangles s o who w payload i caps out new → new.exports ≡ s.exports
+untangles e s o who w payload i [] out new h = ap (λ t. t.exports) h.1
+untangles e s o who w payload i (n ∷ ns) out new h =
+    placed h.1 o who w payload i n h.0 out new h.3 ∙ untangles e s o who w payload (i + 1) ns h.0 h.1 h.2
 
 fits : (e : ℕ) (s : State) (o : ℕ) (who : Caller) (w : List HeldCall) (v out : Value) (new : State) → Fits s o who w v out new → new.exports ≡ s.exports
 fits e s o who w (value.Exception exception) out new h = ap (λ t. t.exports) h.1
-fits e s o who w (value.Results payload caps) out new h = untangles e s o who w payload caps 0 _ h.0 new h.2
+fits e s o who w (value.Results payload caps) out new h = untangles e s o who w payload 0 caps h.0 new h.2
 
 goes : (e : ℕ) (d new : Progress) → Goes d new → Balanced e d new
 goes e d new (PromiseGoes p h f) = rw f refl

@@ -2,15 +2,9 @@ pub mod Numbers
 pub mod StepNumbers
 pub mod StaysDown
 pub mod Settles
-pub mod GivenMaps
-pub mod BootstrappedCall
-pub mod SingleSteps
 pub mod ExportCounts
-pub mod FirstEvent
-pub mod CheckedMessages
 pub mod QuietWhenDown
 pub mod QuietRuns
-pub mod ReceivedSteps
 pub mod StepCounts
 pub mod Lowering
 pub mod MessageCounts

@@ -1,6 +1,6 @@
 -- The numbers of references, calls, tasks and promises only rise within a step, and no step but a fault takes the
 -- vat down.
-use Rattle.std.proofs.Common.{◌≡◌, inl, inr, ℕ, zero, suc, ◌+◌, ◌≤◌, Bool, true, false, List, [], ◌∷◌, Option, None, Some, refl, ◌∙◌, arith, slice_set}
+use Rattle.std.proofs.Common.{◌≡◌, inl, inr, ℕ, ◌+◌, ◌≤◌, Bool, true, false, List, [], ◌∷◌, Option, None, Some, refl, ◌∙◌, arith}
 use Rattle.std.specs.FinMap as map
 use Rattle.rpc_msg.specs.declared.parts.Descriptor.{Descriptor}
 use Rattle.rpc_msg.specs.declared.exception.Exception.{Exception}
@@ -33,7 +33,7 @@ use Rattle.vat_machine.specs.Descriptors.{ExportedAs, Described, DescribesAll}
 use Rattle.vat_machine.specs.Routing.{Asks, WaitsForPromise, WaitsForField, RoutedTo, Routes, RoutesAll, RoutesHeld}
 use Rattle.vat_machine.specs.Collecting.{Goes, PromiseGoes, OutcomeGoes, ImportGoes, Collects, Tight, Loose}
 use Rattle.vat_machine.specs.Flags.{give_if, give_back, flag_for}
-use Rattle.vat_machine.specs.Settling.{Untangles, Fits, TellsCall, SaysBack, Returns, TellsPeer, Tells, ResolvesTo, ResolvesBy, ResolvesEach, SettlesOpen, SettlesFrom, SettlesOutcome, FixesFrom, FixesPromise, Drains, NoneLeft, OneMore}
+use Rattle.vat_machine.specs.Settling.{PutsIn, Untangles, Fits, TellsCall, SaysBack, Returns, TellsPeer, Tells, ResolvesTo, ResolvesBy, ResolvesEach, SettlesOpen, SettlesFrom, SettlesOutcome, FixesFrom, FixesPromise, Drains, NoneLeft, OneMore}
 use Rattle.vat_machine.specs.Sweeping.{FinishesEach, finished_by, release_each, Sweeps}
 
 abbrev pub Rises : State → State → Type 0
@@ -106,16 +106,18 @@ pub routes_held : (d : Progress) (o : ℕ) (hs : List HeldCall) (new : Progress)
 routes_held d o [] new h = rw h (same d.state)
 routes_held d o (x ∷ xs) new h = then d.state h.0.state new.state (routes d x.call (node.Field o x.path) h.0 h.1) (routes_held h.0 o xs new h.2)
 
-untangles : (s : State) (o : ℕ) (who : Caller) (w : List HeldCall) (payload : Payload) (caps : List Node) (i n : ℕ) (out : List Node) (new : State) → Untangles s o who w payload caps i n out new → Rises s new
-untangles s o who w payload caps i zero out new h = rw h.1 (same s)
-untangles s o who w payload caps i (suc n) out new (inl h) = untangles s o who w payload caps (i + 1) n out new h.1
-untangles s o who w payload caps i (suc n) out new (inr h) =
-    let g = h.1 in
-    untangles (record s { promises = map.insert s.promises g.0 (promise.Open []) }) o who w payload (slice_set caps i (node.Promise g.0)) (i + 1) n out new g.2
+placed : (s : State) (o : ℕ) (who : Caller) (w : List HeldCall) (payload : Payload) (i : ℕ) (n : Node) (rest out : List Node) (new : State) → PutsIn s o who w payload i n rest out new → Rises s new
+placed s o who w payload i n rest out new (inl h) = rw h.2 (same s)
+placed s o who w payload i n rest out new (inr h) = let g = h.1 in rw g.3 (same s)
+
+untangles : (s : State) (o : ℕ) (who : Caller) (w : List HeldCall) (payload : Payload) (i : ℕ) (caps out : List Node) (new : State) → Untangles s o who w payload i caps out new → Rises s new
+untangles s o who w payload i [] out new h = rw h.1 (same s)
+untangles s o who w payload i (n ∷ ns) out new h =
+    then s h.1 new (untangles s o who w payload (i + 1) ns h.0 h.1 h.2) (placed h.1 o who w payload i n h.0 out new h.3)
 
 fits : (s : State) (o : ℕ) (who : Caller) (w : List HeldCall) (v out : Value) (new : State) → Fits s o who w v out new → Rises s new
 fits s o who w (value.Exception exception) out new h = rw h.1 (same s)
-fits s o who w (value.Results payload caps) out new h = untangles s o who w payload caps 0 _ h.0 new h.2
+fits s o who w (value.Results payload caps) out new h = untangles s o who w payload 0 caps h.0 new h.2
 
 goes : (d new : Progress) → Goes d new → Rises d.state new.state
 goes d new (PromiseGoes p h e) = rw e (same d.state)

@@ -1,5 +1,5 @@
 -- An outcome becomes known, or a promise is fixed (docs/protocol.md, "Settling"; rpc.capnp, Return and Resolve).
-use Rattle.std.specs.Prelude.{◌≡◌, ◌⊎◌, ℕ, zero, suc, ◌+◌, Bool, true, false, cond, Option, None, Some, List, [], ◌∷◌, length, slice_set}
+use Rattle.std.specs.Prelude.{◌≡◌, ◌⊎◌, ℕ, zero, suc, ◌+◌, Bool, true, false, cond, Option, None, Some, List, [], ◌∷◌, ◌++◌}
 use Rattle.std.specs.FinMap as map
 use Rattle.rpc_msg.specs.declared.ids.QuestionId.{QuestionId}
 use Rattle.capn_wire.specs.declared.path.Op.{Op}
@@ -19,6 +19,7 @@ use Rattle.vat_machine.specs.Payloads.{cap_at}
 use Rattle.vat_machine.specs.declared.node.Node.{Node}
 use Rattle.vat_machine.specs.declared.node.Node.TheVariants as node
 use Rattle.vat_machine.specs.declared.node.Reason.{Reason}
+use Rattle.vat_machine.specs.declared.node.Reason.TheVariants.{NotACapability}
 use Rattle.vat_machine.specs.declared.calls.HeldCall.{HeldCall}
 use Rattle.vat_machine.specs.declared.calls.Promise.{Promise}
 use Rattle.vat_machine.specs.declared.calls.Promise.TheVariants as promise
@@ -31,7 +32,7 @@ use Rattle.vat_machine.specs.declared.calls.KeptOutcome.{KeptOutcome}
 use Rattle.vat_machine.specs.declared.entries.AnswerEntry.{AnswerEntry}
 use Rattle.vat_machine.specs.declared.entries.Export.{Export}
 use Rattle.vat_machine.specs.State.{State}
-use Rattle.vat_machine.specs.Nodes.{settle, follow, is_promise, is_field, node_of_cap}
+use Rattle.vat_machine.specs.Nodes.{settle, follow, is_promise, is_field}
 use Rattle.vat_machine.specs.Descriptors.{Describes, DescribesAll}
 use Rattle.vat_machine.specs.Progress.{Progress, with_state, send, tell_ended, with_refs, new_refs, outcome_of, caps_of, export_id, export_ids, numbers}
 use Rattle.vat_machine.specs.Routing.{RoutesAll, RoutesHeld, failed, reason_text}
@@ -44,29 +45,38 @@ use Rattle.vat_machine.specs.Flags.{flag_for, give_back}
 abbrev pub known : State → ℕ → Caller → List HeldCall → Value → State
 known s o who waiting v = record s { outcomes = map.insert s.outcomes o (record { caller = who; value = Some v; waiting = waiting }) }
 
--- The capability i of the outcome o leads, by a field of o where it stands, to itself.
+-- A node leads to a field of the outcome o at whose path the capability i stands.
 abbrev pub TurnsBack : State → ℕ → Payload → ℕ → Node → Type 0
 TurnsBack s o payload i n = (k : ℕ) × (path : List Op) × (follow s k n ≡ node.Field o path) × (cap_at payload path ≡ Cap i)
 
-abbrev pub cap_node : List Node → ℕ → Node
-cap_node caps i = node_of_cap caps (Cap i)
+-- That many capabilities which do not stand yet: what leads to one of them goes no further.
+abbrev pub absent : ℕ → List Node
+absent zero = []
+absent (suc n) = node.Broken NotACapability ∷ absent n
 
--- From the capability i on, each of the next n that leads to itself is replaced by an open promise that no command
--- settles.
-abbrev pub Untangles : State → ℕ → Caller → List HeldCall → Payload → List Node → ℕ → ℕ → List Node → State → Type 0
-Untangles s o who waiting payload caps i zero out new = (out ≡ caps) × (new ≡ s)
-Untangles s o who waiting payload caps i (suc n) out new =
-    (¬ (TurnsBack (known s o who waiting (value.Results payload caps)) o payload i (cap_node caps i))
-    × Untangles s o who waiting payload caps (i + 1) n out new)
-    ⊎ (TurnsBack (known s o who waiting (value.Results payload caps)) o payload i (cap_node caps i)
-    × ((p : ℕ) × (map.get s.promises p ≡ None)
-    × Untangles (record s { promises = map.insert s.promises p (promise.Open []) }) o who waiting payload (slice_set caps i (node.Promise p)) (i + 1) n out new))
+-- The outcome is known, but of its capabilities only those behind the index i stand.
+abbrev pub behind : State → ℕ → Caller → List HeldCall → Payload → ℕ → List Node → State
+behind s o who waiting payload i rest = known s o who waiting (value.Results payload (absent (suc i) ++ rest))
+
+-- The capability i is put before those behind it. Where it leads to itself by them, an open promise that no command
+-- settles takes its place.
+abbrev pub PutsIn : State → ℕ → Caller → List HeldCall → Payload → ℕ → Node → List Node → List Node → State → Type 0
+PutsIn s o who waiting payload i n rest out new =
+    (¬ (TurnsBack (behind s o who waiting payload i rest) o payload i n) × (out ≡ n ∷ rest) × (new ≡ s))
+    ⊎ (TurnsBack (behind s o who waiting payload i rest) o payload i n
+    × ((p : ℕ) × (map.get s.promises p ≡ None) × (out ≡ node.Promise p ∷ rest) × (new ≡ record s { promises = map.insert s.promises p (promise.Open []) })))
+
+-- The capabilities from i on, the last put in place first. So the first of each circle is replaced, and it alone.
+abbrev pub Untangles : State → ℕ → Caller → List HeldCall → Payload → ℕ → List Node → List Node → State → Type 0
+Untangles s o who waiting payload i [] out new = (out ≡ []) × (new ≡ s)
+Untangles s o who waiting payload i (n ∷ ns) out new =
+    (rest : List Node) × (mid : State) × Untangles s o who waiting payload (i + 1) ns rest mid × PutsIn mid o who waiting payload i n rest out new
 
 -- The value that an outcome takes, with the promises that it needs so that no capability leads to itself.
 abbrev pub Fits : State → ℕ → Caller → List HeldCall → Value → Value → State → Type 0
 Fits s o who waiting (value.Exception exception) v new = (v ≡ value.Exception exception) × (new ≡ s)
 Fits s o who waiting (value.Results payload caps) v new =
-    (out : List Node) × (v ≡ value.Results payload out) × Untangles s o who waiting payload caps 0 (length caps) out new
+    (out : List Node) × (v ≡ value.Results payload out) × Untangles s o who waiting payload 0 caps out new
 
 -- ---- The caller is told
 

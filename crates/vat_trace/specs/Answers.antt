@@ -1,9 +1,9 @@
 -- What the program prints for a word and an input, and its status (docs/trace.md, "The program").
-use Rattle.std.specs.Prelude.{ℕ, ◌≡◌, List, ◌∷◌, ◌++◌}
+use Rattle.std.specs.Prelude.{ℕ, ◌≡◌, List, [], ◌∷◌, ◌++◌}
 use Rattle.vat_journal.specs.declared.entry.JournalEntry.{JournalEntry}
 use Rattle.vat_journal.specs.declared.entry.JournalEntry.TheVariants as entry
-use Rattle.trace_json.specs.declared.version.TraceVersion.{TraceVersion}
-use Rattle.trace_json.specs.declared.version.TraceVersion.TheVariants.{Two}
+use Rattle.trace_write.specs.declared.version.TraceVersion.{TraceVersion}
+use Rattle.trace_write.specs.declared.version.TraceVersion.TheVariants.{Two}
 use Rattle.trace_check.specs.declared.verdict.Verdict.{Verdict}
 use Rattle.trace_check.specs.declared.verdict.Verdict.TheVariants.{Good, Order, Unmatched, AfterDown, Count}
 use Rattle.trace_check.specs.Breaches.{verdict_of}
@@ -22,6 +22,19 @@ status_of (Unmatched n) = 3
 status_of (AfterDown n) = 3
 status_of (Count n) = 3
 
+-- What is said of a broken verdict behind its trace; of a good one nothing.
+abbrev pub complaint : Verdict → List ℕ
+complaint (Good n) = []
+complaint (Order n) = verdict_text (Order n)
+complaint (Unmatched n) = verdict_text (Unmatched n)
+complaint (AfterDown n) = verdict_text (AfterDown n)
+complaint (Count n) = verdict_text (Count n)
+
+-- The trace of the script that the input is, and what is said of its verdict.
+abbrev pub RunsTo : List ℕ → List ℕ → ℕ → Type 0
+RunsTo input text status =
+    (trace : List ℕ) × (verdict : Verdict) × Prints input trace verdict × (text ≡ trace ++ complaint verdict) × (status ≡ status_of verdict)
+
 -- The verdict of the trace that the input is.
 abbrev pub ChecksTo : List ℕ → List ℕ → ℕ → Type 0
 ChecksTo input text status =
@@ -36,7 +49,7 @@ UpgradesTo input text status = (version : TraceVersion) × (es : List JournalEnt
 
 -- What the program prints where it does what it was asked, and its status.
 abbrev pub Answers : Word → List ℕ → List ℕ → ℕ → Type 0
-Answers Run input text status = Prints input text × (status ≡ 0)
+Answers Run input text status = RunsTo input text status
 Answers Check input text status = ChecksTo input text status
 Answers Show input text status = ShowsAs input text status
 Answers Upgrade input text status = UpgradesTo input text status

@@ -1,8 +1,8 @@
-ghost use Rattle.std.specs.Prelude.{◌≡◌, IfOk, string_bytes};
-ghost use Rattle.vat_trace.specs.Answers.{Answers, ChecksTo, ShowsAs, UpgradesTo, status_of};
+ghost use Rattle.std.specs.Prelude.{◌≡◌, ◌++◌, IfOk, OnOk, string_bytes};
+ghost use Rattle.vat_trace.specs.Answers.{Answers, RunsTo, ChecksTo, ShowsAs, UpgradesTo, complaint, status_of};
 
 use crate::fault::{InputFault, ScriptFault};
-use crate::run::trace_of_script;
+use crate::run::{CheckedTrace, trace_of_script};
 use crate::words::Word;
 use rpc_msg::Memory;
 use std::alloc::Global;
@@ -35,11 +35,30 @@ pub(crate) fn answer(alloc: Global, word: Word, input: &str) -> Result<Printed, 
 }
 
 fn run(alloc: Global, script: &str) -> Result<Printed, InputFault>
-    ensures { IfOk result (λ a. Answers Word.Run script.now (string_bytes a.text) a.status) }
+    ensures { IfOk result (λ a. RunsTo script.now (string_bytes a.text) a.status) }
 {
-    match trace_of_script(alloc, script) {
-        Ok(text) => Ok(Printed { text, status: DONE }),
-        Err(fault) => Err(of_script(fault)),
+    let CheckedTrace { mut text, verdict } = match trace_of_script(alloc, script) {
+        Ok(trace) => trace,
+        Err(fault) => return Err(of_script(fault)),
+    };
+    match write_broken(&mut text, verdict) {
+        Ok(()) => {}
+        Err(Memory) => return Err(InputFault::Memory),
+    }
+    let status = status(verdict);
+    Ok(Printed { text, status })
+}
+
+/// The line that says a broken verdict, behind a text; of a good one nothing is said.
+fn write_broken(text: &mut String, verdict: Verdict) -> Result<(), Memory>
+    ensures { OnOk result (string_bytes text.new ≡ string_bytes text.old ++ complaint verdict) }
+{
+    match verdict {
+        Verdict::Good(_) => Ok(()),
+        Verdict::Order(_) => write_verdict(text, verdict),
+        Verdict::Unmatched(_) => write_verdict(text, verdict),
+        Verdict::AfterDown(_) => write_verdict(text, verdict),
+        Verdict::Count(_) => write_verdict(text, verdict),
     }
 }
 

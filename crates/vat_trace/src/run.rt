@@ -1,7 +1,9 @@
 ghost use Rattle.std.specs.Prelude.{◌≡◌, ◌∷◌, IfOk, IfErr, string_bytes};
 ghost use Rattle.vat_journal.specs.declared.entry.JournalEntry.TheVariants as entry;
 ghost use Rattle.vat_script.specs.Bindings.{no_names};
-ghost use Rattle.trace_json.specs.declared.version.TraceVersion.TheVariants.{One};
+ghost use Rattle.trace_write.specs.declared.version.TraceVersion.TheVariants.{One};
+ghost use Rattle.trace_check.specs.Breaches.{verdict_of};
+ghost use Rattle.trace_check.specs.Kept.{HasTaken};
 ghost use Rattle.trace_file.specs.Traces.{trace_text};
 ghost use Rattle.vat_trace.specs.Traces.{Prints, Faults, PrintsLines, FaultsLines, first_world};
 
@@ -10,6 +12,7 @@ use crate::playing::play_lines;
 use crate::script::read_script;
 use rpc_msg::{Memory, ObjectId};
 use std::alloc::Global;
+use trace_check::{Checker, Verdict};
 use trace_file::{write_entries, write_entry};
 use trace_json::TraceVersion;
 use vat_journal::JournalEntry;
@@ -22,12 +25,19 @@ const FIRST_OBJECT: ObjectId = ObjectId(0);
 /// The version of the traces that the program writes.
 const VERSION: TraceVersion = TraceVersion::One;
 
-/// What a script prints: the lines are played in order on two new vats that both have bootstrap object 0, and the
+/// A trace as text, and what is to be said of it.
+#[derive(Drop)]
+pub struct CheckedTrace {
+    pub text: String,
+    pub verdict: Verdict,
+}
+
+/// What a script leads to: the lines are played in order on two new vats that both have bootstrap object 0, and the
 /// trace has a head, the journal, and the counts at the end. `Line` with the number of the first line that is no line
 /// of a script, or else of the first with a name that is not bound when its turn comes; `Memory` where a growth was
 /// refused.
-pub fn trace_of_script(alloc: Global, script: &str) -> Result<String, ScriptFault>
-    ensures prints { IfOk result (λ text. Prints script.now (string_bytes text)) }
+pub fn trace_of_script(alloc: Global, script: &str) -> Result<CheckedTrace, ScriptFault>
+    ensures prints { IfOk result (λ trace. Prints script.now (string_bytes trace.text) trace.verdict) }
     ensures faults { IfErr result (λ fault. Faults script.now fault) }
 {
     let lines = match read_script(alloc, script) {
@@ -35,13 +45,13 @@ pub fn trace_of_script(alloc: Global, script: &str) -> Result<String, ScriptFaul
         Err(fault) => return Err(fault),
     };
     match trace_of_lines(alloc, lines.as_slice()) {
-        Ok(text) => return Ok(text),
+        Ok(trace) => return Ok(trace),
         Err(fault) => return Err(fault),
     }
 }
 
-fn trace_of_lines(alloc: Global, lines: &[Line]) -> Result<String, ScriptFault>
-    ensures prints { IfOk result (λ text. PrintsLines lines.now (string_bytes text)) }
+fn trace_of_lines(alloc: Global, lines: &[Line]) -> Result<CheckedTrace, ScriptFault>
+    ensures prints { IfOk result (λ trace. PrintsLines lines.now (string_bytes trace.text) trace.verdict) }
     ensures faults { IfErr result (λ fault. FaultsLines lines.now fault) }
 {
     match World::new(alloc, Some(FIRST_OBJECT), Some(FIRST_OBJECT)) {
@@ -50,9 +60,9 @@ fn trace_of_lines(alloc: Global, lines: &[Line]) -> Result<String, ScriptFault>
     }
 }
 
-fn trace_from(alloc: Global, world: &mut World, lines: &[Line]) -> Result<String, ScriptFault>
+fn trace_from(alloc: Global, world: &mut World, lines: &[Line]) -> Result<CheckedTrace, ScriptFault>
     requires { world.old ≡ first_world }
-    ensures prints { IfOk result (λ text. PrintsLines lines.now (string_bytes text)) }
+    ensures prints { IfOk result (λ trace. PrintsLines lines.now (string_bytes trace.text) trace.verdict) }
     ensures faults { IfErr result (λ fault. FaultsLines lines.now fault) }
 {
     let mut names = Names::new(alloc);
@@ -65,10 +75,10 @@ fn trace_in(
     world: &mut World,
     names: &mut Names,
     lines: &[Line],
-) -> Result<String, ScriptFault>
+) -> Result<CheckedTrace, ScriptFault>
     requires new { world.old ≡ first_world }
     requires unnamed { names.old ≡ no_names }
-    ensures prints { IfOk result (λ text. PrintsLines lines.now (string_bytes text)) }
+    ensures prints { IfOk result (λ trace. PrintsLines lines.now (string_bytes trace.text) trace.verdict) }
     ensures faults { IfErr result (λ fault. FaultsLines lines.now fault) }
 {
     match play_lines(alloc, world, names, lines) {
@@ -79,10 +89,20 @@ fn trace_in(
         Ok(()) => {}
         Err(Memory) => return Err(ScriptFault::Memory),
     }
-    match print(alloc, world.journal()) {
-        Ok(text) => return Ok(text),
+    match checked(alloc, world.journal()) {
+        Ok(trace) => return Ok(trace),
         Err(Memory) => return Err(ScriptFault::Memory),
     }
+}
+
+/// The trace of a journal, with its head, and its verdict.
+fn checked(alloc: Global, journal: &[JournalEntry]) -> Result<CheckedTrace, Memory>
+    ensures text { IfOk result (λ trace. string_bytes trace.text ≡ trace_text One (entry.Head ∷ journal.now)) }
+    ensures verdict { IfOk result (λ trace. trace.verdict ≡ verdict_of (entry.Head ∷ journal.now)) }
+{
+    let text = print(alloc, journal)?;
+    let verdict = verdict(alloc, journal)?;
+    Ok(CheckedTrace { text, verdict })
 }
 
 /// The trace of a journal, with its head.
@@ -93,4 +113,15 @@ fn print(alloc: Global, journal: &[JournalEntry]) -> Result<String, Memory>
     write_entry(alloc, &mut text, &JournalEntry::Head, VERSION)?;
     write_entries(alloc, &mut text, journal, VERSION)?;
     Ok(text)
+}
+
+/// The verdict of a journal with its head.
+fn verdict(alloc: Global, journal: &[JournalEntry]) -> Result<Verdict, Memory>
+    ensures { IfOk result (λ verdict. verdict ≡ verdict_of (entry.Head ∷ journal.now)) }
+{
+    let mut checker = Checker::new(alloc).take(alloc, &JournalEntry::Head)?;
+    for entry in journal {
+        checker = checker.take(alloc, entry)?;
+    }
+    Ok(checker.verdict())
 }

@@ -1,4 +1,5 @@
 //! What the program prints and says, and with which status it ends.
+mod changes;
 mod traces;
 
 use crate::program::play;

@@ -7,7 +7,7 @@ const SCRIPT: &[u8] =
     b"a bootstrap boot\na field obj boot -\na call one obj 7 1 -\ndeliver b\ndeliver b\ndeliver a\nb answer 0 -\ndeliver a\na finish one\na finish boot\na drop obj\ndeliver b\ndeliver b\n";
 
 /// The trace of the script.
-fn trace(alloc: Global) -> Vec<u8> {
+pub(super) fn trace(alloc: Global) -> Vec<u8> {
     let mut reader = SCRIPT;
     let mut out = Vec::new(alloc);
     let mut err = Vec::new(alloc);
@@ -34,7 +34,13 @@ fn changed(alloc: Global, number: usize, line: &[u8]) -> Vec<u8> {
     text
 }
 
-fn check(rt: &impl Abort, alloc: Global, word: &str, input: &[u8], wanted: (u8, &str, &str)) {
+pub(super) fn check(
+    rt: &impl Abort,
+    alloc: Global,
+    word: &str,
+    input: &[u8],
+    wanted: (u8, &str, &str),
+) {
     let mut reader = input;
     let mut out = Vec::new(alloc);
     let mut err = Vec::new(alloc);

@@ -21,7 +21,7 @@ use Rattle.capn_wire.proofs.place.+place.Goals as goal
 
 pub place_fields-returns-clause-placed : goal.place_fields-returns-clause-placed
 place_fields-returns-clause-placed t c =
-    on_ok c.place_trees.result (fields_placed c.args.pointers.now c.args.words.now.items c.put.new.words.items c.place_trees.new.words.items c.args.data.now c.args.at c.put.ensures c.requires.inside) c.place_trees.ensures.placed
+    on_ok c.place_trees.result (fields_placed c.args.pointers.now c.args.words.now.items c.put.new.words.items c.place_trees.new.words.items c.args.section.now c.args.at c.put.ensures c.requires.inside) c.place_trees.ensures.placed
 
 pub place_pointers-returns-clause-placed : goal.place_pointers-returns-clause-placed
 place_pointers-returns-clause-placed t c =

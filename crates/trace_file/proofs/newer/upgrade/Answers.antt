@@ -1,5 +1,5 @@
 use Rattle.std.proofs.Common.{◌++◌, string_bytes, ap, ◌∙◌}
-use Rattle.trace_json.specs.declared.version.TraceVersion.TheVariants.{Two}
+use Rattle.trace_write.specs.declared.version.TraceVersion.TheVariants.{Two}
 use Rattle.trace_file.specs.Traces.{trace_text}
 use Rattle.trace_file.proofs.Going.{written_all}
 use Rattle.trace_file.proofs.newer.upgrade.Goals as goal

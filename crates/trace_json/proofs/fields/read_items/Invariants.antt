@@ -1,6 +1,6 @@
 use Rattle.std.proofs.Common.{◌≡◌, map, take, drop}
 use Rattle.serde_json.specs.View.{view}
-use Rattle.trace_json.specs.Fits.{FitsAll}
+use Rattle.trace_write.specs.Fits.{FitsAll}
 use Rattle.trace_json.proofs.Lists.{with_front, left}
 use Rattle.trace_json.proofs.fields.read_items.Given as goal
 

@@ -4,6 +4,6 @@ use Rattle.vat_trace.proofs.run.trace_in.Goals as goal
 pub returns-in-Err-clause-faults : goal.returns-in-Err-clause-faults
 returns-in-Err-clause-faults c = faults_so _ _ _ _ _ _ c.requires.new c.requires.unnamed c.in-Err.ensures
 
-pub returns-in-Ok-print-clause-prints : goal.returns-in-Ok-print-clause-prints
-returns-in-Ok-print-clause-prints c =
-    prints_so _ _ _ _ _ _ _ _ c.requires.new c.requires.unnamed c.in-Ok.ensures c.in-Ok-note_tables.ensures.ok c.journal.ensures c.in-Ok-print.ensures
+pub returns-in-Ok-checked-clause-prints : goal.returns-in-Ok-checked-clause-prints
+returns-in-Ok-checked-clause-prints c =
+    prints_so _ _ _ _ _ _ _ _ _ c.requires.new c.requires.unnamed c.in-Ok.ensures c.in-Ok-note_tables.ensures.ok c.journal.ensures c.in-Ok-checked.ensures.text c.in-Ok-checked.ensures.verdict

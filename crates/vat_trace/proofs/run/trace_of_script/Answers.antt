@@ -5,8 +5,8 @@ use Rattle.vat_trace.proofs.run.trace_of_script.Goals as goal
 
 pub returns-in-Ok-trace_of_lines-clause-prints : goal.returns-in-Ok-trace_of_lines-clause-prints
 returns-in-Ok-trace_of_lines-clause-prints c =
-    prints_read c.args.script.now c.in-Ok.lines (string_bytes c.in-Ok-trace_of_lines.text) c.in-Ok.ensures
-    (subst (λ lines. PrintsLines lines (string_bytes c.in-Ok-trace_of_lines.text)) c.as_slice.ensures c.in-Ok-trace_of_lines.ensures.prints)
+    prints_read c.args.script.now c.in-Ok.lines (string_bytes c.in-Ok-trace_of_lines.trace.text) c.in-Ok-trace_of_lines.trace.verdict c.in-Ok.ensures
+    (subst (λ lines. PrintsLines lines (string_bytes c.in-Ok-trace_of_lines.trace.text) c.in-Ok-trace_of_lines.trace.verdict) c.as_slice.ensures c.in-Ok-trace_of_lines.ensures.prints)
 
 pub returns-in-Err-trace_of_lines-clause-faults : goal.returns-in-Err-trace_of_lines-clause-faults
 returns-in-Err-trace_of_lines-clause-faults c =

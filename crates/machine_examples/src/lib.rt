@@ -1,0 +1,17 @@
+//! Worked runs and steps of the machine of `vat_machine`, and wrong steps that it refuses. No code runs here: what each
+//! function ensures is the example, or the law.
+#![tactic(auto)]
+
+mod refused;
+mod runs;
+mod steps;
+
+pub use refused::{
+    calls_stop_at_wires, embargoes_hold, flags_are_exact, full_answers_fall, questions_stay_taken,
+    resolves_count,
+};
+pub use runs::{
+    back_and_forth, called_back, early_finish, given_again, given_back, given_twice, late_resolve,
+    one_bootstrapped_call, over_release, promised_answer, relayed_back, resolved_across,
+};
+pub use steps::{of_checks, of_commands, of_level_zero, of_messages, of_shortening, untangled};

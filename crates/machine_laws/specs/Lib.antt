@@ -1,0 +1,4 @@
+pub mod Numbers
+pub mod Settled
+pub mod Callers
+pub mod NodesThere

@@ -1,0 +1,252 @@
+use rpc_msg::{
+    Call, Descriptor, Disembargo, DisembargoContext, Items, Message, Op, Path, PlainMessage, RefId,
+    Resolve, ResolvedTo, Return, ReturnBody, Stamp, Target, Vat,
+};
+use std::alloc::{AllocError, Global};
+use std::fmt::Write;
+use vat_journal::{Advanced, Delivery, JournalEntry, MadeCall, Origin, Outcome};
+
+/// What is said of a message where it is sent and where it is received.
+pub(crate) fn message_label(alloc: Global, message: &Message) -> Result<String, AllocError> {
+    let mut text = String::new(alloc);
+    match message {
+        Message::Plain(plain) => write_plain(&mut text, plain)?,
+        Message::Unimplemented(plain) => {
+            text.push_str("Unimplemented: ")?;
+            write_plain(&mut text, plain)?;
+        }
+    }
+    Ok(text)
+}
+
+fn write_plain(text: &mut String, message: &PlainMessage) -> Result<(), AllocError> {
+    match message {
+        PlainMessage::Abort(exception) => write!(text, "Abort: {}", exception.reason.as_str()),
+        PlainMessage::Bootstrap(question) => write!(text, "Bootstrap, question {}", question.0),
+        PlainMessage::Call(call) => write_call(text, call),
+        PlainMessage::Return(answer) => write_return(text, answer),
+        PlainMessage::Finish(finish) => {
+            write!(text, "Finish, question {}", finish.question.0)?;
+            write_flag(text, finish.release_result_caps)
+        }
+        PlainMessage::Resolve(resolve) => write_resolve(text, resolve),
+        PlainMessage::Release(release) => {
+            write!(
+                text,
+                "Release, export {} by {}",
+                release.export.0, release.count
+            )
+        }
+        PlainMessage::Disembargo(disembargo) => write_disembargo(text, disembargo),
+        PlainMessage::Other(number) => write!(text, "message {number}"),
+    }
+}
+
+fn write_call(text: &mut String, call: &Call) -> Result<(), AllocError> {
+    write!(text, "Call, question {}, to ", call.question.0)?;
+    write_target(text, &call.target)?;
+    text.push_str(" (")?;
+    write_stamp(text, &call.stamp)?;
+    text.push(')')
+}
+
+fn write_return(text: &mut String, answer: &Return) -> Result<(), AllocError> {
+    write!(text, "Return, answer {}: ", answer.answer.0)?;
+    match &answer.body {
+        ReturnBody::Results(_, descriptors) => write_results(text, descriptors)?,
+        ReturnBody::Exception(exception) => write!(
+            text,
+            "exception {}",
+            exception.reason.as_str()
+        )?,
+        ReturnBody::Canceled => text.push_str("canceled")?,
+    }
+    write_flag(text, answer.release_param_caps)
+}
+
+fn write_results(text: &mut String, descriptors: &Items<Descriptor>) -> Result<(), AllocError> {
+    text.push_str("results")?;
+    for descriptor in descriptors.as_slice() {
+        text.push_str(", ")?;
+        write_descriptor(text, descriptor)?;
+    }
+    Ok(())
+}
+
+fn write_resolve(text: &mut String, resolve: &Resolve) -> Result<(), AllocError> {
+    write!(text, "Resolve, promise {}: ", resolve.promise.0)?;
+    match &resolve.to {
+        ResolvedTo::Cap(descriptor) => write_descriptor(text, descriptor),
+        ResolvedTo::Exception(exception) => write!(text, "exception {}", exception.reason.as_str()),
+    }
+}
+
+fn write_disembargo(text: &mut String, disembargo: &Disembargo) -> Result<(), AllocError> {
+    match disembargo.context {
+        DisembargoContext::SenderLoopback(id) => write!(text, "Disembargo {}, to ", id.0)?,
+        DisembargoContext::ReceiverLoopback(id) => write!(text, "Disembargo {} back, to ", id.0)?,
+    }
+    write_target(text, &disembargo.target)
+}
+
+fn write_flag(text: &mut String, releases: bool) -> Result<(), AllocError> {
+    if releases {
+        return text.push_str(", releases");
+    }
+    Ok(())
+}
+
+fn write_target(text: &mut String, target: &Target) -> Result<(), AllocError> {
+    match target {
+        Target::ImportedCap(export) => write!(text, "export {}", export.0),
+        Target::PromisedAnswer(question, path) => {
+            write!(text, "answer {}", question.0)?;
+            write_path(text, path)
+        }
+    }
+}
+
+fn write_descriptor(text: &mut String, descriptor: &Descriptor) -> Result<(), AllocError> {
+    match descriptor {
+        Descriptor::None => text.push_str("none"),
+        Descriptor::SenderHosted(export) => write!(text, "senderHosted {}", export.0),
+        Descriptor::SenderPromise(export) => write!(text, "senderPromise {}", export.0),
+        Descriptor::ReceiverHosted(export) => write!(text, "receiverHosted {}", export.0),
+        Descriptor::ReceiverAnswer(question, path) => {
+            write!(text, "receiverAnswer {}", question.0)?;
+            write_path(text, path)
+        }
+    }
+}
+
+fn write_path(text: &mut String, path: &Path) -> Result<(), AllocError> {
+    for op in path.as_slice() {
+        match op {
+            Op::Noop => {}
+            Op::Field(field) => write!(text, ".{field}")?,
+        }
+    }
+    Ok(())
+}
+
+fn write_stamp(text: &mut String, stamp: &Stamp) -> Result<(), AllocError> {
+    write!(
+        text,
+        "{}/{} #{}",
+        letter(stamp.vat),
+        stamp.reference.0,
+        stamp.index
+    )
+}
+
+pub(crate) fn letter(vat: Vat) -> &'static str {
+    match vat {
+        Vat::A => "a",
+        Vat::B => "b",
+    }
+}
+
+/// What is said of an entry that is no message's; nothing of a message's, a head or counts.
+pub(crate) fn entry_label(alloc: Global, entry: &JournalEntry) -> Result<String, AllocError> {
+    let mut text = String::new(alloc);
+    match entry {
+        JournalEntry::Born(_, reference, origin) => write_born(&mut text, reference, origin)?,
+        JournalEntry::Asked(_, call) => write!(
+            text,
+            "asks for the bootstrap object, call {}",
+            call.0
+        )?,
+        JournalEntry::Made(vat, made) => write_made(&mut text, *vat, made)?,
+        JournalEntry::Delivered(_, delivery) => write_delivered(&mut text, delivery)?,
+        JournalEntry::Answered(_, task, outcome, _) => {
+            write!(text, "answers task {}: ", task.0)?;
+            write_outcome(&mut text, outcome)?;
+        }
+        JournalEntry::Ended(_, ended) => {
+            write!(text, "call {} ends: ", ended.call.0)?;
+            write_outcome(&mut text, &ended.outcome)?;
+        }
+        _ => write_command(&mut text, entry)?,
+    }
+    Ok(text)
+}
+
+fn write_command(text: &mut String, entry: &JournalEntry) -> Result<(), AllocError> {
+    match entry {
+        JournalEntry::Resolved(_, promise, reference) => {
+            write!(
+                text,
+                "resolves promise {} to reference {}",
+                promise.0, reference.0
+            )
+        }
+        JournalEntry::Rejected(_, promise, _) => write!(text, "rejects promise {}", promise.0),
+        JournalEntry::Dropped(_, reference) => write!(text, "drops reference {}", reference.0),
+        JournalEntry::Finished(_, call) => write!(text, "finishes call {}", call.0),
+        JournalEntry::Advanced(_, reference, advanced) => write_advanced(text, reference, advanced),
+        JournalEntry::Refused(_, code) => write!(text, "a command is refused: {code}"),
+        JournalEntry::Down(_, fault) => write!(text, "goes down: {fault}"),
+        _ => Ok(()),
+    }
+}
+
+fn write_born(text: &mut String, reference: &RefId, origin: &Origin) -> Result<(), AllocError> {
+    write!(text, "reference {} to ", reference.0)?;
+    match origin {
+        Origin::Object(object) => write!(text, "object {}", object.0),
+        Origin::Promise(promise) => write!(text, "promise {}", promise.0),
+        Origin::Clone(other) => write!(text, "what reference {} leads to", other.0),
+        Origin::Field(call, path) => {
+            write!(text, "the results of call {}", call.0)?;
+            write_path(text, path)
+        }
+    }
+}
+
+fn write_made(text: &mut String, vat: Vat, made: &MadeCall) -> Result<(), AllocError> {
+    text.push_str("calls ")?;
+    write_stamp(
+        text,
+        &Stamp {
+            vat,
+            reference: made.reference,
+            index: made.index,
+        },
+    )?;
+    write!(
+        text,
+        ", interface {}, method {}, call {}",
+        made.interface, made.method, made.call.0
+    )
+}
+
+fn write_delivered(text: &mut String, delivery: &Delivery) -> Result<(), AllocError> {
+    text.push_str("delivers ")?;
+    write_stamp(text, &delivery.stamp)?;
+    write!(
+        text,
+        " to object {}, task {}",
+        delivery.object.0, delivery.task.0
+    )
+}
+
+fn write_outcome(text: &mut String, outcome: &Outcome) -> Result<(), AllocError> {
+    match outcome {
+        Outcome::Results(_) => text.push_str("results"),
+        Outcome::Exception(exception) => write!(text, "exception {}", exception.reason.as_str()),
+    }
+}
+
+fn write_advanced(
+    text: &mut String,
+    reference: &RefId,
+    advanced: &Advanced,
+) -> Result<(), AllocError> {
+    let answer = match advanced {
+        Advanced::Nothing => "nothing",
+        Advanced::Switched => "switched",
+        Advanced::Embargoed => "embargoed",
+        Advanced::Broke => "broke",
+    };
+    write!(text, "advances reference {}: {answer}", reference.0)
+}

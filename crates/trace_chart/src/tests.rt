@@ -1,0 +1,78 @@
+//! What is drawn, what the options say, and with which status the program ends.
+mod pictures;
+mod programs;
+mod traces;
+
+use crate::options::Options;
+use crate::text::write_label;
+use rpc_msg::{RefId, Vat};
+use std::alloc::AllocError;
+
+#[test]
+fn options_say_which_entries_are_drawn_and_whose_calls_stand_out(rt: HostRuntime) {
+    let first = Options::new();
+    assert!(rt; first.draws(1) && first.draws(60) && !first.draws(61));
+    assert!(rt; !first.marks(Vat::A, RefId(0)));
+    let Some(later) = first.with("--from", "100") else {
+        panic!(rt; "refused");
+    };
+    assert!(rt; !later.draws(99) && later.draws(159) && !later.draws(160));
+    let Some(until) = later.with("--to", "101") else {
+        panic!(rt; "refused");
+    };
+    assert!(rt; until.draws(101) && !until.draws(102) && !until.is_empty());
+    let Some(of) = until.with("--ref", "b/18446744073709551615") else {
+        panic!(rt; "refused");
+    };
+    assert!(rt; of.marks(Vat::B, RefId(18446744073709551615)));
+    assert!(rt; !of.marks(Vat::A, RefId(18446744073709551615)) && !of.marks(Vat::B, RefId(0)));
+    let Some(none) = of.with("--to", "99") else {
+        panic!(rt; "refused");
+    };
+    assert!(rt; none.is_empty());
+}
+
+#[test]
+fn other_words_and_values_say_nothing(rt: HostRuntime) {
+    let options = Options::new();
+    for (word, value) in [
+        ("--until", "3"),
+        ("from", "3"),
+        ("--from", ""),
+        ("--from", "+3"),
+        ("--to", "x"),
+        ("--to", "18446744073709551616"),
+        ("--ref", "a"),
+        ("--ref", "0"),
+        ("--ref", "a/"),
+        ("--ref", "/0"),
+        ("--ref", "c/0"),
+        ("--ref", "a/0/1"),
+        ("--ref", "a/-1"),
+    ] {
+        assert!(rt; options.with(word, value).is_none(), "{word} {value}");
+    }
+}
+
+#[test]
+fn a_label_stands_as_svg_has_it_and_long_ones_are_cut(rt: HostRuntime) -> Result<(), AllocError> {
+    for (label, wanted) in [
+        (
+            "<a href=\"x\">&\u{1}b\n\u{ffff}é",
+            "&lt;a href=&quot;x&quot;&gt;&amp; b  é",
+        ),
+        (
+            "123456789 123456789 123456789 123456789 123456789 123456789 ",
+            "123456789 123456789 123456789 123456789 123456789 123456789 ",
+        ),
+        (
+            "123456789 123456789 123456789 123456789 123456789 123456789&&&",
+            "123456789 123456789 123456789 123456789 123456789 123456789&amp;…",
+        ),
+    ] {
+        let mut svg = String::new(rt.alloc());
+        write_label(&mut svg, label)?;
+        assert_eq!(rt; svg.as_str(), wanted);
+    }
+    Ok(())
+}

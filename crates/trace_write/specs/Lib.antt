@@ -1,0 +1,4 @@
+pub mod Parts
+pub mod Messages
+pub mod Values
+pub mod Fits

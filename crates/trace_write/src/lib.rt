@@ -1,0 +1,14 @@
+//! Journals as lines of JSON, in both versions of the trace format (`docs/trace.md`): how they are written.
+#![tactic(auto)]
+
+mod line;
+#[cfg(test)]
+mod tests;
+mod version;
+mod write_entries;
+mod write_lists;
+mod write_messages;
+mod write_parts;
+
+pub use line::line_of;
+pub use version::TraceVersion;

@@ -1,0 +1,31 @@
+ghost use Rattle.std.specs.Prelude.{◌≡◌, Some, IfOk, OnOk, string_bytes};
+ghost use Rattle.serde_json.specs.Read.{read};
+ghost use Rattle.serde_json.specs.Written.{compact_text};
+ghost use Rattle.trace_write.specs.Values.{value};
+ghost use Rattle.trace_write.specs.Fits.{Fits};
+
+use crate::version::TraceVersion;
+use crate::write_entries::write_entry;
+use rpc_msg::Memory;
+use std::alloc::Global;
+use vat_journal::JournalEntry;
+
+/// The line of an entry in that version: compact JSON, keys in rising byte order, without the newline that ends it in
+/// a trace.
+///
+/// Both versions are written, for as long as the program writes version 1 (one constant of the program decides which).
+/// It fails only where memory is refused. `entry_of` reads the version 2 line as the entry, and the version 1 line where
+/// no flag is true.
+pub fn line_of(alloc: Global, entry: &JournalEntry, version: TraceVersion) -> Result<String, Memory>
+    ensures text { IfOk result (λ line. string_bytes line ≡ compact_text (value version entry.now)) }
+    ensures reads_back { IfOk result (λ line. read (string_bytes line) ≡ Some (value version entry.now)) }
+    ensures fits { OnOk result (Fits TraceVersion.Two entry.now) }
+{
+    let Ok(value) = write_entry(alloc, entry, version) else {
+        return Err(Memory);
+    };
+    match value.to_string(alloc) {
+        Ok(line) => Ok(line),
+        Err(_) => Err(Memory),
+    }
+}

@@ -1,0 +1,84 @@
+ghost use Rattle.std.specs.Prelude.{◌≡◌, IfOk, OnOk};
+ghost use Rattle.serde_json.specs.Data.{Data};
+ghost use Rattle.serde_json.specs.View.{view};
+ghost use Rattle.trace_write.specs.Parts.{list, reference_data, op_data, pair_data, descriptor_data};
+ghost use Rattle.trace_write.specs.Fits.{FitsAny, FitsAll, FitsOp, FitsPair, FitsDescriptor};
+
+use crate::write_parts::write_answer_place;
+use rpc_msg::{Descriptor, ExportId, Op, RefId};
+use serde_json::{Value, json};
+use std::alloc::{AllocError, Global};
+
+/// What stands in a list.
+pub(crate) trait Part {
+    ghost shown: { Self → Data };
+
+    ghost fits: { Self → Type 0 };
+
+    fn write(&self, alloc: Global) -> Result<Value, AllocError>
+        ensures is { IfOk result (λ v. view v ≡ shown self.now) }
+        ensures fits { OnOk result (fits self.now) };
+}
+
+pub(crate) fn write_list<T: Part>(alloc: Global, parts: &[T]) -> Result<Value, AllocError>
+    ensures is { IfOk result (λ v. view v ≡ list T.shown parts.now) }
+    ensures fits { OnOk result (FitsAll T.fits parts.now) }
+{
+    let mut values = Vec::new(alloc);
+    for part in parts {
+        values.push(part.write(alloc)?)?;
+    }
+    Ok(Value::Array(values))
+}
+
+impl Part for RefId {
+    ghost shown = { reference_data };
+
+    ghost fits = { FitsAny };
+
+    fn write(&self, _alloc: Global) -> Result<Value, AllocError> {
+        Ok(Value::from(self.0))
+    }
+}
+
+impl Part for Op {
+    ghost shown = { op_data };
+
+    ghost fits = { FitsOp };
+
+    fn write(&self, _alloc: Global) -> Result<Value, AllocError> {
+        match self {
+            Op::Noop => Ok(Value::Null),
+            Op::Field(n) => Ok(Value::from(*n)),
+        }
+    }
+}
+
+impl Part for (ExportId, u32) {
+    ghost shown = { pair_data };
+
+    ghost fits = { FitsPair };
+
+    fn write(&self, alloc: Global) -> Result<Value, AllocError> {
+        json!(in alloc; [self.0.0, self.1])
+    }
+}
+
+impl Part for Descriptor {
+    ghost shown = { descriptor_data };
+
+    ghost fits = { FitsDescriptor };
+
+    fn write(&self, alloc: Global) -> Result<Value, AllocError> {
+        match self {
+            Descriptor::None => json!(in alloc; "none"),
+            Descriptor::SenderHosted(id) => json!(in alloc; {"senderHosted": id.0}),
+            Descriptor::SenderPromise(id) => json!(in alloc; {"senderPromise": id.0}),
+            Descriptor::ReceiverHosted(id) => json!(in alloc; {"receiverHosted": id.0}),
+            Descriptor::ReceiverAnswer(question, path) => {
+                let answer = write_answer_place(alloc, *question, path.as_slice())?;
+                json!(in alloc; {"receiverAnswer": answer})
+            }
+        }
+    }
+}

@@ -1,0 +1,182 @@
+ghost use Rattle.std.specs.Prelude.{◌≡◌, IfOk, OnOk};
+ghost use Rattle.serde_json.specs.View.{view};
+ghost use Rattle.trace_write.specs.Parts.{in_base64};
+ghost use Rattle.trace_write.specs.Messages.{call_by, body_by, return_by, finish_data, resolved_data, resolve_data, context_data, disembargo_data, plain_by, message_by};
+ghost use Rattle.trace_write.specs.Fits.{FitsCall, FitsBody, FitsReturn, FitsFinish, FitsResolved, FitsResolve, FitsContext, FitsDisembargo, FitsPlain, FitsMessage};
+
+use crate::version::TraceVersion;
+use crate::write_lists::{Part, write_list};
+use crate::write_parts::{write_exception, write_payload, write_stamp, write_target};
+use rpc_msg::{
+    Call, Disembargo, DisembargoContext, Finish, Message, PlainMessage, Resolve, ResolvedTo,
+    Return, ReturnBody,
+};
+use serde_json::{Value, json};
+use std::alloc::{AllocError, Global};
+
+fn write_call(alloc: Global, call: &Call) -> Result<Value, AllocError>
+    ensures is { IfOk result (λ v. view v ≡ call_by in_base64 call.now) }
+    ensures fits { OnOk result (FitsCall call.now) }
+{
+    let caps = write_list(alloc, call.descriptors.as_slice())?;
+    let payload = write_payload(alloc, &call.payload)?;
+    let stamp = write_stamp(alloc, &call.stamp)?;
+    let target = write_target(alloc, &call.target)?;
+    json!(in alloc; {
+        "caps": caps,
+        "interface": call.interface,
+        "method": call.method,
+        "payload": payload,
+        "question": call.question.0,
+        "stamp": stamp,
+        "target": target
+    })
+}
+
+fn write_body(alloc: Global, body: &ReturnBody) -> Result<Value, AllocError>
+    ensures is { IfOk result (λ v. view v ≡ body_by in_base64 body.now) }
+    ensures fits { OnOk result (FitsBody body.now) }
+{
+    match body {
+        ReturnBody::Results(payload, descriptors) => {
+            let caps = write_list(alloc, descriptors.as_slice())?;
+            let payload = write_payload(alloc, payload)?;
+            json!(in alloc; {"results": {"caps": caps, "payload": payload}})
+        }
+        ReturnBody::Exception(exception) => {
+            let exception = write_exception(alloc, exception)?;
+            json!(in alloc; {"exception": exception})
+        }
+        ReturnBody::Canceled => json!(in alloc; "canceled"),
+    }
+}
+
+fn write_return(alloc: Global, said: &Return, version: TraceVersion) -> Result<Value, AllocError>
+    ensures is { IfOk result (λ v. view v ≡ return_by version in_base64 said.now) }
+    ensures fits { OnOk result (FitsReturn TraceVersion.Two said.now) }
+{
+    let answer = said.answer.0;
+    let flag = said.release_param_caps;
+    let body = write_body(alloc, &said.body)?;
+    match version {
+        TraceVersion::One => json!(in alloc; {"answer": answer, "body": body, "release": flag}),
+        TraceVersion::Two => {
+            json!(in alloc; {"answer": answer, "body": body, "releaseParamCaps": flag})
+        }
+    }
+}
+
+fn write_finish(alloc: Global, finish: &Finish, version: TraceVersion) -> Result<Value, AllocError>
+    ensures is { IfOk result (λ v. view v ≡ finish_data version finish.now) }
+    ensures fits { OnOk result (FitsFinish TraceVersion.Two finish.now) }
+{
+    let question = finish.question.0;
+    let flag = finish.release_result_caps;
+    match version {
+        TraceVersion::One => json!(in alloc; {"question": question, "release": flag}),
+        TraceVersion::Two => json!(in alloc; {"question": question, "releaseResultCaps": flag}),
+    }
+}
+
+fn write_resolved(alloc: Global, to: &ResolvedTo) -> Result<Value, AllocError>
+    ensures is { IfOk result (λ v. view v ≡ resolved_data to.now) }
+    ensures fits { OnOk result (FitsResolved to.now) }
+{
+    match to {
+        ResolvedTo::Cap(descriptor) => {
+            let descriptor = descriptor.write(alloc)?;
+            json!(in alloc; {"cap": descriptor})
+        }
+        ResolvedTo::Exception(exception) => {
+            let exception = write_exception(alloc, exception)?;
+            json!(in alloc; {"exception": exception})
+        }
+    }
+}
+
+fn write_resolve(alloc: Global, resolve: &Resolve) -> Result<Value, AllocError>
+    ensures is { IfOk result (λ v. view v ≡ resolve_data resolve.now) }
+    ensures fits { OnOk result (FitsResolve resolve.now) }
+{
+    let to = write_resolved(alloc, &resolve.to)?;
+    json!(in alloc; {"promise": resolve.promise.0, "to": to})
+}
+
+fn write_context(alloc: Global, context: &DisembargoContext) -> Result<Value, AllocError>
+    ensures is { IfOk result (λ v. view v ≡ context_data context.now) }
+    ensures fits { OnOk result (FitsContext context.now) }
+{
+    match context {
+        DisembargoContext::SenderLoopback(id) => json!(in alloc; {"senderLoopback": id.0}),
+        DisembargoContext::ReceiverLoopback(id) => json!(in alloc; {"receiverLoopback": id.0}),
+    }
+}
+
+fn write_disembargo(alloc: Global, disembargo: &Disembargo) -> Result<Value, AllocError>
+    ensures is { IfOk result (λ v. view v ≡ disembargo_data disembargo.now) }
+    ensures fits { OnOk result (FitsDisembargo disembargo.now) }
+{
+    let context = write_context(alloc, &disembargo.context)?;
+    let target = write_target(alloc, &disembargo.target)?;
+    json!(in alloc; {"context": context, "target": target})
+}
+
+fn write_plain(
+    alloc: Global,
+    message: &PlainMessage,
+    version: TraceVersion,
+) -> Result<Value, AllocError>
+    ensures is { IfOk result (λ v. view v ≡ plain_by version in_base64 message.now) }
+    ensures fits { OnOk result (FitsPlain TraceVersion.Two message.now) }
+{
+    match message {
+        PlainMessage::Abort(exception) => {
+            let exception = write_exception(alloc, exception)?;
+            json!(in alloc; {"abort": exception})
+        }
+        PlainMessage::Bootstrap(question) => {
+            json!(in alloc; {"bootstrap": {"question": question.0}})
+        }
+        PlainMessage::Call(call) => {
+            let call = write_call(alloc, call)?;
+            json!(in alloc; {"call": call})
+        }
+        PlainMessage::Return(said) => {
+            let said = write_return(alloc, said, version)?;
+            json!(in alloc; {"return": said})
+        }
+        PlainMessage::Finish(finish) => {
+            let finish = write_finish(alloc, finish, version)?;
+            json!(in alloc; {"finish": finish})
+        }
+        PlainMessage::Resolve(resolve) => {
+            let resolve = write_resolve(alloc, resolve)?;
+            json!(in alloc; {"resolve": resolve})
+        }
+        PlainMessage::Release(release) => {
+            json!(in alloc; {"release": {"count": release.count, "id": release.export.0}})
+        }
+        PlainMessage::Disembargo(disembargo) => {
+            let disembargo = write_disembargo(alloc, disembargo)?;
+            json!(in alloc; {"disembargo": disembargo})
+        }
+        PlainMessage::Other(number) => json!(in alloc; {"other": *number}),
+    }
+}
+
+pub(crate) fn write_message(
+    alloc: Global,
+    message: &Message,
+    version: TraceVersion,
+) -> Result<Value, AllocError>
+    ensures is { IfOk result (λ v. view v ≡ message_by version in_base64 message.now) }
+    ensures fits { OnOk result (FitsMessage TraceVersion.Two message.now) }
+{
+    match message {
+        Message::Plain(plain) => write_plain(alloc, plain, version),
+        Message::Unimplemented(plain) => {
+            let plain = write_plain(alloc, plain, version)?;
+            json!(in alloc; {"unimplemented": plain})
+        }
+    }
+}

@@ -1,0 +1,132 @@
+ghost use Rattle.std.specs.Prelude.{◌≡◌, IfOk, OnOk};
+ghost use Rattle.serde_json.specs.View.{view};
+ghost use Rattle.trace_write.specs.Parts.{vat_name, kind_name, advanced_name, answer_data, target_data, stamp_data, payload_data, in_base64, exception_data, outcome_by, origin_data, counts_data};
+ghost use Rattle.trace_write.specs.Fits.{FitsU32, FitsAll, FitsOp, FitsTarget, FitsPayload, FitsOutcome, FitsOrigin, FitsCounts};
+
+use crate::write_lists::write_list;
+use base64::engine::general_purpose::STANDARD;
+use rpc_msg::{Exception, ExceptionKind, Op, Payload, QuestionId, Stamp, Target, Vat};
+use serde_json::{Value, json};
+use std::alloc::{AllocError, Global};
+use vat_journal::{Advanced, Counts, Origin, Outcome};
+
+pub(crate) fn name_of_vat(vat: Vat) -> &'static str
+    ensures { result.now ≡ vat_name vat }
+{
+    match vat {
+        Vat::A => "a",
+        Vat::B => "b",
+    }
+}
+
+fn name_of_kind(kind: ExceptionKind) -> &'static str
+    ensures { result.now ≡ kind_name kind }
+{
+    match kind {
+        ExceptionKind::Failed => "failed",
+        ExceptionKind::Overloaded => "overloaded",
+        ExceptionKind::Disconnected => "disconnected",
+        ExceptionKind::Unimplemented => "unimplemented",
+    }
+}
+
+pub(crate) fn name_of_advanced(advanced: Advanced) -> &'static str
+    ensures { result.now ≡ advanced_name advanced }
+{
+    match advanced {
+        Advanced::Nothing => "nothing",
+        Advanced::Switched => "switched",
+        Advanced::Embargoed => "embargoed",
+        Advanced::Broke => "broke",
+    }
+}
+
+pub(crate) fn write_answer_place(
+    alloc: Global,
+    question: QuestionId,
+    path: &[Op],
+) -> Result<Value, AllocError>
+    ensures is { IfOk result (λ v. view v ≡ answer_data question path.now) }
+    ensures fits { OnOk result (FitsU32 question.0 × FitsAll FitsOp path.now) }
+{
+    let path = write_list(alloc, path)?;
+    json!(in alloc; {"path": path, "question": question.0})
+}
+
+pub(crate) fn write_target(alloc: Global, target: &Target) -> Result<Value, AllocError>
+    ensures is { IfOk result (λ v. view v ≡ target_data target.now) }
+    ensures fits { OnOk result (FitsTarget target.now) }
+{
+    match target {
+        Target::ImportedCap(id) => json!(in alloc; {"import": id.0}),
+        Target::PromisedAnswer(question, path) => {
+            let answer = write_answer_place(alloc, *question, path.as_slice())?;
+            json!(in alloc; {"answer": answer})
+        }
+    }
+}
+
+pub(crate) fn write_stamp(alloc: Global, stamp: &Stamp) -> Result<Value, AllocError>
+    ensures { IfOk result (λ v. view v ≡ stamp_data stamp.now) }
+{
+    json!(in alloc; {
+        "index": stamp.index,
+        "ref": stamp.reference.0,
+        "vat": name_of_vat(stamp.vat)
+    })
+}
+
+pub(crate) fn write_payload(alloc: Global, payload: &Payload) -> Result<Value, AllocError>
+    ensures is { IfOk result (λ v. view v ≡ payload_data (in_base64 payload.now)) }
+    ensures fits { OnOk result (FitsPayload payload.now) }
+{
+    let caps = payload.caps();
+    let bytes = STANDARD.encode(alloc, payload.bytes())?;
+    json!(in alloc; {"bytes": &bytes, "caps": caps})
+}
+
+pub(crate) fn write_exception(alloc: Global, exception: &Exception) -> Result<Value, AllocError>
+    ensures { IfOk result (λ v. view v ≡ exception_data exception.now) }
+{
+    json!(in alloc; {"kind": name_of_kind(exception.kind), "reason": exception.reason.as_str()})
+}
+
+pub(crate) fn write_outcome(alloc: Global, outcome: &Outcome) -> Result<Value, AllocError>
+    ensures is { IfOk result (λ v. view v ≡ outcome_by in_base64 outcome.now) }
+    ensures fits { OnOk result (FitsOutcome outcome.now) }
+{
+    match outcome {
+        Outcome::Results(payload) => {
+            let payload = write_payload(alloc, payload)?;
+            json!(in alloc; {"results": payload})
+        }
+        Outcome::Exception(exception) => {
+            let exception = write_exception(alloc, exception)?;
+            json!(in alloc; {"exception": exception})
+        }
+    }
+}
+
+pub(crate) fn write_origin(alloc: Global, origin: &Origin) -> Result<Value, AllocError>
+    ensures is { IfOk result (λ v. view v ≡ origin_data origin.now) }
+    ensures fits { OnOk result (FitsOrigin origin.now) }
+{
+    match origin {
+        Origin::Object(object) => json!(in alloc; {"object": object.0}),
+        Origin::Promise(promise) => json!(in alloc; {"promise": promise.0}),
+        Origin::Clone(reference) => json!(in alloc; {"clone": reference.0}),
+        Origin::Field(call, path) => {
+            let path = write_list(alloc, path.as_slice())?;
+            json!(in alloc; {"field": {"call": call.0, "path": path}})
+        }
+    }
+}
+
+pub(crate) fn write_counts(alloc: Global, counts: &Counts) -> Result<Value, AllocError>
+    ensures is { IfOk result (λ v. view v ≡ counts_data counts.now) }
+    ensures fits { OnOk result (FitsCounts counts.now) }
+{
+    let exports = write_list(alloc, counts.exports.as_slice())?;
+    let imports = write_list(alloc, counts.imports.as_slice())?;
+    json!(in alloc; {"exports": exports, "imports": imports})
+}
