@@ -9,7 +9,7 @@ use Rattle.vat_machine.specs.State.{State}
 use Rattle.vat_machine.specs.Lists.{how_many, from_each, of_map}
 use Rattle.vat_machine.specs.Places.{named_by_reference, named_by_embargo, named_by_promise, named_by_outcome, named_by_question, named_by_import, named_by_export, named_by_answer, places}
 use Rattle.machine_laws.specs.Settled.{IsAmong}
-use Rattle.machine_laws.proofs.Maps.{ties, equal, itself}
+use Rattle.finite_maps.proofs.Tested.{ties, equal, itself}
 
 pub among_left : (n : Node) (xs ys : List Node) → IsAmong n xs → IsAmong n (xs ++ ys)
 among_left n [] ys h = absurd h

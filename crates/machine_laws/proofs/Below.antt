@@ -26,7 +26,7 @@ use Rattle.vat_machine.specs.Collecting.{IsLoosePromise, AnswerIsOther, CallerIs
 use Rattle.vat_machine.specs.Flags.{give_one, give_each, give_if}
 use Rattle.vat_machine.specs.Sweeping.{closed_map, closed}
 use Rattle.machine_laws.specs.Settled.{IsAmong}
-use Rattle.machine_laws.proofs.Maps.{equal, get_left}
+use Rattle.finite_maps.proofs.Tested.{equal, get_left}
 use Rattle.machine_laws.proofs.Among.{none_among, none_counted, named, by_entry, where_named, in_refs, in_embargoes, in_promises, in_outcomes, in_questions, in_imports, in_exports, in_answers}
 use Rattle.machine_laws.proofs.NamedNodes.{at_put, at_cut}
 

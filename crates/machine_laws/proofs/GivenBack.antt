@@ -23,7 +23,8 @@ use Rattle.vat_machine.specs.Flags.{may_lose, is_spared, flag_at, flag_for, give
 use Rattle.vat_machine.specs.Settling.{returned_map}
 use Rattle.vat_machine.specs.Sweeping.{closed_map, closed}
 use Rattle.machine_laws.specs.Settled.{IsAmong}
-use Rattle.machine_laws.proofs.Maps.{sides, equal, itself, get_here, get_other, get_left}
+use Rattle.finite_maps.proofs.Gets.{get-insert_same}
+use Rattle.finite_maps.proofs.Tested.{sides, equal, itself, get_other, get_left}
 use Rattle.machine_laws.proofs.Among.{none_among, upto_outcomes, upto_questions, upto_imports, upto_exports}
 use Rattle.machine_laws.proofs.NamedNodes.{Present, Asked, Here, EachIn, at_cut, each_put, each_cut, each_at, Counted, positive_put, HereIn, Sound, NoneAtZero, renamed_places}
 
@@ -137,7 +138,7 @@ left_there e (i ∷ ids) m x f h = by (left_there e ids) (nat_eq e i) refl h
         at true u = absurd (grind (arith, u, k))
         at false u =
             let y : Import = record x { count = x.count - 1 } in
-            rest (map.insert m i y) y (subst (λ (n : ℕ). map.get (map.insert m i y) n ≡ Some y) (sym (equal e i d)) (get_here m i y)) (inr (omega (arith, k)))
+            rest (map.insert m i y) y (subst (λ (n : ℕ). map.get (map.insert m i y) n ≡ Some y) (sym (equal e i d)) (get-insert_same m i y)) (inr (omega (arith, k)))
 
 -- It is left there, or no other place names it.
 left_or_last : (s : State) (ids : List ℕ) (e : ℕ) (x : Import) → flag_at One s ids ≡ true → map.get s.imports e ≡ Some x → Present (map.get (give_each s.imports ids) e) ⊎ (names s (is_import e) ≡ how_many (nat_eq e) ids)

@@ -13,7 +13,7 @@ use Rattle.vat_machine.specs.Lists.{how_many}
 use Rattle.vat_machine.specs.Nodes.{is_import}
 use Rattle.vat_machine.specs.Places.{named_by_returned}
 use Rattle.vat_machine.specs.Sweeping.{got_of}
-use Rattle.machine_laws.proofs.Maps.{equal, itself, get_put}
+use Rattle.finite_maps.proofs.Tested.{equal, itself, get_put}
 use Rattle.machine_laws.proofs.NamedNodes.{Asked, asker, Tied, at_put, at_cut, Brought}
 
 abbrev pub question : Role → List ExportId → Question

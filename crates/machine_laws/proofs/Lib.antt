@@ -1,4 +1,3 @@
-pub mod Maps
 pub mod Among
 pub mod Pieces
 pub mod Walking

@@ -57,7 +57,8 @@ use Rattle.vat_machine.specs.Settling.{Drains, NoneLeft, OneMore}
 use Rattle.vat_machine.specs.Messages.{opened, bootstrap_value, received_request, results_of, value_of_results, waived, not_understood, ComesFor, ComesBack, TakesReturn, TakesEchoed, finished_map, TakesFinish, set_resolution, resolve_import, take_resolve, unembargoed, Bounces, Lifts, TakesDisembargo, TakesPlain, TakesUnimplemented, TakesUnless, Takes}
 use Rattle.vat_machine.specs.Faults.{gave, given_by, target_node, is_foreign, plain_fault, fault_of, unless_foreign}
 use Rattle.vat_machine.specs.Steps.{Ends, Does, Handles}
-use Rattle.machine_laws.proofs.Maps.{equal, get_here, get_other}
+use Rattle.finite_maps.proofs.Gets.{get-insert_same}
+use Rattle.finite_maps.proofs.Tested.{equal, get_other}
 use Rattle.machine_laws.proofs.Pieces.{IsException, AllExceptions}
 use Rattle.machine_laws.proofs.Exceptions.{walks, lets_go, act_arises, call_arises, first_arises, disembargo_arises, told_arises}
 use Rattle.machine_laws.proofs.Walking.{excepted}
@@ -98,7 +99,7 @@ module _ (w : Asked) (s : State) (q o : ℕ) (ids : List ℕ) (h : Fine w s) (na
   new_answer : (p : ℕ) → peer q ≡ peer p → AnswersWith o (map.get (map.insert s.answers q answer) p)
   new_answer p e =
       let f : q ≡ p = ap number e in
-      subst (λ (j : ℕ). AnswersWith o (map.get (map.insert s.answers q answer) j)) f (subst (AnswersWith o) (sym (get_here s.answers q answer)) (refl, refl))
+      subst (λ (j : ℕ). AnswersWith o (map.get (map.insert s.answers q answer) j)) f (subst (AnswersWith o) (sym (get-insert_same s.answers q answer)) (refl, refl))
 
   pub opens_answer : Fine w (opened s q o ids)
   opens_answer =
@@ -107,7 +108,7 @@ module _ (w : Asked) (s : State) (q o : ℕ) (ids : List ℕ) (h : Fine w s) (na
       record {
         names = (n.0, n.1, n.2, each_put P named_by_outcome s.outcomes o outcome (all_none P) n.3, n.4, n.5, n.6, each_put P named_by_answer s.answers q answer (all_grow w s (record s { outcomes = outcomes }) (imports_of (export_ids ids)) (grows_outcome w s o outcome) named) n.7);
         pending = λ k p. at_put (λ j x. IsOpenFor p x → AnswersWith j (map.get (map.insert s.answers q answer) p)) s.outcomes o outcome (λ i. new_answer p i.1) (λ j i. old_answer j p (h.pending j p i)) k;
-        answers = at_put (λ j a. HasOutcome outcomes j a) s.answers q answer (subst (IsFor (peer q)) (sym (get_here s.outcomes o outcome)) refl) (λ j. has_outcome s.outcomes outcomes j (map.get s.answers j) still (h.answers j));
+        answers = at_put (λ j a. HasOutcome outcomes j a) s.answers q answer (subst (IsFor (peer q)) (sym (get-insert_same s.outcomes o outcome)) refl) (λ j. has_outcome s.outcomes outcomes j (map.get s.answers j) still (h.answers j));
         calls = λ c. has_kept w s.outcomes outcomes c (map.get s.calls c) still (h.calls c);
         level = h.level;
         brought = h.brought;

@@ -38,7 +38,7 @@ use Rattle.vat_machine.specs.Collecting.{AnswerIsOther, IsLoosePromise, IsLooseO
 use Rattle.vat_machine.specs.Sweeping.{got_of}
 use Rattle.machine_laws.specs.Settled.{IsAmong}
 use Rattle.machine_laws.specs.Callers.{IsFor, peer, HasOutcome, IsOpenFor, AnswersWith}
-use Rattle.machine_laws.proofs.Maps.{equal, get_put, get_cut, get_left}
+use Rattle.finite_maps.proofs.Tested.{equal, get_put, get_cut, get_left}
 use Rattle.machine_laws.proofs.Among.{among_left, among_right, among_split, none_among, named, in_refs, in_embargoes, in_promises, in_outcomes, in_questions, in_imports, in_exports, in_answers}
 
 abbrev pub Present : {X : Type 0} → Option X → Type 0

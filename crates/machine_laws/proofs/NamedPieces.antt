@@ -38,7 +38,8 @@ use Rattle.vat_machine.specs.Routing.{Asks, Relays, WaitsForPromise, WaitsForFie
 use Rattle.vat_machine.specs.Collecting.{AnswerIsOther, IsLooseOutcome, IsLooseValue, CallerIsDone, Goes, PromiseGoes, OutcomeGoes, ImportGoes, Collects, Tight, Loose}
 use Rattle.vat_machine.specs.Flags.{give_if, give_back, flag_for}
 use Rattle.vat_machine.specs.Settling.{returned_map, PutsIn, Untangles, Fits, TellsCall, SaysBack, Returns, TellsPeer, Tells, ResolvesTo, ResolvesBy, ResolvesEach, exports_where, SendsResolves, SettlesOpen, FixesFrom, FixesPromise}
-use Rattle.machine_laws.proofs.Maps.{equal, get_here, get_other, get_left}
+use Rattle.finite_maps.proofs.Gets.{get-insert_same}
+use Rattle.finite_maps.proofs.Tested.{equal, get_other, get_left}
 use Rattle.machine_laws.proofs.Among.{by_entry}
 use Rattle.machine_laws.specs.Callers.{IsFor, peer, IsOpenFor, AnswersWith, HasOutcome}
 use Rattle.machine_laws.proofs.NamedNodes.{Present, Asked, Tied, Here, AllIn, EachIn, all_none, all_cons, all_one, all_append, all_left, all_right, at_put, at_cut, each_put, each_cut, each_at, HereIn, Sound, Fine, Grows, set_refs, set_questions, set_exports, set_answers, more_asked, grows_promise, grows_outcome, set_promise, set_outcome, promise_goes, outcome_goes, import_goes, settle_here}
@@ -412,7 +413,7 @@ module _ {w : Asked} where
       let p = g.0 in
       let t : State = record s { promises = map.insert s.promises p (promise.Open []) } in
       let grow = grows_promise w s p (promise.Open []) in
-      let there : HereIn w t (node.Promise p) = subst (λ (y : Option Promise). Present y) (sym (get_here s.promises p (promise.Open []))) tt in
+      let there : HereIn w t (node.Promise p) = subst (λ (y : Option Promise). Present y) (sym (get-insert_same s.promises p (promise.Open []))) tt in
       let a : Fine w t = set_promise s p (promise.Open []) j (all_one (HereIn w t) (node.Promise p) there) in
       rw (g.2, g.3) (a, all_cons (HereIn w t) (node.Promise p) rest there (all_grow w s t rest grow k), refl, refl, grow)
 
@@ -452,7 +453,7 @@ module _ {w : Asked} where
       let never : (q : ℕ) → IsOpenFor q (Some y) → AnswersWith o (map.get s.answers q) = λ q j. absurd (not_open fit j.0) in
       let one : Fine w t = set_outcome s o y a.0 named (same_caller s o x there) never in
       let waits : (q : ℕ) → x.caller ≡ peer q → AnswersWith o (map.get s.answers q) = λ q j. a.0.pending o q (subst (IsOpenFor q) (sym there) (f, j)) in
-      let two = tells (with_state d t) x.caller o y fit told.0 one (all_grow w s t (caps_of fit) g caps) refl refl (get_here s.outcomes o y) waits told.1 in
+      let two = tells (with_state d t) x.caller o y fit told.0 one (all_grow w s t (caps_of fit) g caps) refl refl (get-insert_same s.outcomes o y) waits told.1 in
       let u = told.0.state in
       let after = two.0.names in
       let names_now = each_at (HereIn w u) named_by_outcome u.outcomes o y after.3 two.1 in

@@ -45,7 +45,7 @@ use Rattle.vat_machine.specs.Progress.{Progress, with_state, caps_of}
 use Rattle.vat_machine.specs.Settling.{SettlesOpen, SettlesFrom, SettlesOutcome, FixesPromise}
 use Rattle.vat_machine.specs.Commands.{head_of, heads, counted, request, field_node, with_outcome, NewRef, ClonesRef, DropsRef, settled_now, CallsDirect, CallsHere, CallsBy, WaitsForEmbargo, CallsThrough, MakesCall, NamesField, ResolvesPromise, RejectsPromise, AnswersTask, FinishesCall, Acts}
 use Rattle.vat_machine.specs.Advancing.{Known, NothingYet, IsBroken, Leads, known_by_resolve, resolution_of, known_at, known_cap, known_by_return, returned_of, known_of_wire, known_by, wire_target, Embargoes, AdvancesBy, AdvancesTo, AdvancesFrom, Advances}
-use Rattle.machine_laws.proofs.Maps.{get_here}
+use Rattle.finite_maps.proofs.Gets.{get-insert_same}
 use Rattle.machine_laws.specs.Callers.{IsFor, peer, AnswersWith}
 use Rattle.machine_laws.proofs.NamedNodes.{Present, Asked, AllIn, EachIn, all_none, all_cons, all_one, at_put, at_cut, each_put, each_cut, each_at, HasKept, HereIn, Sound, Fine, Good, good, more_asked, set_refs, set_embargoes, set_questions, set_calls, grows_outcome, set_promise, set_outcome}
 use Rattle.machine_laws.proofs.HeldQuestions.{question, asked_too, asked_here, asked_before, tied_new, brings_none, brought_put}
@@ -159,7 +159,7 @@ module _ {w : Asked} (d : Progress) (c : CallCommand) (x : Reference) (there : m
   kept_state o = record (with_outcome d.state o (caller.Application (record { 0 = d.state.next_call }))) { refs = counting; calls = map.insert d.state.calls d.state.next_call (own.Kept o); next_call = d.state.next_call + 1 }
 
   its_caller : (o : ℕ) → IsFor (caller.Application (record { 0 = d.state.next_call })) (map.get (kept_state o).outcomes o)
-  its_caller o = subst (IsFor (caller.Application (record { 0 = d.state.next_call }))) (sym (get_here d.state.outcomes o (record { caller = caller.Application (record { 0 = d.state.next_call }); value = None; waiting = [] }))) refl
+  its_caller o = subst (IsFor (caller.Application (record { 0 = d.state.next_call }))) (sym (get-insert_same d.state.outcomes o (record { caller = caller.Application (record { 0 = d.state.next_call }); value = None; waiting = [] }))) refl
 
   not_peer : (o q : ℕ) → caller.Application (record { 0 = d.state.next_call }) ≡ peer q → AnswersWith o (map.get d.state.answers q)
   not_peer o q e = cc
@@ -220,7 +220,7 @@ module _ {w : Asked} where
       let p = h.0 in
       let t : State = record s { promises = map.insert s.promises p (promise.Open []) } in
       let u : State = record t { unsettled = map.insert s.unsettled s.next_promise p; next_promise = s.next_promise + 1 } in
-      let here : HereIn w t (node.Promise p) = subst (λ (y : Option Promise). Present y) (sym (get_here s.promises p (promise.Open []))) tt in
+      let here : HereIn w t (node.Promise p) = subst (λ (y : Option Promise). Present y) (sym (get-insert_same s.promises p (promise.Open []))) tt in
       let one : Fine w t = set_promise s p (promise.Open []) i (all_one (HereIn w t) (node.Promise p) here) in
       let two : Fine w u = set_rest t t.tasks u.unsettled t.next_ref t.next_call t.next_task u.next_promise one in
       rw h.3 (let a = new_refs u (node.Promise p ∷ []) two (all_one (HereIn w u) (node.Promise p) here) in a.0)

@@ -32,7 +32,7 @@ use Rattle.vat_machine.specs.Steps.{Obeys, Refuses, LacksMemory, GoesDown, Shuts
 use Rattle.machine_laws.specs.Settled.{IsThere, IsAmong, AreThere}
 use Rattle.machine_laws.specs.NodesThere.{ComesTo, Stays, Commanded, Received, Fell, IsReached, Stands, IsWhole, NodesAreThere}
 use Rattle.machine_laws.proofs.Among.{by_entry, where_named}
-use Rattle.machine_laws.proofs.Maps.{equal}
+use Rattle.finite_maps.proofs.Tested.{equal}
 use Rattle.machine_laws.specs.Callers.{IsDirectFor, IsAskedFor, HasSource, HasOutcome, IsOpenFor, AnswersWith}
 use Rattle.machine_laws.proofs.NamedNodes.{Present, asker, asker_by, askers, AllIn, entry, EachIn, each_at, all_none, HasKept, Brought, Counted, HereIn, Fine}
 use Rattle.machine_laws.proofs.HeldQuestions.{brings_nothing}

@@ -26,7 +26,8 @@ use Rattle.vat_machine.specs.Collecting.{IsTight, Collects}
 use Rattle.vat_machine.specs.Flags.{give_if, give_back, flag_for}
 use Rattle.vat_machine.specs.Sweeping.{IsOver, IsNotSent, closed_map, closed, Withers, Over, Thing, Asked, got_of, finished_by, FinishesEach, release_each, Sweeps}
 use Rattle.machine_laws.specs.Settled.{IsAmong}
-use Rattle.machine_laws.proofs.Maps.{ties, equal, itself, get_here, get_other, get_left, get_gone}
+use Rattle.finite_maps.proofs.Gets.{get-insert_same, get-remove_same}
+use Rattle.finite_maps.proofs.Tested.{ties, equal, itself, get_other, get_left}
 use Rattle.machine_laws.proofs.Among.{none_among, behind, first_entry}
 use Rattle.machine_laws.proofs.NamedNodes as nodes
 use Rattle.machine_laws.proofs.NamedNodes.{Present, asker, askers, Tied, AllIn, EachIn, all_none, at_put, at_cut, each_put, each_cut, Brought, HasKept, HereIn, Sound, Fine, set_questions, more_asked, present_put, renamed_places}
@@ -104,8 +105,8 @@ closed_other m q x None k e = get_other m q (record x { finish = finishing.Sent 
 closed_other m q x (Some said) k e = get_left m q k e
 
 closed_here : (m : Map Question) (q : ℕ) (x : Question) (o : Option Returned) → x.returned ≡ o → IsClosed (map.get (closed_map m q x o) q)
-closed_here m q x None e = subst IsClosed (sym (get_here m q (record x { finish = finishing.Sent }))) (e, refl)
-closed_here m q x (Some said) e = subst IsClosed (sym (get_gone m q)) tt
+closed_here m q x None e = subst IsClosed (sym (get-insert_same m q (record x { finish = finishing.Sent }))) (e, refl)
+closed_here m q x (Some said) e = subst IsClosed (sym (get-remove_same m q)) tt
 
 closed_stays : (m : Map Question) (q : ℕ) (x : Question) (k : ℕ) → IsClosed (map.get m k) → IsClosed (map.get (closed_map m q x x.returned) k)
 closed_stays m q x k h = by (nat_eq k q) refl
@@ -205,7 +206,7 @@ withers_from d over (Asked {over = others} k y there due rest) q x e = by (withe
     by before false f = let h = before (sym (get_other others k y q f) ∙ e) in (sym (closed_other d.state.questions k y y.returned q f) ∙ h.0, h.1)
     by before true f =
         let j : q ≡ k = equal q k f in
-        let same : Some y ≡ Some x = sym (get_here others k y) ∙ ap (map.get (map.insert others k y)) (sym j) ∙ e in
+        let same : Some y ≡ Some x = sym (get-insert_same others k y) ∙ ap (map.get (map.insert others k y)) (sym j) ∙ e in
         let z : y ≡ x = cc in
         (ap (map.get d.state.questions) j ∙ there ∙ same, subst (λ (u : Question). IsNotSent u.finish) z due.0)
 
@@ -228,13 +229,13 @@ below_closed s t b q x c = record { refs = b.refs; embargoes = b.embargoes; expo
 withers_done : (d : Progress) (over : Map Question) (t : State) → Withers d over → Below d.state t → IsTight t → ((q : ℕ) → Present (map.get over q) → IsClosed (map.get t.questions q)) → (q : ℕ) (x : Question) → map.get over q ≡ Some x → Done t q x.role
 withers_done d over t (Over tight none) b i c q x e = absurd (let bad : None ≡ Some x = sym (map.get-empty nat_cmp q) ∙ e in cc)
 withers_done d over t (Thing {mid = mid} g rest) b i c q x e = withers_done mid over t rest (still_below d mid t b i g) i c q x e
-withers_done d over t (Asked {over = others} k y there due rest) b i c q x e = by (withers_done (with_state d (closed d.state k y)) others t rest (below_closed d.state t b k y (c k (subst (λ (o : Option Question). Present o) (sym (get_here others k y)) tt))) i (λ j p. c j (present_put others k y j p)) q x) (nat_eq q k) refl
+withers_done d over t (Asked {over = others} k y there due rest) b i c q x e = by (withers_done (with_state d (closed d.state k y)) others t rest (below_closed d.state t b k y (c k (subst (λ (o : Option Question). Present o) (sym (get-insert_same others k y)) tt))) i (λ j p. c j (present_put others k y j p)) q x) (nat_eq q k) refl
   where
     by : (map.get others q ≡ Some x → Done t q x.role) → (f : Bool) → nat_eq q k ≡ f → Done t q x.role
     by before false f = before (sym (get_other others k y q f) ∙ e)
     by before true f =
         let j : q ≡ k = equal q k f in
-        let same : Some y ≡ Some x = sym (get_here others k y) ∙ ap (map.get (map.insert others k y)) (sym j) ∙ e in
+        let same : Some y ≡ Some x = sym (get-insert_same others k y) ∙ ap (map.get (map.insert others k y)) (sym j) ∙ e in
         let z : y ≡ x = cc in
         subst (λ (u : Question). Done t q u.role) z (subst (λ (n : ℕ). Done t n y.role) (sym j) (done_below d.state t b k y y.role due.1))
 

@@ -27,7 +27,8 @@ use Rattle.vat_machine.specs.Places.{imports_of, named_by_import, named_by_expor
 use Rattle.vat_machine.specs.Progress.{export_ids}
 use Rattle.vat_machine.specs.Descriptors.{export_node, answer_node, read_one, read, read_all, read_beside, received, import_one, take_one, take_each, take_at, take_all, taken_of}
 use Rattle.vat_machine.specs.Sweeping.{descriptors_said}
-use Rattle.machine_laws.proofs.Maps.{sides, get_here}
+use Rattle.finite_maps.proofs.Gets.{get-insert_same}
+use Rattle.finite_maps.proofs.Tested.{sides}
 use Rattle.machine_laws.specs.Callers.{IsFor, peer, HasOutcome}
 use Rattle.machine_laws.proofs.NamedNodes.{Present, Asked, AllIn, all_none, all_cons, each_put, each_at, Brought, Counted, positive_put, HereIn, Sound, Grows, set_imports, grows_import}
 
@@ -110,7 +111,7 @@ module _ {w : Asked} {T : Map Question → Type 0} where
 
 -- The ids that are taken are imports then.
 sender_here : (s : State) (k : SenderKind) (e : ℕ) → Present (map.get (import_one s k e).imports e)
-sender_here s k e = subst (λ (o : Option Import). Present o) (sym (get_here s.imports e (received k (map.get s.imports e)))) tt
+sender_here s k e = subst (λ (o : Option Import). Present o) (sym (get-insert_same s.imports e (received k (map.get s.imports e)))) tt
 
 given_here : (w : Asked) (s : State) (ds : List Descriptor) → AllIn (HereIn w (take_each s ds)) (imports_of (export_ids (given ds)))
 given_here w s [] = all_none (HereIn w s)

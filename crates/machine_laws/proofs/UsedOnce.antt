@@ -14,7 +14,7 @@ use Rattle.vat_machine.specs.Collecting.{Goes, PromiseGoes, OutcomeGoes, ImportG
 use Rattle.vat_machine.specs.Down.{IsUnchanged, ShutsFrom, fallen}
 use Rattle.vat_machine.specs.Steps.{Does, Handles, Obeys, Refuses, LacksMemory, GoesDown, Shuts, IsDone, Receives, WasDown, FaultsBy, LacksRoom, IsHandled}
 use Rattle.machine_laws.specs.Numbers.{AllBelow, NoneToCome, NoneAgain, StaysGone}
-use Rattle.machine_laws.proofs.Maps.{equal, get_put}
+use Rattle.finite_maps.proofs.Tested.{equal, get_put}
 use Rattle.machine_laws.proofs.Pieces.{SameOwn, StayExceptions, NoneNew, Walks, Takes, LetsGo}
 use Rattle.machine_laws.proofs.Exceptions.{failed_too, others, as_before, gone_beside}
 use Rattle.machine_laws.proofs.WholeSteps.{does, handles}

@@ -37,7 +37,7 @@ use Rattle.vat_machine.specs.Collecting.{Collects, Tight, Loose}
 use Rattle.vat_machine.specs.Flags.{give_if, flag_for}
 use Rattle.vat_machine.specs.Settling.{known, PutsIn, Untangles, Fits, TellsCall, SaysBack, Returns, TellsPeer, Tells, ResolvesTo, ResolvesBy, ResolvesEach, SettlesOpen, SettlesFrom, SettlesOutcome, FixesFrom, FixesPromise, Drains, NoneLeft, OneMore}
 use Rattle.vat_machine.specs.Sweeping.{got_of, finished_by, FinishesEach, release_each, Sweeps}
-use Rattle.machine_laws.proofs.Maps.{get_here}
+use Rattle.finite_maps.proofs.Gets.{get-insert_same}
 use Rattle.machine_laws.proofs.Pieces.{SameOwn, IsException, AllExceptions, Walks, Takes, LetsGo}
 
 -- ---- What changes nothing of a vat's own
@@ -82,7 +82,7 @@ apart s m n [] = refl
 apart s m n (x ∷ xs) = apart (record s { refs = map.insert s.refs s.next_ref (record { head = x; embargo = None; made = 0 }); next_ref = s.next_ref + 1 }) m n xs
 
 pub now_known : (s : State) (o : ℕ) (who : Caller) (w : List HeldCall) (v : Value) → value_of (map.get (known s o who w v).outcomes o) ≡ Some v
-now_known s o who w v = ap value_of (get_here s.outcomes o (record { caller = who; value = Some v; waiting = w }))
+now_known s o who w v = ap value_of (get-insert_same s.outcomes o (record { caller = who; value = Some v; waiting = w }))
 
 -- ---- The pieces
 

@@ -61,7 +61,7 @@ use Rattle.vat_machine.specs.Messages as received
 use Rattle.vat_machine.specs.Flags.{obey}
 use Rattle.vat_machine.specs.Faults.{target_node, is_foreign}
 use Rattle.vat_machine.specs.Steps.{Ends, Does, Handles}
-use Rattle.machine_laws.proofs.Maps.{equal, get_put, get_cut}
+use Rattle.finite_maps.proofs.Tested.{equal, get_put, get_cut}
 use Rattle.machine_laws.proofs.Pieces.{SameOwn, AllExceptions, NoneNew, Walks, Takes, LetsGo}
 use Rattle.machine_laws.proofs.Walking.{same_own, then_same, now_known, same, quiet_by, asks, routes, routes_all, tells_call, fixed, fitted, settled, drained, swept}
 

@@ -1,2 +1,3 @@
 mod Numbers
 mod Reading
+pub mod Choosing

@@ -1,5 +1,5 @@
 -- What the options of the program say (docs/trace.md, "A picture of a trace").
-use Rattle.std.specs.Prelude.{ℕ, ◌==◌, ◌^◌, ◌+◌, ◌-◌, ◌&&◌, nat_lt, nat_le, nat_eq, min, Bool, false, if◌then◌else◌, List, length, Option, Some, None, option_map, codes}
+use Rattle.std.specs.Prelude.{ℕ, ◌==◌, ◌^◌, ◌+◌, ◌-◌, ◌&&◌, nat_lt, nat_le, nat_eq, min, Bool, false, if◌then◌else◌, List, [], ◌∷◌, length, Option, Some, None, option_map, option_and_then, codes}
 use Rattle.std.specs.List.{before_first, after_first}
 use Rattle.std.specs.Str.{all_ascii_digits, bytes_eq}
 use Rattle.std.specs.Str.Parse.{digits_value}
@@ -48,6 +48,12 @@ with_choice o word value =
     else (if is_text (codes "--to") word then option_map (λ n. record o { to = Some n }) (number_of value)
     else (if is_text (codes "--ref") word then option_map (λ r. record o { reference = Some r }) (reference_of value) else None))
 
+-- The options with all that words say, each option before its value.
+abbrev pub with_choices : Options → List (List ℕ) → Option Options
+with_choices o [] = Some o
+with_choices o (word ∷ []) = None
+with_choices o (word ∷ value ∷ words) = option_and_then (λ p. with_choices p words) (with_choice o word value)
+
 -- The number of the last entry that is drawn.
 abbrev pub last_of : ℕ → Option ℕ → ℕ
 last_of from None = min (from + 59) (2 ^ 64 - 1)
@@ -55,6 +61,14 @@ last_of from (Some to) = to
 
 abbrev pub last_drawn : Options → ℕ
 last_drawn o = last_of o.from o.to
+
+-- None where no entry is drawn.
+abbrev pub if_any : Options → Option Options
+if_any o = if nat_lt (last_drawn o) o.from then None else Some o
+
+-- What the words behind the trace's name say.
+abbrev pub choices : List (List ℕ) → Option Options
+choices words = option_and_then if_any (with_choices unchosen words)
 
 abbrev pub is_drawn : Options → ℕ → Bool
 is_drawn o number = nat_le o.from number && nat_le number (last_drawn o)

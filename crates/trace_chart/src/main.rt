@@ -12,10 +12,9 @@ mod text;
 
 use options::Options;
 use program::{draw_trace, tell_unreadable, tell_usage};
-use std::env::{self, Args};
 use std::fs::File;
-use std::io;
 use std::process::ExitCode;
+use std::{env, io};
 
 /// `trace_chart FILE [--ref V/N] [--from N] [--to N]`; without arguments the trace is read from standard input.
 fn main(rt: HostRuntime) -> Result<ExitCode, io::Error> {
@@ -24,30 +23,15 @@ fn main(rt: HostRuntime) -> Result<ExitCode, io::Error> {
     let Some(name) = words.next() else {
         return Ok(ExitCode::from(draw_input(&rt)));
     };
-    let Some(options) = read_options(words) else {
+    let mut chosen = Vec::new(rt.alloc());
+    for word in words {
+        chosen.push(word)?;
+    }
+    let Some(options) = Options::of(chosen.as_slice()) else {
         return Ok(ExitCode::from(tell_usage(&mut rt.stderr())));
     };
     let status = draw_file(&rt, name.as_str(), options);
     Ok(ExitCode::from(status))
-}
-
-/// What the words behind the file say; none where they say nothing, or ask for no entry.
-fn read_options(words: Args) -> Option<Options> {
-    let mut options = Options::new();
-    let mut asked: Option<String> = None;
-    for word in words {
-        match asked {
-            Some(option) => {
-                options = options.with(option.as_str(), word.as_str())?;
-                asked = None;
-            }
-            None => asked = Some(word),
-        }
-    }
-    if asked.is_some() || options.is_empty() {
-        return None;
-    }
-    Some(options)
 }
 
 fn draw_input(rt: &HostRuntime) -> u8 {

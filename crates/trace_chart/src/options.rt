@@ -1,5 +1,5 @@
-ghost use Rattle.std.specs.Prelude.{◌≡◌, nat_lt};
-ghost use Rattle.trace_chart.specs.Choices.{with_choice, vat_of, number_of, reference_of, unchosen, last_drawn, is_drawn, is_marked};
+ghost use Rattle.std.specs.Prelude.{◌≡◌, nat_lt, map, string_bytes};
+ghost use Rattle.trace_chart.specs.Choices.{with_choice, with_choices, choices, vat_of, number_of, reference_of, unchosen, last_drawn, is_drawn, is_marked};
 
 use rpc_msg::{RefId, Stamp, Vat};
 
@@ -50,6 +50,31 @@ impl Options {
             });
         }
         None
+    }
+
+    /// These with all that words say, each option before its value; none where they say nothing.
+    fn with_all(self, words: &[String]) -> Option<Options>
+        ensures { result ≡ with_choices self (map string_bytes words.now) }
+    {
+        let mut options = self;
+        let mut left = words.iter();
+        while let Some(word) = left.next() {
+            let value = left.next()?;
+            options = options.with(word.as_str(), value.as_str())?;
+        }
+        Some(options)
+    }
+
+    /// What the words behind the trace's name say, each option before its value; none where they say nothing, or ask for
+    /// no entry.
+    pub(crate) fn of(words: &[String]) -> Option<Options>
+        ensures { result ≡ choices (map string_bytes words.now) }
+    {
+        let options = Options::new().with_all(words)?;
+        if options.is_empty() {
+            return None;
+        }
+        Some(options)
     }
 
     /// The last entry that is drawn.

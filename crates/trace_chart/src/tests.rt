@@ -6,7 +6,7 @@ mod traces;
 use crate::options::Options;
 use crate::text::write_label;
 use rpc_msg::{RefId, Vat};
-use std::alloc::AllocError;
+use std::alloc::{AllocError, Global};
 
 #[test]
 fn options_say_which_entries_are_drawn_and_whose_calls_stand_out(rt: HostRuntime) {
@@ -30,6 +30,25 @@ fn options_say_which_entries_are_drawn_and_whose_calls_stand_out(rt: HostRuntime
         panic!(rt; "refused");
     };
     assert!(rt; none.is_empty());
+}
+
+fn words_say(alloc: Global, words: &[&str]) -> Result<Option<Options>, AllocError> {
+    let mut owned = Vec::new(alloc);
+    for word in words {
+        owned.push(String::from_str(alloc, word)?)?;
+    }
+    Ok(Options::of(owned.as_slice()))
+}
+
+#[test]
+fn words_say_options_in_pairs(rt: HostRuntime) -> Result<(), AllocError> {
+    let alloc = rt.alloc();
+    let Some(options) = words_say(alloc, &["--from", "2", "--to", "3"])? else {
+        panic!(rt; "refused");
+    };
+    assert!(rt; !options.draws(1) && options.draws(2) && options.draws(3) && !options.draws(4));
+    assert!(rt; words_say(alloc, &["--from", "2", "--to"])?.is_none());
+    Ok(())
 }
 
 #[test]

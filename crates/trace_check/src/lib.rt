@@ -18,6 +18,3 @@ mod ways;
 pub use checker::{Checker, check};
 pub use laws::{same_for_every_id, verdict_is_first};
 pub use verdict::Verdict;
-
-#[cfg(test)]
-mod tests;

@@ -9,8 +9,6 @@ mod read_entries;
 mod read_line;
 mod read_messages;
 mod read_parts;
-#[cfg(test)]
-mod tests;
 
 pub use fault::TraceFault;
 pub use read_line::{entry_of, version_of};

@@ -2,8 +2,6 @@
 #![tactic(auto)]
 
 mod line;
-#[cfg(test)]
-mod tests;
 mod version;
 mod write_entries;
 mod write_lists;

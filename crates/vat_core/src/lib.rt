@@ -18,6 +18,3 @@ pub use entry::{
 };
 pub use room::AbortRoom;
 pub use vat::Core;
-
-#[cfg(test)]
-mod tests;

@@ -6,8 +6,6 @@ mod line;
 mod name;
 mod names;
 mod reading;
-#[cfg(test)]
-mod tests;
 mod words;
 
 pub use line::{CallLine, FieldLine, Line, LineCommand, LineFault};

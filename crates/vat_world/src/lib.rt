@@ -16,6 +16,3 @@ pub use laws::call_begins;
 pub use vat_journal::JournalEntry;
 pub use vat_script::{CallLine, FieldLine, Line, LineCommand, LineFault, Name, NameFault, Names};
 pub use world::World;
-
-#[cfg(test)]
-mod tests;

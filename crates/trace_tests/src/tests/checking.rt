@@ -1,5 +1,4 @@
 //! Verdicts of short traces, and of the trace of one bootstrapped call with changes.
-use crate::{Checker, Verdict, check};
 use rpc_msg::{
     Call, CallId, Descriptor, ExportId, Finish, Items, Memory, Message, ObjectId, Path, Payload,
     PlainMessage, QuestionId, RefId, Release, Resolve, ResolvedTo, Return, ReturnBody, Stamp,
@@ -7,6 +6,7 @@ use rpc_msg::{
 };
 use std::alloc::Global;
 use std::process::Abort;
+use trace_check::{Checker, Verdict, check};
 use vat_journal::{Counts, Delivery, Ended, JournalEntry, MadeCall, Origin, Outcome};
 
 fn one<T: Drop>(alloc: Global, item: T) -> Result<Items<T>, Memory> {

@@ -1,12 +1,13 @@
-use crate::{TraceFault, TraceVersion, entry_of, line_of};
 use rpc_msg::{
     Call, CallId, Descriptor, Exception, ExceptionKind, ExportId, Items, Memory, Message, ObjectId,
     Op, Path, Payload, PlainMessage, QuestionId, RefId, Stamp, Target, TaskId, Text, Vat,
 };
 use std::alloc::Global;
 use std::process::Abort;
+use trace_json::{TraceFault, TraceVersion, entry_of, line_of};
 use vat_journal::{Delivery, JournalEntry, MadeCall};
 
+mod checking;
 mod entries;
 mod faults;
 mod first_lines;

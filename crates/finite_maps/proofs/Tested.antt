@@ -1,4 +1,4 @@
--- What a finite map holds after one change.
+-- What a map answers after a change, by whether a test finds the keys equal.
 use Rattle.std.proofs.Common.{◌≡◌, ℕ, true, false, cond, nat_eq, None, Some, ap, ◌∙◌, arith}
 use Rattle.std.specs.Ordering.{nat_cmp, eq_by_cmp}
 use Rattle.std.specs.Cmp.{nat_cmp_total}
@@ -23,14 +23,8 @@ get_put m k x q = map.get-insert nat_cmp_total m k x q ∙ ap (λ b. cond b (Som
 pub get_cut : {X : Type 0} (m : Map X) (k : ℕ) (q : ℕ) → map.get (map.remove m k) q ≡ cond (nat_eq q k) None (map.get m q)
 get_cut m k q = map.get-remove nat_cmp_total m k q ∙ ap (λ b. cond b None (map.get m q)) (ties q k)
 
-pub get_here : {X : Type 0} (m : Map X) (k : ℕ) (x : X) → map.get (map.insert m k x) k ≡ Some x
-get_here m k x = get_put m k x k ∙ ap (λ b. cond b (Some x) (map.get m k)) (itself k)
-
 pub get_other : {X : Type 0} (m : Map X) (k : ℕ) (x : X) (q : ℕ) → nat_eq q k ≡ false → map.get (map.insert m k x) q ≡ map.get m q
 get_other m k x q e = get_put m k x q ∙ ap (λ b. cond b (Some x) (map.get m q)) e
 
 pub get_left : {X : Type 0} (m : Map X) (k : ℕ) (q : ℕ) → nat_eq q k ≡ false → map.get (map.remove m k) q ≡ map.get m q
 get_left m k q e = get_cut m k q ∙ ap (λ b. cond b None (map.get m q)) e
-
-pub get_gone : {X : Type 0} (m : Map X) (k : ℕ) → map.get (map.remove m k) k ≡ None
-get_gone m k = get_cut m k k ∙ ap (λ b. cond b None (map.get m k)) (itself k)

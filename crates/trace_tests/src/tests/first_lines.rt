@@ -1,7 +1,7 @@
-use crate::{TraceFault, TraceVersion, version_of};
 use rpc_msg::Memory;
 use std::alloc::Global;
 use std::process::Abort;
+use trace_json::{TraceFault, TraceVersion, version_of};
 
 // Asserts what a first line says, or its fault.
 fn begins(
@@ -89,4 +89,10 @@ fn numbers_of_faults(rt: HostRuntime) {
     assert_eq!(rt; TraceFault::BadBase64.number(), 52);
     assert_eq!(rt; TraceFault::BadPayload.number(), 53);
     assert_eq!(rt; TraceFault::Version.number(), 54);
+}
+
+#[test]
+fn numbers_of_versions(rt: HostRuntime) {
+    assert_eq!(rt; TraceVersion::One.number(), 1);
+    assert_eq!(rt; TraceVersion::Two.number(), 2);
 }

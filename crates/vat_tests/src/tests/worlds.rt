@@ -1,7 +1,6 @@
 ghost use Rattle.std.specs.Prelude.{◌≡◌, IfOk};
 ghost use Rattle.vat_world.specs.World.{IsBuiltEvent, AreBuilt};
 
-use crate::{JournalEntry, StepAnswer, World, WorldEvent};
 use rpc_msg::{
     Call, CallId, Descriptor, ExportId, Items, Memory, Message, ObjectId, Payload, PlainMessage,
     QuestionId, RefId, Return, ReturnBody, Stamp, Target, TaskId, Vat,
@@ -10,7 +9,8 @@ use std::alloc::Global;
 use std::process::Abort;
 use std::test::Fail;
 use vat_core::{Answer, CallCommand, Command, Refusal};
-use vat_journal::{Delivery, Ended, MadeCall, Origin, Outcome};
+use vat_journal::{Delivery, Ended, JournalEntry, MadeCall, Origin, Outcome};
+use vat_world::{StepAnswer, World, WorldEvent};
 
 const FIRST_STAMP: Stamp = Stamp {
     vat: Vat::A,

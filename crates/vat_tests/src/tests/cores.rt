@@ -1,4 +1,3 @@
-use crate::{Command, Core, Effects, Refusal};
 use rpc_msg::{
     CallId, Descriptor, Exception, ExceptionKind, ExportId, Finish, Memory, Message, ObjectId, Op,
     Payload, PlainMessage, QuestionId, RefId, Release, ReturnBody, Stamp, Target, TaskId, Text,
@@ -6,6 +5,7 @@ use rpc_msg::{
 };
 use std::alloc::Global;
 use std::process::Abort;
+use vat_core::{Command, Core, Effects, Refusal};
 use vat_journal::Counts;
 
 // No clause says what these do: a test is proved quicker where nothing is known of the vats that it compares.

@@ -1,10 +1,10 @@
 ghost use Rattle.std.specs.Prelude.{◌≡◌, IfOk, IsOkUnless};
 
 use crate::tests::comes_back;
-use crate::{TraceFault, TraceVersion, entry_of, line_of};
 use rpc_msg::Memory;
 use std::alloc::Global;
 use std::process::Abort;
+use trace_json::{TraceFault, TraceVersion, entry_of, line_of};
 use vat_journal::JournalEntry;
 
 fn same(rt: &impl Abort, alloc: Global, version: TraceVersion, line: &str) -> Result<(), Memory> {

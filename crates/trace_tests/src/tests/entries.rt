@@ -1,6 +1,6 @@
-use crate::TraceVersion;
 use crate::tests::{exception, path, reads, says};
 use rpc_msg::{CallId, ExceptionKind, Memory, ObjectId, Op, PromiseId, RefId, Vat};
+use trace_json::TraceVersion;
 use vat_journal::{Advanced, JournalEntry, Origin};
 
 #[test]

@@ -1,7 +1,7 @@
-use crate::{TraceFault, TraceVersion, entry_of};
 use rpc_msg::Memory;
 use std::alloc::Global;
 use std::process::Abort;
+use trace_json::{TraceFault, TraceVersion, entry_of};
 
 // Asserts that a line has that fault.
 fn fails(

@@ -1,10 +1,10 @@
 //! What lines say, and what names stand for.
 
-use crate::{Line, LineCommand, LineFault, Name, NameFault, Names};
 use rpc_msg::{CallId, Items, Op, RefId, TaskId, Vat};
 use std::alloc::Global;
 use std::process::Abort;
 use vat_core::{Answer, Command, Effects, Refusal};
+use vat_script::{Line, LineCommand, LineFault, Name, NameFault, Names};
 
 fn is_fault(alloc: Global, text: &str) -> bool {
     match Line::read(alloc, text) {

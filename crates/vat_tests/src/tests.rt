@@ -1,0 +1,4 @@
+//! One core, the lines of scripts, and two vats.
+mod cores;
+mod scripts;
+mod worlds;
