@@ -22,7 +22,7 @@ by_ref P refs r q x (yes e) h f = subst (λ z. P z x) (sym e) h
 by_ref P refs r q x (no e) h f = f (λ z. e (sym z))
 
 -- A step that changes one reference and the net keeps the invariant if it keeps it of that reference and of each other one.
-put_holds : {W : Names} (s : State W) (n : Net W) (r : W.Ref) (x : Reference W) (later : List (Message W)) → InPlace n
+pub put_holds : {W : Names} (s : State W) (n : Net W) (r : W.Ref) (x : Reference W) (later : List (Message W)) → InPlace n
     → AllByRecursion (λ m. IsCall m.what) later → InvariantOf n r x later → ((q : W.Ref) → (r ≡ q → ⊥) → InvariantOf n q (s.refs q) later)
     → InvariantWith (record { net = n; refs = changed W.same_ref s.refs r x }) later
 put_holds {W} s n r x later sn cs c oc = record {
@@ -32,7 +32,7 @@ put_holds {W} s n r x later sn cs c oc = record {
 }
 
 -- A reference with no embargo, written with the field None.
-free : {W : Names} (n : Net W) (r : W.Ref) (x : Reference W) (later : List (Message W)) → x.embargo ≡ None → InvariantOf n r x later
+pub free : {W : Names} (n : Net W) (r : W.Ref) (x : Reference W) (later : List (Message W)) → x.embargo ≡ None → InvariantOf n r x later
     → InvariantOf n r (record x { embargo = None }) later
 free n r x later e c = subst (λ o. InvariantOf n r (record x { embargo = o }) later) e c
 
@@ -121,7 +121,7 @@ make_holds {W} s r f kn None false e e' = go (same_vat (W.home (s.refs r).head) 
         (λ q z. link_other s.net q (s.refs q) m [] f.in_place z (f.of_each q))
 
 -- What the invariant says of the oldest message of a link, if it is a mark.
-oldest_mark : {W : Names} (s : State W) (v : Bool) (m : Message W) (ms : List (Message W)) (c : Content) → Invariant s
+pub oldest_mark : {W : Names} (s : State W) (v : Bool) (m : Message W) (ms : List (Message W)) (c : Content) → Invariant s
     → s.net.links v ≡ m ∷ ms → m.what ≡ c → MarkBy s.net (s.refs m.ref) m.target c
 oldest_mark s v m ms c f e w =
     subst (λ z. MarkBy s.net (s.refs m.ref) m.target z) w (first_taken (s.net.links v) m ms (IsMark s.net m.ref (s.refs m.ref)) e ((f.of_each m.ref).marks.1 v) refl)

@@ -1,3 +1,4 @@
+pub mod Choices
 pub mod Lists
 pub mod Paths
 pub mod Flow
@@ -12,3 +13,4 @@ pub mod Making
 pub mod Settling
 pub mod Events
 pub mod Claims
+pub mod Moves

@@ -1,17 +1,6 @@
--- Lists, options and decisions.
+-- Lists and options.
 use Rattle.std.proofs.Common.{◌≡◌, ◌∷◌, ◌++◌, [], List, None, Some, refl}
 use Rattle.std.specs.List.{AllByRecursion}
-use Rattle.call_order.specs.Machine.{choose}
-
--- What holds decides for the first value.
-pub choose_yes : {P : Type 0} {B : Type 0} (d : Dec P) (a b : B) → P → choose d a b ≡ a
-choose_yes (yes _) a b p = refl
-choose_yes (no f) a b p = absurd (f p)
-
--- What does not hold decides for the second value.
-pub choose_no : {P : Type 0} {B : Type 0} (d : Dec P) (a b : B) → (P → ⊥) → choose d a b ≡ b
-choose_no (yes p) a b f = absurd (f p)
-choose_no (no _) a b f = refl
 
 -- If P is true of each element and gives Q, then Q is.
 pub all_map : {A : Type 0} (P Q : A → Type 0) (xs : List A) → ((x : A) → P x → Q x) → AllByRecursion P xs → AllByRecursion Q xs

@@ -4,7 +4,8 @@ use Rattle.std.specs.List.{AllByRecursion}
 use Rattle.call_order.specs.Machine.{Call, Content, Disembargo, Echo, Message, Names, Net, Reference, changed, choose, same_vat}
 use Rattle.call_order.specs.Order.{IsCall}
 use Rattle.call_order.specs.Invariant.{Item, MarkBy, count, item, mark, marks_of, one}
-use Rattle.call_order.proofs.Lists.{choose_no, choose_yes, none_not_some}
+use Rattle.call_order.proofs.Choices.{choose_no, choose_yes}
+use Rattle.call_order.proofs.Lists.{none_not_some}
 use Rattle.call_order.specs.Routing.{onto_link}
 use Rattle.call_order.proofs.Queues.{taken}
 

@@ -4,7 +4,8 @@ use Rattle.std.proofs.Common.{◌≡◌, ◌∷◌, ◌++◌, ◌∙◌, [], Boo
 use Rattle.std.specs.List.{AllByRecursion}
 use Rattle.call_order.specs.Invariant.{Everywhere, item, pick}
 use Rattle.call_order.specs.Machine.{Message, Names, Net, changed, choose, same_vat}
-use Rattle.call_order.proofs.Lists.{all_append, all_map, choose_yes}
+use Rattle.call_order.proofs.Choices.{choose_yes}
+use Rattle.call_order.proofs.Lists.{all_append, all_map}
 use Rattle.call_order.specs.Routing.{onto_link, onto_list}
 
 -- A message of r whose target stops at q adds its item.

@@ -7,7 +7,8 @@ use Rattle.call_order.specs.Machine.{Broken, Call, Content, Disembargo, Echo, Ex
 use Rattle.call_order.specs.Order.{EndsAt, IsCall, indexes}
 use Rattle.call_order.specs.Invariant.{Everywhere, GoesTo, InPlace, InvariantOf, IsMark, Item, MarkBy, OnWay, WaitsIn, at, count, flow, marks_of, owed, pick, tail}
 use Rattle.call_order.specs.Routes.{Good, IsEnd, IsExit, Path, Reach, next}
-use Rattle.call_order.proofs.Lists.{all_map, choose_no}
+use Rattle.call_order.proofs.Choices.{choose_no}
+use Rattle.call_order.proofs.Lists.{all_map}
 use Rattle.call_order.proofs.Marks.{count_calls}
 use Rattle.call_order.proofs.Paths.{end_not_exit, good_up, kind_exit, next_is, path_append, path_rest, path_same, positions}
 use Rattle.call_order.proofs.Flow.{flow_none}

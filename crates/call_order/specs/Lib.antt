@@ -1,3 +1,4 @@
+pub mod Decisions
 pub mod Machine
 pub mod Routing
 pub mod Routes
@@ -5,3 +6,4 @@ pub mod Events
 pub mod Order
 pub mod Invariant
 pub mod Laws
+pub mod Moves

@@ -15,6 +15,7 @@ ghost use Rattle.call_order.specs.Laws.{
   DisembargoMeetsExit,
   EchoMeetsEmbargo,
 };
+ghost use Rattle.call_order.specs.Moves.{EachMoveKeepsIt};
 
 /// After every list of allowed events, for each reference: the calls delivered are a beginning of the calls made
 /// through it, in order, each once, all at the one object at which its route ends, and all of them where its route
@@ -34,4 +35,9 @@ pub fn keeps_order<N, G, R>()
     ensures order { OfEveryMachine N G R GivesOrder }
     ensures disembargo { OfEveryMachine N G R DisembargoMeetsExit }
     ensures echo { OfEveryMachine N G R EchoMeetsEmbargo }
+{}
+
+/// So does each small step of `Move`, while calls are yet to be routed.
+pub fn moves_keep_order<N, G, R>()
+    ensures { OfEveryMachine N G R EachMoveKeepsIt }
 {}

@@ -2,12 +2,25 @@
 ghost use Rattle.std.specs.Prelude.{◌≡◌};
 ghost use Rattle.capn_wire.specs.Numbers.{number_of, write_number_of};
 
+use std::alloc::{AllocError, AllocFailed};
 use thiserror::Error;
 
 /// Want of memory: a growth was refused.
 #[derive(Clone, Copy, Debug, PartialEq, Eq, Drop, Error)]
 #[error("out of memory")]
 pub struct Memory;
+
+impl From<AllocError> for Memory {
+    fn from(_refused: AllocError) -> Memory {
+        Memory
+    }
+}
+
+impl<T: Drop> From<AllocFailed<T>> for Memory {
+    fn from(_refused: AllocFailed<T>) -> Memory {
+        Memory
+    }
+}
 
 /// The first check of a payload's encoding that fails.
 #[derive(Clone, Copy, Debug, PartialEq, Eq, Drop, Error)]

@@ -24,6 +24,3 @@ pub use path::{CapAt, Op};
 pub use payload::Payload;
 pub use round_trip::write_and_read;
 pub use tree::{Fields, Items, Tree};
-
-#[cfg(test)]
-mod tests;

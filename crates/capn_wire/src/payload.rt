@@ -180,9 +180,7 @@ impl Payload {
         let Ok(message) = Message::parse(self.bytes.as_slice()) else {
             unreachable!()
         };
-        let Ok(tree) = build(alloc, &message, self.caps) else {
-            return Err(Memory);
-        };
+        let tree = build(alloc, &message, self.caps)?;
         Ok(tree)
     }
 
@@ -194,12 +192,8 @@ impl Payload {
         if let Ok(bytes) = Arc::try_clone(&self.bytes) {
             return Ok(Payload { bytes, caps });
         }
-        let Ok(copy) = Vec::from_slice(alloc, self.bytes.as_slice()) else {
-            return Err(Memory);
-        };
-        let Ok(payload) = Payload::sharing(alloc, copy, caps) else {
-            return Err(Memory);
-        };
+        let copy = Vec::from_slice(alloc, self.bytes.as_slice())?;
+        let payload = Payload::sharing(alloc, copy, caps)?;
         Ok(payload)
     }
 }

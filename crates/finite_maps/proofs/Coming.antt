@@ -1,10 +1,10 @@
 -- Maps in which no number from some number on has an entry.
-use Rattle.std.specs.Prelude.{◌≡◌, ◌≢◌, ◌≤◌, ℕ, ◌+◌, Option, None, Some}
+use Rattle.std.specs.Prelude.{◌≡◌, ◌≤◌, ℕ, ◌+◌, Option, None, Some}
 use Rattle.std.specs.FinMap.{empty, get, insert, remove, get-empty}
 use Rattle.std.specs.Ordering.{nat_cmp}
 use Rattle.std.proofs.Common.{sym, ◌∙◌, arith}
 use Rattle.finite_maps.specs.Tally.{Map}
-use Rattle.finite_maps.proofs.Gets.{at_each, get-insert_same, get-insert_other, get-remove_same, get-remove_other}
+use Rattle.finite_maps.proofs.Gets.{at_each, get-insert_other, get-remove_same, get-remove_other}
 
 module _ {X : Type 0} where
   pub none_yet : (k : ℕ) → get (empty {X = X} {R = nat_cmp}) k ≡ None

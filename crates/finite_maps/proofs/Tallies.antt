@@ -1,13 +1,14 @@
 -- What a change of a map does to a sum over its entries.
-use Rattle.std.specs.Prelude.{◌≡◌, ℕ, ◌+◌, Bool, true, false, cond, Option, None, Some, List, [], ◌∷◌, length, refl}
+use Rattle.std.specs.Prelude.{◌≡◌, T, ◌≤◌, ℕ, ◌+◌, cond, Option, None, Some, List, [], ◌∷◌, length, refl}
 use Rattle.std.specs.declared.cmp.Ordering.{Ordering}
 use Rattle.std.specs.declared.cmp.Ordering.TheVariants.{Less, Equal, Greater}
-use Rattle.std.specs.Ordering.{nat_cmp, eq_by_cmp, is_eq}
+use Rattle.std.specs.Ordering.{nat_cmp, is_eq}
 use Rattle.std.specs.Cmp.{nat_cmp_total}
-use Rattle.std.specs.FinMap.{empty, get, insert, remove, entries, find, put, get-entries, entries-insert, len-entries, len-empty}
+use Rattle.std.specs.FinMap.{empty, get, insert, remove, entries, entries_sorted, is_sorted, find, put, get-entries, entries-insert, len-entries, len-empty}
 use Rattle.std.specs.FinMap.Entries.{by_order}
-use Rattle.std.proofs.Common.{sym, ◌∙◌, ap, subst, arith, zero-add}
+use Rattle.std.proofs.Common.{sym, ◌∙◌, ap, arith, zero-add}
 use Rattle.finite_maps.specs.Tally.{Map, tally, tally_of, worth}
+use Rattle.finite_maps.proofs.Sorted.{behind, first_entry, later_entry, sorted_tail}
 use Rattle.finite_maps.proofs.Gets.{put_back, get-remove_same, insert_removed, remove_absent}
 
 module _ {X : Type 0} (f : X → ℕ) where
@@ -57,3 +58,19 @@ module _ {X : Type 0} (f : X → ℕ) where
   -- Another value under a key that counts for as much leaves the sum.
   pub tally-same : (m : Map X) (k : ℕ) (v w : X) → get m k ≡ Some v → f w ≡ f v → tally f (insert m k w) ≡ tally f m
   tally-same m k v w there same = tally-insert m k w ∙ ap (λ n. n + tally f (remove m k)) same ∙ sym (tally-split m k v there)
+
+  none_of : (es : List (ℕ × X)) → T (is_sorted nat_cmp es) → ((k : ℕ) (x : X) → find nat_cmp k es ≡ Some x → f x ≡ 0) → tally_of f es ≡ 0
+  none_of [] s h = refl
+  none_of (e ∷ es) s h =
+      let g = sorted_tail e.0 es s in
+      let one : f e.1 ≡ 0 = h e.0 e.1 (first_entry e es) in
+      let two : tally_of f es ≡ 0 = none_of es g.1 (λ (k : ℕ) (x : X) i. h k x (later_entry e es k (behind e.0 es k x g.0 i) ∙ i)) in
+      omega arith
+
+  -- Where no entry counts for anything the sum is 0.
+  pub tally-none : (m : Map X) → ((k : ℕ) (x : X) → get m k ≡ Some x → f x ≡ 0) → tally f m ≡ 0
+  tally-none m h = none_of (entries m) (entries_sorted m) (λ k x g. h k x (get-entries m k ∙ g))
+
+  -- An entry counts for no more than the sum.
+  pub tally-within : (m : Map X) (k : ℕ) (x : X) → get m k ≡ Some x → f x ≤ tally f m
+  tally-within m k x e = let g = tally-split m k x e in omega arith

@@ -1,8 +1,7 @@
 -- A map with other values under the same keys: its entries, what it answers, and that it changes as the first map does.
-use Rattle.std.specs.Prelude.{◌≡◌, ℕ, suc, ◌+◌, Bool, true, false, cond, ◌&&◌, T, Option, None, Some, List, [], ◌∷◌, length, refl}
+use Rattle.std.specs.Prelude.{◌≡◌, ℕ, suc, ◌+◌, Bool, true, false, cond, ◌&&◌, T, Option, Some, List, [], ◌∷◌, length, refl}
 use Rattle.std.specs.Ordering.{nat_cmp, eq_by_cmp, is_lt}
-use Rattle.std.specs.Cmp.{nat_cmp_total}
-use Rattle.std.specs.FinMap.{empty, get, insert, remove, len, entries, find, is_sorted, entries_sorted, entries-from_sorted, get-entries, get-empty, len-entries, from_sorted}
+use Rattle.std.specs.FinMap.{empty, get, insert, remove, len, entries, find, is_sorted, entries_sorted, entries-from_sorted, get-entries, get-empty, len-entries}
 use Rattle.std.specs.FinMap.Entries.{below_all}
 use Rattle.std.proofs.Common.{sym, ◌∙◌, ap, subst}
 use Rattle.finite_maps.specs.Tally.{Map, tally, tally_of, map_values, changed_each, option_changed}

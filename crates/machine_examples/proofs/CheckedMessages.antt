@@ -123,14 +123,14 @@ resolve_to_itself = rw (found ((0, own_reference) ∷ []) 0, found {X = ℕ} ((0
 full_of_questions : (s : State) → map.len s.questions ≡ 4096 → s.down ≡ None → refused s command.Bootstrap ≡ Some refusal.Full
 full_of_questions s e f = rw (f, e) refl
 
-full_of_embargoes : (s : State) (head n : Node) (e : ExportId) → map.len s.embargoes ≡ 4096 → switch_lacks_room s head (descriptor.ReceiverHosted e) n ≡ true
-full_of_embargoes s head n e h = rw h refl
+full_of_embargoes : (s : State) (e : ExportId) → map.len s.embargoes ≡ 4096 → switch_lacks_room s (descriptor.ReceiverHosted e) ≡ true
+full_of_embargoes s e h = rw h refl
 
 full_of_held : (s : State) (c : List Node) (p : ℕ) → held s ≡ 65536 → lacks_room_at s c (node.Promise p) ≡ true
 full_of_held s c p h = rw h refl
 
-too_many_held : (s : State) (t : Target) → is_open (settle s (target_node s t)) ≡ true → held s ≡ 65536 → held_fault s t ≡ Some 31
-too_many_held s t e h = rw (e, h) refl
+held_past_limit : (s : State) (t : Target) → is_open (settle s (target_node s t)) ≡ true → held s ≡ 65536 → held_fault s t ≡ Some 31
+held_past_limit s t e h = rw (e, h) refl
 
 one_more_held : (s : State) (t : Target) → is_open (settle s (target_node s t)) ≡ true → held s ≡ 65535 → held_fault s t ≡ None
 one_more_held s t e h = rw (e, h) refl
@@ -165,6 +165,6 @@ of_checks = record {
   full_of_questions = full_of_questions;
   full_of_embargoes = full_of_embargoes;
   full_of_held = full_of_held;
-  too_many_held = too_many_held;
+  held_past_limit = held_past_limit;
   one_more_held = one_more_held;
 }

@@ -1,5 +1,5 @@
 -- As many Bootstraps are answered as the table of answers holds, one after the other.
-use Rattle.std.proofs.Common.{◌≡◌, ℕ, zero, suc, ◌+◌, ◌≤◌, ◌<◌, Bool, true, false, cond, nat_eq, List, [], ◌∷◌, ◌++◌, Option, None, Some, is_some, inl, length, refl, sym, ap, subst, ◌∙◌, arith}
+use Rattle.std.proofs.Common.{◌≡◌, ℕ, zero, suc, ◌+◌, ◌≤◌, ◌<◌, Bool, true, false, cond, nat_eq, List, [], ◌∷◌, Option, None, Some, is_some, inl, length, refl, sym, ap, subst, ◌∙◌, arith}
 use Rattle.std.specs.declared.cmp.Ordering.{Ordering}
 use Rattle.std.specs.declared.cmp.Ordering.TheVariants.{Less, Equal, Greater}
 use Rattle.std.specs.Ordering.{nat_cmp, eq_by_cmp}
@@ -23,9 +23,7 @@ use Rattle.vat_machine.specs.declared.entries.Import.{Import}
 use Rattle.vat_machine.specs.declared.entries.Question.{Question}
 use Rattle.vat_machine.specs.declared.entries.Reference.{Reference}
 use Rattle.vat_machine.specs.State.{State}
-use Rattle.vat_machine.specs.Lists.{how_many, from_each}
-use Rattle.vat_machine.specs.Nodes.{is_field, is_promise, is_import, is_pipe}
-use Rattle.vat_machine.specs.Places.{names, named_by_outcome, named_by_export, named_by_answer}
+use Rattle.vat_machine.specs.Nodes.{is_field}
 use Rattle.vat_machine.specs.Limits.{IsWithin, held, table_limit, held_limit, count_limit, number_limit, held_for_promise, held_for_outcome, held_under, import_count, export_count, made_through}
 use Rattle.vat_machine.specs.Progress.{Progress, begin}
 use Rattle.vat_machine.specs.Collecting.{IsTight, IsLoosePromise, IsLooseImport, IsLooseOutcome, IsLooseValue, AnswerIsOther, CallerIsDone, Tight}
@@ -37,9 +35,9 @@ use Rattle.vat_machine.specs.Steps.{Receives, IsHandled}
 use Rattle.machine_examples.specs.Given.{m, question_id, for_peer, bootstrap_message, sending}
 use Rattle.machine_examples.specs.OneCall.{root_descriptor, object, root_value, b_new}
 use Rattle.machine_examples.specs.FullAnswers.{up_to, answer, outcome, given_often, asked_often, root_return, FullAnswersFall}
-use Rattle.machine_examples.proofs.GivenMaps.{look, found, AtEach, at_each, tied, entries_empty, entries_of, puts, progress, NothingOver, settles_here, names_of, quiet_ends}
+use Rattle.machine_examples.proofs.GivenMaps.{look, found, AtEach, at_each, tied, entries_empty, entries_of, puts, progress, NothingOver, settles_here, quiet_ends}
 use Rattle.machine_examples.proofs.StepTools.{below, leads_elsewhere}
-use Rattle.machine_examples.proofs.Keeping.{how_many-append, get_put}
+use Rattle.machine_examples.proofs.Keeping.{get_put}
 use Rattle.machine_examples.proofs.TurningBack.{get_put_same}
 use Rattle.machine_examples.proofs.FullAnswers.{no_fault, full_falls}
 
@@ -199,30 +197,6 @@ takes n =
 
 -- ---- No limit is passed
 
-neither : (test : Node → Bool) (xs ys : List Node) → how_many test xs ≡ 0 → how_many test ys ≡ 0 → how_many test (xs ++ ys) ≡ 0
-neither test xs ys h k =
-    let a = how_many-append test xs ys in
-    omega arith
-
-none_named : {X : Type 0} (test : Node → Bool) (f : ℕ → X → List Node) (es : List (ℕ × X)) → Each (λ x. (k : ℕ) → how_many test (f k x) ≡ 0) es → how_many test (from_each f es) ≡ 0
-none_named test f [] h = refl
-none_named test f (e ∷ es) h = neither test (f e.0 e.1) (from_each f es) (h.0 e.0) (none_named test f es h.1)
-
-exports_named : (test : Node → Bool) (n : ℕ) → test object ≡ false → how_many test (from_each named_by_export (puts (given_often n))) ≡ 0
-exports_named test zero e = refl
-exports_named test (suc n) e = ap (λ b. cond b 1 0) e
-
-named : (n : ℕ) (test : Node → Bool) → test object ≡ false → names (asked_often n) test ≡ 0
-named n test e =
-    let os = from_each named_by_outcome (puts (up_to outcome n)) in
-    let es = from_each named_by_export (puts (given_often n)) in
-    let ans = from_each named_by_answer (puts (up_to answer n)) in
-    let c : how_many test os ≡ 0 = none_named test named_by_outcome (puts (up_to outcome n)) (each_of (λ x. (k : ℕ) → how_many test (named_by_outcome k x) ≡ 0) outcome (λ q k. ap (λ b. cond b 1 0) e) n) in
-    let d : how_many test es ≡ 0 = exports_named test n e in
-    let f : how_many test ans ≡ 0 = none_named test named_by_answer (puts (up_to answer n)) (each_of (λ x. (k : ℕ) → how_many test (named_by_answer k x) ≡ 0) answer (λ q k. refl) n) in
-    let g = neither test ((os ++ []) ++ []) es (neither test (os ++ []) [] (neither test os [] c refl) refl) d in
-    names_of (asked_often n) [] [] [] (up_to outcome n) [] [] (given_often n) (up_to answer n) refl refl refl refl refl refl refl refl test ∙ neither test (((os ++ []) ++ []) ++ es) ans g f
-
 unheld : (es : List (ℕ × KeptOutcome)) → Each (λ x. x.waiting ≡ []) es → tally_of held_for_outcome es ≡ 0
 unheld [] h = refl
 unheld (e ∷ es) h = rw (h.0, unheld es h.1) refl
@@ -244,9 +218,6 @@ counts_small : (n : ℕ) → n ≤ table_limit → AtEach (λ j o. export_count 
 counts_small zero h = tt
 counts_small (suc n) h = (few (suc n) h, tt)
 
-under : (a : ℕ) → a ≡ 0 → a < number_limit
-under a e = subst (λ k. k < number_limit) (sym e) (below 0 number_limit refl)
-
 within : (n : ℕ) → n ≤ table_limit → IsWithin (asked_often n)
 within n h = record {
   questions = upto _ table_limit (map.len-empty nat_cmp Question);
@@ -262,10 +233,6 @@ within n h = record {
   tasks = below 0 number_limit refl;
   promises = below 0 number_limit refl;
   made = λ r. subst (λ (o : Option Reference). made_through o < number_limit) (sym (found [] r)) (below 0 number_limit refl);
-  promise_names = λ k. under _ (named n (is_promise k) refl);
-  outcome_names = λ k. under _ (named n (is_field k) refl);
-  import_names = λ k. under _ (named n (is_import k) refl);
-  question_names = λ k. under _ (named n (is_pipe k) refl);
 }
   where
     exports_few : (n : ℕ) → map.len (m (given_often n)) ≤ table_limit

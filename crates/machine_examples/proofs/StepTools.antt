@@ -1,6 +1,6 @@
 -- What a step of a given state owes, by tests that compute: that nothing goes at its end, that no limit is passed, that
 -- two states are one. `simp maps` computes look-ups, entries and lengths of maps that are given.
-use Rattle.std.proofs.Common.{◌≡◌, ℕ, suc, ◌≤◌, ◌<◌, Bool, true, false, cond, not, ◌&&◌, ◌||◌, nat_eq, nat_lt, nat_le, List, [], ◌∷◌, Option, None, Some, is_some, Ok, Err, length, refl, sym, ap, subst, ◌∙◌, arith}
+use Rattle.std.proofs.Common.{◌≡◌, ℕ, ◌≤◌, ◌<◌, Bool, true, false, cond, not, ◌&&◌, ◌||◌, nat_eq, nat_lt, nat_le, List, [], ◌∷◌, Option, None, Some, is_some, Ok, Err, refl, sym, ap, subst, ◌∙◌, arith}
 use Rattle.std.proofs.lemmas.Bool.Decides.{nat_tests}
 use Rattle.std.specs.Ordering.{nat_cmp, eq_by_cmp, is_eq}
 use Rattle.std.specs.Cmp.{nat_cmp_total, alike_right, eq_by_cmp_equiv}
@@ -38,9 +38,9 @@ use Rattle.vat_machine.specs.declared.entries.Reference.{Reference}
 use Rattle.vat_machine.specs.declared.entries.Role.{Role}
 use Rattle.vat_machine.specs.declared.entries.Role.TheVariants as role
 use Rattle.vat_machine.specs.State.{State}
-use Rattle.vat_machine.specs.Lists.{how_many, is_empty}
+use Rattle.vat_machine.specs.Lists.{is_empty}
 use Rattle.vat_machine.specs.Nodes.{is_promise, is_field, is_import, is_pipe, next}
-use Rattle.vat_machine.specs.Places.{places, names}
+use Rattle.vat_machine.specs.Places.{names}
 use Rattle.vat_machine.specs.Progress.{Progress, begin, quiet, with_state}
 use Rattle.vat_machine.specs.Collecting.{IsTight, Goes, Collects, Tight, Loose, IsLoosePromise, IsLooseOutcome, IsLooseValue, IsLooseImport, AnswerIsOther, CallerIsDone}
 use Rattle.vat_machine.specs.Sweeping.{Sweeps, IsToFinish, IsOver, IsNotSent, Withers, Over, Thing, Asked, FinishesEach, releases, closed, finished_by}
@@ -413,20 +413,6 @@ below i j h = grind (arith, nat_tests)
 upto : (i j : ℕ) → nat_le i j ≡ true → i ≤ j
 upto i j h = grind (arith, nat_tests)
 
-one_more : (b : Bool) (h l : ℕ) → h ≤ l → cond b (suc h) h ≤ suc l
-one_more true h l e = omega arith
-one_more false h l e = omega arith
-
-how_many_upto : (test : Node → Bool) (ns : List Node) → how_many test ns ≤ length ns
-how_many_upto test [] = omega arith
-how_many_upto test (n ∷ ns) = one_more (test n) (how_many test ns) (length ns) (how_many_upto test ns)
-
-named_below : (s : State) (test : Node → Bool) → nat_lt (length (places s)) number_limit ≡ true → names s test < number_limit
-named_below s test h =
-    let e = how_many_upto test (places s) in
-    let f = below (length (places s)) number_limit h in
-    omega arith
-
 abbrev pub import_fits : ℕ → Import → Bool
 import_fits e x = nat_lt x.count count_limit
 
@@ -457,8 +443,7 @@ tables_fit s =
 
 abbrev pub counts_fit : State → Bool
 counts_fit s =
-    each import_fits (map.entries s.imports)
-    && (each export_fits (map.entries s.exports) && (each reference_fits (map.entries s.refs) && nat_lt (length (places s)) number_limit))
+    each import_fits (map.entries s.imports) && (each export_fits (map.entries s.exports) && each reference_fits (map.entries s.refs))
 
 abbrev pub numbers_fit : State → Bool
 numbers_fit s =
@@ -482,6 +467,11 @@ six_of a b c d e f h =
       second_of_both e f h4,
     )
 
+three_of : (a b c : Bool) → (a && (b && c)) ≡ true → (a ≡ true) × (b ≡ true) × (c ≡ true)
+three_of a b c h =
+    let h1 = second_of_both a (b && c) h in
+    (first_of_both a (b && c) h, first_of_both b c h1, second_of_both b c h1)
+
 four_of : (a b c d : Bool) → (a && (b && (c && d))) ≡ true → (a ≡ true) × (b ≡ true) × (c ≡ true) × (d ≡ true)
 four_of a b c d h =
     let h1 = second_of_both a (b && (c && d)) h in
@@ -496,8 +486,8 @@ within s h =
     (nat_le (map.len s.exports) table_limit) (nat_le (map.len s.embargoes) table_limit) (nat_le (held s) held_limit)
     (first_of_both (tables_fit s) (counts_fit s && numbers_fit s) h) in
     let c =
-    four_of (each import_fits (map.entries s.imports)) (each export_fits (map.entries s.exports)) (each reference_fits (map.entries s.refs))
-    (nat_lt (length (places s)) number_limit) (first_of_both (counts_fit s) (numbers_fit s) rest) in
+    three_of (each import_fits (map.entries s.imports)) (each export_fits (map.entries s.exports)) (each reference_fits (map.entries s.refs))
+    (first_of_both (counts_fit s) (numbers_fit s) rest) in
     let n =
     four_of (nat_lt s.next_ref number_limit) (nat_lt s.next_call number_limit) (nat_lt s.next_task number_limit) (nat_lt s.next_promise number_limit)
     (second_of_both (counts_fit s) (numbers_fit s) rest) in
@@ -515,10 +505,6 @@ within s h =
       tasks = below s.next_task number_limit n.2;
       promises = below s.next_promise number_limit n.3;
       made = λ r. made_below r (map.get s.refs r) (each_at reference_fits s.refs r c.2);
-      promise_names = λ k. named_below s (is_promise k) c.3;
-      outcome_names = λ k. named_below s (is_field k) c.3;
-      import_names = λ k. named_below s (is_import k) c.3;
-      question_names = λ k. named_below s (is_pipe k) c.3;
     }
 
 -- ---- Events
@@ -526,33 +512,33 @@ within s h =
 pub command_happens : (v : Vat) (w new : World) (c : Command) (g : Granted) (x : Effects) (acted : Progress) (s : State) → (core w v).down ≡ None → refused (core w v) c ≡ None → Acts (begin (core w v)) c g acted → Ends acted x s → fits s ≡ true → new ≡ after w v x s → Happens w (did v c g x) new
 command_happens v w new c g x acted s up r a e f n =
     subst (λ o. CommandsAt w v c o (Answered (Ok g) x) true new) (sym up)
-    (Ok g, x, s, IsDone g r refl (record { acted = acted; acts = a; ends = e }) (within s f), refl, (refl, n))
+    (s, (Ok g, x, s, IsDone g r refl (record { acted = acted; acts = a; ends = e }) (within s f), refl, (refl, refl)), n)
 
 pub message_comes : (v : Vat) (w new : World) (m : Message) (ms : List Message) (x : Effects) (taken : Progress) (s : State) → (core w v).down ≡ None → inbox w v ≡ m ∷ ms → fault_of (core w v) m ≡ None → Takes (begin (core w v)) m taken → Ends taken x s → fits s ≡ true → new ≡ after (put_inbox w v ms) v x s → Happens w (took v x) new
 message_comes A w new m ms x taken s up i f t e b n =
     subst (λ is. ReceivesAt w A is w.a.core.down (Handled x) true new) (sym i)
     (subst (λ o. ReceivesAt w A (m ∷ ms) o (Handled x) true new) (sym up)
-    (x, s, IsHandled up f (record { taken = taken; takes = t; ends = e }) (within s b), (refl, n)))
+    (s, (x, s, IsHandled up f (record { taken = taken; takes = t; ends = e }) (within s b), (refl, refl)), n))
 message_comes B w new m ms x taken s up i f t e b n =
     subst (λ is. ReceivesAt w B is w.b.core.down (Handled x) true new) (sym i)
     (subst (λ o. ReceivesAt w B (m ∷ ms) o (Handled x) true new) (sym up)
-    (x, s, IsHandled up f (record { taken = taken; takes = t; ends = e }) (within s b), (refl, n)))
+    (s, (x, s, IsHandled up f (record { taken = taken; takes = t; ends = e }) (within s b), (refl, refl)), n))
 
 pub command_refused : (v : Vat) (w new : World) (c : Command) (r : Refusal) → (core w v).down ≡ None → refused (core w v) c ≡ Some r → new ≡ after w v quiet (core w v) → Happens w (refused_with v c r) new
 command_refused v w new c r up f n =
     subst (λ o. CommandsAt w v c o (Answered (Err r) quiet) true new) (sym up)
-    (Err r, quiet, core w v, Refuses r f refl (record { effects_are = refl; new_is = refl }), refl, (refl, n))
+    (core w v, (Err r, quiet, core w v, Refuses r f refl (record { effects_are = refl; new_is = refl }), refl, (refl, refl)), n)
 
 -- The message fails a check: the vat goes down.
 pub message_faults : (v : Vat) (w new : World) (m : Message) (ms : List Message) (n : ℕ) → (core w v).down ≡ None → inbox w v ≡ m ∷ ms → fault_of (core w v) m ≡ Some n → new ≡ after (put_inbox w v ms) v (falling_by m n) (fallen (core w v) n) → Happens w (took v (falling_by m n)) new
 message_faults A w new m ms n up i f e =
     subst (λ is. ReceivesAt w A is w.a.core.down (Handled (falling_by m n)) true new) (sym i)
     (subst (λ o. ReceivesAt w A (m ∷ ms) o (Handled (falling_by m n)) true new) (sym up)
-    (falling_by m n, fallen w.a.core n, FaultsBy n up f refl refl, (refl, e)))
+    (fallen w.a.core n, (falling_by m n, fallen w.a.core n, FaultsBy n up f refl refl, (refl, refl)), e))
 message_faults B w new m ms n up i f e =
     subst (λ is. ReceivesAt w B is w.b.core.down (Handled (falling_by m n)) true new) (sym i)
     (subst (λ o. ReceivesAt w B (m ∷ ms) o (Handled (falling_by m n)) true new) (sym up)
-    (falling_by m n, fallen w.b.core n, FaultsBy n up f refl refl, (refl, e)))
+    (fallen w.b.core n, (falling_by m n, fallen w.b.core n, FaultsBy n up f refl refl, (refl, refl)), e))
 
 -- A command at a vat that is down.
 pub command_when_down : (v : Vat) (w : World) (c : Command) (n : ℕ) → (core w v).down ≡ Some n → refused (core w v) c ≡ Some refusal.Down → Happens w (refused_with v c refusal.Down) w

@@ -111,7 +111,7 @@ pub record OfChecks : Type 0 where
   pub finish_unknown : refused b_new (command.Finish (record { 0 = 1 })) ≡ Some refusal.UnknownCall
   pub resolve_to_itself : refused circle (command.Resolve (record { 0 = 0 }) (record { 0 = 0 })) ≡ Some refusal.Cycle
   pub full_of_questions : (s : State) → map.len s.questions ≡ 4096 → s.down ≡ None → refused s command.Bootstrap ≡ Some refusal.Full
-  pub full_of_embargoes : (s : State) (head n : Node) (e : ExportId) → map.len s.embargoes ≡ 4096 → switch_lacks_room s head (descriptor.ReceiverHosted e) n ≡ true
+  pub full_of_embargoes : (s : State) (e : ExportId) → map.len s.embargoes ≡ 4096 → switch_lacks_room s (descriptor.ReceiverHosted e) ≡ true
   pub full_of_held : (s : State) (c : List Node) (p : ℕ) → held s ≡ 65536 → lacks_room_at s c (node.Promise p) ≡ true
-  pub too_many_held : (s : State) (t : Target) → is_open (settle s (target_node s t)) ≡ true → held s ≡ 65536 → held_fault s t ≡ Some 31
+  pub held_past_limit : (s : State) (t : Target) → is_open (settle s (target_node s t)) ≡ true → held s ≡ 65536 → held_fault s t ≡ Some 31
   pub one_more_held : (s : State) (t : Target) → is_open (settle s (target_node s t)) ≡ true → held s ≡ 65535 → held_fault s t ≡ None

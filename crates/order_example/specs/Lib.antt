@@ -1,4 +1,3 @@
-pub mod Decisions
 pub mod Places
 pub mod Runs
 pub mod Carried

@@ -8,7 +8,7 @@ use Rattle.order_example.specs.declared.places.Node.TheVariants.{Object, Promise
 use Rattle.order_example.specs.declared.places.Group.{Group}
 use Rattle.order_example.specs.declared.places.Group.TheVariants.{Alone, Outcome}
 use Rattle.order_example.specs.declared.places.Reference.{Reference}
-use Rattle.order_example.specs.Decisions.{same_by_code}
+use Rattle.call_order.specs.Decisions.{same_by_code}
 
 abbrev of_bool : Bool → ℕ
 of_bool true = 1

@@ -71,6 +71,8 @@ arrived = Receive false ∷ Receive false ∷ Receive false ∷ []
 
 pub record LinkTwiceRun : Type 0 where
   pub crossed_may : May first crossed
+  -- under the embargo the head stays, though its stop is an exit
+  pub stays : May (run first crossed) (Shorten ours (Object false 0) ∷ []) → ⊥
   pub sent_twice_may : May (run first crossed) sent_twice
   pub arrived_may : May (run (run first crossed) sent_twice) arrived
   pub none : Delivered (run (run first crossed) sent_twice) []

@@ -33,8 +33,9 @@ pub fn carried()
     keeps_order::<Node, Group, Reference>();
 }
 
-/// Runs of the machine, by computation: an embargo; a route that passes one link twice; and two that go round,
-/// on which calls of one reference overtake one another, so that order is claimed of good routes alone.
+/// Runs of the machine, by computation: an embargo; a route that passes one link twice, whose head stays under its
+/// embargo; and two that go round, on which calls of one reference overtake one another, so that order is claimed of
+/// good routes alone.
 pub fn worked()
     ensures embargo { EmbargoRun }
     ensures link_twice { LinkTwiceRun }

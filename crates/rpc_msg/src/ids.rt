@@ -20,15 +20,23 @@ impl Vat {
     }
 }
 
-/// Names a question, and at the other vat its answer. The caller chooses it.
+/// Names a question, and at the other vat its answer (`QuestionId` and `AnswerId`).
+///
+/// The caller chooses it, and may choose any that is free; the ids that the other vat chooses have nothing to do with
+/// its own. It is free again once the Return was received and the Finish was sent, in whichever order. At the other
+/// vat the answer goes once the Return was sent and the Finish was received.
 #[derive(Clone, Copy, Debug, PartialEq, Eq, PartialOrd, Ord, Hash, Drop)]
 pub struct QuestionId(pub u32);
 
-/// Names an export, and at the other vat its import. The exporter chooses it.
+/// Names an export, and at the other vat its import (`ExportId` and `ImportId`).
+///
+/// The exporter chooses it, and may choose any that is free. It is free again once every reference to it that was
+/// given was given back: see `Descriptor`, `Release` and the release flags.
 #[derive(Clone, Copy, Debug, PartialEq, Eq, PartialOrd, Ord, Hash, Drop)]
 pub struct ExportId(pub u32);
 
-/// Names an embargo. The sender of its senderLoopback chooses it.
+/// Names an embargo (`EmbargoId`). The sender of the senderLoopback chooses it, the other vat sends it back as it is,
+/// and nobody else reads it. It is free again once its receiverLoopback was received.
 #[derive(Clone, Copy, Debug, PartialEq, Eq, PartialOrd, Ord, Hash, Drop)]
 pub struct EmbargoId(pub u32);
 

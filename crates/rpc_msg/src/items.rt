@@ -96,9 +96,7 @@ impl<T: Copy> Items<T> {
     pub fn copy(&self, alloc: Global) -> Result<Self, Memory>
         ensures { IfOk result (λ copy. copy ≡ self.now) }
     {
-        match Vec::from_slice(alloc, self.items.as_slice()) {
-            Ok(items) => Ok(Items { items }),
-            Err(_) => Err(Memory),
-        }
+        let items = Vec::from_slice(alloc, self.items.as_slice())?;
+        Ok(Items { items })
     }
 }

@@ -7,8 +7,6 @@ mod items;
 mod message;
 mod parts;
 mod path;
-#[cfg(test)]
-mod tests;
 mod text;
 
 pub use capn_wire::{CapAt, Memory, Op, Payload, PayloadFault, Tree};

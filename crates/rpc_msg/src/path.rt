@@ -4,10 +4,12 @@ ghost use Rattle.rpc_msg.specs.Paths.{fields};
 use capn_wire::Op;
 use std::marker::Model;
 
-/// The most steps that a path may have.
+/// The most steps that a path may have. The standard sets no limit.
 pub const PATH_LIMIT: usize = 16;
 
-/// A path into a payload, of at most 16 steps: seen by contracts as the list of its steps. It takes no memory.
+/// A path from the root of a payload to a pointer in it (`PromisedAnswer.transform`), of at most 16 steps, Noops too.
+/// A step says a pointer by its place in the pointer section of a struct, so no schema is needed to follow it. Seen
+/// by contracts as the list of its steps. It takes no memory.
 #[derive(Clone, Copy, Debug, PartialEq, Eq, PartialOrd, Ord, Hash, Drop)]
 pub struct Path {
     /// The steps, and Noops behind them.

@@ -1,3 +1,4 @@
 pub mod Choices
 pub mod Escapes
 pub mod Drawn
+pub mod Failures

@@ -122,28 +122,23 @@ impl Chart {
             return Ok(None);
         }
         let row = self.rows.len();
-        match self.rows.push(self.entries) {
-            Ok(()) => {}
-            Err(_) => return Err(Memory),
-        }
-        match self.notes.push(Note {
+        self.rows.push(self.entries)?;
+        self.notes.push(Note {
             row,
             vat,
             mark,
             label,
             marked,
-        }) {
-            Ok(()) => return Ok(Some(row)),
-            Err(_) => return Err(Memory),
-        }
+        })?;
+        Ok(Some(row))
     }
 
     fn send(&mut self, alloc: Global, vat: Vat, message: &Message) -> Result<(), Memory> {
         let marked = self.marks_message(message);
-        let label = label_of(alloc, message)?;
+        let label = message_label(alloc, message)?;
         let sent = self.note(vat, Mark::Sent, label, marked)?;
         self.open_bar(vat, message)?;
-        let label = label_of(alloc, message)?;
+        let label = message_label(alloc, message)?;
         self.depart(
             vat,
             OnItsWay {
@@ -156,14 +151,11 @@ impl Chart {
     }
 
     fn depart(&mut self, vat: Vat, way: OnItsWay) -> Result<(), Memory> {
-        let pushed = match vat {
-            Vat::A => self.from_a.push_back(way),
-            Vat::B => self.from_b.push_back(way),
-        };
-        match pushed {
-            Ok(()) => return Ok(()),
-            Err(_) => return Err(Memory),
+        match vat {
+            Vat::A => self.from_a.push_back(way)?,
+            Vat::B => self.from_b.push_back(way)?,
         }
+        Ok(())
     }
 
     fn marks_message(&self, message: &Message) -> bool
@@ -189,9 +181,7 @@ impl Chart {
 
     /// A trace may say that a vat receives where nothing is on its way to it.
     fn receive_nothing(&mut self, alloc: Global, vat: Vat) -> Result<(), Memory> {
-        let Ok(label) = String::from_str(alloc, "nothing that was sent") else {
-            return Err(Memory);
-        };
+        let label = String::from_str(alloc, "nothing that was sent")?;
         let _row = self.note(vat, Mark::Received, label, false)?;
         Ok(())
     }
@@ -204,16 +194,14 @@ impl Chart {
             return Ok(());
         };
         let lane = self.free_lane(vat);
-        match self.bars.push(Bar {
+        self.bars.push(Bar {
             vat,
             id,
             lane,
             began: self.entries,
             ended: None,
-        }) {
-            Ok(()) => return Ok(()),
-            Err(_) => return Err(Memory),
-        }
+        })?;
+        Ok(())
     }
 
     /// Beyond those of the vat's embargoes that are not lifted.
@@ -258,9 +246,7 @@ impl Chart {
 
     /// An entry that is no message's.
     fn happen(&mut self, alloc: Global, vat: Vat, entry: &JournalEntry) -> Result<(), Memory> {
-        let Ok(label) = entry_label(alloc, entry) else {
-            return Err(Memory);
-        };
+        let label = entry_label(alloc, entry)?;
         let marked = self.marks_entry(entry);
         let mark = match entry {
             JournalEntry::Down(..) => Mark::Down,
@@ -302,22 +288,13 @@ fn draw_arrow(
     if way.sent.is_none() && got.is_none() {
         return Ok(());
     }
-    match arrows.push(Arrow {
+    arrows.push(Arrow {
         from,
         sent: way.sent,
         got,
         marked: way.marked,
-    }) {
-        Ok(()) => return Ok(()),
-        Err(_) => return Err(Memory),
-    }
-}
-
-fn label_of(alloc: Global, message: &Message) -> Result<String, Memory> {
-    match message_label(alloc, message) {
-        Ok(label) => return Ok(label),
-        Err(_) => return Err(Memory),
-    }
+    })?;
+    Ok(())
 }
 
 /// The embargo that is lifted where the message is received.

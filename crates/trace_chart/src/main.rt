@@ -3,6 +3,7 @@
 
 mod chart;
 mod draw;
+mod fault;
 mod labels;
 mod options;
 mod program;
@@ -10,8 +11,9 @@ mod program;
 mod tests;
 mod text;
 
+use fault::Failure;
 use options::Options;
-use program::{draw_trace, tell_unreadable, tell_usage};
+use program::{draw_trace, status};
 use std::fs::File;
 use std::process::ExitCode;
 use std::{env, io};
@@ -21,40 +23,35 @@ fn main(rt: HostRuntime) -> Result<ExitCode, io::Error> {
     let mut words = env::args(&rt)?;
     let _program = words.next();
     let Some(name) = words.next() else {
-        return Ok(ExitCode::from(draw_input(&rt)));
+        return Ok(ended(&rt, draw_input(&rt), "-"));
     };
     let mut chosen = Vec::new(rt.alloc());
     for word in words {
         chosen.push(word)?;
     }
-    let Some(options) = Options::of(chosen.as_slice()) else {
-        return Ok(ExitCode::from(tell_usage(&mut rt.stderr())));
+    let drawn = match Options::of(chosen.as_slice()) {
+        Some(options) => draw_file(&rt, name.as_str(), options),
+        None => Err(Failure::Usage),
     };
-    let status = draw_file(&rt, name.as_str(), options);
-    Ok(ExitCode::from(status))
+    Ok(ended(&rt, drawn, name.as_str()))
 }
 
-fn draw_input(rt: &HostRuntime) -> u8 {
+fn draw_input(rt: &HostRuntime) -> Result<(), Failure> {
     draw_trace(
         rt.alloc(),
-        "-",
         Options::new(),
         &mut rt.stdin(),
         &mut rt.stdout(),
-        &mut rt.stderr(),
     )
 }
 
-fn draw_file(rt: &HostRuntime, name: &str, options: Options) -> u8 {
+fn draw_file(rt: &HostRuntime, name: &str, options: Options) -> Result<(), Failure> {
     match File::open(rt, name) {
-        Ok(mut file) => draw_trace(
-            rt.alloc(),
-            name,
-            options,
-            &mut file,
-            &mut rt.stdout(),
-            &mut rt.stderr(),
-        ),
-        Err(_) => tell_unreadable(name, &mut rt.stderr()),
+        Ok(mut file) => draw_trace(rt.alloc(), options, &mut file, &mut rt.stdout()),
+        Err(_) => Err(Failure::Unreadable),
     }
+}
+
+fn ended(rt: &HostRuntime, drawn: Result<(), Failure>, name: &str) -> ExitCode {
+    ExitCode::from(status(drawn, name, &mut rt.stderr()))
 }

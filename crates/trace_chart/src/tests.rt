@@ -40,6 +40,23 @@ fn words_say(alloc: Global, words: &[&str]) -> Result<Option<Options>, AllocErro
     Ok(Options::of(owned.as_slice()))
 }
 
+/// Words and values that say nothing.
+const OTHER: [(&str, &str); 13] = [
+    ("--until", "3"),
+    ("from", "3"),
+    ("--from", ""),
+    ("--from", "+3"),
+    ("--to", "x"),
+    ("--to", "18446744073709551616"),
+    ("--ref", "a"),
+    ("--ref", "0"),
+    ("--ref", "a/"),
+    ("--ref", "/0"),
+    ("--ref", "c/0"),
+    ("--ref", "a/0/1"),
+    ("--ref", "a/-1"),
+];
+
 #[test]
 fn words_say_options_in_pairs(rt: HostRuntime) -> Result<(), AllocError> {
     let alloc = rt.alloc();
@@ -48,29 +65,13 @@ fn words_say_options_in_pairs(rt: HostRuntime) -> Result<(), AllocError> {
     };
     assert!(rt; !options.draws(1) && options.draws(2) && options.draws(3) && !options.draws(4));
     assert!(rt; words_say(alloc, &["--from", "2", "--to"])?.is_none());
-    Ok(())
-}
-
-#[test]
-fn other_words_and_values_say_nothing(rt: HostRuntime) {
-    let options = Options::new();
-    for (word, value) in [
-        ("--until", "3"),
-        ("from", "3"),
-        ("--from", ""),
-        ("--from", "+3"),
-        ("--to", "x"),
-        ("--to", "18446744073709551616"),
-        ("--ref", "a"),
-        ("--ref", "0"),
-        ("--ref", "a/"),
-        ("--ref", "/0"),
-        ("--ref", "c/0"),
-        ("--ref", "a/0/1"),
-        ("--ref", "a/-1"),
-    ] {
-        assert!(rt; options.with(word, value).is_none(), "{word} {value}");
+    for (word, value) in OTHER {
+        assert!(rt;
+            Options::new().with(word, value).is_none(),
+            "{word} {value}"
+        );
     }
+    Ok(())
 }
 
 #[test]

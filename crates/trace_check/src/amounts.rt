@@ -39,10 +39,8 @@ impl Amounts {
         let Some(sum) = self.of(id).checked_add(u64::from(more)) else {
             return Err(Memory);
         };
-        match self.by_id.insert(id.0, sum) {
-            Ok(_) => return Ok(()),
-            Err(_) => return Err(Memory),
-        }
+        self.by_id.insert(id.0, sum)?;
+        Ok(())
     }
 
     fn take(&mut self, id: ExportId, less: u32)

@@ -42,10 +42,8 @@ impl Lines {
         ensures { OnOk result ((q : ℕ) → line_at self.new q ≡ cond (nat_eq q number) (with_made (line_at self.old q) index) (line_at self.old q)) }
     {
         if let Some(line) = self.by_number.get_mut(&number) {
-            match line.waiting.push_back(index) {
-                Ok(()) => return Ok(()),
-                Err(_) => return Err(Memory),
-            }
+            line.waiting.push_back(index)?;
+            return Ok(());
         }
         self.make_first(alloc, number, index)
     }
@@ -58,14 +56,9 @@ impl Lines {
             waiting: VecDeque::new(alloc),
             place: None,
         };
-        match line.waiting.push_back(index) {
-            Ok(()) => {}
-            Err(_) => return Err(Memory),
-        }
-        match self.by_number.insert(number, line) {
-            Ok(_) => return Ok(()),
-            Err(_) => return Err(Memory),
-        }
+        line.waiting.push_back(index)?;
+        self.by_number.insert(number, line)?;
+        Ok(())
     }
 
     /// A call was delivered; whether it was the next one, and at its reference's place. If not, nothing is known of the

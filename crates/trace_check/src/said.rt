@@ -30,10 +30,8 @@ impl Lasts {
             self.by_id.remove(&id.0);
             return Ok(());
         }
-        match self.by_id.insert(id.0, ids) {
-            Ok(_) => return Ok(()),
-            Err(_) => return Err(Memory),
-        }
+        self.by_id.insert(id.0, ids)?;
+        Ok(())
     }
 
     fn of(&self, alloc: Global, id: QuestionId) -> Result<Items<(ExportId, u32)>, Memory>

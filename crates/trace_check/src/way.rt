@@ -67,10 +67,8 @@ impl Way {
         self.handed_on.add_all(parcel.handed_on.as_slice())?;
         self.released.add_all(parcel.released.as_slice())?;
         self.said.send(alloc, message)?;
-        match self.parcels.push_back(parcel) {
-            Ok(()) => return Ok(()),
-            Err(_) => return Err(Memory),
-        }
+        self.parcels.push_back(parcel)?;
+        Ok(())
     }
 
     /// The oldest message is received, if there is one.

@@ -43,13 +43,8 @@ impl Follower for Checking {
 
     fn take(&mut self, alloc: Global, entry: JournalEntry) -> Result<(), Memory> {
         let checker = mem::replace(&mut self.checker, Checker::new(alloc));
-        match checker.take(alloc, &entry) {
-            Ok(taken) => {
-                self.checker = taken;
-                Ok(())
-            }
-            Err(Memory) => Err(Memory),
-        }
+        self.checker = checker.take(alloc, &entry)?;
+        Ok(())
     }
 }
 
@@ -64,8 +59,6 @@ pub fn write_verdict(text: &mut String, verdict: Verdict) -> Result<(), Memory>
         Verdict::AfterDown(entry) => writeln!(text, "sent after down at entry {entry}"),
         Verdict::Count(entry) => writeln!(text, "broken count at entry {entry}"),
     };
-    match written {
-        Ok(()) => return Ok(()),
-        Err(_) => return Err(Memory),
-    }
+    written?;
+    Ok(())
 }

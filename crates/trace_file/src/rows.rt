@@ -60,10 +60,8 @@ impl Rows {
     pub(crate) fn set(&mut self, number: u64, calls: Calls) -> Result<(), Memory>
         ensures ok { OnOk result ((q : ℕ) → get nat_cmp self.new.tree q ≡ cond (nat_eq q number) (Some calls) (get nat_cmp self.old.tree q)) }
     {
-        match self.tree.insert(number, calls) {
-            Ok(_) => return Ok(()),
-            Err(_) => return Err(Memory),
-        }
+        self.tree.insert(number, calls)?;
+        Ok(())
     }
 
     /// A line for each reference that made a call, by rising number, behind a text.
@@ -84,17 +82,14 @@ fn write_calls(text: &mut String, vat: Vat, number: u64, calls: &Calls) -> Resul
     if calls.made == 0 {
         return Ok(());
     }
-    match write!(
+    write!(
         text,
         "{}/{}: made {}, delivered {} to ",
         letter(vat),
         number,
         calls.made,
         calls.delivered
-    ) {
-        Ok(()) => {}
-        Err(_) => return Err(Memory),
-    }
+    )?;
     match calls.first {
         Some(place) => write_place(text, place),
         None => write_nowhere(text),
@@ -104,19 +99,15 @@ fn write_calls(text: &mut String, vat: Vat, number: u64, calls: &Calls) -> Resul
 fn write_place(text: &mut String, place: Place) -> Result<(), Memory>
     ensures { OnOk result (string_bytes text.new ≡ string_bytes text.old ++ place_text (Some place)) }
 {
-    match writeln!(text, "{}/{}", letter(place.vat), place.object.0) {
-        Ok(()) => return Ok(()),
-        Err(_) => return Err(Memory),
-    }
+    writeln!(text, "{}/{}", letter(place.vat), place.object.0)?;
+    Ok(())
 }
 
 fn write_nowhere(text: &mut String) -> Result<(), Memory>
     ensures { OnOk result (string_bytes text.new ≡ string_bytes text.old ++ place_text None) }
 {
-    match text.push_str("-\n") {
-        Ok(()) => return Ok(()),
-        Err(_) => return Err(Memory),
-    }
+    text.push_str("-\n")?;
+    Ok(())
 }
 
 fn letter(vat: Vat) -> &'static str

@@ -32,12 +32,7 @@ pub fn write_entry(
     ensures { OnOk result (string_bytes text.new ≡ string_bytes text.old ++ line_text version entry.now) }
 {
     let line = line_of(alloc, entry, version)?;
-    match text.push_str(line.as_str()) {
-        Ok(()) => {}
-        Err(_) => return Err(Memory),
-    }
-    match text.push('\n') {
-        Ok(()) => return Ok(()),
-        Err(_) => return Err(Memory),
-    }
+    text.push_str(line.as_str())?;
+    text.push('\n')?;
+    Ok(())
 }

@@ -21,11 +21,7 @@ pub fn line_of(alloc: Global, entry: &JournalEntry, version: TraceVersion) -> Re
     ensures reads_back { IfOk result (λ line. read (string_bytes line) ≡ Some (value version entry.now)) }
     ensures fits { OnOk result (Fits TraceVersion.Two entry.now) }
 {
-    let Ok(value) = write_entry(alloc, entry, version) else {
-        return Err(Memory);
-    };
-    match value.to_string(alloc) {
-        Ok(line) => Ok(line),
-        Err(_) => Err(Memory),
-    }
+    let value = write_entry(alloc, entry, version)?;
+    let line = value.to_string(alloc)?;
+    Ok(line)
 }

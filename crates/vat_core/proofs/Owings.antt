@@ -11,7 +11,7 @@ use Rattle.vat_core.specs.declared.entry.AnswerStage.{AnswerStage}
 use Rattle.vat_core.specs.declared.entry.AnswerStage.TheVariants.{Bootstrap, Pending, Returned}
 use Rattle.vat_core.specs.declared.entry.AnswerEntry.{AnswerEntry}
 use Rattle.vat_machine.specs.declared.node.Node.{Node}
-use Rattle.vat_tables.specs.declared.exports.Export.{Export}
+use Rattle.vat_machine.specs.declared.entries.Export.{Export}
 use Rattle.vat_tables.specs.Exports.{NamedBy, lowered}
 use Rattle.vat_core.specs.Owing.{Owes, HasAnswer, IsPendingFor, IsObject, IsOfObject}
 

@@ -5,7 +5,7 @@ use Rattle.std.specs.FinMap.{len, empty, empty_of_len, len-empty}
 use Rattle.std.specs.Ordering.{nat_cmp}
 use Rattle.finite_maps.specs.Tally.{Map}
 use Rattle.rpc_msg.specs.declared.ids.QuestionId.{QuestionId}
-use Rattle.vat_tables.specs.declared.exports.Export.{Export}
+use Rattle.vat_machine.specs.declared.entries.Export.{Export}
 use Rattle.vat_core.specs.declared.entry.Question.{Question}
 use Rattle.vat_core.specs.declared.entry.AnswerEntry.{AnswerEntry}
 use Rattle.vat_core.specs.declared.entry.Reference.{Reference}

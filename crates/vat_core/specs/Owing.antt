@@ -5,7 +5,7 @@ use Rattle.finite_maps.specs.Tally.{Map}
 use Rattle.rpc_msg.specs.declared.ids.QuestionId.{QuestionId}
 use Rattle.vat_machine.specs.declared.node.Node.{Node}
 use Rattle.vat_machine.specs.declared.node.Node.TheVariants as node
-use Rattle.vat_tables.specs.declared.exports.Export.{Export}
+use Rattle.vat_machine.specs.declared.entries.Export.{Export}
 use Rattle.vat_core.specs.declared.entry.AnswerStage.TheVariants.{Pending}
 use Rattle.vat_core.specs.declared.entry.AnswerEntry.{AnswerEntry}
 

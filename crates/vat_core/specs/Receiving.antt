@@ -30,7 +30,7 @@ use Rattle.vat_machine.specs.declared.node.Reason.TheVariants.{NullCapability, N
 use Rattle.vat_journal.specs.declared.report.Outcome.{Outcome}
 use Rattle.vat_journal.specs.declared.report.Outcome.TheVariants as outcome
 use Rattle.vat_journal.specs.declared.report.Ended.{Ended}
-use Rattle.vat_tables.specs.declared.exports.Export.{Export}
+use Rattle.vat_machine.specs.declared.entries.Export.{Export}
 use Rattle.vat_tables.specs.Exports.{NamedBy}
 use Rattle.vat_core.specs.declared.entry.Asked.{Asked}
 use Rattle.vat_core.specs.declared.entry.Asked.TheVariants as asked

@@ -8,12 +8,12 @@ use Rattle.rpc_msg.specs.contracts.ids.ObjectId as object_id_row
 use Rattle.rpc_msg.specs.contracts.ids.QuestionId as question_id_row
 use Rattle.vat_core.specs.contracts.entry.Question as question_row
 use Rattle.vat_core.specs.contracts.entry.AnswerEntry as answer_row
-use Rattle.vat_tables.specs.contracts.exports.Export as export_row
+use Rattle.vat_machine.specs.contracts.entries.Export as export_row
 use Rattle.vat_core.specs.contracts.entry.Reference as reference_row
 use Rattle.rpc_msg.specs.declared.ids.Vat.{Vat}
 use Rattle.rpc_msg.specs.declared.ids.ObjectId.{ObjectId}
 use Rattle.rpc_msg.specs.declared.ids.QuestionId.{QuestionId}
-use Rattle.vat_tables.specs.declared.exports.Export.{Export}
+use Rattle.vat_machine.specs.declared.entries.Export.{Export}
 use Rattle.vat_core.specs.declared.entry.Question.{Question}
 use Rattle.vat_core.specs.declared.entry.AnswerEntry.{AnswerEntry}
 use Rattle.vat_core.specs.declared.entry.Reference.{Reference}

@@ -108,10 +108,10 @@ impl Asking {
         ensures at_limit { map.len self.old.questions ≡ 4096 → result ≡ Err TableFault.Full }
         ensures full { result ≡ Err TableFault.Full → map.len self.old.questions ≡ 4096 }
     {
-        if let Err(refused) = self.questions.reserve() {
+        if let Err(refused) = reserve_question(&mut self.questions) {
             return Err(refused);
         }
-        if self.calls.reserve().is_err() {
+        if self.calls.reserve(1).is_err() {
             return Err(TableFault::Memory);
         }
         Ok(())
@@ -127,10 +127,10 @@ impl Asking {
         ensures full { result ≡ Err TableFault.Full → map.len self.old.questions ≡ 4096 }
         ensures same { OnErr result (self.new ≡ self.old) }
     {
-        if let Err(fault) = self.questions.reserve() {
+        if let Err(fault) = reserve_question(&mut self.questions) {
             return Err(fault);
         }
-        if self.calls.reserve().is_err() {
+        if self.calls.reserve(1).is_err() {
             return Err(TableFault::Memory);
         }
         let question = Question {
@@ -366,12 +366,29 @@ fn return_question(questions: &mut Questions<QuestionSlot>, id: QuestionId, brou
     }
 }
 
+/// Makes room, so that a question can be asked. `Full` at 4,096 questions, and there alone; `Memory` where the growth
+/// was refused. The questions stay as they are.
+fn reserve_question(questions: &mut Questions<QuestionSlot>) -> Result<(), TableFault>
+    ensures same { questions.new.entries ≡ questions.old.entries }
+    ensures ok { OnOk result (0 < questions.new.room) }
+    ensures at_limit { map.len questions.old.entries ≡ 4096 → result ≡ Err TableFault.Full }
+    ensures full { result ≡ Err TableFault.Full → map.len questions.old.entries ≡ 4096 }
+{
+    if questions.is_full() {
+        return Err(TableFault::Full);
+    }
+    match questions.reserve(1) {
+        Ok(()) => Ok(()),
+        Err(_) => Err(TableFault::Memory),
+    }
+}
+
 /// Makes room for a reference, where one is to be made.
 fn reserve_if(refs: &mut Numbered<Reference>, tell: Option<RefId>) -> Result<(), TableFault>
     ensures same { refs.new.entries ≡ refs.old.entries }
-    ensures ok { OnOk result (IfSome tell (λ r. IsTrue refs.new.room)) }
+    ensures ok { OnOk result (IfSome tell (λ r. 0 < refs.new.room)) }
 {
-    if tell.is_some() && refs.reserve().is_err() {
+    if tell.is_some() && refs.reserve(1).is_err() {
         return Err(TableFault::Memory);
     }
     Ok(())
@@ -380,7 +397,7 @@ fn reserve_if(refs: &mut Numbered<Reference>, tell: Option<RefId>) -> Result<(),
 /// Makes a reference to the import, where one is to be made.
 fn refer_if(refs: &mut Numbered<Reference>, tell: Option<RefId>, import: ExportId)
     requires new { IfSome tell (λ r. map.get refs.old.entries r.0 ≡ None) }
-    requires room { IfSome tell (λ r. IsTrue refs.old.room) }
+    requires room { IfSome tell (λ r. 0 < refs.old.room) }
     ensures { refs.new.entries ≡ told_refs tell import refs.old.entries }
 {
     let Some(number) = tell else {

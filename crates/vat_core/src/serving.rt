@@ -10,8 +10,8 @@ use crate::entry::{AnswerEntry, AnswerStage};
 use rpc_msg::{ExportId, Items, Memory, QuestionId, TaskId};
 use std::alloc::Global;
 use std::marker::Model;
-use vat_machine::Node;
-use vat_tables::{Answers, Export, Exports, Numbered, TableFault};
+use vat_machine::{Export, Node};
+use vat_tables::{Answers, Exports, Numbered, TableFault};
 
 /// What a vat owes and gave: its answers, its exports and the unanswered tasks. Each call is constant work.
 #[derive(Drop)]
@@ -110,7 +110,7 @@ impl Serving {
         ensures room { OnOk result (map.len self.old.answers ≢ 4096) }
         ensures same { OnErr result (self.new ≡ self.old) }
     {
-        if self.tasks.reserve().is_err() {
+        if self.tasks.reserve(1).is_err() {
             return Err(TableFault::Memory);
         }
         let entry = AnswerEntry {

@@ -4,8 +4,6 @@
 mod entry;
 mod laws;
 mod report;
-#[cfg(test)]
-mod tests;
 
 pub use entry::{Counts, JournalEntry, MadeCall, Origin};
 pub use laws::one_call_is_read;

@@ -1,10 +1,7 @@
-pub mod Numbers
-pub mod StepNumbers
 pub mod StaysDown
 pub mod Settles
 pub mod ExportCounts
-pub mod QuietWhenDown
-pub mod QuietRuns
 pub mod StepCounts
 pub mod Lowering
 pub mod MessageCounts
+pub mod Idle

@@ -1,7 +1,6 @@
 -- What a Release and an obeyed flag do to the count of an export, where the checks passed.
-use Rattle.std.proofs.Common.{◌≡◌, ◌⊎◌, inl, inr, ℕ, suc, ◌+◌, ◌-◌, ◌≤◌, Bool, true, false, cond, not, ◌||◌, nat_eq, nat_lt, nat_le, List, [], ◌∷◌, Option, None, Some, refl, sym, ap, subst, ◌∙◌, arith}
+use Rattle.std.proofs.Common.{◌≡◌, ◌⊎◌, inl, inr, ℕ, suc, ◌+◌, ◌-◌, ◌≤◌, Bool, true, false, cond, ◌||◌, nat_eq, nat_le, List, [], ◌∷◌, Option, None, Some, refl, sym, ap, subst, ◌∙◌, arith}
 use Rattle.std.specs.List.{list_any}
-use Rattle.std.specs.Ordering.{nat_cmp, eq_by_cmp}
 use Rattle.std.specs.Cmp.{nat_cmp_total}
 use Rattle.std.specs.FinMap as map
 use Rattle.finite_maps.specs.Tally.{Map}
@@ -11,7 +10,7 @@ use Rattle.vat_machine.specs.State.{State}
 use Rattle.vat_machine.specs.Lists.{how_many}
 use Rattle.vat_machine.specs.Limits.{export_count}
 use Rattle.vat_machine.specs.Flags.{lowered, lower_by, lower_each, obey}
-use Rattle.vat_machine.specs.Faults.{is_short, flag_fault, release_fault}
+use Rattle.vat_machine.specs.Faults.{is_short, flag_fault}
 use Rattle.vat_machine.proofs.ExportCounts.{count, ties, equal}
 
 abbrev at : ℕ → Map Export → ℕ

@@ -36,7 +36,6 @@ use Rattle.vat_machine.specs.State.{State}
 use Rattle.vat_machine.specs.Progress.{Progress, with_state, caps_of, numbers}
 use Rattle.vat_machine.specs.Descriptors.{taken_of, take_one, take_each, take_at, take_all}
 use Rattle.vat_machine.specs.Settling.{TellsCall}
-use Rattle.vat_machine.specs.Commands.{request}
 use Rattle.vat_machine.specs.Messages.{opened, received_request, ComesFor, ComesBack, TakesReturn, TakesFinish, resolve_import, take_resolve, Bounces, Lifts, TakesDisembargo, TakesPlain, TakesUnless}
 use Rattle.vat_machine.specs.Flags.{obey}
 use Rattle.vat_machine.specs.Faults.{target_node, is_foreign}

@@ -234,6 +234,10 @@ stays : (s : State) (k : ℕ) (n : Node) → link s n ≡ None → follow s k n 
 stays s zero n h = refl
 stays s (suc k) n h = ap (λ o. follow s k (unwrap_or o n)) h ∙ stays s k n h
 
+-- A node with no link settles where it is.
+pub settles_here : (s : State) (n : Node) → link s n ≡ None → settle s n ≡ n
+settles_here s n h = stays s (links s) n h
+
 follows : (s : State) (k d : ℕ) (n : Node) → d ≤ k → Stops s d n → link s (follow s k n) ≡ None
 follows s k zero n l h = ap (link s) (stays s k n h) ∙ h
 follows s zero (suc d) n l h = absurd (omega arith)

@@ -30,6 +30,7 @@ use Rattle.vat_machine.specs.declared.entries.AnswerEntry.{AnswerEntry}
 use Rattle.vat_machine.specs.declared.entries.Import.{Import}
 use Rattle.vat_machine.specs.declared.entries.Export.{Export}
 use Rattle.vat_machine.specs.State.{State}
+use Rattle.vat_machine.specs.Numbers.{question_in_use, unknown_question, unknown_export, unknown_answer, over_release, resolved_twice, not_a_promise, disembargo_not_loopback, unknown_embargo, kind_mismatch, bad_payload, held_past_limit, unimplemented_answer, peer_abort}
 use Rattle.vat_machine.specs.Payloads.{caps_in}
 use Rattle.vat_machine.specs.Lists.{how_many, earliest}
 use Rattle.vat_machine.specs.Nodes.{settle, is_wire, is_open}
@@ -38,8 +39,8 @@ use Rattle.vat_machine.specs.Descriptors.{export_node, answer_node}
 use Rattle.vat_machine.specs.Limits.{export_count, held, held_limit}
 
 abbrev pub target_fault : State → Target → Option ℕ
-target_fault s (ImportedCap e) = if_so (not (map.contains_key s.exports e.0)) 22
-target_fault s (PromisedAnswer q path) = if_so (not (map.contains_key s.answers q.0)) 23
+target_fault s (ImportedCap e) = if_so (not (map.contains_key s.exports e.0)) unknown_export
+target_fault s (PromisedAnswer q path) = if_so (not (map.contains_key s.answers q.0)) unknown_answer
 
 -- The node that a known target stands for.
 abbrev pub target_node : State → Target → Node
@@ -67,10 +68,10 @@ kind_clashes k e before (Some x) = not (same_kind k x.kind) || is_some x.resolut
 -- One descriptor, behind those before it in its message.
 abbrev pub descriptor_fault : State → List Descriptor → Descriptor → Option ℕ
 descriptor_fault s before descriptor.None = None
-descriptor_fault s before (descriptor.SenderHosted e) = if_so (kind_clashes kind.Hosted e.0 before (map.get s.imports e.0)) 29
-descriptor_fault s before (descriptor.SenderPromise e) = if_so (kind_clashes kind.Promise e.0 before (map.get s.imports e.0)) 29
-descriptor_fault s before (descriptor.ReceiverHosted e) = if_so (not (map.contains_key s.exports e.0)) 22
-descriptor_fault s before (descriptor.ReceiverAnswer q path) = if_so (not (map.contains_key s.answers q.0)) 23
+descriptor_fault s before (descriptor.SenderHosted e) = if_so (kind_clashes kind.Hosted e.0 before (map.get s.imports e.0)) kind_mismatch
+descriptor_fault s before (descriptor.SenderPromise e) = if_so (kind_clashes kind.Promise e.0 before (map.get s.imports e.0)) kind_mismatch
+descriptor_fault s before (descriptor.ReceiverHosted e) = if_so (not (map.contains_key s.exports e.0)) unknown_export
+descriptor_fault s before (descriptor.ReceiverAnswer q path) = if_so (not (map.contains_key s.answers q.0)) unknown_answer
 
 abbrev pub each_fault : State → List Descriptor → List Descriptor → Option ℕ
 each_fault s before [] = None
@@ -90,16 +91,16 @@ is_short s ids e = nat_lt (export_count (map.get s.exports e)) (how_many (nat_eq
 -- A true flag that would take off more than there is.
 abbrev pub flag_fault : State → Bool → List ℕ → Option ℕ
 flag_fault s false ids = None
-flag_fault s true ids = if_so (list_any (is_short s ids) ids) 24
+flag_fault s true ids = if_so (list_any (is_short s ids) ids) over_release
 
 abbrev pub body_fault : State → ReturnBody → Option ℕ
-body_fault s (body.Results payload ds) = earliest (if_so (not (nat_eq (caps_in payload) (length ds))) 30 ∷ descriptors_fault s ds ∷ [])
+body_fault s (body.Results payload ds) = earliest (if_so (not (nat_eq (caps_in payload) (length ds))) bad_payload ∷ descriptors_fault s ds ∷ [])
 body_fault s (body.Exception exception) = None
 body_fault s body.Canceled = None
 
 abbrev pub return_fault : State → Bool → ReturnBody → Option Question → Option ℕ
-return_fault s flag said None = Some 21
-return_fault s flag said (Some x) = earliest (if_so (is_some x.returned) 21 ∷ body_fault s said ∷ flag_fault s flag (numbers x.given) ∷ [])
+return_fault s flag said None = Some unknown_question
+return_fault s flag said (Some x) = earliest (if_so (is_some x.returned) unknown_question ∷ body_fault s said ∷ flag_fault s flag (numbers x.given) ∷ [])
 
 -- The ids of our sender descriptors that a Finish with a true flag takes back.
 abbrev pub gave : Option (List ExportId) → List ℕ
@@ -107,8 +108,8 @@ gave None = []
 gave (Some ids) = numbers ids
 
 abbrev pub finish_fault : State → Bool → Option AnswerEntry → Option ℕ
-finish_fault s flag None = Some 23
-finish_fault s flag (Some a) = earliest (if_so a.finished 23 ∷ flag_fault s flag (gave a.returned) ∷ [])
+finish_fault s flag None = Some unknown_answer
+finish_fault s flag (Some a) = earliest (if_so a.finished unknown_answer ∷ flag_fault s flag (gave a.returned) ∷ [])
 
 abbrev pub is_hosted : Option Import → Bool
 is_hosted None = false
@@ -123,16 +124,16 @@ resolve_fault s (resolved.Cap d) = descriptors_fault s (d ∷ [])
 resolve_fault s (resolved.Exception exception) = None
 
 abbrev pub release_fault : ℕ → Option Export → Option ℕ
-release_fault n None = Some 22
-release_fault n (Some x) = if_so (nat_eq n 0 || nat_lt x.count n) 24
+release_fault n None = Some unknown_export
+release_fault n (Some x) = if_so (nat_eq n 0 || nat_lt x.count n) over_release
 
 abbrev pub disembargo_fault : State → Target → DisembargoContext → Option ℕ
-disembargo_fault s target (SenderLoopback x) = earliest (target_fault s target ∷ if_so (not (is_wire (settle s (target_node s target)))) 27 ∷ [])
-disembargo_fault s target (ReceiverLoopback x) = if_so (not (map.contains_key s.embargoes x.0)) 28
+disembargo_fault s target (SenderLoopback x) = earliest (target_fault s target ∷ if_so (not (is_wire (settle s (target_node s target)))) disembargo_not_loopback ∷ [])
+disembargo_fault s target (ReceiverLoopback x) = if_so (not (map.contains_key s.embargoes x.0)) unknown_embargo
 
 abbrev pub echoed_fault : State → Option Question → Option ℕ
-echoed_fault s None = Some 21
-echoed_fault s (Some x) = earliest (if_so (is_some x.returned) 21 ∷ flag_fault s true (numbers x.given) ∷ [])
+echoed_fault s None = Some unknown_question
+echoed_fault s (Some x) = earliest (if_so (is_some x.returned) unknown_question ∷ flag_fault s true (numbers x.given) ∷ [])
 
 abbrev pub is_missing : State → ℕ → Bool
 is_missing s e = not (map.contains_key s.exports e)
@@ -143,21 +144,21 @@ given_by (resolved.Exception exception) = []
 
 -- A Resolve that came back counts one off for the sender descriptor in it.
 abbrev pub echoed_resolve_fault : State → List ℕ → Option ℕ
-echoed_resolve_fault s ids = earliest (if_so (list_any (is_missing s) ids) 22 ∷ flag_fault s true ids ∷ [])
+echoed_resolve_fault s ids = earliest (if_so (list_any (is_missing s) ids) unknown_export ∷ flag_fault s true ids ∷ [])
 
 -- A call that would have to wait, where no more may.
 abbrev pub held_fault : State → Target → Option ℕ
-held_fault s target = if_so (is_open (settle s (target_node s target)) && nat_le held_limit (held s)) 31
+held_fault s target = if_so (is_open (settle s (target_node s target)) && nat_le held_limit (held s)) held_past_limit
 
 -- Of a message that is looked at.
 abbrev pub plain_fault : State → PlainMessage → Option ℕ
-plain_fault s (plain.Abort exception) = Some 34
-plain_fault s (plain.Bootstrap q) = if_so (map.contains_key s.answers q.0) 20
+plain_fault s (plain.Abort exception) = Some peer_abort
+plain_fault s (plain.Bootstrap q) = if_so (map.contains_key s.answers q.0) question_in_use
 plain_fault s (plain.Call c) =
     earliest
-    (if_so (map.contains_key s.answers c.question.0) 20
+    (if_so (map.contains_key s.answers c.question.0) question_in_use
     ∷ target_fault s c.target
-    ∷ if_so (not (nat_eq (caps_in c.payload) (length c.descriptors))) 30
+    ∷ if_so (not (nat_eq (caps_in c.payload) (length c.descriptors))) bad_payload
     ∷ descriptors_fault s c.descriptors
     ∷ held_fault s c.target
     ∷ [])
@@ -165,8 +166,8 @@ plain_fault s (plain.Return r) = return_fault s r.release_param_caps r.body (map
 plain_fault s (plain.Finish f) = finish_fault s f.release_result_caps (map.get s.answers f.question.0)
 plain_fault s (plain.Resolve r) =
     earliest
-    (if_so (is_hosted (map.get s.imports r.promise.0)) 26
-    ∷ if_so (is_resolved (map.get s.imports r.promise.0)) 25
+    (if_so (is_hosted (map.get s.imports r.promise.0)) not_a_promise
+    ∷ if_so (is_resolved (map.get s.imports r.promise.0)) resolved_twice
     ∷ resolve_fault s r.to
     ∷ [])
 plain_fault s (plain.Release r) = release_fault r.count (map.get s.exports r.export.0)
@@ -175,15 +176,15 @@ plain_fault s (plain.Other n) = None
 
 -- Of a message that came back (rpc.capnp, Message.unimplemented).
 abbrev pub unimplemented_fault : State → PlainMessage → Option ℕ
-unimplemented_fault s (plain.Abort exception) = Some 32
+unimplemented_fault s (plain.Abort exception) = Some unimplemented_answer
 unimplemented_fault s (plain.Bootstrap q) = echoed_fault s (map.get s.questions q.0)
 unimplemented_fault s (plain.Call c) = echoed_fault s (map.get s.questions c.question.0)
-unimplemented_fault s (plain.Return r) = Some 32
-unimplemented_fault s (plain.Finish f) = Some 32
+unimplemented_fault s (plain.Return r) = Some unimplemented_answer
+unimplemented_fault s (plain.Finish f) = Some unimplemented_answer
 unimplemented_fault s (plain.Resolve r) = echoed_resolve_fault s (given_by r.to)
 unimplemented_fault s (plain.Release r) = None
-unimplemented_fault s (plain.Disembargo d) = Some 32
-unimplemented_fault s (plain.Other n) = Some 32
+unimplemented_fault s (plain.Disembargo d) = Some unimplemented_answer
+unimplemented_fault s (plain.Other n) = Some unimplemented_answer
 
 -- A level 0 vat doesn't understand these.
 abbrev pub is_foreign : Level → PlainMessage → Bool

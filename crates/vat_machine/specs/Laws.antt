@@ -1,5 +1,5 @@
 -- What is proved of the machine and of two vats.
-use Rattle.std.specs.Prelude.{◌≡◌, ℕ, zero, suc, ◌+◌, ◌≤◌, false, None, Some, IsSome, Result}
+use Rattle.std.specs.Prelude.{◌≡◌, ℕ, zero, suc, ◌+◌, false, None, Some, IsSome, Result}
 use Rattle.std.specs.FinMap as map
 use Rattle.rpc_msg.specs.declared.message.PlainMessage.{PlainMessage}
 use Rattle.rpc_msg.specs.declared.message.Message.TheVariants as message
@@ -17,16 +17,13 @@ use Rattle.vat_machine.specs.Limits.{export_count}
 use Rattle.vat_machine.specs.Descriptors.{giving}
 use Rattle.vat_machine.specs.Faults.{fault_of, is_foreign}
 use Rattle.vat_machine.specs.UnderWay.{takes_off}
-use Rattle.vat_machine.specs.Claims.{IsQuietWhenDown, EveryRun}
+use Rattle.vat_machine.specs.World.{World}
+use Rattle.vat_machine.specs.Claims.{IdleIsNonePending}
 
 -- What holds of each step: of a command, and of a received message.
 pub record OfEachStep (P : State → Effects → State → Type 0) : Type 0 where
   pub commands : (s : State) (c : Command) (answer : Result Granted Refusal) (effects : Effects) (new : State) → Obeys s c answer effects new → P s effects new
   pub messages : (s : State) (m : Message) (effects : Effects) (new : State) → Receives s m effects new → P s effects new
-
--- While a vat is up no number is given twice. (One that is down gives none.)
-abbrev pub NumbersRise : State → Effects → State → Type 0
-NumbersRise s effects t = t.down ≡ None → (s.next_ref ≤ t.next_ref) × (s.next_call ≤ t.next_call) × (s.next_task ≤ t.next_task) × (s.next_promise ≤ t.next_promise)
 
 -- A vat that is down stays as it is, and says nothing.
 abbrev pub StaysDown : State → Effects → State → Type 0
@@ -42,9 +39,9 @@ pub record SettlesWhereItLeads : Type 0 where
   pub stops : (s : State) (d : ℕ) (n : Node) → Stops s d n → link s (settle s n) ≡ None
   pub follows : (s : State) (d : ℕ) (n m : Node) → link s n ≡ Some m → Stops s d m → settle s n ≡ settle s m
 
--- A vat delivers nothing once it is down.
-abbrev pub EveryRunIsQuiet : Type 0
-EveryRunIsQuiet = EveryRun (λ h w. IsQuietWhenDown h.journal)
+-- That no call of a reference is pending can be asked.
+abbrev pub IdleIsRight : Type 0
+IdleIsRight = (w : World) → IdleIsNonePending w
 
 -- The count of an export; without an entry, nothing.
 abbrev pub given_out : ℕ → State → ℕ

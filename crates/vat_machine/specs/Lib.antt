@@ -1,4 +1,5 @@
 pub mod Lists
+pub mod Numbers
 pub mod Payloads
 pub mod State
 pub mod Nodes

@@ -10,8 +10,6 @@ use Rattle.vat_machine.specs.declared.entries.Import.{Import}
 use Rattle.vat_machine.specs.declared.entries.Export.{Export}
 use Rattle.vat_machine.specs.declared.entries.Reference.{Reference}
 use Rattle.vat_machine.specs.State.{State}
-use Rattle.vat_machine.specs.Nodes.{is_promise, is_field, is_import, is_pipe}
-use Rattle.vat_machine.specs.Places.{names}
 
 -- Entries in each of the four tables, and embargoes.
 abbrev pub table_limit : ℕ
@@ -25,7 +23,7 @@ held_limit = 65536
 abbrev pub count_limit : ℕ
 count_limit = 2 ^ 32
 
--- Numbers stay below this: the next ones, of calls made through a reference, of places that name a node.
+-- Numbers stay below this: the next ones, and of calls made through a reference.
 abbrev pub number_limit : ℕ
 number_limit = 2 ^ 64
 
@@ -71,7 +69,3 @@ pub record IsWithin (s : State) : Type 0 where
   pub tasks : s.next_task < number_limit
   pub promises : s.next_promise < number_limit
   pub made : (r : ℕ) → made_through (map.get s.refs r) < number_limit
-  pub promise_names : (k : ℕ) → names s (is_promise k) < number_limit
-  pub outcome_names : (k : ℕ) → names s (is_field k) < number_limit
-  pub import_names : (k : ℕ) → names s (is_import k) < number_limit
-  pub question_names : (k : ℕ) → names s (is_pipe k) < number_limit

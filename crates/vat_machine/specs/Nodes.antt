@@ -139,16 +139,6 @@ is_pipe k (node.Import e) = false
 is_pipe k (node.Pipe q path) = nat_eq q.0 k
 is_pipe k (node.Broken reason) = false
 
--- The two are fields of one outcome, one promise, one import, or Pipes of one question: the places that name either
--- are counted together. Places of objects and broken nodes are not counted.
-abbrev pub is_counted_with : Node → Node → Bool
-is_counted_with (node.Object o) n = false
-is_counted_with (node.Promise p) n = is_promise p n
-is_counted_with (node.Field o path) n = is_field o n
-is_counted_with (node.Import e) n = is_import e.0 n
-is_counted_with (node.Pipe q path) n = is_pipe q.0 n
-is_counted_with (node.Broken reason) n = false
-
 abbrev pub same_op : Op → Op → Bool
 same_op Noop Noop = true
 same_op Noop (Field j) = false

@@ -1,7 +1,10 @@
 -- The step of a core: what a command answers, sends and leaves, and what a received message does (docs/protocol.md,
 -- "What a step is").
 use Rattle.std.specs.Prelude.{◌≡◌, ℕ, None, Some, IsSome, Result, Ok, Err}
+use Rattle.rpc_msg.specs.declared.message.PlainMessage.{PlainMessage}
+use Rattle.rpc_msg.specs.declared.message.PlainMessage.TheVariants as plain
 use Rattle.rpc_msg.specs.declared.message.Message.{Message}
+use Rattle.rpc_msg.specs.declared.message.Message.TheVariants as message
 use Rattle.vat_machine.specs.declared.command.Command.{Command}
 use Rattle.vat_machine.specs.declared.command.Command.TheVariants as command
 use Rattle.vat_machine.specs.declared.command.Granted.{Granted}
@@ -9,6 +12,7 @@ use Rattle.vat_machine.specs.declared.command.Granted.TheVariants as granted
 use Rattle.vat_machine.specs.declared.command.Refusal.{Refusal}
 use Rattle.vat_machine.specs.declared.command.Refusal.TheVariants as refusal
 use Rattle.vat_machine.specs.declared.command.Effects.{Effects}
+use Rattle.vat_machine.specs.Numbers.{want_of_room}
 use Rattle.vat_machine.specs.State.{State}
 use Rattle.vat_machine.specs.Progress.{Progress, begin}
 use Rattle.vat_machine.specs.Settling.{Drains}
@@ -63,7 +67,7 @@ MayLackMemory c = Unit {0}
 pub data Obeys (s : State) (c : Command) (answer : Result Granted Refusal) (effects : Effects) (new : State) : Type 0 where
   Refuses : (r : Refusal) → refused s c ≡ Some r → answer ≡ Err r → IsUnchanged s effects new → Obeys s c answer effects new
   LacksMemory : refused s c ≡ None → MayLackMemory c → answer ≡ Err refusal.Memory → IsUnchanged s effects new → Obeys s c answer effects new
-  GoesDown : refused s c ≡ None → MayFall c → answer ≡ Ok granted.Done → Falls s 33 effects new → Obeys s c answer effects new
+  GoesDown : refused s c ≡ None → MayFall c → answer ≡ Ok granted.Done → Falls s want_of_room effects new → Obeys s c answer effects new
   Shuts : (n : ℕ) → c ≡ command.Shut n → answer ≡ Ok granted.Done → ShutsFrom s n s.down effects new → Obeys s c answer effects new
   IsDone : (given : Granted) → refused s c ≡ None → answer ≡ Ok given → Does s c given effects new → IsWithin new → Obeys s c answer effects new
 
@@ -75,10 +79,20 @@ pub record Handles (s : State) (m : Message) (effects : Effects) (new : State) :
   pub takes : Takes (begin s) m taken
   pub ends : Ends taken effects new
 
+-- Want of room, or of memory, takes the vat down in these. A received Abort takes it down by itself, and needs none.
+abbrev pub NeedsRoom : PlainMessage → Type 0
+NeedsRoom (plain.Abort exception) = ⊥
+NeedsRoom m = Unit {0}
+
+abbrev pub MayLackRoom : Message → Type 0
+MayLackRoom (message.Plain m) = NeedsRoom m
+MayLackRoom (message.Unimplemented m) = Unit {0}
+
 -- What a received message may do and leave. At a vat that is down it does nothing. Want of room, or of memory, is fault
--- 33 where no check failed.
+-- 33, and may come for any message but an Abort at a vat that is up; where there is memory, the first check that fails is
+-- the fault.
 pub data Receives (s : State) (m : Message) (effects : Effects) (new : State) : Type 0 where
   WasDown : IsSome s.down → IsUnchanged s effects new → Receives s m effects new
   FaultsBy : (n : ℕ) → s.down ≡ None → fault_of s m ≡ Some n → effects ≡ falling_by m n → new ≡ fallen s n → Receives s m effects new
-  LacksRoom : s.down ≡ None → fault_of s m ≡ None → Falls s 33 effects new → Receives s m effects new
+  LacksRoom : s.down ≡ None → MayLackRoom m → Falls s want_of_room effects new → Receives s m effects new
   IsHandled : s.down ≡ None → fault_of s m ≡ None → Handles s m effects new → IsWithin new → Receives s m effects new

@@ -1,6 +1,5 @@
 -- Two vats and the messages on their way between them: what may happen (docs/protocol.md, "Two vats").
-use Rattle.std.specs.Prelude.{◌≡◌, ℕ, Bool, true, false, cond, Option, None, Some, Result, Ok, List, [], ◌∷◌, ◌++◌}
-use Rattle.std.specs.List.{list_any}
+use Rattle.std.specs.Prelude.{◌≡◌, ℕ, Bool, true, false, cond, ◌&&◌, is_some, Option, None, Some, Result, Ok, List, [], ◌∷◌, ◌++◌}
 use Rattle.rpc_msg.specs.declared.ids.Vat.{Vat}
 use Rattle.rpc_msg.specs.declared.ids.Vat.TheVariants.{A, B}
 use Rattle.rpc_msg.specs.declared.ids.ObjectId.{ObjectId}
@@ -9,7 +8,7 @@ use Rattle.rpc_msg.specs.Vats.{other_vat}
 use Rattle.vat_journal.specs.declared.report.Advanced.TheVariants as advanced
 use Rattle.vat_journal.specs.declared.entry.JournalEntry.{JournalEntry}
 use Rattle.vat_journal.specs.declared.entry.JournalEntry.TheVariants as entry
-use Rattle.vat_journal.specs.History.{same_vat}
+use Rattle.vat_journal.specs.History.{same_vat, or_rest, if_so}
 use Rattle.vat_machine.specs.declared.command.Command.{Command}
 use Rattle.vat_machine.specs.declared.command.Command.TheVariants as command
 use Rattle.vat_machine.specs.declared.command.Granted.{Granted}
@@ -19,6 +18,7 @@ use Rattle.vat_machine.specs.declared.command.Effects.{Effects}
 use Rattle.vat_machine.specs.declared.command.Level.TheVariants.{One}
 use Rattle.vat_machine.specs.declared.event.Event.{Event}
 use Rattle.vat_machine.specs.declared.event.Event.TheVariants as event
+use Rattle.vat_machine.specs.Numbers.{want_of_room}
 use Rattle.vat_machine.specs.State.{State, start}
 use Rattle.vat_machine.specs.Down.{fallen, falling}
 use Rattle.vat_machine.specs.Steps.{Obeys, Receives}
@@ -72,35 +72,47 @@ pub record Happening : Type 0 where
   pub answer : StepAnswer
   pub had_room : Bool
 
--- The vat's core is new, and what it sent is behind what was on its way.
-abbrev pub after : World → Vat → Effects → State → World
-after w v effects s = put_inbox (put_core w v s) (other_vat v) (inbox w (other_vat v) ++ effects.sends)
+-- ---- One vat's step, and what is told of it
 
--- Where there was no room the vat goes down with fault 33, if its step did not take it down. Room for that is kept.
+-- Where the links and the journal had no room for what a step says, the vat goes down with fault 33, if the step did not
+-- take it down. Room for that is kept.
 abbrev pub overflow_effects : Effects → Option ℕ → Effects
-overflow_effects effects None = falling 33
+overflow_effects effects None = falling want_of_room
 overflow_effects effects (Some n) = effects
 
 abbrev pub overflown : State → Option ℕ → State
-overflown s None = fallen s 33
+overflown s None = fallen s want_of_room
 overflown s (Some n) = s
 
--- A core's step with these effects came to this world, and was told with those effects.
-abbrev pub Lands : World → Vat → Effects → State → Bool → Effects → World → Type 0
-Lands w v effects s true told new = (told ≡ effects) × (new ≡ after w v effects s)
-Lands w v effects s false told new =
-    (told ≡ overflow_effects effects s.down) × (new ≡ after w v (overflow_effects effects s.down) (overflown s s.down))
+-- A core's step with these effects to the state s is told with those effects, and leaves that state.
+abbrev pub Tells : Effects → State → Bool → Effects → State → Type 0
+Tells effects s true told new = (told ≡ effects) × (new ≡ s)
+Tells effects s false told new = (told ≡ overflow_effects effects s.down) × (new ≡ overflown s s.down)
 
 -- What is left of an answer where there was no room: a reference that was to advance did not.
 abbrev pub given_up : Result Granted Refusal → Result Granted Refusal
 given_up (Ok (granted.Advanced a)) = Ok (granted.Advanced advanced.Nothing)
 given_up answer = answer
 
+-- A command to a vat: what it answers, the effects as they are told, and what it leaves.
+abbrev pub CommandTold : State → Command → Result Granted Refusal → Effects → Bool → State → Type 0
+CommandTold s c answer told room new =
+    (said : Result Granted Refusal) × (effects : Effects) × (mid : State) × Obeys s c said effects mid
+    × (answer ≡ cond room said (given_up said)) × Tells effects mid room told new
+
+-- A message that a vat receives: the effects as they are told, and what it leaves.
+abbrev pub MessageTold : State → Message → Effects → Bool → State → Type 0
+MessageTold s m told room new = (effects : Effects) × (mid : State) × Receives s m effects mid × Tells effects mid room told new
+
+-- ---- Events of a world
+
+-- The vat's core is new, and what it sent is behind what was on its way.
+abbrev pub after : World → Vat → Effects → State → World
+after w v effects s = put_inbox (put_core w v s) (other_vat v) (inbox w (other_vat v) ++ effects.sends)
+
 -- A command at a vat that is up.
 abbrev pub CommandsUp : World → Vat → Command → StepAnswer → Bool → World → Type 0
-CommandsUp w v c (Answered answer told) room new =
-    (said : Result Granted Refusal) × (effects : Effects) × (s : State) × Obeys (core w v) c said effects s
-    × (answer ≡ cond room said (given_up said)) × Lands w v effects s room told new
+CommandsUp w v c (Answered answer told) room new = (s : State) × CommandTold (core w v) c answer told room s × (new ≡ after w v told s)
 CommandsUp w v c (Handled told) room new = ⊥
 CommandsUp w v c Empty room new = ⊥
 
@@ -117,7 +129,7 @@ CommandsAt w v c (Some n) answer room new = CommandsDown w v c answer new
 -- A vat that is up receives this message.
 abbrev pub ReceivesUp : World → Vat → Message → StepAnswer → Bool → World → Type 0
 ReceivesUp w v m (Answered answer told) room new = ⊥
-ReceivesUp w v m (Handled told) room new = (effects : Effects) × (s : State) × Receives (core w v) m effects s × Lands w v effects s room told new
+ReceivesUp w v m (Handled told) room new = (s : State) × MessageTold (core w v) m told room s × (new ≡ after w v told s)
 ReceivesUp w v m Empty room new = ⊥
 
 -- It is the oldest one that was sent to it. Nothing happens where there is none, or the vat is down.
@@ -141,20 +153,18 @@ Run w (x ∷ xs) new = (mid : World) × Happens w x mid × Run mid xs new
 
 -- ---- Questions to a world
 
-abbrev pub fell : Option ℕ → Bool
-fell None = false
-fell (Some n) = true
+abbrev pub shut_with : Vat → Event → StepAnswer → Option ℕ
+shut_with v (event.Command u (command.Shut n)) (Answered answer told) = if_so (same_vat v u && is_some told.down) n
+shut_with v e answer = None
 
-abbrev pub shut_by : Vat → Event → StepAnswer → Bool
-shut_by v (event.Command u (command.Shut n)) (Answered answer told) = cond (same_vat v u) (fell told.down) false
-shut_by v e answer = false
-
-abbrev pub is_shut_of : Vat → Happening → Bool
-is_shut_of v x = shut_by v x.event x.answer
+-- The number of the shut that took the vat down, if one did.
+abbrev pub shut_number : Vat → List Happening → Option ℕ
+shut_number v [] = None
+shut_number v (x ∷ xs) = or_rest (shut_with v x.event x.answer) (shut_number v xs)
 
 -- A shut took the vat down.
 abbrev pub was_shut : Vat → List Happening → Bool
-was_shut v xs = list_any (is_shut_of v) xs
+was_shut v xs = is_some (shut_number v xs)
 
 -- The entry of both vats' counts. To write it is no event.
 abbrev pub tables_entry : World → JournalEntry

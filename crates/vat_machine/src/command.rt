@@ -1,4 +1,8 @@
+ghost use Rattle.std.specs.Prelude.{◌≡◌};
+ghost use Rattle.vat_machine.specs.Numbers.{refusal_number};
+
 use rpc_msg::{CallId, Exception, Items, Message, ObjectId, Op, Payload, PromiseId, RefId, TaskId};
+use thiserror::Error;
 use vat_journal::{Advanced, Delivery, Ended};
 
 /// How much of the protocol a vat speaks (`rpc.capnp`, its levels).
@@ -64,31 +68,65 @@ pub enum Granted {
     Advanced(Advanced),
 }
 
-/// Why a command is refused. Its arguments are handed back and nothing is changed.
-#[derive(Clone, Copy, Debug, PartialEq, Eq, Drop)]
+/// Why a command is refused. Its arguments are handed back and nothing is changed. Where several reasons hold, the first
+/// of this order is given: Down, Level, UnknownRef, UnknownCall, UnknownTask, UnknownPromise, CapCount, LongPath, Cycle,
+/// Full, Memory.
+#[derive(Clone, Copy, Debug, PartialEq, Eq, Drop, Error)]
 pub enum Refusal {
     /// A growth was refused.
+    #[error("out of memory")]
     Memory,
     /// A table, a count or a number would pass its limit.
+    #[error("a limit is reached")]
     Full,
     /// The vat is down.
+    #[error("the vat is down")]
     Down,
     /// There is no such reference.
+    #[error("no such reference")]
     UnknownRef,
     /// There is no such call, or it was finished.
+    #[error("no such call")]
     UnknownCall,
     /// There is no such task, or it was answered.
+    #[error("no such task")]
     UnknownTask,
     /// There is no such promise, or it was settled.
+    #[error("no such promise")]
     UnknownPromise,
     /// The promise would be settled to itself.
+    #[error("the promise would lead to itself")]
     Cycle,
     /// The payload has another number of capabilities than references were given.
+    #[error("the payload's capabilities and the references differ in number")]
     CapCount,
     /// The path has more than 16 steps.
+    #[error("the path is too long")]
     LongPath,
     /// A vat of level 0 has no promises and sends no references.
+    #[error("a vat of level 0 has no promises and sends no references")]
     Level,
+}
+
+impl Refusal {
+    /// Its number, as traces show it.
+    pub fn code(self) -> u16
+        ensures { result ≡ refusal_number self }
+    {
+        match self {
+            Refusal::Memory => 1,
+            Refusal::Full => 2,
+            Refusal::Down => 3,
+            Refusal::UnknownRef => 4,
+            Refusal::UnknownCall => 5,
+            Refusal::UnknownTask => 6,
+            Refusal::UnknownPromise => 7,
+            Refusal::Cycle => 8,
+            Refusal::CapCount => 9,
+            Refusal::LongPath => 10,
+            Refusal::Level => 11,
+        }
+    }
 }
 
 /// What a step of a core does beside its new state.

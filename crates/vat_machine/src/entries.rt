@@ -75,7 +75,7 @@ pub struct Import {
 }
 
 /// A node that was given to the peer.
-#[derive(Drop)]
+#[derive(Clone, Copy, Debug, PartialEq, Eq, Drop)]
 pub struct Export {
     pub node: Node,
     /// How often it was sent, and not taken back.

@@ -1,11 +1,6 @@
 //! What is proved of the machine and of two vats. The functions run no code: what each ensures is the law.
 
-ghost use Rattle.vat_machine.specs.Laws.{OfEachStep, NumbersRise, StaysDown, SettlesWhereItLeads, SendsRaiseCounts, EveryRunIsQuiet};
-
-/// References, calls, tasks and promises get numbers that only rise, in every step.
-pub fn numbers_only_rise()
-    ensures { OfEachStep NumbersRise }
-{}
+ghost use Rattle.vat_machine.specs.Laws.{OfEachStep, StaysDown, SettlesWhereItLeads, SendsRaiseCounts, IdleIsRight};
 
 /// A vat that is down stays as it is in every step, and says nothing.
 pub fn down_stays_down()
@@ -22,7 +17,7 @@ pub fn sends_raise_counts()
     ensures { SendsRaiseCounts }
 {}
 
-/// In every run of two vats, a vat delivers nothing once it is down.
-pub fn quiet_when_down()
-    ensures { EveryRunIsQuiet }
+/// No call of a reference is pending exactly where the world says that it is idle.
+pub fn idle_is_none_pending()
+    ensures { IdleIsRight }
 {}

@@ -1,15 +1,14 @@
 //! The machine of a vat: what its core holds, in types; what each of its steps does, what two vats do, and what is
-//! promised of them, in the definitions of specs/. It has no code that runs.
+//! promised of them, in the definitions of specs/. Of code it has the numbers of refusals and faults alone.
 #![tactic(auto)]
 
 mod calls;
 mod command;
 mod entries;
 mod event;
+mod fault;
 mod laws;
 mod node;
-#[cfg(test)]
-mod tests;
 
 pub use calls::{Caller, HeldCall, KeptOutcome, OwnCall, Promise, Request, Value, WaitingCall};
 pub use command::{CallCommand, Command, Effects, Granted, Level, Refusal};
@@ -18,7 +17,6 @@ pub use entries::{
     Role, SenderKind,
 };
 pub use event::Event;
-pub use laws::{
-    down_stays_down, numbers_only_rise, quiet_when_down, sends_raise_counts, settles_where_it_leads,
-};
+pub use fault::Fault;
+pub use laws::{down_stays_down, idle_is_none_pending, sends_raise_counts, settles_where_it_leads};
 pub use node::{Node, Reason};

@@ -1,10 +1,11 @@
 pub mod Chained
 pub mod ExportLemmas
-pub mod HashNumbers
+pub mod Foreseeing
 pub mod HashTable
 pub mod ImportLemmas
 pub mod Keys
 pub mod Lending
+pub mod NamingEach
 pub mod NodeKeys
 pub mod Options
 pub mod PoolLemmas

@@ -1,10 +1,11 @@
-ghost use Rattle.std.specs.Prelude.{◌↔◌, ◌≡◌, ◌≢◌, ◌≤◌, ◌++◌, [], ◌∷◌, length, Some, None, Ok, Err, true, IsTrue, IsOk, IsSome, IfOk, IfErr, IfSome, OnOk, OnErr, MatchBool, Any, All, false};
+ghost use Rattle.std.specs.Prelude.{◌↔◌, ◌≡◌, ◌==◌, ◌≢◌, ◌≤◌, ◌<◌, ◌+◌, ◌++◌, [], ◌∷◌, length, Some, None, Ok, Err, true, IsTrue, IsOk, IsSome, IfOk, IfErr, IfSome, OnOk, OnErr, MatchBool, Any, All, false};
 ghost use Rattle.std.specs.Borrow.{Bor};
 ghost use Rattle.std.specs.FinMap as map;
 ghost use Rattle.vat_tables.specs.Chains.{walk};
 ghost use Rattle.finite_maps.specs.Tally.{tally};
 
 use crate::fault::TableFault;
+use rpc_msg::Memory;
 use slab::Slab;
 use std::alloc::Global;
 use std::marker::Model;
@@ -33,7 +34,7 @@ struct Ends {
 }
 
 /// Lists of waiting calls, at most 65,536 calls in all: seen by contracts as the lists by key, none of them empty, and
-/// whether one more call needs no more memory. All calls stand in one slab, each naming the next, so that to start a
+/// how many more calls need no more memory. All calls stand in one slab, each naming the next, so that to start a
 /// list, to push, to pop and to append are constant work, however long the lists are.
 #[derive(Drop)]
 pub struct HeldPool<T> {
@@ -68,11 +69,19 @@ impl<T> HeldPool<T> {
         }
     }
 
-    /// How many calls there are in all lists.
+    /// How many calls there are in all lists. Takes no memory, as do `is_full` and `contains`.
     pub fn len(&self) -> usize
-        ensures { result ≡ tally length self.now.lists }
+        ensures value { result ≡ tally length self.now.lists }
+        ensures within { result ≤ POOL_LIMIT }
     {
         self.calls.len()
+    }
+
+    /// Whether there are 65,536 calls.
+    pub fn is_full(&self) -> bool
+        ensures { result ≡ (tally length self.now.lists == POOL_LIMIT) }
+    {
+        self.len() == POOL_LIMIT
     }
 
     /// Whether there is a list with that key.
@@ -82,26 +91,24 @@ impl<T> HeldPool<T> {
         self.lists.contains(key.0)
     }
 
-    /// Makes room, so that the next `start` or `push` is not refused. `Full` at 65,536 calls, and there alone; `Memory`
-    /// where the growth was refused. The lists stay as they are.
-    pub fn reserve(&mut self) -> Result<(), TableFault>
+    /// Makes room in memory, so that the next so many calls are not refused for want of it, each in a list of its own or
+    /// at the end of one; the limit of 65,536 calls stands beside it. `Err` where there was no room and the growth was
+    /// refused. The lists stay as they are, and the room does not fall.
+    pub fn reserve(&mut self, more: usize) -> Result<(), Memory>
         ensures same { self.new.lists ≡ self.old.lists }
-        ensures ok { OnOk result (IsTrue self.new.room) }
-        ensures had_room { IsTrue self.old.room → IsOk result }
-        ensures at_limit { tally length self.old.lists ≡ POOL_LIMIT → result ≡ Err TableFault.Full }
-        ensures full { result ≡ Err TableFault.Full → tally length self.old.lists ≡ POOL_LIMIT }
+        ensures ok { OnOk result (more ≤ self.new.room) }
+        ensures had_room { more ≤ self.old.room → IsOk result }
+        ensures keeps_room { self.old.room ≤ self.new.room }
     {
-        if self.calls.len() >= POOL_LIMIT {
-            return Err(TableFault::Full);
+        if more == 0 {
+            return Ok(());
         }
-        match self.calls.reserve(1) {
-            Ok(()) => {}
-            Err(_) => return Err(TableFault::Memory),
-        }
-        match self.lists.reserve(1) {
-            Ok(()) => {}
-            Err(_) => return Err(TableFault::Memory),
-        }
+        let Ok(()) = self.calls.reserve(more) else {
+            return Err(Memory);
+        };
+        let Ok(()) = self.lists.reserve(more) else {
+            return Err(Memory);
+        };
         Ok(())
     }
 
@@ -110,16 +117,20 @@ impl<T> HeldPool<T> {
     pub fn start(&mut self, call: T) -> Result<ListKey, (TableFault, T)>
         ensures free { IfOk result (λ key. map.get self.old.lists key.0 ≡ None) }
         ensures ok { IfOk result (λ key. self.new.lists ≡ map.insert self.old.lists key.0 (call ∷ [])) }
-        ensures had_room { IsTrue self.old.room → IsOk result }
+        ensures had_room { 0 < self.old.room → tally length self.old.lists ≢ POOL_LIMIT → IsOk result }
+        ensures room { self.old.room ≤ self.new.room + 1 }
+        ensures keeps_room { OnErr result (self.old.room ≤ self.new.room) }
         ensures at_limit { tally length self.old.lists ≡ POOL_LIMIT → result ≡ Err (TableFault.Full, call) }
         ensures full { IfErr result (λ e. e.0 ≡ TableFault.Full → tally length self.old.lists ≡ POOL_LIMIT) }
         ensures back { IfErr result (λ e. e.1 ≡ call) }
         ensures same { OnErr result (self.new.lists ≡ self.old.lists) }
     {
-        match self.reserve() {
-            Ok(()) => {}
-            Err(fault) => return Err((fault, call)),
+        if self.is_full() {
+            return Err((TableFault::Full, call));
         }
+        let Ok(()) = self.reserve(1) else {
+            return Err((TableFault::Memory, call));
+        };
         let first = self.calls.insert_reserved(Held { call, next: 0 });
         let list = self.lists.insert_reserved(Ends {
             first,
@@ -134,16 +145,20 @@ impl<T> HeldPool<T> {
     pub fn push(&mut self, key: ListKey, call: T) -> Result<(), (TableFault, T)>
         requires { IsSome (map.get self.old.lists key.0) }
         ensures ok { OnOk result (IfSome (map.get self.old.lists key.0) (λ list. self.new.lists ≡ map.insert self.old.lists key.0 (list ++ call ∷ []))) }
-        ensures had_room { IsTrue self.old.room → IsOk result }
+        ensures had_room { 0 < self.old.room → tally length self.old.lists ≢ POOL_LIMIT → IsOk result }
+        ensures room { self.old.room ≤ self.new.room + 1 }
+        ensures keeps_room { OnErr result (self.old.room ≤ self.new.room) }
         ensures at_limit { tally length self.old.lists ≡ POOL_LIMIT → result ≡ Err (TableFault.Full, call) }
         ensures full { IfErr result (λ e. e.0 ≡ TableFault.Full → tally length self.old.lists ≡ POOL_LIMIT) }
         ensures back { IfErr result (λ e. e.1 ≡ call) }
         ensures same { OnErr result (self.new.lists ≡ self.old.lists) }
     {
-        match self.reserve() {
-            Ok(()) => {}
-            Err(fault) => return Err((fault, call)),
+        if self.is_full() {
+            return Err((TableFault::Full, call));
         }
+        let Ok(()) = self.reserve(1) else {
+            return Err((TableFault::Memory, call));
+        };
         let ends = self.lists[key.0];
         let new = self.calls.insert_reserved(Held { call, next: 0 });
         self.calls[ends.last].next = new;
@@ -158,7 +173,8 @@ impl<T> HeldPool<T> {
     /// Takes the first call of a list, and says whether the list goes on; where it does not, the key is gone. Constant
     /// work, which takes no memory.
     pub fn pop(&mut self, key: ListKey) -> Option<(T, bool)>
-        ensures { PopsFirst self.old.lists key.0 (map.get self.old.lists key.0) result self.new.lists }
+        ensures first { PopsFirst self.old.lists key.0 (map.get self.old.lists key.0) result self.new.lists }
+        ensures room { self.old.room ≤ self.new.room }
     {
         let ends = *self.lists.get(key.0)?;
         let Held { call, next } = self.calls.remove(ends.first);

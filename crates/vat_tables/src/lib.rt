@@ -8,15 +8,16 @@ mod held_pool;
 mod imports;
 mod keyed;
 mod numbered;
+mod picked;
 mod questions;
 mod slots;
-#[cfg(test)]
-mod tests;
 
 pub use answers::Answers;
-pub use exports::{Export, Exports};
+pub use exports::Exports;
 pub use fault::{PeerFault, TABLE_LIMIT, TableFault};
 pub use held_pool::{HeldPool, ListKey, POOL_LIMIT};
 pub use imports::{Import, Imports};
+pub use keyed::Keyed;
 pub use numbered::Numbered;
+pub use picked::Picked;
 pub use questions::Questions;

@@ -1,31 +1,33 @@
-ghost use Rattle.std.specs.Prelude.{◌≡◌, ◌==◌, Some, None, IsTrue, IsOk, IsSome, OnOk, OnErr, IfErr, option_copied};
+ghost use Rattle.std.specs.Prelude.{◌≡◌, ◌==◌, ◌≤◌, ◌<◌, ◌+◌, Some, None, IsOk, IsSome, OnOk, OnErr, IfErr, option_copied};
+ghost use Rattle.std.specs.Option.{option_copied_mut};
+ghost use Rattle.std.specs.Borrow.{sem};
 ghost use Rattle.std.specs.FinMap as map;
 
-use std::alloc::{AllocError, Global};
+use rpc_msg::Memory;
+use std::alloc::Global;
 use std::collections::HashMap;
 use std::marker::Model;
 
-/// Entries under numbers of 64 bits, as many as memory allows: seen by contracts as the entries by number, and whether
-/// a new one needs no more memory. A call is constant work.
+/// Entries under numbers of 64 bits, as many as memory allows: seen by contracts as the entries by number, and how
+/// many new ones need no more memory. Each call is constant work, but where memory grows.
 #[derive(Drop)]
 pub struct Numbered<Entry> {
     hashed: HashMap<u64, Entry>,
 }
 
 impl<Entry> Model for Numbered<Entry> {
-    ghost use Rattle.std.specs.Prelude.{nat_lt};
-    ghost use Rattle.std.specs.FinMap as map;
-    ghost use Rattle.std.specs.HashMap.{spare};
-    ghost use Rattle.vat_tables.specs.Table.{Table, table_code};
+    ghost use Rattle.vat_tables.specs.Table.{Table, table_code, table_of_hash_map};
 
     ghost Value = { Table Entry };
 
     ghost coded = { table_code Entry.code };
 
-    ghost view = { λ a. record { entries = map.from_entries a.hashed.entries; room = nat_lt 0 (spare a.hashed) } };
+    ghost view = { λ a. table_of_hash_map a.hashed };
 }
 
 impl<Entry> Numbered<Entry> {
+    ghost use Rattle.vat_tables.specs.Lends.{lends_number};
+
     /// No entries. Takes no memory.
     pub fn new(alloc: Global) -> Self
         ensures { result.entries ≡ map.empty }
@@ -42,23 +44,36 @@ impl<Entry> Numbered<Entry> {
         self.hashed.len() == 0
     }
 
-    /// Makes room, so that the next `add` is not refused. Refused only where the growth was; the entries stay as they
-    /// are.
-    pub fn reserve(&mut self) -> Result<(), AllocError>
-        ensures same { self.new.entries ≡ self.old.entries }
-        ensures ok { OnOk result (IsTrue self.new.room) }
-        ensures had_room { IsTrue self.old.room → IsOk result }
+    /// How many entries there are. Takes no memory.
+    pub fn len(&self) -> usize
+        ensures { result ≡ map.len self.now.entries }
     {
-        self.hashed.reserve(1)
+        self.hashed.len()
     }
 
-    /// Puts a new entry under a number that is free. An entry that is refused, for memory, comes back.
+    /// Makes room, so that the next so many `add`s are not refused. `Err` where there was no room and the growth was
+    /// refused. The entries stay as they are, and the room does not fall.
+    pub fn reserve(&mut self, more: usize) -> Result<(), Memory>
+        ensures same { self.new.entries ≡ self.old.entries }
+        ensures ok { OnOk result (more ≤ self.new.room) }
+        ensures had_room { more ≤ self.old.room → IsOk result }
+        ensures keeps_room { self.old.room ≤ self.new.room }
+    {
+        match self.hashed.reserve(more) {
+            Ok(()) => Ok(()),
+            Err(_) => Err(Memory),
+        }
+    }
+
+    /// Puts an entry under a number, which no entry may have. An entry that is refused, since there was no room and the
+    /// growth was refused, comes back; the entries then stay as they are.
     pub fn add(&mut self, number: u64, entry: Entry) -> Result<(), Entry>
     where
         Entry: Drop,
         requires { map.get self.old.entries number ≡ None }
         ensures ok { OnOk result (self.new.entries ≡ map.insert self.old.entries number entry) }
-        ensures had_room { IsTrue self.old.room → IsOk result }
+        ensures had_room { 0 < self.old.room → IsOk result }
+        ensures room { self.old.room ≤ self.new.room + 1 }
         ensures back { IfErr result (λ back. back ≡ entry) }
         ensures same { OnErr result (self.new.entries ≡ self.old.entries) }
     {
@@ -68,30 +83,39 @@ impl<Entry> Numbered<Entry> {
         }
     }
 
-    /// The entry with that number. Takes no memory, as do `set` and `remove`.
+    /// The entry with that number. Takes no memory, as do `get_mut`, `set` and `remove`.
     pub fn get(&self, number: u64) -> Option<&Entry>
         ensures { option_copied result ≡ map.get self.now.entries number }
     {
         self.hashed.get(&number)
     }
 
-    /// Puts another entry in the place of one that is there.
+    /// The entry with that number, to be changed in place.
+    pub fn get_mut(&mut self, number: u64) -> Option<&mut Entry>
+        ensures* writes_back { sem 𝓛 (lends_number Entry.row self.entry number result) }
+        ensures value { option_copied_mut result ≡ map.get self.old.entries number }
+    {
+        self.hashed.get_mut(&number)
+    }
+
+    /// Puts another entry in the place of one that must be there.
     pub fn set(&mut self, number: u64, entry: Entry)
     where
         Entry: Drop,
         requires { IsSome (map.get self.old.entries number) }
-        ensures { self.new.entries ≡ map.insert self.old.entries number entry }
+        ensures { self.new ≡ record self.old { entries = map.insert self.old.entries number entry } }
     {
-        match self.hashed.insert(number, entry) {
-            Ok(_) => return,
-            Err(_) => unreachable!(),
-        }
+        let Some(place) = self.get_mut(number) else {
+            unreachable!()
+        };
+        *place = entry;
     }
 
-    /// Takes the entry with that number out.
+    /// Takes the entry with that number out; the number is free then.
     pub fn remove(&mut self, number: u64) -> Option<Entry>
         ensures value { result ≡ map.get self.old.entries number }
         ensures removed { self.new.entries ≡ map.remove self.old.entries number }
+        ensures room { self.old.room ≤ self.new.room }
     {
         self.hashed.remove(&number)
     }

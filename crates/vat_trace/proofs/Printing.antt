@@ -1,5 +1,5 @@
 -- From what was played to what is printed.
-use Rattle.std.proofs.Common.{◌≡◌, ◌⊎◌, ℕ, Option, None, Some, IfSome, List, [], ◌∷◌, ◌++◌, Err, map, inl, inr, ap, subst, ◌∙◌}
+use Rattle.std.proofs.Common.{◌≡◌, ℕ, Some, List, [], ◌∷◌, ◌++◌, Err, map, inr, ap, subst, ◌∙◌}
 use Rattle.vat_journal.specs.declared.entry.JournalEntry.{JournalEntry}
 use Rattle.vat_journal.specs.declared.entry.JournalEntry.TheVariants as entry
 use Rattle.vat_script.specs.declared.line.Line.{Line}
@@ -9,8 +9,6 @@ use Rattle.vat_world.specs.World.{World, tables_entry}
 use Rattle.vat_trace.specs.declared.fault.ScriptFault.{ScriptFault}
 use Rattle.vat_trace.specs.declared.fault.ScriptFault.TheVariants as fault
 use Rattle.vat_trace.specs.Playing.{Plays, PlaysAll, IsUnboundAt}
-use Rattle.vat_trace.specs.declared.words.Word.{Word}
-use Rattle.vat_trace.specs.Answers.{Answers}
 use Rattle.vat_trace.specs.Scripts.{texts_of, said_by}
 use Rattle.trace_write.specs.declared.version.TraceVersion.TheVariants.{One}
 use Rattle.trace_check.specs.declared.verdict.Verdict.{Verdict}
@@ -48,20 +46,3 @@ prints_read script lines text verdict said printed = (lines, said, printed)
 pub faults_read : (script : List ℕ) (lines : List Line) (f : ScriptFault) → said_by (texts_of script) ≡ map Some lines → FaultsLines lines f → Faults script f
 faults_read script lines (fault.Line number) said failed = inr (lines, said, failed)
 faults_read script lines fault.Memory said failed = tt
-
--- What holds of the text that was read holds of the bytes that the reader had, where they are known.
-pub known_text : (bytes : Option (List ℕ)) (text : List ℕ) (P : List ℕ → Type 0) → IfSome bytes (λ b. text ≡ b) → P text → IfSome bytes P
-known_text None text P is holds = tt
-known_text (Some b) text P is holds = subst P is holds
-
--- The same beside something else.
-pub known_or : {X : Type 0} (bytes : Option (List ℕ)) (text lent : List ℕ) (P : List ℕ → Type 0)
-    → IfSome bytes (λ b. text ≡ b) → lent ≡ text → X ⊎ P lent → X ⊎ IfSome bytes P
-known_or bytes text lent P is same (inl x) = inl x
-known_or bytes text lent P is same (inr holds) = inr (known_text bytes text P is (subst P same holds))
-
--- A word that something is printed for.
-pub with_word : {X : Type 0} (w : Word) (input : List ℕ) → X ⊎ ((text : List ℕ) × (status : ℕ) × Answers w input text status)
-    → X ⊎ ((v : Word) × (text : List ℕ) × (status : ℕ) × Answers v input text status)
-with_word w input (inl x) = inl x
-with_word w input (inr printed) = inr (w, printed.0, printed.1, printed.2)

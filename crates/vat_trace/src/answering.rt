@@ -1,13 +1,14 @@
-ghost use Rattle.std.specs.Prelude.{◌≡◌, ◌++◌, IfOk, OnOk, string_bytes};
+ghost use Rattle.std.specs.Prelude.{◌≡◌, ◌++◌, IfOk, IfErr, OnOk, string_bytes};
 ghost use Rattle.vat_trace.specs.Answers.{Answers, RunsTo, ChecksTo, ShowsAs, UpgradesTo, complaint, status_of};
+ghost use Rattle.vat_trace.specs.Failures.{InputFails, ScriptFails, TraceFails};
 
-use crate::fault::{InputFault, ScriptFault};
+use crate::fault::Failure;
 use crate::run::{CheckedTrace, trace_of_script};
 use crate::words::Word;
 use rpc_msg::Memory;
 use std::alloc::Global;
 use trace_check::Verdict;
-use trace_file::{FileFault, check_trace, show, upgrade, write_verdict};
+use trace_file::{check_trace, show, upgrade, write_verdict};
 
 /// The status of a program that did what it was asked.
 const DONE: u8 = 0;
@@ -23,8 +24,9 @@ pub(crate) struct Printed {
 }
 
 /// What the program answers to a word and an input, or the fault of the input.
-pub(crate) fn answer(alloc: Global, word: Word, input: &str) -> Result<Printed, InputFault>
-    ensures { IfOk result (λ a. Answers word input.now (string_bytes a.text) a.status) }
+pub(crate) fn answer(alloc: Global, word: Word, input: &str) -> Result<Printed, Failure>
+    ensures answers { IfOk result (λ a. Answers word input.now (string_bytes a.text) a.status) }
+    ensures fails { IfErr result (λ why. InputFails word input.now why) }
 {
     match word {
         Word::Run => run(alloc, input),
@@ -34,17 +36,12 @@ pub(crate) fn answer(alloc: Global, word: Word, input: &str) -> Result<Printed, 
     }
 }
 
-fn run(alloc: Global, script: &str) -> Result<Printed, InputFault>
-    ensures { IfOk result (λ a. RunsTo script.now (string_bytes a.text) a.status) }
+fn run(alloc: Global, script: &str) -> Result<Printed, Failure>
+    ensures answers { IfOk result (λ a. RunsTo script.now (string_bytes a.text) a.status) }
+    ensures fails { IfErr result (λ why. ScriptFails script.now why) }
 {
-    let CheckedTrace { mut text, verdict } = match trace_of_script(alloc, script) {
-        Ok(trace) => trace,
-        Err(fault) => return Err(of_script(fault)),
-    };
-    match write_broken(&mut text, verdict) {
-        Ok(()) => {}
-        Err(Memory) => return Err(InputFault::Memory),
-    }
+    let CheckedTrace { mut text, verdict } = trace_of_script(alloc, script)?;
+    write_broken(&mut text, verdict)?;
     let status = status(verdict);
     Ok(Printed { text, status })
 }
@@ -62,18 +59,13 @@ fn write_broken(text: &mut String, verdict: Verdict) -> Result<(), Memory>
     }
 }
 
-fn check(alloc: Global, trace: &str) -> Result<Printed, InputFault>
-    ensures { IfOk result (λ a. ChecksTo trace.now (string_bytes a.text) a.status) }
+fn check(alloc: Global, trace: &str) -> Result<Printed, Failure>
+    ensures answers { IfOk result (λ a. ChecksTo trace.now (string_bytes a.text) a.status) }
+    ensures fails { IfErr result (λ why. TraceFails trace.now why) }
 {
-    let verdict = match check_trace(alloc, trace) {
-        Ok(verdict) => verdict,
-        Err(fault) => return Err(of_trace(fault)),
-    };
+    let verdict = check_trace(alloc, trace)?;
     let mut text = String::new(alloc);
-    match write_verdict(&mut text, verdict) {
-        Ok(()) => {}
-        Err(Memory) => return Err(InputFault::Memory),
-    }
+    write_verdict(&mut text, verdict)?;
     let status = status(verdict);
     Ok(Printed { text, status })
 }
@@ -90,34 +82,18 @@ fn status(verdict: Verdict) -> u8
     }
 }
 
-fn shown(alloc: Global, trace: &str) -> Result<Printed, InputFault>
-    ensures { IfOk result (λ a. ShowsAs trace.now (string_bytes a.text) a.status) }
+fn shown(alloc: Global, trace: &str) -> Result<Printed, Failure>
+    ensures answers { IfOk result (λ a. ShowsAs trace.now (string_bytes a.text) a.status) }
+    ensures fails { IfErr result (λ why. TraceFails trace.now why) }
 {
-    match show(alloc, trace) {
-        Ok(text) => Ok(Printed { text, status: DONE }),
-        Err(fault) => Err(of_trace(fault)),
-    }
+    let text = show(alloc, trace)?;
+    Ok(Printed { text, status: DONE })
 }
 
-fn upgraded(alloc: Global, trace: &str) -> Result<Printed, InputFault>
-    ensures { IfOk result (λ a. UpgradesTo trace.now (string_bytes a.text) a.status) }
+fn upgraded(alloc: Global, trace: &str) -> Result<Printed, Failure>
+    ensures answers { IfOk result (λ a. UpgradesTo trace.now (string_bytes a.text) a.status) }
+    ensures fails { IfErr result (λ why. TraceFails trace.now why) }
 {
-    match upgrade(alloc, trace) {
-        Ok(text) => Ok(Printed { text, status: DONE }),
-        Err(fault) => Err(of_trace(fault)),
-    }
-}
-
-fn of_script(fault: ScriptFault) -> InputFault {
-    match fault {
-        ScriptFault::Memory => InputFault::Memory,
-        ScriptFault::Line(number) => InputFault::Script(number),
-    }
-}
-
-fn of_trace(fault: FileFault) -> InputFault {
-    match fault {
-        FileFault::Memory => InputFault::Memory,
-        FileFault::Line(number, fault) => InputFault::Trace(number, fault.number()),
-    }
+    let text = upgrade(alloc, trace)?;
+    Ok(Printed { text, status: DONE })
 }

@@ -11,7 +11,8 @@ mod script;
 mod tests;
 mod words;
 
-use program::{play, tell_unreadable, tell_usage};
+use fault::Failure;
+use program::{play, status};
 use std::fs::File;
 use std::process::ExitCode;
 use std::{env, io};
@@ -22,46 +23,36 @@ fn main(rt: HostRuntime) -> Result<ExitCode, io::Error> {
     let mut words = env::args(&rt)?;
     let _program = words.next();
     let Some(word) = words.next() else {
-        return Ok(ExitCode::from(on_input(&rt)));
+        return Ok(ended(&rt, on_input(&rt), "-"));
     };
     let Some(name) = words.next() else {
-        return Ok(ExitCode::from(misused(&rt)));
+        return Ok(misused(&rt));
     };
     if words.next().is_some() {
-        return Ok(ExitCode::from(misused(&rt)));
+        return Ok(misused(&rt));
     }
-    let status = on_file(&rt, word.as_str(), name.as_str());
-    Ok(ExitCode::from(status))
+    let played = on_file(&rt, word.as_str(), name.as_str());
+    Ok(ended(&rt, played, name.as_str()))
 }
 
-fn on_input(rt: &HostRuntime) -> u8 {
-    play(
-        rt.alloc(),
-        "run",
-        "-",
-        &mut rt.stdin(),
-        &mut rt.stdout(),
-        &mut rt.stderr(),
-    )
+fn on_input(rt: &HostRuntime) -> Result<u8, Failure> {
+    play(rt.alloc(), "run", &mut rt.stdin(), &mut rt.stdout())
 }
 
-fn on_file(rt: &HostRuntime, word: &str, name: &str) -> u8 {
+fn on_file(rt: &HostRuntime, word: &str, name: &str) -> Result<u8, Failure> {
     if Word::of(word).is_none() {
-        return misused(rt);
+        return Err(Failure::Usage);
     }
     match File::open(rt, name) {
-        Ok(mut file) => play(
-            rt.alloc(),
-            word,
-            name,
-            &mut file,
-            &mut rt.stdout(),
-            &mut rt.stderr(),
-        ),
-        Err(_) => tell_unreadable(name, &mut rt.stderr()),
+        Ok(mut file) => play(rt.alloc(), word, &mut file, &mut rt.stdout()),
+        Err(_) => Err(Failure::Unreadable),
     }
 }
 
-fn misused(rt: &HostRuntime) -> u8 {
-    tell_usage(&mut rt.stderr())
+fn misused(rt: &HostRuntime) -> ExitCode {
+    ended(rt, Err(Failure::Usage), "-")
+}
+
+fn ended(rt: &HostRuntime, played: Result<u8, Failure>, name: &str) -> ExitCode {
+    ExitCode::from(status(played, name, &mut rt.stderr()))
 }

@@ -7,7 +7,7 @@ use Rattle.rpc_msg.specs.declared.ids.Vat.TheVariants.{A, B}
 use Rattle.rpc_msg.specs.declared.message.Message.TheVariants as message
 use Rattle.vat_machine.specs.declared.node.Node.{Node}
 use Rattle.vat_machine.specs.declared.node.Node.TheVariants as node
-use Rattle.vat_tables.specs.declared.exports.Export.{Export}
+use Rattle.vat_machine.specs.declared.entries.Export.{Export}
 use Rattle.vat_tables.specs.Exports.{IsOther, NamedBy}
 use Rattle.vat_core.specs.declared.entry.Question.{Question}
 use Rattle.vat_core.specs.declared.entry.AnswerEntry.{AnswerEntry}

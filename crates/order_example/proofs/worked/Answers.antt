@@ -1,3 +1,4 @@
+use Rattle.std.specs.Prelude.{Some, None}
 use Rattle.std.proofs.Common.{◌≡◌, zero, suc, refl, sym}
 use Rattle.call_order.specs.Machine.{true_not_false}
 use Rattle.call_order.specs.Events.{Merges}
@@ -13,6 +14,9 @@ never_merges (Promise v k) into h = cc
 never_merges (Field v o zero) into h = cc
 never_merges (Field v o (suc p)) into h = cc
 
+some_not_none : {A : Type 0} {x : A} → Some x ≡ None → ⊥
+some_not_none h = cc
+
 pub returns-clause-embargo : goal.returns-clause-embargo
 returns-clause-embargo c = record {
   pipelined_may = (refl, (refl, (refl, (tt, (tt, ((λ e into o g h. absurd (never_merges e into h)), (((refl, refl), (λ e. true_not_false (sym e)), refl), (refl, tt))))))));
@@ -25,6 +29,7 @@ returns-clause-embargo c = record {
 pub returns-clause-link_twice : goal.returns-clause-link_twice
 returns-clause-link_twice c = record {
   crossed_may = (refl, (refl, ((λ e into o g h. cc), ((λ e into o g h. cc), (((refl, refl), (λ e. true_not_false (sym e)), refl), (refl, tt))))));
+  stays = λ h. some_not_none h.0.0.1;
   sent_twice_may = (tt, (tt, (tt, (tt, (((refl, refl), refl, (λ e. true_not_false (sym e)), refl), (refl, tt))))));
   arrived_may = (tt, (tt, (tt, tt)));
   none = refl;

@@ -28,11 +28,9 @@ fn check(
 ) {
     let mut reader = trace.as_bytes();
     let mut out = Vec::new(alloc);
-    let mut err = Vec::new(alloc);
     let options = chosen(rt, words);
-    let status = draw_trace(alloc, "-", options, &mut reader, &mut out, &mut err);
-    assert_eq!(rt; status, 0);
-    assert!(rt; err.is_empty());
+    let drawn = draw_trace(alloc, options, &mut reader, &mut out);
+    assert_eq!(rt; drawn, Ok(()));
     let Ok(svg) = str::from_utf8(out.as_slice()) else {
         panic!(rt; "no text");
     };
@@ -41,12 +39,16 @@ fn check(
     }
 }
 
-// The entries 2 to 23 have rows, 24 apart from 104 on: the Bootstrap of entry 3 is received in entry 7.
-#[test]
-fn a_call_is_drawn_from_lifeline_to_lifeline(rt: HostRuntime) {
-    check(
-        &rt,
-        rt.alloc(),
+/// A trace, the options, and how often each text stands in its picture.
+type Picture = (
+    &'static str,
+    &'static [(&'static str, &'static str)],
+    &'static [(&'static str, usize)],
+);
+
+const PICTURES: &[Picture] = &[
+    // The entries 2 to 23 have rows, 24 apart from 104 on: the Bootstrap of entry 3 is received in entry 7.
+    (
         ONE_CALL,
         &[],
         &[
@@ -71,47 +73,32 @@ fn a_call_is_drawn_from_lifeline_to_lifeline(rt: HostRuntime) {
             ("<title>", 0),
             ("#c2410c", 1),
         ],
-    );
-}
-
-// The Call is made, sent, received and delivered: four texts and two dots; and an arrow.
-#[test]
-fn the_calls_of_one_reference_stand_out(rt: HostRuntime) {
-    let texts = "text-anchor=\"end\" fill=\"#c2410c\">";
-    check(
-        &rt,
-        rt.alloc(),
+    ),
+    // The Call is made, sent, received and delivered: four texts and two dots; and an arrow.
+    (
         ONE_CALL,
         &[("--ref", "a/0")],
         &[
             (">calls of a/0</text>", 1),
-            (texts, 2),
+            ("text-anchor=\"end\" fill=\"#c2410c\">", 2),
             ("text-anchor=\"start\" fill=\"#c2410c\">", 2),
             ("r=\"3\" fill=\"#c2410c\"", 2),
             ("marker-end=\"url(#marked)\"", 1),
             ("marker-end=\"url(#head)\"", 5),
         ],
-    );
-    check(
-        &rt,
-        rt.alloc(),
+    ),
+    (
         ONE_CALL,
         &[("--ref", "b/0")],
         &[
             (">calls of b/0</text>", 1),
-            (texts, 0),
+            ("text-anchor=\"end\" fill=\"#c2410c\">", 0),
             ("r=\"3\" fill=\"#c2410c\"", 0),
             ("marker-end=\"url(#marked)\"", 0),
         ],
-    );
-}
-
-// Entry 3 sends the Bootstrap, entry 7 receives it: what is not drawn is cut.
-#[test]
-fn some_entries_are_drawn_and_the_others_counted(rt: HostRuntime) {
-    check(
-        &rt,
-        rt.alloc(),
+    ),
+    // Entry 3 sends the Bootstrap, entry 7 receives it: what is not drawn is cut.
+    (
         ONE_CALL,
         &[("--from", "3"), ("--to", "4")],
         &[
@@ -121,10 +108,8 @@ fn some_entries_are_drawn_and_the_others_counted(rt: HostRuntime) {
             ("<line x1=\"470\" y1=\"104\" x2=\"605\" y2=\"116\"", 1),
             ("marker-end", 0),
         ],
-    );
-    check(
-        &rt,
-        rt.alloc(),
+    ),
+    (
         ONE_CALL,
         &[("--from", "7"), ("--to", "7")],
         &[
@@ -133,23 +118,14 @@ fn some_entries_are_drawn_and_the_others_counted(rt: HostRuntime) {
             ("<line x1=\"605\" y1=\"92\" x2=\"740\" y2=\"104\"", 1),
             ("marker-end", 1),
         ],
-    );
-    check(
-        &rt,
-        rt.alloc(),
+    ),
+    (
         ONE_CALL,
         &[("--from", "24")],
         &[(">none of 24 entries; 22 left out (", 1), ("marker-end", 0)],
-    );
-}
-
-// The Disembargo is sent in entry 4, the third row, and received back in entry 9, the eighth.
-#[test]
-fn an_embargo_is_a_bar_and_down_is_a_cross(rt: HostRuntime) {
-    let bar = "width=\"8\" height=\"120\" fill=\"#f2c879\"><title>embargo 5</title>";
-    check(
-        &rt,
-        rt.alloc(),
+    ),
+    // The Disembargo is sent in entry 4, the third row, and received back in entry 9, the eighth.
+    (
         EMBARGO,
         &[],
         &[
@@ -157,40 +133,41 @@ fn an_embargo_is_a_bar_and_down_is_a_cross(rt: HostRuntime) {
             (">sends Disembargo 5, to export 1</text>", 1),
             (">receives Disembargo 5 back, to export 0</text>", 1),
             ("<rect x=\"466\" y=\"152\" ", 1),
-            (bar, 1),
+            (
+                "width=\"8\" height=\"120\" fill=\"#f2c879\"><title>embargo 5</title>",
+                1,
+            ),
             ("<title>", 1),
             (">sends Finish, question 3, releases</text>", 1),
             (">goes down: 23</text>", 1),
             ("<path d=\"M 734 290 L 746 302 M 734 302 L 746 290\"", 1),
             (">sends Abort: &lt;23&gt;</text>", 1),
         ],
-    );
-    check(
-        &rt,
-        rt.alloc(),
+    ),
+    (
         EMBARGO,
         &[("--from", "6"), ("--to", "7")],
         &[("<rect x=\"466\" y=\"104\" width=\"8\" height=\"48\"", 1)],
-    );
-    check(
-        &rt,
-        rt.alloc(),
+    ),
+    (
         EMBARGO,
         &[("--from", "10")],
         &[("<title>", 0), (">goes down: 23</text>", 1)],
-    );
-}
-
-#[test]
-fn a_vat_that_receives_what_was_not_sent_is_drawn_so(rt: HostRuntime) {
-    check(
-        &rt,
-        rt.alloc(),
+    ),
+    // A vat receives what was not sent.
+    (
         "{\"k\":\"head\",\"version\":2}\n{\"k\":\"got\",\"vat\":\"b\"}",
         &[],
         &[
             (">receives nothing that was sent</text>", 1),
             ("marker-end", 0),
         ],
-    );
+    ),
+];
+
+#[test]
+fn pictures_have_these_texts(rt: HostRuntime) {
+    for (trace, words, wanted) in PICTURES {
+        check(&rt, rt.alloc(), trace, words, wanted);
+    }
 }

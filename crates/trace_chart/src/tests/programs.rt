@@ -1,7 +1,8 @@
 //! Faults, and with which status the program ends.
 use super::traces::ONE_CALL;
+use crate::fault::Failure;
 use crate::options::Options;
-use crate::program::{draw_trace, tell_unreadable, tell_usage};
+use crate::program::{draw_trace, status};
 use std::alloc::Global;
 use std::io::{Error, ErrorKind, Result, Write};
 use std::process::Abort;
@@ -11,34 +12,35 @@ fn check(rt: &impl Abort, alloc: Global, input: &[u8], said: &str) {
     let mut reader = input;
     let mut out = Vec::new(alloc);
     let mut err = Vec::new(alloc);
-    let status = draw_trace(alloc, "-", Options::new(), &mut reader, &mut out, &mut err);
-    assert_eq!(rt; status, 2);
-    assert!(rt; out.is_empty());
-    assert!(rt; err.as_slice() == said.as_bytes());
+    let drawn = draw_trace(alloc, Options::new(), &mut reader, &mut out);
+    assert_eq!(rt; status(drawn, "-", &mut err), 2, "{said}");
+    assert!(rt; out.is_empty(), "{said}");
+    assert!(rt; err.as_slice() == said.as_bytes(), "{said}");
 }
 
+/// Inputs of which nothing is drawn, and what is said.
+const FAULTS: [(&[u8], &str); 5] = [
+    (b"", "trace line 1: fault 51\n"),
+    (b"{", "trace line 1: fault 50\n"),
+    (
+        b"{\"k\":\"head\",\"version\":3}",
+        "trace line 1: fault 54\n",
+    ),
+    (
+        b"{\"k\":\"head\",\"version\":2}\n{\"k\":\"got\",\"vat\":\"a\"}\n{\"k\":\"got\"}\n",
+        "trace line 3: fault 51\n",
+    ),
+    (b"\xff", "cannot read -\n"),
+];
+
 #[test]
-fn nothing_is_drawn_of_a_text_that_is_no_trace(rt: HostRuntime) {
-    let head = b"{\"k\":\"head\",\"version\":2}\n{\"k\":\"got\",\"vat\":\"a\"}\n{\"k\":\"got\"}\n";
-    for (input, said) in [
-        (b"".as_slice(), "trace line 1: fault 51\n"),
-        (b"{".as_slice(), "trace line 1: fault 50\n"),
-        (
-            b"{\"k\":\"head\",\"version\":3}".as_slice(),
-            "trace line 1: fault 54\n",
-        ),
-        (head.as_slice(), "trace line 3: fault 51\n"),
-        (b"\xff".as_slice(), "cannot read -\n"),
-    ] {
+fn faults_and_misuse_are_said(rt: HostRuntime) {
+    for (input, said) in FAULTS {
         check(&rt, rt.alloc(), input, said);
     }
-}
-
-#[test]
-fn misuse_is_said(rt: HostRuntime) {
     let mut err = Vec::new(rt.alloc());
-    assert_eq!(rt; tell_usage(&mut err), 2);
-    assert_eq!(rt; tell_unreadable("one", &mut err), 2);
+    assert_eq!(rt; status(Err(Failure::Usage), "-", &mut err), 2);
+    assert_eq!(rt; status(Err(Failure::Unreadable), "one", &mut err), 2);
     let said = "usage: trace_chart FILE [--ref V/N] [--from N] [--to N]\ncannot read one\n";
     assert!(rt; err.as_slice() == said.as_bytes());
 }
@@ -68,14 +70,7 @@ fn nothing_is_said_where_the_picture_breaks_off(rt: HostRuntime) {
     let mut reader = ONE_CALL.as_bytes();
     let mut out = Cut { left: 3 };
     let mut err = Vec::new(rt.alloc());
-    let status = draw_trace(
-        rt.alloc(),
-        "-",
-        Options::new(),
-        &mut reader,
-        &mut out,
-        &mut err,
-    );
-    assert_eq!(rt; status, 2);
+    let drawn = draw_trace(rt.alloc(), Options::new(), &mut reader, &mut out);
+    assert_eq!(rt; status(drawn, "-", &mut err), 2);
     assert!(rt; err.is_empty());
 }

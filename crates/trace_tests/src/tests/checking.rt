@@ -337,218 +337,257 @@ fn check_twice(alloc: Global, entries: &[JournalEntry]) -> Result<Verdict, Memor
     }
 }
 
-fn says(rt: &impl Abort, alloc: Global, numbers: &[u32], verdict: Verdict) -> Result<(), Memory> {
+fn says(
+    rt: &impl Abort,
+    alloc: Global,
+    name: &str,
+    numbers: &[u32],
+    verdict: Verdict,
+) -> Result<(), Memory> {
     let entries = match entries(alloc, numbers) {
         Ok(entries) => entries,
         Err(Memory) => entries(alloc, numbers)?,
     };
     let whole = check_twice(alloc, &entries)?;
-    assert_eq!(rt; whole, verdict);
+    assert_eq!(rt; whole, verdict, "{name}: {numbers:?}");
     let read = match read(alloc, numbers) {
         Ok(verdict) => verdict,
         Err(Memory) => read(alloc, numbers)?,
     };
-    assert_eq!(rt; read, verdict);
+    assert_eq!(rt; read, verdict, "{name}, one by one: {numbers:?}");
     Ok(())
 }
 
-/// Holds whichever allocation is refused, as do the others: run them with `rt try --test --fail-alloc N` too.
+/// No beginning of a good trace breaks a law. Holds whichever allocation is refused, as does the other test: run them
+/// with `rt try --test --fail-alloc N` too.
 #[test]
-fn a_call_is_good(rt: HostRuntime) -> Result<(), Memory> {
-    says(&rt, rt.alloc(), &CALL, Verdict::Good(1))
-}
-
-/// No beginning of a good trace breaks a law.
-#[test]
-fn a_cut_trace_is_good(rt: HostRuntime) -> Result<(), Memory> {
-    for end in 0..CALL.len() {
+fn a_call_is_good_wherever_it_is_cut(rt: HostRuntime) -> Result<(), Memory> {
+    for end in 0..=CALL.len() {
         let delivered = if end < 10 { 0 } else { 1 };
-        says(&rt, rt.alloc(), &CALL[..end], Verdict::Good(delivered))?;
+        says(
+            &rt,
+            rt.alloc(),
+            "a call",
+            &CALL[..end],
+            Verdict::Good(delivered),
+        )?;
     }
     Ok(())
 }
 
-#[test]
-fn a_call_that_was_not_made(rt: HostRuntime) -> Result<(), Memory> {
-    let numbers = [
-        0, 1, 2, 3, 5, 6, 7, 8, 9, 10, 11, 12, 13, 14, 15, 16, 17, 18, 19, 20, 21, 22, 23, 24, 25,
-        26,
-    ];
-    says(&rt, rt.alloc(), &numbers, Verdict::Order(9))
-}
+/// What the entries are, their numbers, and the verdict.
+type Case = (&'static str, &'static [u32], Verdict);
 
-#[test]
-fn a_message_that_was_not_sent(rt: HostRuntime) -> Result<(), Memory> {
-    let numbers = [
-        0, 1, 2, 3, 4, 5, 6, 8, 9, 10, 11, 12, 13, 14, 15, 16, 17, 18, 19, 20, 21, 22, 23, 24, 25,
-        26,
-    ];
-    says(&rt, rt.alloc(), &numbers, Verdict::Unmatched(10))
-}
+const CHANGED: &[Case] = &[
+    (
+        "a call that was not made",
+        &[
+            0, 1, 2, 3, 5, 6, 7, 8, 9, 10, 11, 12, 13, 14, 15, 16, 17, 18, 19, 20, 21, 22, 23, 24,
+            25, 26,
+        ],
+        Verdict::Order(9),
+    ),
+    (
+        "a message that was not sent",
+        &[
+            0, 1, 2, 3, 4, 5, 6, 8, 9, 10, 11, 12, 13, 14, 15, 16, 17, 18, 19, 20, 21, 22, 23, 24,
+            25, 26,
+        ],
+        Verdict::Unmatched(10),
+    ),
+    (
+        "a release that was sent twice",
+        &[
+            0, 1, 2, 3, 4, 5, 6, 7, 8, 9, 10, 11, 12, 13, 14, 15, 16, 17, 18, 19, 20, 21, 22, 23,
+            24, 24, 25, 26,
+        ],
+        Verdict::Count(28),
+    ),
+    (
+        "a vat that was down",
+        &[0, 1, 2, 3, 4, 5, 6, 7, 8, 9, 10, 11, 27, 12, 13],
+        Verdict::AfterDown(14),
+    ),
+];
 
-#[test]
-fn a_release_that_was_sent_twice(rt: HostRuntime) -> Result<(), Memory> {
-    let numbers = [
-        0, 1, 2, 3, 4, 5, 6, 7, 8, 9, 10, 11, 12, 13, 14, 15, 16, 17, 18, 19, 20, 21, 22, 23, 24,
-        24, 25, 26,
-    ];
-    says(&rt, rt.alloc(), &numbers, Verdict::Count(28))
-}
+const ORDER: &[Case] = &[
+    ("nothing", &[], Verdict::Good(0)),
+    ("in order", &[30, 31, 33, 34], Verdict::Good(2)),
+    ("in order", &[30, 33, 31, 34], Verdict::Good(2)),
+    ("in order", &[30, 32, 33, 37], Verdict::Good(2)),
+    ("out of order", &[30, 31, 34, 33], Verdict::Order(3)),
+    ("delivered twice", &[30, 33, 33], Verdict::Order(3)),
+    (
+        "delivered before it is made",
+        &[33, 30, 33],
+        Verdict::Order(1),
+    ),
+    ("made by the other vat", &[32, 33], Verdict::Order(2)),
+    ("at two objects", &[30, 31, 33, 35], Verdict::Order(4)),
+    ("at two vats", &[30, 31, 33, 36], Verdict::Order(4)),
+];
 
-#[test]
-fn a_vat_that_was_down(rt: HostRuntime) -> Result<(), Memory> {
-    let numbers = [0, 1, 2, 3, 4, 5, 6, 7, 8, 9, 10, 11, 27, 12, 13];
-    says(&rt, rt.alloc(), &numbers, Verdict::AfterDown(14))
-}
-
-#[test]
-fn calls_in_order(rt: HostRuntime) -> Result<(), Memory> {
-    let alloc = rt.alloc();
-    says(&rt, alloc, &[], Verdict::Good(0))?;
-    says(&rt, alloc, &[30, 31, 33, 34], Verdict::Good(2))?;
-    says(&rt, alloc, &[30, 33, 31, 34], Verdict::Good(2))?;
-    says(&rt, alloc, &[30, 32, 33, 37], Verdict::Good(2))
-}
-
-#[test]
-fn calls_out_of_order(rt: HostRuntime) -> Result<(), Memory> {
-    let alloc = rt.alloc();
-    says(&rt, alloc, &[30, 31, 34, 33], Verdict::Order(3))?;
-    says(&rt, alloc, &[30, 33, 33], Verdict::Order(3))?;
-    says(&rt, alloc, &[33, 30, 33], Verdict::Order(1))?;
-    says(&rt, alloc, &[32, 33], Verdict::Order(2))
-}
-
-#[test]
-fn calls_at_two_places(rt: HostRuntime) -> Result<(), Memory> {
-    let alloc = rt.alloc();
-    says(&rt, alloc, &[30, 31, 33, 35], Verdict::Order(4))?;
-    says(&rt, alloc, &[30, 31, 33, 36], Verdict::Order(4))
-}
-
-#[test]
-fn nothing_to_receive(rt: HostRuntime) -> Result<(), Memory> {
-    let alloc = rt.alloc();
-    says(&rt, alloc, &[53], Verdict::Unmatched(1))?;
-    says(&rt, alloc, &[50, 53], Verdict::Unmatched(2))?;
-    says(&rt, alloc, &[50, 51, 51], Verdict::Unmatched(3))
-}
+const RECEIVED: &[Case] = &[
+    ("nothing was sent", &[53], Verdict::Unmatched(1)),
+    ("sent to the other vat", &[50, 53], Verdict::Unmatched(2)),
+    ("received twice", &[50, 51, 51], Verdict::Unmatched(3)),
+];
 
 /// A vat that is down receives, and the other goes on.
-#[test]
-fn acts_of_a_vat_that_is_down(rt: HostRuntime) -> Result<(), Memory> {
-    let alloc = rt.alloc();
-    says(&rt, alloc, &[38, 50], Verdict::AfterDown(2))?;
-    says(&rt, alloc, &[38, 39], Verdict::AfterDown(2))?;
-    says(&rt, alloc, &[38, 11], Verdict::AfterDown(2))?;
-    says(&rt, alloc, &[32, 38, 37], Verdict::AfterDown(3))?;
-    says(&rt, alloc, &[38, 37], Verdict::Order(2))?;
-    says(&rt, alloc, &[52, 38, 53, 30, 33], Verdict::Good(1))
-}
+const DOWN: &[Case] = &[
+    ("sends", &[38, 50], Verdict::AfterDown(2)),
+    ("answers", &[38, 39], Verdict::AfterDown(2)),
+    ("a call ends", &[38, 11], Verdict::AfterDown(2)),
+    ("a call is delivered", &[32, 38, 37], Verdict::AfterDown(3)),
+    (
+        "a call is delivered that was not made",
+        &[38, 37],
+        Verdict::Order(2),
+    ),
+    (
+        "receives, and the other goes on",
+        &[52, 38, 53, 30, 33],
+        Verdict::Good(1),
+    ),
+];
 
-/// The counts of an export of A as it is sent to B twice and released once.
-#[test]
-fn counts_of_an_export(rt: HostRuntime) -> Result<(), Memory> {
-    let numbers = [50, 110, 51, 111, 52, 110, 50, 120, 53, 110, 51, 111];
-    says(&rt, rt.alloc(), &numbers, Verdict::Good(0))
-}
+const COUNTS: &[Case] = &[
+    (
+        "an export of A that is sent to B twice and released once",
+        &[50, 110, 51, 111, 52, 110, 50, 120, 53, 110, 51, 111],
+        Verdict::Good(0),
+    ),
+    (
+        "counted before it is received",
+        &[50, 111],
+        Verdict::Count(2),
+    ),
+    (
+        "forgotten once it is received",
+        &[50, 51, 110],
+        Verdict::Count(3),
+    ),
+    (
+        "forgotten while its Release is under way",
+        &[50, 51, 52, 100],
+        Verdict::Count(4),
+    ),
+    (
+        "forgotten while it is under way",
+        &[57, 100],
+        Verdict::Count(2),
+    ),
+    (
+        "not looked at where a vat is down",
+        &[27, 110],
+        Verdict::Good(0),
+    ),
+    ("a promise counts", &[54, 110], Verdict::Good(0)),
+    ("a promise counts", &[54, 100], Verdict::Count(2)),
+    (
+        "an export of the receiver does not",
+        &[55, 100],
+        Verdict::Good(0),
+    ),
+    ("an echo does not", &[56, 100], Verdict::Good(0)),
+    (
+        "an id that stands twice has the sum",
+        &[99],
+        Verdict::Good(0),
+    ),
+];
 
-#[test]
-fn counts_that_differ(rt: HostRuntime) -> Result<(), Memory> {
-    let alloc = rt.alloc();
-    says(&rt, alloc, &[50, 111], Verdict::Count(2))?;
-    says(&rt, alloc, &[50, 51, 110], Verdict::Count(3))?;
-    says(&rt, alloc, &[50, 51, 52, 100], Verdict::Count(4))?;
-    says(&rt, alloc, &[57, 100], Verdict::Count(2))?;
-    says(&rt, alloc, &[27, 110], Verdict::Good(0))
-}
-
-#[test]
-fn what_counts(rt: HostRuntime) -> Result<(), Memory> {
-    let alloc = rt.alloc();
-    says(&rt, alloc, &[54, 110], Verdict::Good(0))?;
-    says(&rt, alloc, &[54, 100], Verdict::Count(2))?;
-    says(&rt, alloc, &[55, 100], Verdict::Good(0))?;
-    says(&rt, alloc, &[56, 100], Verdict::Good(0))
-}
-
-/// B drops what A's Call 1 handed on, and answers.
-#[test]
-fn a_flag_releases_what_the_call_handed_on(rt: HostRuntime) -> Result<(), Memory> {
-    let numbers = [60, 110, 51, 111, 65, 111, 62, 110, 53, 100];
-    says(&rt, rt.alloc(), &numbers, Verdict::Good(0))
-}
-
-#[test]
-fn a_flag_of_either_vat(rt: HostRuntime) -> Result<(), Memory> {
-    let numbers = [80, 210, 53, 211, 73, 210, 51, 200];
-    says(&rt, rt.alloc(), &numbers, Verdict::Good(0))
-}
-
-/// B keeps what A's Call 1 handed on, and drops it later.
-#[test]
-fn a_false_flag_releases_nothing(rt: HostRuntime) -> Result<(), Memory> {
-    let numbers = [60, 110, 51, 111, 63, 111, 53, 111, 65, 52, 110, 53, 100];
-    says(&rt, rt.alloc(), &numbers, Verdict::Good(0))
-}
-
-/// B drops the reference of Call 1 and keeps that of Call 2.
-#[test]
-fn a_flag_of_one_of_two_calls(rt: HostRuntime) -> Result<(), Memory> {
-    let numbers = [60, 61, 51, 51, 122, 65, 62, 121, 53, 111, 64, 111, 53, 111];
-    says(&rt, rt.alloc(), &numbers, Verdict::Good(0))
-}
-
-#[test]
-fn a_flag_releases_what_the_return_handed_on(rt: HostRuntime) -> Result<(), Memory> {
-    let alloc = rt.alloc();
-    says(
-        &rt,
-        alloc,
+/// B drops what A's Calls and Returns handed on, or keeps it, and says so by a flag.
+const FLAGS: &[Case] = &[
+    (
+        "a Return releases what its Call handed on",
+        &[60, 110, 51, 111, 65, 111, 62, 110, 53, 100],
+        Verdict::Good(0),
+    ),
+    (
+        "of either vat",
+        &[80, 210, 53, 211, 73, 210, 51, 200],
+        Verdict::Good(0),
+    ),
+    (
+        "a false flag releases nothing",
+        &[60, 110, 51, 111, 63, 111, 53, 111, 65, 52, 110, 53, 100],
+        Verdict::Good(0),
+    ),
+    (
+        "one of two Calls",
+        &[60, 61, 51, 51, 122, 65, 62, 121, 53, 111, 64, 111, 53, 111],
+        Verdict::Good(0),
+    ),
+    (
+        "a Finish releases what its Return handed on",
         &[66, 110, 51, 111, 65, 67, 110, 53, 100],
         Verdict::Good(0),
-    )?;
-    says(&rt, alloc, &[66, 51, 68, 111, 53, 111], Verdict::Good(0))
-}
+    ),
+    (
+        "a Finish that releases nothing",
+        &[66, 51, 68, 111, 53, 111],
+        Verdict::Good(0),
+    ),
+    ("not counted", &[60, 51, 62, 111], Verdict::Count(4)),
+    ("not counted", &[60, 51, 62, 100], Verdict::Count(4)),
+    ("not counted", &[60, 51, 62, 53, 110], Verdict::Count(5)),
+    ("not counted", &[66, 51, 67, 111], Verdict::Count(4)),
+];
 
-#[test]
-fn flags_that_were_not_counted(rt: HostRuntime) -> Result<(), Memory> {
-    let alloc = rt.alloc();
-    says(&rt, alloc, &[60, 51, 62, 111], Verdict::Count(4))?;
-    says(&rt, alloc, &[60, 51, 62, 100], Verdict::Count(4))?;
-    says(&rt, alloc, &[60, 51, 62, 53, 110], Verdict::Count(5))?;
-    says(&rt, alloc, &[66, 51, 67, 111], Verdict::Count(4))
-}
-
-/// The last one with that id before the flag was sent, whatever it handed on.
-#[test]
-fn the_last_of_an_id(rt: HostRuntime) -> Result<(), Memory> {
-    let alloc = rt.alloc();
-    says(&rt, alloc, &[60, 51, 71, 51, 62, 111], Verdict::Good(0))?;
-    says(&rt, alloc, &[60, 51, 70, 51, 62, 111], Verdict::Good(0))?;
-    says(&rt, alloc, &[71, 51, 60, 51, 62, 110], Verdict::Good(0))?;
-    says(&rt, alloc, &[66, 51, 72, 51, 67, 111], Verdict::Good(0))
-}
-
-#[test]
-fn what_comes_after_a_flag(rt: HostRuntime) -> Result<(), Memory> {
-    let alloc = rt.alloc();
-    says(&rt, alloc, &[60, 51, 62, 71, 110], Verdict::Good(0))?;
-    says(&rt, alloc, &[71, 51, 62, 60, 110], Verdict::Good(0))
-}
+/// The last Call or Return with the flag's id before it was sent, whatever it handed on.
+const OF_THE_LAST: &[Case] = &[
+    (
+        "a Call with nothing",
+        &[60, 51, 71, 51, 62, 111],
+        Verdict::Good(0),
+    ),
+    ("a Bootstrap", &[60, 51, 70, 51, 62, 111], Verdict::Good(0)),
+    ("a Call", &[71, 51, 60, 51, 62, 110], Verdict::Good(0)),
+    (
+        "a Return with nothing",
+        &[66, 51, 72, 51, 67, 111],
+        Verdict::Good(0),
+    ),
+    (
+        "a Call with nothing behind the flag",
+        &[60, 51, 62, 71, 110],
+        Verdict::Good(0),
+    ),
+    (
+        "a Call behind the flag",
+        &[71, 51, 62, 60, 110],
+        Verdict::Good(0),
+    ),
+];
 
 /// A Finish releases nothing of a Call, a Return nothing of a Return, and neither what its own vat handed on.
-#[test]
-fn what_flags_do_not_release(rt: HostRuntime) -> Result<(), Memory> {
-    let alloc = rt.alloc();
-    says(&rt, alloc, &[60, 51, 74, 111], Verdict::Good(0))?;
-    says(&rt, alloc, &[66, 51, 75, 111], Verdict::Good(0))?;
-    says(&rt, alloc, &[60, 51, 73, 111], Verdict::Good(0))?;
-    says(&rt, alloc, &[60, 51, 76, 111], Verdict::Good(0))
-}
+const NOT_RELEASED: &[Case] = &[
+    ("a Finish of a Call", &[60, 51, 74, 111], Verdict::Good(0)),
+    ("a Return of a Return", &[66, 51, 75, 111], Verdict::Good(0)),
+    (
+        "what its own vat handed on",
+        &[60, 51, 73, 111],
+        Verdict::Good(0),
+    ),
+    ("an echo", &[60, 51, 76, 111], Verdict::Good(0)),
+];
 
-/// An id that stands twice in a list has the sum.
 #[test]
-fn doubled_ids_add_up(rt: HostRuntime) -> Result<(), Memory> {
-    says(&rt, rt.alloc(), &[99], Verdict::Good(0))
+fn traces_have_these_verdicts(rt: HostRuntime) -> Result<(), Memory> {
+    for cases in [
+        CHANGED,
+        ORDER,
+        RECEIVED,
+        DOWN,
+        COUNTS,
+        FLAGS,
+        OF_THE_LAST,
+        NOT_RELEASED,
+    ] {
+        for (name, numbers, verdict) in cases {
+            says(&rt, rt.alloc(), name, numbers, *verdict)?;
+        }
+    }
+    Ok(())
 }

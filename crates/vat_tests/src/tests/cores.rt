@@ -385,40 +385,42 @@ fn finish_of(question: u32) -> PlainMessage {
     })
 }
 
-#[test]
-fn fault_of_a_second_bootstrap(rt: HostRuntime) -> Result<(), Memory> {
-    let bootstrap = Message::Plain(PlainMessage::Bootstrap(QuestionId(0)));
-    faults(&rt, rt.alloc(), bootstrap, 20, "fault 20")
+/// Messages at fault, by their numbers.
+const FAULTS: u32 = 6;
+
+/// A message that is at fault behind a Bootstrap, with the fault and the reason of the Abort.
+fn at_fault(number: u32) -> (Message, u16, &'static str) {
+    match number {
+        0 => {
+            let bootstrap = PlainMessage::Bootstrap(QuestionId(0));
+            (Message::Plain(bootstrap), 20, "fault 20")
+        }
+        1 => (Message::Plain(finish_of(5)), 23, "fault 23"),
+        2 => (release_of(1, 1), 22, "fault 22"),
+        3 => (release_of(0, 0), 24, "fault 24"),
+        4 => (release_of(0, 2), 24, "fault 24"),
+        _ => (Message::Unimplemented(finish_of(0)), 32, "fault 32"),
+    }
 }
 
-#[test]
-fn fault_of_a_finish_of_nothing(rt: HostRuntime) -> Result<(), Memory> {
-    let finish = Message::Plain(finish_of(5));
-    faults(&rt, rt.alloc(), finish, 23, "fault 23")
+fn faults_by(rt: &impl Abort, alloc: Global, number: u32) -> Result<(), Memory> {
+    let (message, fault, reason) = at_fault(number);
+    faults(rt, alloc, message, fault, reason)
 }
 
+/// A second Bootstrap, a Finish and a Release of nothing, two Releases of a wrong count, and an echo.
 #[test]
-fn fault_of_a_release_of_nothing(rt: HostRuntime) -> Result<(), Memory> {
-    faults(&rt, rt.alloc(), release_of(1, 1), 22, "fault 22")
-}
-
-#[test]
-fn faults_of_the_count_of_a_release(rt: HostRuntime) -> Result<(), Memory> {
-    faults(&rt, rt.alloc(), release_of(0, 0), 24, "fault 24")?;
-    faults(&rt, rt.alloc(), release_of(0, 2), 24, "fault 24")
-}
-
-#[test]
-fn fault_of_an_echo(rt: HostRuntime) -> Result<(), Memory> {
-    let echo = Message::Unimplemented(finish_of(0));
-    faults(&rt, rt.alloc(), echo, 32, "fault 32")
+fn messages_at_fault(rt: HostRuntime) -> Result<(), Memory> {
+    for number in 0..FAULTS {
+        faults_by(&rt, rt.alloc(), number)?;
+    }
+    Ok(())
 }
 
 /// A message that is not built is echoed, and the connection goes on.
-#[test]
-fn echoes_what_is_not_built(rt: HostRuntime) -> Result<(), Memory> {
-    let mut core = vat(rt.alloc(), Vat::B, Some(ObjectId(0)))?;
-    echoes(&rt, rt.alloc(), &mut core);
+fn echoes_what_is_not_built(rt: &impl Abort, alloc: Global) -> Result<(), Memory> {
+    let mut core = vat(alloc, Vat::B, Some(ObjectId(0)))?;
+    echoes(rt, alloc, &mut core);
     Ok(())
 }
 
@@ -446,12 +448,17 @@ fn abort_of(alloc: Global) -> Result<Message, Memory> {
 }
 
 /// An Abort that is received is not answered.
-#[test]
-fn abort_is_not_answered(rt: HostRuntime) -> Result<(), Memory> {
-    let abort = abort_of(rt.alloc())?;
-    let mut core = vat(rt.alloc(), Vat::B, Some(ObjectId(0)))?;
-    takes_an_abort(&rt, rt.alloc(), &mut core, abort);
+fn abort_is_not_answered(rt: &impl Abort, alloc: Global) -> Result<(), Memory> {
+    let abort = abort_of(alloc)?;
+    let mut core = vat(alloc, Vat::B, Some(ObjectId(0)))?;
+    takes_an_abort(rt, alloc, &mut core, abort);
     Ok(())
+}
+
+#[test]
+fn messages_that_are_no_fault(rt: HostRuntime) -> Result<(), Memory> {
+    echoes_what_is_not_built(&rt, rt.alloc())?;
+    abort_is_not_answered(&rt, rt.alloc())
 }
 
 fn takes_an_abort(rt: &impl Abort, alloc: Global, core: &mut Core, abort: Message) {
@@ -460,12 +467,22 @@ fn takes_an_abort(rt: &impl Abort, alloc: Global, core: &mut Core, abort: Messag
     assert_eq!(rt; down(core), Some(34));
 }
 
-/// Refusals of what is not there.
-#[test]
-fn refuses_what_is_not_there(rt: HostRuntime) -> Result<(), Memory> {
-    let mut core = vat(rt.alloc(), Vat::A, None)?;
-    refuses_unknown(&rt, rt.alloc(), &mut core);
+fn refuses_what_is_not_there(rt: &impl Abort, alloc: Global) -> Result<(), Memory> {
+    let mut core = vat(alloc, Vat::A, None)?;
+    refuses_unknown(rt, alloc, &mut core);
     Ok(())
+}
+
+fn refuses_paths_and_arguments(rt: &impl Abort, alloc: Global) -> Result<(), Memory> {
+    let mut core = vat(alloc, Vat::A, None)?;
+    refuses_lists(rt, alloc, &mut core);
+    Ok(())
+}
+
+#[test]
+fn refuses_commands(rt: HostRuntime) -> Result<(), Memory> {
+    refuses_what_is_not_there(&rt, rt.alloc())?;
+    refuses_paths_and_arguments(&rt, rt.alloc())
 }
 
 fn refuses_unknown(rt: &impl Abort, alloc: Global, core: &mut Core) {
@@ -475,14 +492,6 @@ fn refuses_unknown(rt: &impl Abort, alloc: Global, core: &mut Core) {
     assert_eq!(rt; refused, Some(Refusal::UnknownRef));
     let refused = refusal_of(answer(core, alloc, TaskId(0)));
     assert_eq!(rt; refused.map(Refusal::code), Some(6));
-}
-
-/// Refusals of paths and arguments.
-#[test]
-fn refuses_paths_and_arguments(rt: HostRuntime) -> Result<(), Memory> {
-    let mut core = vat(rt.alloc(), Vat::A, None)?;
-    refuses_lists(&rt, rt.alloc(), &mut core);
-    Ok(())
 }
 
 fn refuses_lists(rt: &impl Abort, alloc: Global, core: &mut Core) {
@@ -520,24 +529,27 @@ fn takes_a_copied_command(rt: &impl Abort, alloc: Global, core: &mut Core) -> Re
     Ok(())
 }
 
-/// A vat is new until it asks, or is asked.
-#[test]
-fn new_until_used(rt: HostRuntime) -> Result<(), Memory> {
-    let mut a = vat(rt.alloc(), Vat::A, None)?;
-    let mut b = vat(rt.alloc(), Vat::B, Some(ObjectId(0)))?;
+fn new_until_used(rt: &impl Abort, alloc: Global) -> Result<(), Memory> {
+    let mut a = vat(alloc, Vat::A, None)?;
+    let mut b = vat(alloc, Vat::B, Some(ObjectId(0)))?;
     assert!(rt; is_new(&a) && is_new(&b));
-    let asked = asks_for_bootstrap(&rt, rt.alloc(), &mut a);
+    let asked = asks_for_bootstrap(rt, alloc, &mut a);
     assert!(rt; !is_new(&a));
-    let returned = receive(&mut b, rt.alloc(), asked);
+    let returned = receive(&mut b, alloc, asked);
     assert!(rt; returned.sends.len() == 1 && !is_new(&b));
     Ok(())
 }
 
-/// A vat that was shut is not new.
-#[test]
-fn not_new_once_down(rt: HostRuntime) -> Result<(), Memory> {
-    let mut core = vat(rt.alloc(), Vat::A, None)?;
-    let effects = shut(&mut core, rt.alloc(), 7);
+fn not_new_once_down(rt: &impl Abort, alloc: Global) -> Result<(), Memory> {
+    let mut core = vat(alloc, Vat::A, None)?;
+    let effects = shut(&mut core, alloc, 7);
     assert!(rt; effects.down == Some(7) && !is_new(&core));
     Ok(())
+}
+
+/// A vat is new until it asks, is asked, or is shut.
+#[test]
+fn new_at_first(rt: HostRuntime) -> Result<(), Memory> {
+    new_until_used(&rt, rt.alloc())?;
+    not_new_once_down(&rt, rt.alloc())
 }

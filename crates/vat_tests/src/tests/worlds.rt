@@ -362,10 +362,9 @@ fn runs(rt: &impl Abort, alloc: Global, events: Vec<WorldEvent>) -> Result<(), M
 }
 
 /// Where nothing is under way nothing is received, and nothing is written.
-#[test]
-fn nothing_is_under_way(rt: HostRuntime) -> Result<(), Memory> {
-    let mut world = world(rt.alloc())?;
-    receives_nothing(&rt, rt.alloc(), &mut world);
+fn nothing_is_under_way(rt: &impl Abort, alloc: Global) -> Result<(), Memory> {
+    let mut world = world(alloc)?;
+    receives_nothing(rt, alloc, &mut world);
     Ok(())
 }
 
@@ -401,11 +400,10 @@ fn stays_down(rt: &impl Abort, alloc: Global, world: &mut World, vat: Vat) {
     assert_eq!(rt; entries(world).len(), before);
 }
 
-/// The Bootstrap of B is under way to A when A is shut: it is not received.
-#[test]
-fn a_shut_takes_both_down(rt: HostRuntime) -> Result<(), Memory> {
-    let mut world = world(rt.alloc())?;
-    goes_down(&rt, rt.alloc(), &mut world);
+/// A shut takes both down. The Bootstrap of B is under way to A when A is shut: it is not received.
+fn a_shut_takes_both_down(rt: &impl Abort, alloc: Global) -> Result<(), Memory> {
+    let mut world = world(alloc)?;
+    goes_down(rt, alloc, &mut world);
     Ok(())
 }
 
@@ -427,10 +425,9 @@ fn goes_down(rt: &impl Abort, alloc: Global, world: &mut World) {
 }
 
 /// A refused command is written, and the second call through a reference has index 1.
-#[test]
-fn refused_and_second_calls(rt: HostRuntime) -> Result<(), Memory> {
-    let mut world = world(rt.alloc())?;
-    calls_twice(&rt, rt.alloc(), &mut world);
+fn refused_and_second_calls(rt: &impl Abort, alloc: Global) -> Result<(), Memory> {
+    let mut world = world(alloc)?;
+    calls_twice(rt, alloc, &mut world);
     Ok(())
 }
 
@@ -481,10 +478,9 @@ fn is_counted(counts: &Items<(ExportId, u32)>, wanted: &[u32]) -> bool {
 }
 
 /// Export 0 was sent once: it is under way, then it is received.
-#[test]
-fn counts_while_under_way(rt: HostRuntime) -> Result<(), Memory> {
-    let mut world = world(rt.alloc())?;
-    counts(&rt, rt.alloc(), &mut world);
+fn counts_while_under_way(rt: &impl Abort, alloc: Global) -> Result<(), Memory> {
+    let mut world = world(alloc)?;
+    counts(rt, alloc, &mut world);
     Ok(())
 }
 
@@ -502,6 +498,14 @@ fn counts(rt: &impl Abort, alloc: Global, world: &mut World) {
         Brief::Handled
     );
     assert!(rt; note(world, alloc) && has_counts(entries(world), &[1], &[1]));
+}
+
+#[test]
+fn other_runs(rt: HostRuntime) -> Result<(), Memory> {
+    nothing_is_under_way(&rt, rt.alloc())?;
+    a_shut_takes_both_down(&rt, rt.alloc())?;
+    refused_and_second_calls(&rt, rt.alloc())?;
+    counts_while_under_way(&rt, rt.alloc())
 }
 
 fn is_abort(entry: &JournalEntry, reason: &str) -> bool {

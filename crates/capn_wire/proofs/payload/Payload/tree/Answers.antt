@@ -18,6 +18,6 @@ build-requires c =
 pub returns : goal.returns
 returns c =
     let same = c.as_slice.ensures.value ∙ ap (λ (v : Vec ℕ). v.items) c.deref.ensures in
-    c.in-Ok-build.ensures
+    c.in_ok-tree.ensures
     ∙ (framed_read (arc_value c.self.inside.bytes).items c.self.inside.caps c.in-Ok.message c.self.invariant.encoded (rw same at c.in-Ok.ensures)).1
     ∙ ap tree_of c.self.view_is

@@ -1,4 +1,4 @@
-use Rattle.std.proofs.Common.{arith, ◌<◌, ℕ, length, take, ap, ◌≡◌}
+use Rattle.std.proofs.Common.{arith, length, take, ap, ◌≡◌}
 use Rattle.std.proofs.lemmas.List.{length-take-le}
 use Rattle.rpc_msg.proofs.Padding.{padded_push}
 use Rattle.rpc_msg.proofs.path.Path.push.Goals as goal

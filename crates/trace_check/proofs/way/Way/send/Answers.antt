@@ -4,8 +4,8 @@ use Rattle.trace_check.specs.Kept.{amount}
 use Rattle.trace_check.proofs.OneWay.{is_sent}
 use Rattle.trace_check.proofs.way.Way.send.Goals as goal
 
-pub returns-in-Ok-clause-way : goal.returns-in-Ok-clause-way
-returns-in-Ok-clause-way c = λ ss before way said.
-    is_sent c.args.self.now _ ss (record { message = c.args.message.now; before = before }) c.in_ok-parcel.parcel way (c.in_ok-parcel.ensures before said) c.in-Ok.ensures.items
+pub returns-clause-way : goal.returns-clause-way
+returns-clause-way c = λ ss before way said.
+    is_sent c.args.self.now _ ss (record { message = c.args.message.now; before = before }) c.in_ok-parcel.parcel way (c.in_ok-parcel.ensures before said) c.in_ok-push_back.ensures.items
     (λ e. c.in_ok-add_all.ensures e ∙ ap (λ (xs : CountsById). amount c.args.self.now.handed_on e + count_of e xs) c.as_slice.ensures)
     (λ e. c.in_ok-add_all-2.ensures e ∙ ap (λ (xs : CountsById). amount c.args.self.now.released e + count_of e xs) c.as_slice-2.ensures)

@@ -5,17 +5,17 @@ use Rattle.vat_core.proofs.asking.Asking.reserve.Goals as goal
 
 pub returns-in-Err-clause-at_limit : goal.returns-in-Err-clause-at_limit
 returns-in-Err-clause-at_limit c full =
-    let said : c.reserve.result ≡ Err Full = c.reserve.ensures.at_limit (seen_len _ _ _ _ _ c.self.view_is ∙ full) in
-    let is : c.reserve.result ≡ Err c.in-Err.refused = c.in-Err.is in
+    let said : c.reserve_question.result ≡ Err Full = c.reserve_question.ensures.at_limit (seen_len _ _ _ _ _ c.self.view_is ∙ full) in
+    let is : c.reserve_question.result ≡ Err c.in-Err.refused = c.in-Err.is in
     cc
 
 pub returns-in-Err-clause-full : goal.returns-in-Err-clause-full
 returns-in-Err-clause-full c full =
     let said : c.in-Err.refused ≡ Full = cc in
-    sym (seen_len _ _ _ _ _ c.self.view_is) ∙ c.reserve.ensures.full (c.in-Err.is ∙ ap Err said)
+    sym (seen_len _ _ _ _ _ c.self.view_is) ∙ c.reserve_question.ensures.full (c.in-Err.is ∙ ap Err said)
 
 pub returns-then-is_err-clause-at_limit : goal.returns-then-is_err-clause-at_limit
-returns-then-is_err-clause-at_limit c full = absurd (c.in_default.not-Err _ (c.reserve.ensures.at_limit (seen_len _ _ _ _ _ c.self.view_is ∙ full)))
+returns-then-is_err-clause-at_limit c full = absurd (c.in_default.not-Err _ (c.reserve_question.ensures.at_limit (seen_len _ _ _ _ _ c.self.view_is ∙ full)))
 
 pub returns-clause-at_limit : goal.returns-clause-at_limit
-returns-clause-at_limit c full = absurd (c.in_default.not-Err _ (c.reserve.ensures.at_limit (seen_len _ _ _ _ _ c.self.view_is ∙ full)))
+returns-clause-at_limit c full = absurd (c.in_default.not-Err _ (c.reserve_question.ensures.at_limit (seen_len _ _ _ _ _ c.self.view_is ∙ full)))

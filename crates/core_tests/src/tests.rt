@@ -1,0 +1,4 @@
+mod exports;
+mod names;
+mod outbox;
+mod waits;

@@ -1,0 +1,10 @@
+pub mod Alone
+pub mod Checks
+pub mod Exact
+pub mod Pieces
+pub mod Ends
+pub mod Commanded
+pub mod Received
+pub mod EachStep
+pub mod Viewed
+pub mod Walked

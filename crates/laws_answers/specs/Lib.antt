@@ -1,0 +1,4 @@
+pub mod Loopbacks
+pub mod Returned
+pub mod PayloadCaps
+pub mod Named

@@ -1,0 +1,4 @@
+pub mod Imports
+pub mod Entries
+pub mod Agreed
+pub mod Scenes

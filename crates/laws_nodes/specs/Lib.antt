@@ -1,0 +1,5 @@
+pub mod Ones
+pub mod Settling
+pub mod Embargoes
+pub mod Sources
+pub mod Questions

@@ -1,0 +1,11 @@
+pub mod Parts
+pub mod Tables
+pub mod Likeness
+pub mod References
+pub mod Questions
+pub mod Imports
+pub mod Promises
+pub mod Nothing
+pub mod Taken
+pub mod Loose
+pub mod Resolves

@@ -1,0 +1,220 @@
+-- Descriptors are taken, and imports come.
+use Rattle.std.specs.FinMap as map
+use Rattle.std.proofs.Common.{◌≡◌, ℕ, Bool, false, List, [], ◌∷◌, ◌++◌, Option, None, Some, IsSome, refl, sym, ap, subst, ◌∙◌}
+use Rattle.finite_maps.proofs.Tested.{at_put}
+use Rattle.rpc_msg.specs.declared.ids.Vat.{Vat}
+use Rattle.rpc_msg.specs.declared.parts.Descriptor.{Descriptor}
+use Rattle.rpc_msg.specs.declared.parts.Descriptor.TheVariants as descriptor
+use Rattle.rpc_msg.specs.declared.message.Message as rpc
+use Rattle.rpc_msg.specs.Messages.{given}
+use Rattle.rpc_msg.specs.Vats.{other_vat}
+use Rattle.vat_machine.specs.declared.command.Level.{Level}
+use Rattle.vat_machine.specs.declared.command.Level.TheVariants.{Zero, One}
+use Rattle.vat_machine.specs.declared.node.Node.{Node}
+use Rattle.vat_machine.specs.declared.node.Node.TheVariants as node
+use Rattle.vat_machine.specs.declared.entries.SenderKind.{SenderKind}
+use Rattle.vat_machine.specs.declared.entries.SenderKind.TheVariants as kind
+use Rattle.vat_machine.specs.declared.entries.Reference.{Reference}
+use Rattle.vat_machine.specs.declared.entries.Embargo.{Embargo}
+use Rattle.vat_machine.specs.declared.entries.Export.{Export}
+use Rattle.vat_machine.specs.declared.entries.Import.{Import}
+use Rattle.vat_machine.specs.State.{State}
+use Rattle.vat_machine.specs.Nodes.{link, is_import, is_wire}
+use Rattle.vat_machine.specs.Progress.{Progress, with_state}
+use Rattle.vat_machine.specs.Descriptors.{export_node, received, import_one, take_each, take_at}
+use Rattle.call_order.specs.Machine.{Net}
+use Rattle.call_order.specs.Machine as routing
+use Rattle.laws_routes.specs.Points.{Point, routes}
+use Rattle.laws_routes.specs.Ghosts.{Ghost, point, far, ref_at, importing}
+use Rattle.laws_routes.specs.Sides.{Side, IsLinked, HasHead, IsRef, HasEmbargo}
+use Rattle.laws_routes.specs.Views.{IsExportAs, IsImportOf, IsSession, reader, sessions_at}
+use Rattle.laws_routes.specs.Ties.{Around, Ghosts, Tied}
+use Rattle.laws_routes.specs.Premises.{EachMayTake, EachOpen, ExportsAreOwn, MayTake, Unnamed}
+use Rattle.laws_routes.specs.MessageLaws.{SameButImports}
+use Rattle.laws_routes.proofs.Differing.{with_here, with_other}
+use Rattle.laws_routes.proofs.LinkShapes.{all_opens, past_same, shapes_exports, shapes_same}
+use Rattle.laws_routes.proofs.OutcomeKept.{all_caps}
+
+-- ---- What other nodes stand for
+
+module _ (v : Vat) (g : Ghost) (e : ℕ) (x : Point) where
+  same_point : (n : Node) → is_import e n ≡ false → point v (importing g e x) n ≡ point v g n
+  same_point (node.Object o) h = refl
+  same_point (node.Promise p) h = refl
+  same_point (node.Field o path) h = refl
+  same_point (node.Import k) h = with_other g.import e x k.0 h
+  same_point (node.Pipe q path) h = refl
+  same_point (node.Broken reason) h = refl
+
+  own_point : (n : Node) → is_wire n ≡ false → point v (importing g e x) n ≡ point v g n
+  own_point (node.Object o) h = refl
+  own_point (node.Promise p) h = refl
+  own_point (node.Field o path) h = refl
+  own_point (node.Import k) h = cc
+  own_point (node.Pipe q path) h = refl
+  own_point (node.Broken reason) h = refl
+
+  same_far : (n : Node) → is_import e n ≡ false → far v (importing g e x) n ≡ far v g n
+  same_far (node.Object o) h = refl
+  same_far (node.Promise p) h = refl
+  same_far (node.Field o path) h = refl
+  same_far (node.Import k) h = ap Some (with_other g.import e x k.0 h)
+  same_far (node.Pipe q path) h = refl
+  same_far (node.Broken reason) h = refl
+
+  same_head : (n : Node) (dead : Bool) (head : Point) → is_import e n ≡ false → HasHead v g n dead head → HasHead v (importing g e x) n dead head
+  same_head (node.Object o) dead head h k = k
+  same_head (node.Promise p) dead head h k = k
+  same_head (node.Field o path) dead head h k = k
+  same_head (node.Import j) dead head h k = (k.0, k.1 ∙ sym (with_other g.import e x j.0 h))
+  same_head (node.Pipe q path) dead head h k = k
+  same_head (node.Broken reason) dead head h k = k
+
+-- ---- A new import
+
+new_side : (v : Vat) (s : State) (g : Ghost) (next : ℕ) (m : routing.State routes) (e : ℕ) (x : Point) (k : SenderKind) → Unnamed s (is_import e) → Side v s g next m → Side v (import_one s k e) (importing g e x) next m
+new_side v s g next m e x k un h = record {
+  stops = λ n w i. linked n w (link s n) (λ j f. un.links n j i f) (h.stops n w i);
+  refs = λ r. ref r (map.get s.refs r) refl (h.refs r);
+  embargoes = λ b. embargo b (map.get s.embargoes b) refl (h.embargoes b);
+  no_other_embargoes = h.no_other_embargoes;
+  lists = h.lists;
+  ids = h.ids;
+}
+  where
+    f : Ghost
+    f = importing g e x
+
+    linked : (n : Node) → is_wire n ≡ false → (o : Option Node) → ((j : Node) → o ≡ Some j → is_import e j ≡ false) → IsLinked v g m.net n o → IsLinked v (importing g e x) m.net n o
+    linked n w None un a = rw (own_point v g e x n w) a
+    linked n w (Some j) un a = rw (own_point v g e x n w) (rw (same_point v g e x j (un j refl)) (rw (same_far v g e x j (un j refl)) a))
+
+    ref : (r : ℕ) (o : Option Reference) → map.get s.refs r ≡ o → IsRef v g s.next_ref r o (m.refs (ref_at v r)) → IsRef v (importing g e x) s.next_ref r o (m.refs (ref_at v r))
+    ref r None i a = a
+    ref r (Some y) i a = (a.0, a.1, a.2, same_head v g e x y.head _ _ (un.heads r y i) a.3, a.4)
+
+    embargo : (b : ℕ) (o : Option Embargo) → map.get s.embargoes b ≡ o → HasEmbargo v g m o → HasEmbargo v (importing g e x) m o
+    embargo b None i a = tt
+    embargo b (Some y) i a = (a.0, a.1, a.2, a.3, a.4, a.5 ∙ sym (same_point v g e x y.node (un.embargoes b y i)))
+
+module _ (w : Around) (d : Progress) (g : Ghosts) (m : routing.State routes) (t : Tied w d g m) (e : ℕ) (k : SenderKind) where
+  abbrev s : State
+  s = d.state
+
+  abbrev u : Vat
+  u = other_vat w.vat
+
+  abbrev x : Point
+  x = point u g.theirs (export_node (map.get (w.other).exports e))
+
+  abbrev f : Ghost
+  f = importing g.own e x
+
+  is_export : (o : Option Export) → IsSome o → IsExportAs u g.theirs (point u g.theirs (export_node o)) o
+  is_export None i = cc
+  is_export (Some y) i = refl
+
+  new_import : ExportsAreOwn s → IsSome (map.get (w.other).exports e) → Unnamed s (is_import e) → Tied w (with_state d (import_one s k e)) (record g { own = f }) m
+  new_import own there un =
+      let view = t.view in
+      let back = t.back in
+      record {
+        own = new_side w.vat s g.own g.next m e x k un t.own;
+        theirs = t.theirs;
+        view = record {
+          imports = at_put (λ j o. IsImportOf u g.theirs (f.import j) (map.get (w.other).exports j) o) s.imports e (received k (map.get s.imports e))
+              (subst (λ (z : Point). IsExportAs u g.theirs z (map.get (w.other).exports e)) (sym (with_here g.own.import e x)) (is_export (map.get (w.other).exports e) there))
+              (λ j n. subst (λ (z : Point). IsImportOf u g.theirs z (map.get (w.other).exports j) (map.get s.imports j)) (sym (with_other g.own.import e x j n)) (view.imports j));
+          sessions = subst (λ (z : ℕ → ℕ). (q : ℕ) → IsSession (g.own.session q) (z q) (map.get s.questions q)) (sym (past_same g.own f now out opens)) view.sessions;
+          link = shapes_same w.vat u g.own f (reader s w.other g.theirs) now out opens ∙ view.link;
+        };
+        back = record {
+          imports = λ j. import_same (g.theirs.import j) (map.get s.exports j) (map.get (w.other).imports j) (own j) (back.imports j);
+          sessions = back.sessions;
+          link = shapes_exports u w.vat g.theirs (reader w.other s g.own) s.exports f (sessions_at g.own.outcome s.answers) w.back (all_caps _ w.back (λ j. point_same (map.get s.exports j) (own j))) ∙ back.link;
+        };
+        told = t.told;
+      }
+    where
+      now : ℕ → ℕ
+      now = sessions_at g.theirs.outcome (w.other).answers
+
+      out : List rpc.Message
+      out = w.out ++ d.effects.sends
+
+      opens : EachOpen (λ q. f.session q ≡ g.own.session q) out
+      opens = all_opens (λ q. f.session q ≡ g.own.session q) out (λ q. refl)
+
+      import_same : (p : Point) (y : Option Export) (o : Option Import) → ((z : Export) → y ≡ Some z → is_wire z.node ≡ false) → IsImportOf w.vat g.own p y o → IsImportOf w.vat f p y o
+      import_same p y None h i = tt
+      import_same p None (Some o) h i = absurd i
+      import_same p (Some y) (Some o) h i = i ∙ sym (own_point w.vat g.own e x y.node (h y refl))
+
+      point_same : (y : Option Export) → ((z : Export) → y ≡ Some z → is_wire z.node ≡ false) → point w.vat f (export_node y) ≡ point w.vat g.own (export_node y)
+      point_same None h = refl
+      point_same (Some y) h = own_point w.vat g.own e x y.node (h y refl)
+
+  -- One that is there stands for what it stood for.
+  old_import : (z : Import) → map.get s.imports e ≡ Some z → Tied w (with_state d (import_one s k e)) g m
+  old_import z there =
+      let side = t.own in
+      let view = t.view in
+      let back = t.back in
+      record {
+        own = record { stops = side.stops; refs = side.refs; embargoes = side.embargoes; no_other_embargoes = side.no_other_embargoes; lists = side.lists; ids = side.ids };
+        theirs = t.theirs;
+        view = record {
+          imports = at_put (λ j o. IsImportOf u g.theirs (g.own.import j) (map.get (w.other).exports j) o) s.imports e (received k (map.get s.imports e))
+              (subst (IsImportOf u g.theirs (g.own.import e) (map.get (w.other).exports e)) there (view.imports e)) (λ j n. view.imports j);
+          sessions = view.sessions;
+          link = view.link;
+        };
+        back = record { imports = back.imports; sessions = back.sessions; link = back.link };
+        told = t.told;
+      }
+
+  one_import : ExportsAreOwn s → MayTake s w.other e → (h : Ghosts) × Tied w (with_state d (import_one s k e)) h m × SameButImports g h
+  one_import own may = by (map.get s.imports e) refl
+    where
+      by : (o : Option Import) → map.get s.imports e ≡ o → (h : Ghosts) × Tied w (with_state d (import_one s k e)) h m × SameButImports g h
+      by None i = (record g { own = f }, new_import own may.there (may.unnamed i), (refl, refl, refl, refl, refl))
+      by (Some z) i = (g, old_import z i, (refl, refl, refl, refl, refl))
+
+-- ---- One after the other
+
+still_may : (s other : State) (k : SenderKind) (e : ℕ) (es : List ℕ) → EachMayTake s other es → EachMayTake (import_one s k e) other es
+still_may s other k e [] h = tt
+still_may s other k e (j ∷ es) h =
+    let a = h.0 in (
+      record { there = a.there; unnamed = λ i. let un = a.unnamed (before j i) in record { links = un.links; heads = un.heads; embargoes = un.embargoes } },
+      still_may s other k e es h.1,
+    )
+  where
+    before : (j : ℕ) → map.get (map.insert s.imports e (received k (map.get s.imports e))) j ≡ None → map.get s.imports j ≡ None
+    before = at_put (λ j o. o ≡ None → map.get s.imports j ≡ None) s.imports e (received k (map.get s.imports e)) (λ i. cc) (λ j n i. i)
+
+same_then : (g f h : Ghosts) → SameButImports g f → SameButImports f h → SameButImports g h
+same_then g f h a b = (b.0 ∙ a.0, b.1 ∙ a.1, b.2 ∙ a.2, b.3 ∙ a.3, b.4 ∙ a.4)
+
+each : (w : Around) (d : Progress) (g : Ghosts) (m : routing.State routes) (ds : List Descriptor) → Tied w d g m → ExportsAreOwn d.state → EachMayTake d.state w.other (given ds)
+    → (f : Ghosts) × Tied w (with_state d (take_each d.state ds)) f m × SameButImports g f
+each w d g m [] t own may = (g, t, (refl, refl, refl, refl, refl))
+each w d g m (descriptor.None ∷ ds) t own may = each w d g m ds t own may
+each w d g m (descriptor.SenderHosted e ∷ ds) t own may =
+    let a = one_import w d g m t e.0 kind.Hosted own may.0 in
+    let b = each w (with_state d (import_one d.state kind.Hosted e.0)) a.0 m ds a.1 own (still_may d.state w.other kind.Hosted e.0 (given ds) may.1) in
+    (b.0, b.1, same_then g a.0 b.0 a.2 b.2)
+each w d g m (descriptor.SenderPromise e ∷ ds) t own may =
+    let a = one_import w d g m t e.0 kind.Promise own may.0 in
+    let b = each w (with_state d (import_one d.state kind.Promise e.0)) a.0 m ds a.1 own (still_may d.state w.other kind.Promise e.0 (given ds) may.1) in
+    (b.0, b.1, same_then g a.0 b.0 a.2 b.2)
+each w d g m (descriptor.ReceiverHosted e ∷ ds) t own may = each w d g m ds t own may
+each w d g m (descriptor.ReceiverAnswer q path ∷ ds) t own may = each w d g m ds t own may
+
+pub descriptors_taken : (w : Around) (d : Progress) (g : Ghosts) (m : routing.State routes) (ds : List Descriptor) → Tied w d g m → ExportsAreOwn d.state → EachMayTake d.state w.other (given ds)
+    → (f : Ghosts) × Tied w (with_state d (take_at (d.state).level d.state ds)) f m × SameButImports g f
+descriptors_taken w d g m ds t own may = by (d.state).level
+  where
+    by : (l : Level) → (f : Ghosts) × Tied w (with_state d (take_at l d.state ds)) f m × SameButImports g f
+    by Zero = (g, t, (refl, refl, refl, refl, refl))
+    by One = each w d g m ds t own may

@@ -1,0 +1,101 @@
+-- A message that is nothing in the machine of routes is sent, or taken.
+use Rattle.std.specs.FinMap as map
+use Rattle.std.proofs.Common.{◌≡◌, ℕ, List, [], ◌∷◌, ◌++◌, append_assoc, append-nil, None, refl, sym, ap, subst, ◌∙◌}
+use Rattle.rpc_msg.specs.declared.ids.Vat.{Vat}
+use Rattle.rpc_msg.specs.declared.message.PlainMessage.TheVariants as plain
+use Rattle.rpc_msg.specs.declared.message.Message.{Message}
+use Rattle.rpc_msg.specs.declared.message.Message.TheVariants as message
+use Rattle.rpc_msg.specs.Vats.{other_vat}
+use Rattle.vat_journal.specs.History.{in_front}
+use Rattle.vat_machine.specs.Progress.{Progress}
+use Rattle.call_order.specs.Machine as routing
+use Rattle.laws_routes.specs.Points.{routes}
+use Rattle.laws_routes.specs.Ghosts.{Ghost}
+use Rattle.laws_routes.specs.Views.{Reader, IsSession, reader, past_one, past, shape, shapes, sessions_at}
+use Rattle.laws_routes.specs.Ties.{Around, Ghosts, Tied}
+use Rattle.laws_routes.specs.Laws.{with_back}
+use Rattle.laws_routes.specs.MessageLaws.{IsSilent, sending}
+use Rattle.laws_routes.proofs.LinkShapes.{past_more, shapes_more}
+
+opens_none : (g : Ghost) (now : ℕ → ℕ) (x : Message) → IsSilent x → past_one g now x ≡ now
+opens_none g now (message.Plain (plain.Abort exception)) h = refl
+opens_none g now (message.Plain (plain.Bootstrap q)) h = absurd h
+opens_none g now (message.Plain (plain.Call c)) h = absurd h
+opens_none g now (message.Plain (plain.Return r)) h = refl
+opens_none g now (message.Plain (plain.Finish y)) h = refl
+opens_none g now (message.Plain (plain.Resolve r)) h = refl
+opens_none g now (message.Plain (plain.Release r)) h = refl
+opens_none g now (message.Plain (plain.Disembargo y)) h = absurd h
+opens_none g now (message.Plain (plain.Other n)) h = refl
+opens_none g now (message.Unimplemented m) h = refl
+
+no_shape : (v u : Vat) (r : Reader) (now : ℕ → ℕ) (x : Message) → IsSilent x → shape v u r now x ≡ None
+no_shape v u r now (message.Plain (plain.Abort exception)) h = refl
+no_shape v u r now (message.Plain (plain.Bootstrap q)) h = absurd h
+no_shape v u r now (message.Plain (plain.Call c)) h = absurd h
+no_shape v u r now (message.Plain (plain.Return y)) h = refl
+no_shape v u r now (message.Plain (plain.Finish y)) h = refl
+no_shape v u r now (message.Plain (plain.Resolve y)) h = refl
+no_shape v u r now (message.Plain (plain.Release y)) h = refl
+no_shape v u r now (message.Plain (plain.Disembargo y)) h = absurd h
+no_shape v u r now (message.Plain (plain.Other n)) h = refl
+no_shape v u r now (message.Unimplemented m) h = refl
+
+pub silent_goes : (w : Around) (d : Progress) (g : Ghosts) (m : routing.State routes) (x : Message) → Tied w d g m → IsSilent x → Tied w (sending d x) g m
+silent_goes w d g m x t h =
+    let view = t.view in
+    record {
+      own = t.own;
+      theirs = t.theirs;
+      view = record {
+        imports = view.imports;
+        sessions = subst (λ (z : ℕ → ℕ). (q : ℕ) → IsSession (g.own.session q) (z q) (map.get (d.state).questions q)) (sym (ap (past g.own now) assoc ∙ (past_more g.own now out x ∙ opens_none g.own (past g.own now out) x h))) view.sessions;
+        link =
+            ap (shapes w.vat u g.own reads now) assoc
+            ∙ (shapes_more w.vat u g.own reads now out x
+            ∙ (ap (λ z. shapes w.vat u g.own reads now out ++ in_front z []) (no_shape w.vat u reads (past g.own now out) x h) ∙ (append-nil (shapes w.vat u g.own reads now out) ∙ view.link)));
+      };
+      back = t.back;
+      told = t.told;
+    }
+  where
+    u : Vat
+    u = other_vat w.vat
+
+    now : ℕ → ℕ
+    now = sessions_at g.theirs.outcome (w.other).answers
+
+    reads : Reader
+    reads = reader d.state w.other g.theirs
+
+    out : List Message
+    out = w.out ++ d.effects.sends
+
+    assoc : w.out ++ (d.effects.sends ++ x ∷ []) ≡ out ++ x ∷ []
+    assoc = sym (append_assoc w.out d.effects.sends (x ∷ []))
+
+pub silent_comes : (w : Around) (d : Progress) (g : Ghosts) (m : routing.State routes) (x : Message) (rest : List Message) → Tied (with_back w (x ∷ rest)) d g m → IsSilent x → Tied (with_back w rest) d g m
+silent_comes w d g m x rest t h =
+    let back = t.back in
+    record {
+      own = t.own;
+      theirs = t.theirs;
+      view = t.view;
+      back = record {
+        imports = back.imports;
+        sessions = subst (λ (z : ℕ → ℕ). (q : ℕ) → IsSession (g.theirs.session q) (past g.theirs z rest q) (map.get (w.other).questions q)) (opens_none g.theirs now x h) back.sessions;
+        link =
+            ap (λ z. shapes u w.vat g.theirs reads z rest) (sym (opens_none g.theirs now x h))
+            ∙ (ap (λ z. in_front z (shapes u w.vat g.theirs reads (past_one g.theirs now x) rest)) (sym (no_shape u w.vat reads now x h)) ∙ back.link);
+      };
+      told = t.told;
+    }
+  where
+    u : Vat
+    u = other_vat w.vat
+
+    now : ℕ → ℕ
+    now = sessions_at g.own.outcome (d.state).answers
+
+    reads : Reader
+    reads = reader w.other d.state g.own

@@ -1,0 +1,11 @@
+pub mod Points
+pub mod Ghosts
+pub mod Sides
+pub mod Views
+pub mod Ties
+pub mod Sayings
+pub mod Premises
+pub mod Laws
+pub mod MessageLaws
+pub mod OutcomeLaws
+pub mod SayingLaws

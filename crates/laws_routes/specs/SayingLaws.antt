@@ -1,0 +1,129 @@
+-- What is proved of what vats say of wires: it stays so, a reference may rely on it, and what is received becomes known.
+use Rattle.std.specs.Prelude.{◌≡◌, ℕ, false, Option, None, Some, List, [], ◌++◌, IsSome, ◌∷◌}
+use Rattle.std.specs.FinMap as map
+use Rattle.rpc_msg.specs.declared.ids.Vat.{Vat}
+use Rattle.rpc_msg.specs.declared.message.Message.{Message}
+use Rattle.rpc_msg.specs.declared.message.ResolvedTo.{ResolvedTo}
+use Rattle.rpc_msg.specs.declared.message.ResolvedTo.TheVariants as resolved
+use Rattle.rpc_msg.specs.declared.parts.Descriptor.{Descriptor}
+use Rattle.rpc_msg.specs.declared.parts.Descriptor.TheVariants as descriptor
+use Rattle.rpc_msg.specs.Vats.{other_vat}
+use Rattle.rpc_msg.specs.declared.message.ReturnBody.{ReturnBody}
+use Rattle.rpc_msg.specs.declared.message.ReturnBody.TheVariants as body
+use Rattle.rpc_msg.specs.Messages.{descriptors_of_body}
+use Rattle.vat_machine.specs.declared.command.Level.TheVariants.{One}
+use Rattle.vat_machine.specs.declared.entries.Import.{Import}
+use Rattle.vat_machine.specs.declared.entries.Resolution.{Resolution}
+use Rattle.vat_machine.specs.declared.entries.Resolution.TheVariants as resolution
+use Rattle.vat_machine.specs.Descriptors.{Described, read}
+use Rattle.vat_machine.specs.declared.entries.Question.{Question}
+use Rattle.vat_machine.specs.Messages.{kept_returned, resolve_import, results_of}
+use Rattle.vat_machine.specs.declared.command.Granted.{Granted}
+use Rattle.vat_machine.specs.declared.entries.Reference.{Reference}
+use Rattle.vat_machine.specs.State.{State}
+use Rattle.vat_machine.specs.Nodes.{link, settle, is_wire}
+use Rattle.vat_machine.specs.Progress.{Progress}
+use Rattle.vat_machine.specs.Advancing.{Advances}
+use Rattle.vat_machine.specs.declared.node.Node.{Node}
+use Rattle.laws_steps.specs.Settled.{IsThere}
+use Rattle.call_order.specs.Machine.{Net}
+use Rattle.call_order.specs.Machine as routing
+use Rattle.call_order.specs.Events.{Fate, settled}
+use Rattle.laws_routes.specs.Views.{past, sessions_at}
+use Rattle.laws_routes.specs.Points.{Point, Group, vat_of, routes}
+use Rattle.laws_routes.specs.Ghosts.{Ghost}
+use Rattle.laws_routes.specs.Premises.{ExportsAreOwn, IsLastLoop, IsWireThere, LinksRest}
+use Rattle.laws_routes.specs.Sides.{EndsAs}
+use Rattle.laws_routes.specs.Ties.{Around, Ghosts, Tied}
+use Rattle.laws_routes.specs.Sayings.{IsSaid, KnownIsSo, SaidOfAnswer, SaidOfExport, Sayings, descriptor_point}
+use Rattle.laws_routes.specs.Laws.{Comes}
+
+-- What was said stays so as a group settles, whatever becomes of it.
+abbrev pub SayingsStay : Type 0
+SayingsStay =
+    (n : Net routes) (group : Group) (fate : Point → Fate routes) (v u : Vat) (s : State) (g : Ghost) (t : State) (f : Ghost) (out back : List Message) → Sayings n v u s g t f out back
+    → Sayings (settled n group fate) v u s g t f out back
+
+-- What a reference needs to take a shorter path.
+pub record MayAdvance (w : Around) (d : Progress) (x : Reference) : Type 0 where
+  pub rest : LinksRest d.state
+  pub there : is_wire x.head ≡ false → IsThere d.state x.head
+  pub wire : IsWireThere d.state (settle d.state x.head)
+  pub theirs : ExportsAreOwn w.other
+  -- a new embargo may have any free id
+  pub loop : (e : ℕ) → map.get d.state.embargoes e ≡ None → IsLastLoop e (w.out ++ d.effects.sends) w.back
+
+abbrev pub MayAdvanceFrom : Around → Progress → Option Reference → Type 0
+MayAdvanceFrom w d None = ⊥
+MayAdvanceFrom w d (Some x) = MayAdvance w d x
+
+-- A reference advances, by what is known: it stays, it switches, it turns back, or it breaks.
+abbrev pub AdvanceIsFollowed : Type 0
+AdvanceIsFollowed =
+    (w : Around) (d : Progress) (g : Ghosts) (m : routing.State routes) (r : ℕ) (granted : Granted) (new : Progress) → Tied w d g m → KnownIsSo w.vat d.state g.own m.net → MayAdvanceFrom w d (map.get d.state.refs r)
+    → Advances d r (map.get d.state.refs r) granted new → Comes w new m [] []
+
+-- ---- What is sent
+
+-- A descriptor may be made of the node k, where settling stops.
+pub record MaySay (w : Around) (s : State) (k : Node) : Type 0 where
+  pub stops : link s k ≡ None
+  pub there : IsThere s k
+  pub wire : IsWireThere s k
+  pub theirs : ExportsAreOwn w.other
+
+-- How the other vat will read a descriptor that goes onto the link behind these messages.
+abbrev pub will_read : Around → State → List Message → Ghosts → Descriptor → Point
+will_read w s out g c = descriptor_point w.vat s.exports g.own (other_vat w.vat) w.other.exports g.theirs (past g.own (sessions_at g.theirs.outcome w.other.answers) out) c
+
+-- The descriptor of where a point's node settles says of that point what is so.
+abbrev pub DescriptorSaysSo : Type 0
+DescriptorSaysSo =
+    (w : Around) (d : Progress) (g : Ghosts) (m : routing.State routes) (x : Point) (k : Node) (said : Descriptor) (new : State) → Tied w d g m → vat_of x ≡ w.vat → EndsAs w.vat g.own m.net x k
+    → MaySay w d.state k → Described d.state k said new → IsSaid m.net x said (will_read w new (w.out ++ d.effects.sends) g said)
+
+-- ---- What is received
+
+-- What a descriptor names is there to be read.
+abbrev pub IsReadable : State → Descriptor → Type 0
+IsReadable s descriptor.None = Unit {0}
+IsReadable s (descriptor.SenderHosted e) = IsSome (map.get s.imports e.0)
+IsReadable s (descriptor.SenderPromise e) = IsSome (map.get s.imports e.0)
+IsReadable s (descriptor.ReceiverHosted e) = Unit {0}
+IsReadable s (descriptor.ReceiverAnswer q path) = IsSome (map.get s.answers q.0)
+
+abbrev pub IsReadableIn : State → ResolvedTo → Type 0
+IsReadableIn s (resolved.Cap d) = IsReadable s d
+IsReadableIn s (resolved.Exception exception) = Unit {0}
+
+abbrev pub resolution_by : State → ResolvedTo → Resolution
+resolution_by s (resolved.Cap d) = resolution.To d (read s d)
+resolution_by s (resolved.Exception exception) = resolution.Exception exception
+
+-- How the vat reads the descriptors of a message that it takes.
+abbrev pub reads : Around → State → Ghosts → Descriptor → Point
+reads w s g d = descriptor_point (other_vat w.vat) w.other.exports g.theirs w.vat s.exports g.own (sessions_at g.own.outcome s.answers) d
+
+-- What a Resolve said is kept with its import, if that was there, and is known from then on. (Its descriptor was taken before.)
+abbrev pub ResolveBecomesKnown : Type 0
+ResolveBecomesKnown =
+    (w : Around) (d : Progress) (g : Ghosts) (m : routing.State routes) (e : ℕ) (to : ResolvedTo) (before : Option Import) → Tied w d g m → d.state.level ≡ One → KnownIsSo w.vat d.state g.own m.net → IsReadableIn d.state to
+    → SaidOfExport m.net (other_vat w.vat) g.theirs (map.get w.other.exports e) (reads w d.state g) to
+    → KnownIsSo w.vat (resolve_import d.state e (resolution_by d.state to) before) g.own m.net
+
+abbrev pub EachReadable : State → List Descriptor → Type 0
+EachReadable s [] = Unit {0}
+EachReadable s (d ∷ ds) = IsReadable s d × EachReadable s ds
+
+-- A canceled Return comes only where the Finish was sent, and nothing is kept of it.
+abbrev pub IsNotCanceled : ReturnBody → Type 0
+IsNotCanceled (body.Results payload ds) = Unit {0}
+IsNotCanceled (body.Exception exception) = Unit {0}
+IsNotCanceled body.Canceled = ⊥
+
+-- What a Return said is kept with its question, and is known of each path from then on. (Its descriptors were taken before.)
+abbrev pub ReturnBecomesKnown : Type 0
+ReturnBecomesKnown =
+    (w : Around) (d : Progress) (g : Ghosts) (m : routing.State routes) (q : ℕ) (x : Question) (said : ReturnBody) → Tied w d g m → d.state.level ≡ One → KnownIsSo w.vat d.state g.own m.net
+    → EachReadable d.state (descriptors_of_body said) → IsNotCanceled said → SaidOfAnswer m.net (other_vat w.vat) (g.own.session q) (reads w d.state g) said
+    → KnownIsSo w.vat (kept_returned d q x (results_of d.state said)).state g.own m.net

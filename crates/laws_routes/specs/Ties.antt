@@ -1,0 +1,63 @@
+-- The relation of two vats, in the middle of a step of one of them, to a state of the machine of routes.
+use Rattle.std.specs.Prelude.{◌≡◌, ℕ, List, [], ◌∷◌, ◌++◌}
+use Rattle.rpc_msg.specs.declared.ids.Vat.{Vat}
+use Rattle.rpc_msg.specs.declared.message.Message.{Message}
+use Rattle.rpc_msg.specs.Vats.{other_vat}
+use Rattle.vat_journal.specs.declared.report.Delivery.{Delivery}
+use Rattle.vat_journal.specs.History.{Ref, DeliveredAt, caller}
+use Rattle.vat_machine.specs.State.{State}
+use Rattle.vat_machine.specs.Progress.{Progress}
+use Rattle.call_order.specs.Machine.{choose}
+use Rattle.call_order.specs.Machine as routing
+use Rattle.laws_routes.specs.Points.{AnObject, routes}
+use Rattle.laws_routes.specs.Ghosts.{Ghost}
+use Rattle.laws_routes.specs.Sides.{Side}
+use Rattle.laws_routes.specs.Views.{View}
+
+-- ---- 6. What the history tells
+
+abbrev pub delivery_of : DeliveredAt → routing.Delivery routes
+delivery_of d = record { index = d.delivery.stamp.index; object = AnObject d.vat d.delivery.object.0 }
+
+-- The deliveries of a reference among these.
+abbrev pub deliveries_of : Ref → List DeliveredAt → List (routing.Delivery routes)
+deliveries_of r [] = []
+deliveries_of r (d ∷ ds) = choose (routes.same_ref (caller d.delivery.stamp) r) (delivery_of d ∷ deliveries_of r ds) (deliveries_of r ds)
+
+abbrev pub all_at : Vat → List Delivery → List DeliveredAt
+all_at v [] = []
+all_at v (d ∷ ds) = record { vat = v; delivery = d } ∷ all_at v ds
+
+-- What was made through each reference, and delivered.
+pub record Told (made : Ref → ℕ) (delivered : List DeliveredAt) (refs : Ref → routing.Reference routes) : Type 0 where
+  pub made_is : (r : Ref) → (refs r).made ≡ made r
+  pub delivered_is : (r : Ref) → (refs r).delivered ≡ deliveries_of r delivered
+
+-- ---- All
+
+-- What stays as it is while the vat v takes a step: the other vat, what was on its way to that before, what is on its way
+-- back, and the history before.
+pub record Around : Type 0 where
+  pub vat : Vat
+  pub other : State
+  pub out : List Message
+  pub back : List Message
+  pub made : Ref → ℕ
+  pub delivered : List DeliveredAt
+
+-- The ghosts of the two vats, and the next identity.
+pub record Ghosts : Type 0 where
+  pub own : Ghost
+  pub theirs : Ghost
+  pub next : ℕ
+
+-- Of the state of the vat, what it has sent in this step, and what it has delivered.
+pub record TiedBy (w : Around) (s : State) (sends : List Message) (deliveries : List Delivery) (g : Ghosts) (m : routing.State routes) : Type 0 where
+  pub own : Side w.vat s g.own g.next m
+  pub theirs : Side (other_vat w.vat) w.other g.theirs g.next m
+  pub view : View w.vat (other_vat w.vat) s g.own w.other g.theirs (w.out ++ sends) m
+  pub back : View (other_vat w.vat) w.vat w.other g.theirs s g.own w.back m
+  pub told : Told w.made (w.delivered ++ all_at w.vat deliveries) m.refs
+
+abbrev pub Tied : Around → Progress → Ghosts → routing.State routes → Type 0
+Tied w d g m = TiedBy w d.state d.effects.sends d.effects.deliveries g m

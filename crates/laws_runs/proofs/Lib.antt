@@ -1,0 +1,17 @@
+pub mod Reading
+pub mod QuietEntries
+pub mod QuietRuns
+pub mod Extends
+pub mod Grows
+pub mod Lasting
+pub mod InTime
+pub mod MakesNone
+pub mod Numbered
+pub mod Silent
+pub mod ToldAlike
+pub mod Outcomes
+pub mod AtVats
+pub mod Showing
+pub mod Running
+pub mod KeptCounts
+pub mod Counting

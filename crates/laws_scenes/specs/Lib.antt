@@ -1,0 +1,3 @@
+pub mod SoundScenes
+pub mod Sides
+pub mod Woven

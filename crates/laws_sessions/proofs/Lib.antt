@@ -1,0 +1,10 @@
+pub mod Rows
+pub mod ExportsHold
+pub mod ExportsSay
+pub mod Named
+pub mod Kept
+pub mod Same
+pub mod EachAct
+pub mod Acted
+pub mod Heard
+pub mod Standing

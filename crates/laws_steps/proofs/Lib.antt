@@ -1,0 +1,22 @@
+pub mod Among
+mod Naming
+pub mod Pieces
+pub mod Walking
+pub mod WholeSteps
+pub mod Exceptions
+pub mod Rising
+pub mod UsedOnce
+pub mod SaysTheSame
+pub mod LeadsOn
+pub mod NamedNodes
+pub mod HeldQuestions
+pub mod GivenBack
+pub mod NamedPieces
+pub mod Below
+pub mod Swept
+pub mod NamedSteps
+pub mod Taken
+pub mod NamedMessages
+pub mod Kept
+pub mod Reached
+pub mod InRuns

@@ -1,0 +1,5 @@
+pub mod Numbers
+pub mod Settled
+pub mod Callers
+pub mod NodesThere
+pub mod Room

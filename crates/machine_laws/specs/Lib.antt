@@ -1,4 +1,0 @@
-pub mod Numbers
-pub mod Settled
-pub mod Callers
-pub mod NodesThere

@@ -1,5 +1,0 @@
-use Rattle.vat_machine.proofs.StepNumbers.{obeys_rises, receives_rises}
-use Rattle.vat_machine.proofs.laws.numbers_only_rise.Goals as goal
-
-pub returns : goal.returns
-returns c = record { commands = obeys_rises; messages = receives_rises }

@@ -1,5 +1,0 @@
-use Rattle.vat_machine.proofs.QuietRuns.{every_run_is_quiet}
-use Rattle.vat_machine.proofs.laws.quiet_when_down.Goals as goal
-
-pub returns : goal.returns
-returns c = every_run_is_quiet

@@ -1,0 +1,269 @@
+ghost use Rattle.std.specs.Prelude.{◌≡◌, ◌+◌, ◌≤◌, ◌<◌, ◌↔◌, cond, false, IsOk, IfOk, IfErr, OnOk, OnErr};
+ghost use Rattle.std.specs.FinMap as map;
+ghost use Rattle.rpc_msg.specs.declared.message.Message.TheVariants.{Plain, Unimplemented};
+
+use crate::abort::AbortRoom;
+use crate::lists::{grow, hand_out, push_finishes, push_kept, push_releases, reuse};
+use crate::rising::Rising;
+use rpc_msg::{ExportId, Items, Memory, Message, PlainMessage, QuestionId};
+use std::alloc::Global;
+use std::marker::Model;
+use vat_journal::{Delivery, Ended};
+use vat_machine::Effects;
+
+/// The effects of a step in the making.
+///
+/// What is sent, delivered and ended stands in order. Finishes and Releases come at the end of a step, by rising ids, in
+/// whatever order they are said. Only `new` and `reserve` take memory: all else answers where there is no room, and is never
+/// refused with room.
+#[derive(Drop)]
+pub struct Outbox {
+    sends: Vec<Message>,
+    finishes: Rising<bool>,
+    releases: Rising<u32>,
+    deliveries: Vec<Delivery>,
+    answers: Vec<Ended>,
+    // So many more of each need no more memory.
+    room: usize,
+    abort: Option<AbortRoom>,
+    alloc: Global,
+}
+
+impl Model for Outbox {
+    ghost use Rattle.std.specs.Prelude.{None, is_some, ◌+◌, ◌≤◌, vec_len, vec_capacity};
+    ghost use Rattle.std.specs.FinMap as map;
+    ghost use Rattle.vat_outbox.specs.Outgoing.{Outgoing, outgoing_code};
+
+    ghost Value = { Outgoing };
+
+    ghost coded = { outgoing_code };
+
+    ghost view = { λ a. record {
+      said = record { sends = a.sends.items; deliveries = a.deliveries.items; answers = a.answers.items; down = None };
+      finishes = a.finishes.0;
+      releases = a.releases.0;
+      can_abort = is_some a.abort;
+      room = a.room;
+    } };
+
+    ghost invariant = { λ a.
+        (vec_len a.sends + map.len a.finishes.0 + map.len a.releases.0 + a.room ≤ vec_capacity a.sends)
+        × (a.room ≤ a.finishes.1)
+        × (a.room ≤ a.releases.1)
+        × (vec_len a.deliveries + a.room ≤ vec_capacity a.deliveries)
+        × (vec_len a.answers + a.room ≤ vec_capacity a.answers) };
+}
+
+impl Outbox {
+    ghost use Rattle.vat_machine.specs.Down.{falling, silent};
+    ghost use Rattle.vat_outbox.specs.Outgoing.{nothing_said, with_message, with_delivery, with_ended, with_finish, with_finishes, with_release, finishing, effects_of, AreReleasesOf, emptied};
+    ghost use Rattle.vat_outbox.specs.Rising.{AllBelow};
+
+    /// Nothing is said yet. The memory of one Abort is kept from here on.
+    pub fn new(alloc: Global) -> Result<Self, Memory>
+        ensures { IfOk result (λ outbox. outbox ≡ nothing_said) }
+    {
+        let abort = AbortRoom::new(alloc)?;
+        Ok(Outbox {
+            sends: Vec::new(alloc),
+            finishes: Rising::new(alloc),
+            releases: Rising::new(alloc),
+            deliveries: Vec::new(alloc),
+            answers: Vec::new(alloc),
+            room: 0,
+            abort: Some(abort),
+            alloc,
+        })
+    }
+
+    /// How many more messages, deliveries and ended calls fit.
+    pub fn room(&self) -> usize
+        ensures { result ≡ self.now.room }
+    {
+        self.room
+    }
+
+    /// Makes room for so many more of each. Where a growth is refused nothing is changed; where there is room none is
+    /// asked for.
+    pub fn reserve(&mut self, more: usize) -> Result<(), Memory>
+        ensures said { self.new ≡ record self.old { room = self.new.room } }
+        ensures ok { OnOk result (more ≤ self.new.room) }
+        ensures keeps_room { self.old.room ≤ self.new.room }
+        ensures had_room { more ≤ self.old.room → IsOk result }
+        ensures same { OnErr result (self.new ≡ self.old) }
+    {
+        if more <= self.room {
+            return Ok(());
+        }
+        // A Finish or a Release is a message in the end.
+        let messages = more
+            .checked_add(self.finishes.len())
+            .and_then(|sum| sum.checked_add(self.releases.len()));
+        let Some(messages) = messages else {
+            return Err(Memory);
+        };
+        grow(&mut self.sends, messages)?;
+        self.finishes.reserve(more)?;
+        self.releases.reserve(more)?;
+        grow(&mut self.deliveries, more)?;
+        grow(&mut self.answers, more)?;
+        self.room = more;
+        Ok(())
+    }
+
+    /// A message is sent. It comes back where there is no room.
+    pub fn send(&mut self, message: PlainMessage) -> Result<(), PlainMessage>
+        ensures ok { OnOk result (self.new ≡ with_message self.old (Plain message)) }
+        ensures room { IsOk result ↔ 0 < self.old.room }
+        ensures back { IfErr result (λ back. back ≡ message) }
+        ensures same { OnErr result (self.new ≡ self.old) }
+    {
+        if self.room == 0 {
+            return Err(message);
+        }
+        push_kept(&mut self.sends, Message::Plain(message));
+        self.room -= 1;
+        Ok(())
+    }
+
+    /// A message is sent back as not understood. It comes back to the caller where there is no room.
+    pub fn echo(&mut self, message: PlainMessage) -> Result<(), PlainMessage>
+        ensures ok { OnOk result (self.new ≡ with_message self.old (Unimplemented message)) }
+        ensures room { IsOk result ↔ 0 < self.old.room }
+        ensures back { IfErr result (λ back. back ≡ message) }
+        ensures same { OnErr result (self.new ≡ self.old) }
+    {
+        if self.room == 0 {
+            return Err(message);
+        }
+        push_kept(&mut self.sends, Message::Unimplemented(message));
+        self.room -= 1;
+        Ok(())
+    }
+
+    /// A call arrived at an object. It comes back where there is no room.
+    pub fn deliver(&mut self, delivery: Delivery) -> Result<(), Delivery>
+        ensures ok { OnOk result (self.new ≡ with_delivery self.old delivery) }
+        ensures room { IsOk result ↔ 0 < self.old.room }
+        ensures back { IfErr result (λ back. back ≡ delivery) }
+        ensures same { OnErr result (self.new ≡ self.old) }
+    {
+        if self.room == 0 {
+            return Err(delivery);
+        }
+        push_kept(&mut self.deliveries, delivery);
+        self.room -= 1;
+        Ok(())
+    }
+
+    /// A call of the application has its outcome. It comes back where there is no room.
+    pub fn end(&mut self, ended: Ended) -> Result<(), Ended>
+        ensures ok { OnOk result (self.new ≡ with_ended self.old ended) }
+        ensures room { IsOk result ↔ 0 < self.old.room }
+        ensures back { IfErr result (λ back. back ≡ ended) }
+        ensures same { OnErr result (self.new ≡ self.old) }
+    {
+        if self.room == 0 {
+            return Err(ended);
+        }
+        push_kept(&mut self.answers, ended);
+        self.room -= 1;
+        Ok(())
+    }
+
+    /// A Finish is sent at the end of the step, with that flag: behind those of smaller ids. `Err` where there is no room.
+    pub fn finish(&mut self, question: QuestionId, release_result_caps: bool) -> Result<(), Memory>
+        ensures ok { OnOk result (self.new ≡ with_finish self.old question.0 release_result_caps) }
+        ensures last { OnOk result (AllBelow question.0 (map.entries self.old.finishes) → with_finishes self.new ≡ finishing (with_finishes self.old) question.0 release_result_caps) }
+        ensures room { IsOk result ↔ 0 < self.old.room }
+        ensures same { OnErr result (self.new ≡ self.old) }
+    {
+        if self.room == 0 {
+            return Err(Memory);
+        }
+        self.finishes.put(question.0, release_result_caps);
+        self.room -= 1;
+        Ok(())
+    }
+
+    /// A Release of so many is sent at the end of the step, behind the Finishes. `Err` where there is no room.
+    pub fn release(&mut self, export: ExportId, count: u32) -> Result<(), Memory>
+        ensures ok { OnOk result (self.new ≡ with_release self.old export.0 count) }
+        ensures room { IsOk result ↔ 0 < self.old.room }
+        ensures same { OnErr result (self.new ≡ self.old) }
+    {
+        if self.room == 0 {
+            return Err(Memory);
+        }
+        self.releases.put(export.0, count);
+        self.room -= 1;
+        Ok(())
+    }
+
+    /// The effects of the step: its messages, then its Finishes and its Releases, each by rising id. Lists that have
+    /// something go out with their memory.
+    pub fn take(&mut self) -> Effects
+        ensures effects { result ≡ effects_of self.old }
+        ensures releases { AreReleasesOf result self.old }
+        ensures left { self.new ≡ emptied self.old }
+    {
+        self.room = 0;
+        push_finishes(&mut self.sends, self.finishes.entries());
+        push_releases(&mut self.sends, self.releases.entries());
+        self.finishes.clear();
+        self.releases.clear();
+        Effects {
+            sends: Items::from_vec(hand_out(&mut self.sends, self.alloc)),
+            deliveries: Items::from_vec(hand_out(&mut self.deliveries, self.alloc)),
+            answers: Items::from_vec(hand_out(&mut self.answers, self.alloc)),
+            down: None,
+        }
+    }
+
+    /// Takes back the memory of effects that were looked at, for those of later steps. What they still hold is dropped.
+    pub fn recycle(&mut self, effects: Effects)
+        ensures { self.new ≡ self.old }
+    {
+        let Effects {
+            sends,
+            deliveries,
+            answers,
+            down: _,
+        } = effects;
+        reuse(&mut self.sends, sends.into_vec());
+        reuse(&mut self.deliveries, deliveries.into_vec());
+        reuse(&mut self.answers, answers.into_vec());
+    }
+
+    /// The effects of a step that takes the vat down with that number: one Abort alone, from the memory that was kept for
+    /// it. What was said before is dropped. (An outbox that sent its Abort has none left, and sends nothing.)
+    pub fn fall(&mut self, number: u16) -> Effects
+        ensures effects { result ≡ cond self.old.can_abort (falling number) (silent number) }
+        ensures left { self.new ≡ record (emptied self.old) { can_abort = false } }
+    {
+        let mut effects = self.fall_silently(number);
+        if let Some(room) = self.abort.take() {
+            effects.sends = room.abort(number);
+        }
+        effects
+    }
+
+    /// The effects of a step that takes the vat down by the peer's Abort: nothing is sent.
+    pub fn fall_silently(&mut self, number: u16) -> Effects
+        ensures effects { result ≡ silent number }
+        ensures left { self.new ≡ emptied self.old }
+    {
+        self.room = 0;
+        self.sends = Vec::new(self.alloc);
+        self.finishes = Rising::new(self.alloc);
+        self.releases = Rising::new(self.alloc);
+        self.deliveries = Vec::new(self.alloc);
+        self.answers = Vec::new(self.alloc);
+        Effects {
+            sends: Items::new(self.alloc),
+            deliveries: Items::new(self.alloc),
+            answers: Items::new(self.alloc),
+            down: Some(number),
+        }
+    }
+}

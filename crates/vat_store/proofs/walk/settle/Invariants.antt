@@ -1,0 +1,14 @@
+use Rattle.std.proofs.Common.{◌≡◌}
+use Rattle.vat_machine.specs.Nodes.{follow, settle}
+use Rattle.vat_store.specs.Holding.{state_of}
+use Rattle.vat_store.specs.Walking.{link_within}
+use Rattle.vat_store.proofs.walk.settle.Given as goal
+
+abbrev pub invariant-loop-next : goal.invariant-loop-next
+invariant-loop-next l = record {
+  next : l.next ≡ link_within (state_of l.store) l.left l.at;
+  leads : follow (state_of l.store) l.left l.at ≡ settle (state_of l.store) l.fn.node;
+}
+
+abbrev pub decreases-loop-next : goal.decreases-loop-next
+decreases-loop-next l = l.left

@@ -1,0 +1,83 @@
+ghost use Rattle.std.specs.Prelude.{◌≡◌};
+
+use rpc_msg::{ObjectId, Vat};
+use std::alloc::Global;
+use vat_machine::{AnswerEntry, Import, Level, OwnCall, Question, Reference};
+use vat_names::Names;
+use vat_tables::{Exports, Keyed, Numbered, Questions};
+use vat_waits::Waits;
+
+/// All that a vat's core holds. Its fields are open to the crates of the core; what holds of them together is `IsSound`
+/// of the definitions, which each function of these crates wants and keeps.
+#[derive(Drop)]
+pub struct Store {
+    pub vat: Vat,
+    pub level: Level,
+    pub bootstrap: Option<ObjectId>,
+    /// What this vat asked, by ids of its own.
+    pub questions: Questions<Question>,
+    /// What the peer asked, by its ids.
+    pub answers: Keyed<AnswerEntry>,
+    /// What the peer gave, by its ids.
+    pub imports: Keyed<Import>,
+    /// What this vat gave the peer, by ids of its own.
+    pub exports: Exports,
+    pub refs: Numbered<Reference>,
+    /// The application's unfinished calls.
+    pub calls: Numbered<OwnCall>,
+    /// The tasks that the application did not answer, each with the key of its outcome.
+    pub tasks: Numbered<u64>,
+    /// The promises that the application did not settle, each with its key.
+    pub unsettled: Numbered<u64>,
+    /// Own promises, kept outcomes and embargoes, with the calls that wait there.
+    pub waits: Waits,
+    /// How many places name each promise, outcome, import and question.
+    pub names: Names,
+    pub next_ref: u64,
+    pub next_call: u64,
+    pub next_task: u64,
+    pub next_promise: u64,
+    /// So many more entries of every kind, and names, need no more memory.
+    pub slack: usize,
+    /// No fewer than the entries and names that were ever added, so that no count outgrows 64 bits.
+    pub added: u64,
+    /// So many links at most lead on from any node.
+    pub links: u64,
+    /// The number with which the vat went down.
+    pub down: Option<u16>,
+}
+
+impl Store {
+    ghost use Rattle.vat_machine.specs.State.{start};
+    ghost use Rattle.vat_store.specs.Holding.{state_of, IsSound};
+
+    /// What a new vat holds. Takes no memory.
+    pub fn new(vat: Vat, level: Level, bootstrap: Option<ObjectId>, alloc: Global) -> Self
+        ensures state { state_of result ≡ start vat level bootstrap }
+        ensures sound { IsSound result }
+    {
+        Store {
+            vat,
+            level,
+            bootstrap,
+            questions: Questions::new(alloc),
+            answers: Keyed::new(alloc),
+            imports: Keyed::new(alloc),
+            exports: Exports::new(alloc),
+            refs: Numbered::new(alloc),
+            calls: Numbered::new(alloc),
+            tasks: Numbered::new(alloc),
+            unsettled: Numbered::new(alloc),
+            waits: Waits::new(alloc),
+            names: Names::new(alloc),
+            next_ref: 0,
+            next_call: 0,
+            next_task: 0,
+            next_promise: 0,
+            slack: 0,
+            added: 1,
+            links: 1,
+            down: None,
+        }
+    }
+}

@@ -1,0 +1,4 @@
+pub mod Owning
+pub mod Seeing
+pub mod Seen
+pub mod LookUps

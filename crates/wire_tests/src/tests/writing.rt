@@ -1,0 +1,233 @@
+//! Trees that are written.
+use crate::tests::bytes_of;
+use capn_wire::{Fields, Items, Payload, Tree, WriteFault, write_and_read};
+use std::alloc::{AllocError, Global};
+use std::process::Abort;
+use std::test::Fail;
+
+/// A struct without data, with one pointer.
+fn pointing_at(alloc: Global, tree: Tree) -> Result<Tree, AllocError> {
+    let mut pointers = Vec::new(alloc);
+    pointers.push(tree)?;
+    let words = Vec::new(alloc);
+    Ok(Tree::Struct { words, pointers })
+}
+
+/// So many structs around a tree.
+fn nested(alloc: Global, tree: Tree, levels: usize) -> Result<Tree, AllocError> {
+    let mut tree = tree;
+    for _ in 0..levels {
+        tree = pointing_at(alloc, tree)?;
+    }
+    Ok(tree)
+}
+
+fn empty_struct(alloc: Global) -> Tree {
+    let words = Vec::new(alloc);
+    let pointers = Vec::new(alloc);
+    Tree::Struct { words, pointers }
+}
+
+/// A list of so many structs of size zero, said to have so many data words.
+fn empty_structs(alloc: Global, count: usize, data_words: u16) -> Result<Tree, AllocError> {
+    let mut items = Vec::new(alloc);
+    for _ in 0..count {
+        let words = Vec::new(alloc);
+        let pointers = Vec::new(alloc);
+        items.push(Fields { words, pointers })?;
+    }
+    Ok(Tree::List(Items::Structs {
+        data_words,
+        pointer_words: 0,
+        items,
+    }))
+}
+
+/// A list of so many words.
+fn zeros(alloc: Global, count: usize) -> Result<Tree, AllocError> {
+    let mut words = Vec::new(alloc);
+    for _ in 0..count {
+        words.push(0)?;
+    }
+    Ok(Tree::List(Items::Eights(words)))
+}
+
+fn three_numbers(alloc: Global) -> Result<Tree, AllocError> {
+    let mut twos = Vec::new(alloc);
+    twos.extend_from_slice(&[1, 2, 3])?;
+    Ok(Tree::List(Items::Twos(twos)))
+}
+
+fn data_and_pointers(alloc: Global) -> Result<Tree, AllocError> {
+    let numbers = three_numbers(alloc)?;
+    let mut words = Vec::new(alloc);
+    words.push(7)?;
+    let mut pointers = Vec::new(alloc);
+    pointers.push(Tree::Null)?;
+    pointers.push(numbers)?;
+    Ok(Tree::Struct { words, pointers })
+}
+
+fn two_structs(alloc: Global) -> Result<Tree, AllocError> {
+    let mut items = Vec::new(alloc);
+    for (number, tree) in [(1, Tree::Cap(0)), (2, Tree::Null)] {
+        let mut words = Vec::new(alloc);
+        words.push(number)?;
+        let mut pointers = Vec::new(alloc);
+        pointers.push(tree)?;
+        items.push(Fields { words, pointers })?;
+    }
+    Ok(Tree::List(Items::Structs {
+        data_words: 1,
+        pointer_words: 1,
+        items,
+    }))
+}
+
+fn two_pointers(alloc: Global) -> Result<Tree, AllocError> {
+    let mut bits = Vec::new(alloc);
+    bits.extend_from_slice(&[true, false, true])?;
+    let mut words = Vec::new(alloc);
+    words.push(5)?;
+    let inner = Vec::new(alloc);
+    let mut pointers = Vec::new(alloc);
+    pointers.push(Tree::Struct {
+        words,
+        pointers: inner,
+    })?;
+    pointers.push(Tree::List(Items::Bits(bits)))?;
+    Ok(Tree::List(Items::Pointers(pointers)))
+}
+
+/// Trees that are written, by their numbers.
+const WRITTEN: u32 = 10;
+
+/// A tree, how many capabilities go with it, and the bytes that it is written as.
+fn written(alloc: Global, number: u32) -> Result<(Tree, u32, &'static str), AllocError> {
+    Ok(match number {
+        0 => (Tree::Null, 0, "00000000 01000000 0000000000000000"),
+        1 => (empty_struct(alloc), 0, "00000000 01000000 fcffffff00000000"),
+        2 => (Tree::Cap(2), 3, "00000000 01000000 0300000002000000"),
+        3 => (
+            Tree::List(Items::Void(536_870_911)),
+            0,
+            "00000000 01000000 01000000f8ffffff",
+        ),
+        4 => (
+            pointing_at(alloc, Tree::Cap(0))?,
+            1,
+            "00000000 02000000 0000000000000100 0300000000000000",
+        ),
+        5 => (
+            three_numbers(alloc)?,
+            0,
+            "00000000 02000000 | 010000001b000000 0100020003000000",
+        ),
+        6 => (
+            data_and_pointers(alloc)?,
+            0,
+            "00000000 05000000 | 0000000001000200 0700000000000000 0000000000000000 010000001b000000 0100020003000000",
+        ),
+        7 => (
+            two_structs(alloc)?,
+            1,
+            "00000000 06000000 | 0100000027000000 0800000001000100 0100000000000000 0300000000000000 0200000000000000 0000000000000000",
+        ),
+        8 => (
+            two_pointers(alloc)?,
+            0,
+            "00000000 05000000 | 0100000016000000 0400000001000000 0500000019000000 0500000000000000 0500000000000000",
+        ),
+        _ => (
+            empty_structs(alloc, 65_535, 0)?,
+            0,
+            "00000000 02000000 | 0100000007000000 fcff030000000000",
+        ),
+    })
+}
+
+// The bytes that are written for a tree, and read again.
+fn is_written(
+    rt: &impl Abort,
+    alloc: Global,
+    tree: &Tree,
+    caps: u32,
+    text: &str,
+) -> Result<(), Fail> {
+    let bytes = bytes_of(alloc, text)?;
+    let payload = write_and_read(alloc, tree, caps)??;
+    assert_eq!(rt; payload.bytes(), bytes.as_slice(), "{text}");
+    assert_eq!(rt; payload.caps(), caps, "{text}");
+    Ok(())
+}
+
+#[test]
+fn writes_worked_values(rt: HostRuntime) -> Result<(), Fail> {
+    for number in 0..WRITTEN {
+        let (tree, caps, text) = written(rt.alloc(), number)?;
+        is_written(&rt, rt.alloc(), &tree, caps, text)?;
+    }
+    Ok(())
+}
+
+/// Trees at the limits, and some that are not written, by their numbers.
+const LIMITED: u32 = 12;
+
+/// A tree, how many capabilities go with it, and the number of its fault, or 0.
+fn limited(alloc: Global, number: u32) -> Result<(Tree, u32, u16), AllocError> {
+    Ok(match number {
+        0 => (Tree::List(Items::Void(536_870_912)), 0, 4),
+        1 => (zeros(alloc, 65_535)?, 0, 0),
+        2 => (zeros(alloc, 65_536)?, 0, 4),
+        3 => (nested(alloc, Tree::Null, 64)?, 0, 0),
+        4 => (nested(alloc, Tree::Null, 65)?, 0, 11),
+        5 => (empty_structs(alloc, 65_536, 0)?, 0, 12),
+        6 => (empty_structs(alloc, 1, 1)?, 0, WriteFault::BadTag.code()),
+        7 => (
+            pointing_at(alloc, Tree::Cap(0))?,
+            0,
+            WriteFault::CapIndex.code(),
+        ),
+        // uneven structs 65 levels deep: the lengths are told before the depth
+        8 => (uneven_and_deep(alloc)?, 0, 8),
+        // a capability that is not there, 65 levels deep: the depth is told before it
+        9 => (nested(alloc, Tree::Cap(0), 65)?, 0, 11),
+        10 => (nested(alloc, Tree::Cap(0), 64)?, 0, 10),
+        _ => (nested(alloc, Tree::Cap(0), 64)?, 1, 0),
+    })
+}
+
+fn uneven_and_deep(alloc: Global) -> Result<Tree, AllocError> {
+    let uneven = empty_structs(alloc, 1, 1)?;
+    nested(alloc, uneven, 65)
+}
+
+/// The number of the fault that writing answers, or 0.
+fn fault_of(alloc: Global, tree: &Tree, caps: u32) -> u16 {
+    match Payload::write(alloc, tree, caps) {
+        Ok(_) => 0,
+        Err(fault) => fault.code(),
+    }
+}
+
+#[test]
+fn refuses_to_write(rt: HostRuntime) -> Result<(), Fail> {
+    for number in 0..LIMITED {
+        let (tree, caps, fault) = limited(rt.alloc(), number)?;
+        assert_eq!(rt; fault_of(rt.alloc(), &tree, caps), fault, "tree {number}");
+    }
+    Ok(())
+}
+
+/// Holds whichever allocation is refused: run it with `rt try --test --fail-alloc N` too.
+#[test]
+fn answers_want_of_memory_for_writing(rt: HostRuntime) {
+    match Payload::write(rt.alloc(), &Tree::Cap(0), 1) {
+        Err(fault) => assert_eq!(rt; fault.code(), 1),
+        Ok(payload) => {
+            let bytes = [0, 0, 0, 0, 1, 0, 0, 0, 3, 0, 0, 0, 0, 0, 0, 0];
+            assert_eq!(rt; payload.bytes(), bytes.as_slice());
+            assert_eq!(rt; payload.caps(), 1);
+        }
+    }
+}
