@@ -20,7 +20,7 @@ impl Vat {
     }
 }
 
-/// Names a question, and at the other vat its answer (`QuestionId` and `AnswerId`).
+/// Names a question (`QuestionId`), and at the other vat its answer.
 ///
 /// The caller chooses it, and may choose any that is free; the ids that the other vat chooses have nothing to do with
 /// its own. It is free again once the Return was received and the Finish was sent, in whichever order. At the other
@@ -28,12 +28,18 @@ impl Vat {
 #[derive(Clone, Copy, Debug, PartialEq, Eq, PartialOrd, Ord, Hash, Drop)]
 pub struct QuestionId(pub u32);
 
-/// Names an export, and at the other vat its import (`ExportId` and `ImportId`).
+/// Names an answer (`AnswerId`): the id of the other vat's question.
+pub type AnswerId = QuestionId;
+
+/// Names an export (`ExportId`), and at the other vat its import.
 ///
 /// The exporter chooses it, and may choose any that is free. It is free again once every reference to it that was
 /// given was given back: see `Descriptor`, `Release` and the release flags.
 #[derive(Clone, Copy, Debug, PartialEq, Eq, PartialOrd, Ord, Hash, Drop)]
 pub struct ExportId(pub u32);
+
+/// Names an import (`ImportId`): the id of the other vat's export.
+pub type ImportId = ExportId;
 
 /// Names an embargo (`EmbargoId`). The sender of the senderLoopback chooses it, the other vat sends it back as it is,
 /// and nobody else reads it. It is free again once its receiverLoopback was received.

@@ -12,7 +12,8 @@ mod text;
 pub use capn_wire::{CapAt, Memory, Op, Payload, PayloadFault, Tree};
 pub use exception::{Exception, ExceptionKind};
 pub use ids::{
-    CallId, EmbargoId, ExportId, ObjectId, PromiseId, QuestionId, RefId, Stamp, TaskId, Vat,
+    AnswerId, CallId, EmbargoId, ExportId, ImportId, ObjectId, PromiseId, QuestionId, RefId, Stamp,
+    TaskId, Vat,
 };
 pub use items::Items;
 pub use message::{

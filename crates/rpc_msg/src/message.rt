@@ -2,7 +2,7 @@ ghost use Rattle.std.specs.Prelude.{◌≡◌, IfOk};
 ghost use Rattle.rpc_msg.specs.Messages.{descriptors_of};
 
 use crate::exception::Exception;
-use crate::ids::{EmbargoId, ExportId, QuestionId, Stamp};
+use crate::ids::{AnswerId, EmbargoId, ExportId, ImportId, QuestionId, Stamp};
 use crate::items::Items;
 use crate::parts::{Descriptor, Target};
 use capn_wire::{Memory, Payload};
@@ -91,7 +91,7 @@ impl ReturnBody {
 #[derive(Drop)]
 pub struct Return {
     /// The id of the question (`answerId`).
-    pub answer: QuestionId,
+    pub answer: AnswerId,
     /// Whether the sender gives back what the Call gave it (`releaseParamCaps`): one reference for each descriptor of
     /// the Call that is of a sender kind, as by a Release of one. No Release is sent for those. A level 0 vat, which
     /// counts nothing, always says true. The schema's default is true; here the flag is always said.
@@ -184,7 +184,7 @@ impl Resolve {
 #[derive(Clone, Copy, Debug, PartialEq, Eq, Drop)]
 pub struct Release {
     /// `id`.
-    pub export: ExportId,
+    pub export: ImportId,
     /// How many (`referenceCount`): at least one, and no more than were given and not given back.
     pub count: u32,
 }

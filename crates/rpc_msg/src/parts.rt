@@ -1,11 +1,11 @@
-use crate::ids::{ExportId, QuestionId};
+use crate::ids::{ExportId, ImportId, QuestionId};
 use crate::path::Path;
 
 /// Where a call goes, or a Disembargo (`MessageTarget`).
 #[derive(Clone, Copy, Debug, PartialEq, Eq, PartialOrd, Ord, Hash, Drop)]
 pub enum Target {
     /// An export of the receiver, which the sender has as an import (`importedCap`): an object or a promise.
-    ImportedCap(ExportId),
+    ImportedCap(ImportId),
     /// What stands at a path of the results of a question that the sender asked (`promisedAnswer`). The results need
     /// not be there yet: that is pipelining. The question's Finish must not have been sent. Of a level 0 vat the
     /// standard asks this for a Bootstrap's results alone.
@@ -31,7 +31,7 @@ pub enum Descriptor {
     SenderPromise(ExportId),
     /// An object or a promise of the receiver, by the receiver's export id (`receiverHosted`). The sender must have
     /// it as an import.
-    ReceiverHosted(ExportId),
+    ReceiverHosted(ImportId),
     /// What stands at a path of the results of a question that the sender asked the receiver (`receiverAnswer`). Its
     /// Finish must not have been sent.
     ReceiverAnswer(QuestionId, Path),
