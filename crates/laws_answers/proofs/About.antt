@@ -21,6 +21,7 @@ use Rattle.vat_machine.specs.declared.entries.Embargo.{Embargo}
 use Rattle.vat_machine.specs.State.{State, start}
 use Rattle.vat_machine.specs.Lists.{how_many}
 use Rattle.vat_machine.specs.Numbers.{unknown_embargo}
+use Rattle.vat_machine.specs.Refusals.{refused}
 use Rattle.vat_machine.specs.Faults.{fault_of, is_foreign, plain_fault, unless_foreign}
 use Rattle.vat_machine.specs.Steps.{Does, Handles}
 use Rattle.vat_machine.specs.World.{World, core, inbox}
@@ -58,9 +59,9 @@ none_about : (v : Vat) (b : Option ObjectId) → AreAbout (start v One b) [] []
 none_about v b e = subst (λ (o : Option Embargo). here o ≡ 0) (sym (map.get-empty nat_cmp e)) refl
 
 module _ (sessions : IsKept Stand) (law : Loopbacks) where
-  commands : (s t new : State) (to_s to_t : List Noted) (c : Command) (g : Granted) (x : Effects) → EmbargoesStand s to_s t to_t → Does s c g x new → StillHolds EmbargoesStand new to_s t to_t x
-  commands s t new to_s to_t c g x k h =
-      let y = sessions.commands s t new to_s to_t c g x k.stand h in
+  commands : (s t new : State) (to_s to_t : List Noted) (c : Command) (g : Granted) (x : Effects) → EmbargoesStand s to_s t to_t → refused s c ≡ None → Does s c g x new → StillHolds EmbargoesStand new to_s t to_t x
+  commands s t new to_s to_t c g x k f h =
+      let y = sessions.commands s t new to_s to_t c g x k.stand f h in
       let sent = y.0 in
       (sent, y.1, record { stand = y.2; of_s = λ e. of_s sent y.1 e; of_t = λ e. of_t sent y.1 e })
     where

@@ -22,6 +22,7 @@ use Rattle.vat_machine.specs.declared.command.Effects.{Effects}
 use Rattle.vat_machine.specs.declared.command.Level.TheVariants.{One}
 use Rattle.vat_machine.specs.declared.entries.AnswerEntry.{AnswerEntry}
 use Rattle.vat_machine.specs.State.{State, start}
+use Rattle.vat_machine.specs.Refusals.{refused}
 use Rattle.vat_machine.specs.Faults.{fault_of}
 use Rattle.vat_machine.specs.Progress.{Progress, begin, with_state}
 use Rattle.vat_machine.specs.Steps.{Does, Handles}
@@ -194,8 +195,8 @@ starts a b = record { stand = standing.starts a b; whole_s = empty_whole A One a
 as_marks : (v : Asker Ids Ids) (q : ℕ) (to : List Noted) (u : Answerer Ids Ids) (back : List (Ret Ids Ids)) → Row v (outs q to) u back → Row v (mark.outs (marks q to)) u back
 as_marks v q to u back r = subst (λ (os : List (Out Ids Ids)). Row v os u back) (sym (outs_marks q to)) r
 
-commands : (s t new : State) (to_s to_t : List Noted) (c : Command) (g : Granted) (x : Effects) → Found s to_s t to_t → Does s c g x new → StillHolds Found new to_s t to_t x
-commands s t new to_s to_t c g x k h =
+commands : (s t new : State) (to_s to_t : List Noted) (c : Command) (g : Granted) (x : Effects) → Found s to_s t to_t → refused s c ≡ None → Does s c g x new → StillHolds Found new to_s t to_t x
+commands s t new to_s to_t c g x k f h =
     let a = does_whole s c g x new k.whole_s h in
     let sent = all_sent a.1 in
     let last : State = (let p = a.0 in p.state) in

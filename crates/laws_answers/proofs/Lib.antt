@@ -4,3 +4,9 @@ pub mod Filled
 pub mod Filling
 pub mod Asking
 pub mod FindingNamed
+pub mod Descriptors
+pub mod Messages
+pub mod Oldest
+pub mod Taken
+pub mod Falls
+pub mod Runs

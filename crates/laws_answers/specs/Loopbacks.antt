@@ -16,7 +16,7 @@ use Rattle.vat_machine.specs.World.{World, core, inbox}
 use Rattle.laws_acts.specs.Sent.{Noted, messages}
 use Rattle.laws_nodes.specs.Embargoes.{here, out, back}
 use Rattle.laws_sessions.specs.Worlds.{Stand}
-use Rattle.laws_counts.specs.Scenes.{InScenes}
+use Rattle.laws_sessions.specs.Scenes.{InScenes}
 
 -- Of the embargoes of the vat s: one is there for each Disembargo of it that is about.
 abbrev pub AreAbout : State → List Noted → List Noted → Type 0

@@ -18,7 +18,7 @@ use Rattle.laws_sessions.specs.Questions.{Out}
 use Rattle.laws_sessions.specs.Names as mark
 use Rattle.laws_sessions.specs.Names.{Mark}
 use Rattle.laws_sessions.specs.Views.{only, out_of}
-use Rattle.laws_counts.specs.Scenes.{InScenes}
+use Rattle.laws_sessions.specs.Scenes.{InScenes}
 
 -- ---- How a message looks to the session of a question, with the names of its answer
 

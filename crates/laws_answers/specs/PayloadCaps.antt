@@ -9,7 +9,7 @@ use Rattle.rpc_msg.specs.declared.message.Message.{Message}
 use Rattle.rpc_msg.specs.declared.message.Message.TheVariants as message
 use Rattle.vat_machine.specs.Payloads.{caps_in}
 use Rattle.vat_machine.specs.World.{inbox}
-use Rattle.laws_counts.specs.Scenes.{InScenes}
+use Rattle.laws_sessions.specs.Scenes.{InScenes}
 
 abbrev pub BodyFits : ReturnBody → Type 0
 BodyFits (body.Results payload ds) = caps_in payload ≡ length ds

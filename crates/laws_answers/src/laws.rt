@@ -6,9 +6,8 @@ ghost use Rattle.laws_answers.specs.Named.{NamedAnswersAreThere};
 ghost use Rattle.laws_answers.specs.PayloadCaps.{PayloadsFit};
 ghost use Rattle.laws_answers.specs.Returned.{AnswersReturnOnceKnown};
 
-use laws_counts::counts_agree_in_scenes;
 use laws_nodes::embargoes_pair;
-use laws_sessions::sessions_stand;
+use laws_sessions::{counts_agree_in_scenes, sessions_stand};
 use laws_steps::nodes_are_there;
 
 /// As long as no vat falls and nothing is refused, and so in each scene, an embargo is there exactly as long as one

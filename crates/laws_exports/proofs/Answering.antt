@@ -46,11 +46,11 @@ use Rattle.laws_sessions.specs.Exports.{Back, Leaves}
 use Rattle.laws_sessions.specs.Views.{only, IsReady}
 use Rattle.laws_sessions.proofs.Acted.{act as kept_ready}
 use Rattle.laws_sessions.proofs.Same.{fits}
-use Rattle.laws_counts.specs.Imports.{count, lets_of, letting, pending, IsCovered, AreApart}
-use Rattle.laws_counts.specs.Entries.{ImportCounts, ExportCounts, AreCounted, IsCounted}
-use Rattle.laws_counts.proofs.Paid.{letting-append}
-use Rattle.laws_counts.proofs.Paid as pays
-use Rattle.laws_counts.proofs.AboveZero as above
+use Rattle.laws_sessions.specs.Imports.{count, lets_of, letting, pending, IsCovered, AreApart}
+use Rattle.laws_sessions.specs.Entries.{ImportCounts, ExportCounts, AreCounted, IsCounted}
+use Rattle.laws_sessions.proofs.Paid.{letting-append}
+use Rattle.laws_sessions.proofs.Paid as pays
+use Rattle.laws_sessions.proofs.AboveZero as above
 use Rattle.laws_exports.specs.Mentions.{AllStand, wire, TargetStands, Names, AllName, IsNamed, AreNamed}
 use Rattle.laws_exports.specs.Views.{named_in, target_in, targets_in, take_of, backs_for}
 use Rattle.laws_exports.proofs.Described.{describes_all, described}

@@ -30,6 +30,7 @@ use Rattle.vat_machine.specs.Lists.{how_many}
 use Rattle.vat_machine.specs.Limits.{export_count}
 use Rattle.vat_machine.specs.Laws.{given_out, SendsRaiseCounts}
 use Rattle.vat_machine.specs.Descriptors.{giving}
+use Rattle.vat_machine.specs.Refusals.{refused}
 use Rattle.vat_machine.specs.Faults.{is_foreign, fault_of}
 use Rattle.vat_machine.specs.Progress.{Progress, begin, with_state}
 use Rattle.vat_machine.specs.Steps.{Does, Handles}
@@ -45,14 +46,14 @@ use Rattle.laws_sessions.specs.Views.{only, IsUseful, IsReady}
 use Rattle.laws_sessions.specs.Between.{HoldsIn, StillHolds, IsKept}
 use Rattle.laws_sessions.proofs.ExportsHold.{more}
 use Rattle.laws_sessions.proofs.Heard as heard
-use Rattle.laws_counts.specs.Imports.{count, lets_of, pending, IsCovered}
-use Rattle.laws_counts.specs.Entries.{AreCounted}
-use Rattle.laws_counts.specs.Agreed.{Agree}
-use Rattle.laws_counts.proofs.Got.{took_one}
-use Rattle.laws_counts.proofs.Flags.{reads, takes_first}
-use Rattle.laws_counts.proofs.AboveZero as above
-use Rattle.laws_counts.proofs.Agreeing as agreeing
-use Rattle.laws_counts.proofs.Agreeing.{begins, given_behind, commanded, handled}
+use Rattle.laws_sessions.specs.Imports.{count, lets_of, pending, IsCovered}
+use Rattle.laws_sessions.specs.Entries.{AreCounted}
+use Rattle.laws_sessions.specs.Agreed.{Agree}
+use Rattle.laws_sessions.proofs.Got.{took_one}
+use Rattle.laws_sessions.proofs.Flags.{reads, takes_first}
+use Rattle.laws_sessions.proofs.AboveZero as above
+use Rattle.laws_sessions.proofs.Agreeing as agreeing
+use Rattle.laws_sessions.proofs.Agreeing.{begins, given_behind, commanded, handled}
 use Rattle.laws_exports.specs.Mentions.{AllName, NamesTurned, NamesAtOnce, NamingActs}
 use Rattle.laws_exports.specs.Views.{named_in, target_in, targets_in, take_of, backs_for}
 use Rattle.laws_exports.specs.Found.{FindsTarget, FindsEach, FindsExports}
@@ -283,8 +284,8 @@ module _ (rise : SendsRaiseCounts) where
         },
       )
 
-  commands : (s t new : State) (to_s to_t : List Noted) (c : Command) (g : Granted) (x : Effects) → Found s to_s t to_t → Does s c g x new → StillHolds Found new to_s t to_t x
-  commands s t new to_s to_t c g x k h =
+  commands : (s t new : State) (to_s to_t : List Noted) (c : Command) (g : Granted) (x : Effects) → Found s to_s t to_t → refused s c ≡ None → Does s c g x new → StillHolds Found new to_s t to_t x
+  commands s t new to_s to_t c g x k f h =
       let a = does_whole s c g x new k.whole_s h in
       let r = by_command s t new to_s to_t c g x k h a in
       (all_sent a.1, r.0, r.1)

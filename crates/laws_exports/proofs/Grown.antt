@@ -37,7 +37,7 @@ use Rattle.vat_machine.specs.Collecting.{Goes, PromiseGoes, OutcomeGoes, ImportG
 use Rattle.laws_acts.proofs.Alone.{back_alone, all_alone, resolve_alone}
 use Rattle.laws_sessions.proofs.Same.{fits, tells_call}
 use Rattle.laws_sessions.proofs.EachAct.{OfActs, by_act}
-use Rattle.laws_counts.proofs.Paid.{release_state}
+use Rattle.laws_sessions.proofs.Paid.{release_state}
 use Rattle.vat_machine.specs.declared.calls.KeptOutcome.{KeptOutcome}
 use Rattle.vat_machine.specs.Settling.{known, Fits, SaysBack, TellsPeer, Tells, ResolvesTo, ResolvesBy}
 use Rattle.vat_machine.specs.Sweeping.{got_of, finished_by, releases}
@@ -208,7 +208,7 @@ acts last d (Then {mid = mid} one rest) e = subst (λ (ms : List Out). Grows (ma
 
 -- ---- Messages
 
-stays_same : (o : Option Export) → Stays o o
+pub stays_same : (o : Option Export) → Stays o o
 stays_same None = refl
 stays_same (Some x) = refl
 
@@ -219,7 +219,7 @@ stays_then (Some x) None (Some z) h k = absurd (let bad : Some z ≡ None = k in
 stays_then (Some x) (Some y) None h k = tt
 stays_then (Some x) (Some y) (Some z) h k = k ∙ h
 
-lowers : (m : Map Export) (i n e : ℕ) → Stays (map.get m e) (map.get (lower_by m i n) e)
+pub lowers : (m : Map Export) (i n e : ℕ) → Stays (map.get m e) (map.get (lower_by m i n) e)
 lowers m i n e = by (map.get m i) refl
   where
     by : (o : Option Export) → map.get m i ≡ o → Stays (map.get m e) (map.get (lowered m i n o) e)
@@ -246,7 +246,7 @@ lowers_each : (m : Map Export) (ids : List ℕ) (e : ℕ) → Stays (map.get m e
 lowers_each m [] e = stays_same (map.get m e)
 lowers_each m (i ∷ ids) e = stays_then (map.get m e) (map.get (lower_by m i 1) e) (map.get (lower_each (lower_by m i 1) ids) e) (lowers m i 1 e) (lowers_each (lower_by m i 1) ids e)
 
-obeys : (s : State) (b : Bool) (ids : List ℕ) (e : ℕ) → Stays (map.get s.exports e) (map.get (obey s b ids).exports e)
+pub obeys : (s : State) (b : Bool) (ids : List ℕ) (e : ℕ) → Stays (map.get s.exports e) (map.get (obey s b ids).exports e)
 obeys s true ids e = lowers_each s.exports ids e
 obeys s false ids e = stays_same (map.get s.exports e)
 

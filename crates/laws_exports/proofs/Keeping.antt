@@ -33,10 +33,10 @@ use Rattle.laws_sessions.specs.Exports.{Back, Importer, Kind, Said, Leaves}
 use Rattle.laws_sessions.specs.Views.{IsReady}
 use Rattle.laws_sessions.proofs.EachAct.{OfActs, by_act}
 use Rattle.laws_sessions.proofs.Same.{describes_all, says, fits, tells_call, resolves}
-use Rattle.laws_counts.specs.Imports.{count, pending, IsCovered}
-use Rattle.laws_counts.specs.Entries.{ImportCounts, IsCounted}
-use Rattle.laws_counts.proofs.Paid.{release_state}
-use Rattle.laws_counts.proofs.AboveZero as above
+use Rattle.laws_sessions.specs.Imports.{count, pending, IsCovered}
+use Rattle.laws_sessions.specs.Entries.{ImportCounts, IsCounted}
+use Rattle.laws_sessions.proofs.Paid.{release_state}
+use Rattle.laws_sessions.proofs.AboveZero as above
 use Rattle.laws_exports.specs.Mentions.{AllName}
 use Rattle.laws_exports.specs.Imports.{KeepsImport, AnswersAll}
 use Rattle.laws_exports.specs.Views.{kind_of, said_of, importer_of, backs_for}

@@ -6,3 +6,12 @@ pub mod Answering
 pub mod Finding
 pub mod Keeping
 pub mod OneKind
+pub mod Fitting
+pub mod Owing
+pub mod Telling
+pub mod Counting
+pub mod Told
+pub mod Learning
+pub mod Clashing
+pub mod Standing
+pub mod Wholes

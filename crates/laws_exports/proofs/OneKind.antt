@@ -39,6 +39,7 @@ use Rattle.vat_machine.specs.Limits.{import_count, export_count}
 use Rattle.vat_machine.specs.Laws.{given_out, SendsRaiseCounts}
 use Rattle.vat_machine.specs.Descriptors.{giving, received, import_one, take_each, take_at, take_all}
 use Rattle.vat_machine.specs.Flags.{obey}
+use Rattle.vat_machine.specs.Refusals.{refused}
 use Rattle.vat_machine.specs.Faults.{gave, is_foreign, fault_of}
 use Rattle.vat_machine.specs.Messages.{set_resolution, resolve_import, take_resolve}
 use Rattle.vat_machine.specs.Progress.{Progress, begin, numbers}
@@ -53,9 +54,9 @@ use Rattle.laws_sessions.specs.Views.{only}
 use Rattle.laws_sessions.specs.Between.{Steady, HoldsIn, StillHolds, IsKept}
 use Rattle.laws_sessions.proofs.ExportsHold.{gives-append, leaves_none}
 use Rattle.laws_sessions.proofs.Kept.{in_steady_worlds}
-use Rattle.laws_counts.specs.Imports.{count}
-use Rattle.laws_counts.specs.Entries.{ImportCounts, AreCounted}
-use Rattle.laws_counts.proofs.Flags.{reads, takes_first}
+use Rattle.laws_sessions.specs.Imports.{count}
+use Rattle.laws_sessions.specs.Entries.{ImportCounts, AreCounted}
+use Rattle.laws_sessions.proofs.Flags.{reads, takes_first}
 use Rattle.laws_exports.specs.Views.{kind_of, gives_in, resolves_in, outs_for, backs_for}
 use Rattle.laws_exports.specs.Kinds.{kind_given, IsOf, one_more, Grows, Stays}
 use Rattle.laws_exports.specs.Imports.{KeepsImport}
@@ -116,7 +117,7 @@ no_gives e (plain.Release r) = refl
 no_gives e (plain.Disembargo d) = refl
 no_gives e (plain.Other n) = refl
 
-gives_of : (e : ℕ) (ns : List Noted) → gives (outs_for e ns) ≡ giving e (messages ns)
+pub gives_of : (e : ℕ) (ns : List Noted) → gives (outs_for e ns) ≡ giving e (messages ns)
 gives_of e [] = refl
 gives_of e (n ∷ ns) =
     let a = resolves_in e n.message in
@@ -140,7 +141,7 @@ grown_count o last (export.Resolve ∷ ms) h = grown_count o last ms h
 -- ---- The exporter gives
 
 -- Where the export is not there, nothing of it is on the way or held.
-abbrev IsFree : Option Export → List Out → Option Import → Type 0
+abbrev pub IsFree : Option Export → List Out → Option Import → Type 0
 IsFree o old y = o ≡ None → (gives old ≡ 0) × (y ≡ None)
 
 one_fits : (n : Node) (j : Kind) (o : Option Export) (old : List Out) (y : Option Import) → kind_given n ≡ Some j → IsOf n o → FitsExport o old y → IsFree o old y → FitsExport (Some (one_more n o)) (old ++ export.Give j ∷ []) y
@@ -186,6 +187,19 @@ first_of_only k false j ms h = ((λ e. absurd (let bad : false ≡ true = e in c
 received_of : (k : Option Kind) (s : SenderKind) (o : Option Import) → k ≡ Some (kind_of s) → ImportOf k o → ImportOf k (Some (received s o))
 received_of k s None h i = h
 received_of k s (Some x) h i = i
+
+-- What leaves imports as they are.
+pub obeyed : (s : State) (b : Bool) (ids : List ℕ) → (obey s b ids).imports ≡ s.imports
+obeyed s b ids = ap (λ (u : State). u.imports) (obey_alone s b ids)
+
+pub comes : (d new : Progress) (r : Return) (x : Question) (f : Finishing) → ComesTo d r x f new → new.state.imports ≡ (came d.state r x).imports
+comes d new r x finishing.Sent h = rw h refl
+comes d new r x finishing.Owed h = rw h refl
+comes d new r x finishing.Waived h = rw h refl
+
+pub turned : (d new : Progress) (c : DisembargoContext) → TurnsBy d c new → new.state.imports ≡ d.state.imports
+turned d new (SenderLoopback x) h = rw h.1 refl
+turned d new (ReceiverLoopback x) h = rw h.2 refl
 
 module _ (e : ℕ) (k : Option Kind) where
   abbrev Of : State → Type 0
@@ -235,18 +249,6 @@ module _ (e : ℕ) (k : Option Kind) where
   still : (s t : State) → t.imports ≡ s.imports → Of s → Of t
   still s t f h = subst (λ (m : Map Import). ImportOf k (map.get m e)) (sym f) h
 
-  obeyed : (s : State) (b : Bool) (ids : List ℕ) → (obey s b ids).imports ≡ s.imports
-  obeyed s b ids = ap (λ (u : State). u.imports) (obey_alone s b ids)
-
-  comes : (d new : Progress) (r : Return) (x : Question) (f : Finishing) → ComesTo d r x f new → new.state.imports ≡ (came d.state r x).imports
-  comes d new r x finishing.Sent h = rw h refl
-  comes d new r x finishing.Owed h = rw h refl
-  comes d new r x finishing.Waived h = rw h refl
-
-  turned : (d new : Progress) (c : DisembargoContext) → TurnsBy d c new → new.state.imports ≡ d.state.imports
-  turned d new (SenderLoopback x) h = rw h.1 refl
-  turned d new (ReceiverLoopback x) h = rw h.2 refl
-
   -- What a message does at once.
   taken : (d first : Progress) (m : PlainMessage) → Consumes m d first → AllOf k (gives_in e (descriptors_of_plain m)) → Of d.state → Of first.state
   taken d first (plain.Abort x) h a i = absurd h
@@ -269,15 +271,15 @@ no_import None c h = refl
 no_import (Some x) c h = absurd (let a : x.count ≡ 0 = h in omega (arith, a, c))
 
 -- Where so much of an export is left by what is on the way to it.
-free_at : (t : State) (to_t : List Noted) (e : ℕ) (left : ℕ) (bs : List export.Back) (o : Option Export) → AreCounted t → Leaves left bs (count e t + giving e (messages to_t)) → (o ≡ None → left ≡ 0) → IsFree o (outs_for e to_t) (map.get t.imports e)
+pub free_at : (t : State) (to_t : List Noted) (e : ℕ) (left : ℕ) (bs : List export.Back) (o : Option Export) → AreCounted t → Leaves left bs (count e t + giving e (messages to_t)) → (o ≡ None → left ≡ 0) → IsFree o (outs_for e to_t) (map.get t.imports e)
 free_at t to_t e left bs o c h f g =
     let z = leaves_none left bs (count e t + giving e (messages to_t)) (f g) h in
     let a = gives_of e to_t in
     (omega (arith, z, a), no_import (map.get t.imports e) (c.imports e) (omega (arith, z)))
 
-record OneKind (s : State) (to_s : List Noted) (t : State) (to_t : List Noted) : Type 0 where
-  found : Found s to_s t to_t
-  kinds : BothOfKind s to_s t to_t
+pub record OneKind (s : State) (to_s : List Noted) (t : State) (to_t : List Noted) : Type 0 where
+  pub found : Found s to_s t to_t
+  pub kinds : BothOfKind s to_s t to_t
 
 turned_over : (s t : State) (to_s to_t : List Noted) → OneKind s to_s t to_t → OneKind t to_t s to_s
 turned_over s t to_s to_t k = let b = k.kinds in record { found = turned_about s t to_s to_t k.found; kinds = (b.1, b.0) }
@@ -306,8 +308,8 @@ takes_first_of d first n ns e (Some x) c h =
     (all_right k b (outs_for e ns) rest, taken e k d first n.message c (all_left k b (outs_for e ns) rest) h.1)
 
 module _ (rise : SendsRaiseCounts) where
-  commands : (s t new : State) (to_s to_t : List Noted) (c : Command) (g : Granted) (x : Effects) → OneKind s to_s t to_t → Does s c g x new → StillHolds OneKind new to_s t to_t x
-  commands s t new to_s to_t c g x k h =
+  commands : (s t new : State) (to_s to_t : List Noted) (c : Command) (g : Granted) (x : Effects) → OneKind s to_s t to_t → refused s c ≡ None → Does s c g x new → StillHolds OneKind new to_s t to_t x
+  commands s t new to_s to_t c g x k free h =
       let f = k.found in
       let b = k.kinds in
       let a = does_whole s c g x new f.whole_s h in
@@ -347,7 +349,7 @@ module _ (rise : SendsRaiseCounts) where
       let own : AreOfKind t last.state to_s = λ e. import_fits (map.get t.exports e) (outs_for e to_s) (map.get first.state.imports e) (map.get last.state.imports e) (keeping.acts p.0 first p.1 e) (takes_first_of (begin s) first n to_s e (map.get t.exports e) a.1 (b.1 e)) in
       (sent, r.0, record { found = r.1; kinds = subst (λ (u : State). BothOfKind u to_s t (to_t ++ sent)) (sym p.4) (out, own) })
 
-  are_kept : IsKept OneKind
+  pub are_kept : IsKept OneKind
   are_kept = record { turned = turned_over; starts = starts; commands = commands; receives = receives }
 
   pub in_worlds : (a b : Option ObjectId) (w : World) → Steady w (new_world a b) → HoldsIn BothOfKind w

@@ -15,7 +15,7 @@ use Rattle.rpc_msg.specs.Messages.{descriptors_of_body, descriptors_of_resolved}
 use Rattle.vat_machine.specs.State.{State}
 use Rattle.vat_machine.specs.World.{World, new_world, core, inbox}
 use Rattle.laws_sessions.specs.Between.{Steady}
-use Rattle.laws_counts.specs.Scenes.{InScenes}
+use Rattle.laws_sessions.specs.Scenes.{InScenes}
 
 abbrev pub FindsTarget : State → Target → Type 0
 FindsTarget s (ImportedCap e) = IsSome (map.get s.exports e.0)

@@ -7,8 +7,8 @@ use Rattle.laws_acts.specs.Acts.{Acts}
 use Rattle.laws_acts.specs.Sent.{all_sent}
 use Rattle.laws_sessions.specs.Exports.{Importer, Back, Answers}
 use Rattle.laws_sessions.specs.Views.{IsReady}
-use Rattle.laws_counts.specs.Imports.{IsCovered}
-use Rattle.laws_counts.specs.Entries.{IsCounted}
+use Rattle.laws_sessions.specs.Imports.{IsCovered}
+use Rattle.laws_sessions.specs.Entries.{IsCounted}
 use Rattle.laws_exports.specs.Mentions.{AllName}
 use Rattle.laws_exports.specs.Views.{importer_of, backs_for}
 

@@ -4,3 +4,7 @@ pub mod Mentions
 pub mod Imports
 pub mod Found
 pub mod OfAKind
+pub mod ExportViews
+pub mod Steps
+pub mod Between
+pub mod Oldest

@@ -8,7 +8,7 @@ use Rattle.laws_acts.specs.Sent.{Noted}
 use Rattle.laws_sessions.specs.Exports as export
 use Rattle.laws_sessions.specs.Exports.{Kind, Out}
 use Rattle.laws_sessions.specs.Between.{InSteadyWorlds, HoldsIn}
-use Rattle.laws_counts.specs.Scenes.{InScenes}
+use Rattle.laws_sessions.specs.Scenes.{InScenes}
 use Rattle.laws_exports.specs.Views.{kind_of, outs_for}
 use Rattle.laws_exports.specs.Kinds.{kind_given}
 

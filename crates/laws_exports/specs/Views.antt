@@ -15,7 +15,7 @@ use Rattle.laws_sessions.specs.Exports as export
 use Rattle.laws_sessions.specs.Exports.{Kind, Said, Importer, Out, Back}
 use Rattle.laws_sessions.specs.Views.{only}
 use Rattle.laws_acts.specs.Sent.{Noted}
-use Rattle.laws_counts.specs.Imports.{lets_of}
+use Rattle.laws_sessions.specs.Imports.{lets_of}
 
 -- ---- Entries
 

@@ -6,7 +6,7 @@ ghost use Rattle.laws_exports.specs.Kinds.{ExportsKeepNodes};
 ghost use Rattle.laws_exports.specs.OfAKind.{ExportsAreOfOneKind};
 ghost use Rattle.laws_exports.specs.Mentions.{DescriptorsStand, MentionsStand};
 
-use laws_counts::counts_agree_in_scenes;
+use laws_sessions::counts_agree_in_scenes;
 use vat_machine::sends_raise_counts;
 
 /// An export is given as what its node is, hosted or promised, each time that it is given; and while it is there it keeps

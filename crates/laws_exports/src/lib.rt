@@ -1,10 +1,13 @@
-//! Exports and imports: what a vat gives, what it names, and that between two vats each message that names an export
-//! finds it. No code runs here: what each function ensures is the law.
+//! Exports: that they keep their node and kind, that what is named of them stands, that each which settles is told once, and
+//! that between two vats no message clashes with what is kept of an import. No code runs here: what each function ensures
+//! is the law.
 #![tactic(auto)]
 
 mod laws;
+mod resolves;
 
 pub use laws::{
     exports_are_of_one_kind, exports_keep_nodes, imports_answer, mentions_stand,
     named_exports_are_there,
 };
+pub use resolves::{exports_resolve_once, exports_stand, settled_exports_are_told};

@@ -165,7 +165,7 @@ acted d new a (act.Releases w e f h) = rw h a
 
 -- ---- Reached states
 
-empty_stops : (s : State) → s.promises ≡ map.empty → s.outcomes ≡ map.empty → AllStop s
+pub empty_stops : (s : State) → s.promises ≡ map.empty → s.outcomes ≡ map.empty → AllStop s
 empty_stops s e f n = (0, by n)
   where
     by : (n : Node) → link s n ≡ None

@@ -1,5 +1,5 @@
 -- What no place names goes, and nodes that places name settle where they did.
-use Rattle.std.proofs.Common.{◌≡◌, ◌⊎◌, inl, inr, ℕ, zero, suc, List, [], ◌∷◌, Option, None, Some, refl, sym, ap, subst, ◌∙◌}
+use Rattle.std.proofs.Common.{◌≡◌, ◌⊎◌, inl, inr, ℕ, zero, suc, false, List, [], ◌∷◌, Option, None, Some, refl, sym, ap, subst, ◌∙◌}
 use Rattle.std.specs.FinMap as map
 use Rattle.finite_maps.specs.Tally.{Map}
 use Rattle.capn_wire.specs.declared.path.Op.{Op}
@@ -132,22 +132,29 @@ no_field s o (Some x) l = by x.value l
     by None l = absurd l
     by (Some v) l = l.2
 
+-- Where what goes is another node's.
+pub promise_gone : (s : State) (p : ℕ) (n : Node) → is_promise p n ≡ false → link (record s { promises = map.remove s.promises p }) n ≡ link s n
+promise_gone s p (node.Object o) h = refl
+promise_gone s p (node.Promise q) h = ap promise_link (get_left s.promises p q h)
+promise_gone s p (node.Field o path) h = refl
+promise_gone s p (node.Import e) h = refl
+promise_gone s p (node.Pipe q path) h = refl
+promise_gone s p (node.Broken reason) h = refl
+
+pub outcome_gone : (s : State) (o : ℕ) (n : Node) → is_field o n ≡ false → link (record s { outcomes = map.remove s.outcomes o }) n ≡ link s n
+outcome_gone s o (node.Object x) h = refl
+outcome_gone s o (node.Promise q) h = refl
+outcome_gone s o (node.Field x path) h = ap (λ y. field_link path (value_of y)) (get_left s.outcomes o x h)
+outcome_gone s o (node.Import e) h = refl
+outcome_gone s o (node.Pipe q path) h = refl
+outcome_gone s o (node.Broken reason) h = refl
+
 module _ (d new : Progress) (g : Goes d new) where
   same_promise : (p : ℕ) → names d.state (is_promise p) ≡ 0 → (n : Node) → IsAmong n (places d.state) → link (record (d.state) { promises = map.remove d.state.promises p }) n ≡ link d.state n
-  same_promise p z (node.Object o) i = refl
-  same_promise p z (node.Promise q) i = ap promise_link (get_left d.state.promises p q (none_among (is_promise p) (places d.state) z (node.Promise q) i))
-  same_promise p z (node.Field o path) i = refl
-  same_promise p z (node.Import e) i = refl
-  same_promise p z (node.Pipe q path) i = refl
-  same_promise p z (node.Broken reason) i = refl
+  same_promise p z n i = promise_gone d.state p n (none_among (is_promise p) (places d.state) z n i)
 
   same_outcome : (o : ℕ) → names d.state (is_field o) ≡ 0 → (n : Node) → IsAmong n (places d.state) → link (record (d.state) { outcomes = map.remove d.state.outcomes o }) n ≡ link d.state n
-  same_outcome o z (node.Object k) i = refl
-  same_outcome o z (node.Promise q) i = refl
-  same_outcome o z (node.Field k path) i = ap (λ y. field_link path (value_of y)) (get_left d.state.outcomes o k (none_among (is_field o) (places d.state) z (node.Field k path) i))
-  same_outcome o z (node.Import e) i = refl
-  same_outcome o z (node.Pipe q path) i = refl
-  same_outcome o z (node.Broken reason) i = refl
+  same_outcome o z n i = outcome_gone d.state o n (none_among (is_field o) (places d.state) z n i)
 
   same_link : (n : Node) → IsAmong n (places d.state) → link new.state n ≡ link d.state n
   same_link n i = by g

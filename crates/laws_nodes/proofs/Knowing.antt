@@ -40,7 +40,7 @@ module _ (o : ℕ) (who : Caller) (w : List HeldCall) where
   other_link s v (node.Pipe q path) h = refl
   other_link s v (node.Broken reason) h = refl
 
-  is_a_field : (n : Node) → is_field o n ≡ true → (path : List Op) × (n ≡ node.Field o path)
+  pub is_a_field : (n : Node) → is_field o n ≡ true → (path : List Op) × (n ≡ node.Field o path)
   is_a_field (node.Object k) h = absurd (let f : false ≡ true = h in cc)
   is_a_field (node.Promise q) h = absurd (let f : false ≡ true = h in cc)
   is_a_field (node.Field j path) h = (path, ap (λ (k : ℕ). node.Field k path) (equal j o h))

@@ -6,3 +6,4 @@ pub mod Pairs
 pub mod Loopbacks
 pub mod Sourced
 pub mod Ending
+pub mod Owning

@@ -103,7 +103,7 @@ is_it p (node.Pipe q path) h = cc
 is_it p (node.Broken reason) h = cc
 
 module _ (s : State) (p : ℕ) (to : Node) where
-  others : (n : Node) → is_promise p n ≡ false → link (fixed s p to) n ≡ link s n
+  pub others : (n : Node) → is_promise p n ≡ false → link (fixed s p to) n ≡ link s n
   others (node.Object o) h = refl
   others (node.Promise q) h = ap promise_link (get_other s.promises p (promise.Fixed to) q h)
   others (node.Field o path) h = refl
@@ -111,7 +111,7 @@ module _ (s : State) (p : ℕ) (to : Node) where
   others (node.Pipe q path) h = refl
   others (node.Broken reason) h = refl
 
-  leads : link (fixed s p to) (node.Promise p) ≡ Some to
+  pub leads : link (fixed s p to) (node.Promise p) ≡ Some to
   leads = ap promise_link (get-insert_same s.promises p (promise.Fixed to))
 
   grows : StaysOpen (map.get s.promises p) → (n m : Node) → link s n ≡ Some m → link (fixed s p to) n ≡ Some m

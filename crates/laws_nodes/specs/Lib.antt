@@ -3,3 +3,4 @@ pub mod Settling
 pub mod Embargoes
 pub mod Sources
 pub mod Questions
+pub mod OwnCalls

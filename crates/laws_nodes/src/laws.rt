@@ -4,6 +4,7 @@ ghost use Rattle.laws_nodes.specs.Settling.{EachNodeStops, StopsWithin, Settling
 ghost use Rattle.laws_nodes.specs.Embargoes.{EmbargoesArePaired, Loopbacks};
 ghost use Rattle.laws_nodes.specs.Sources.{EachHasOneSource};
 ghost use Rattle.laws_nodes.specs.Questions.{EachEndsInTime};
+ghost use Rattle.laws_nodes.specs.OwnCalls.{EachHasItsOwn};
 
 /// No node of a vat leads back to itself, in any state to which the vat comes and at no moment of a step; and it is fixed
 /// where each node leads once a promise is settled, an outcome becomes known, or what no place names goes.
@@ -37,4 +38,10 @@ pub fn outcomes_have_sources()
 /// returned; and between steps no question of a call that was sent on has returned.
 pub fn questions_end()
     ensures { EachEndsInTime }
+{}
+
+/// A call of the application that is not finished has no outcome and no question but the one that the vat keeps of it, and
+/// no outcome and no question is of a call that is still to come: in each state to which a vat comes.
+pub fn calls_have_their_own()
+    ensures { EachHasItsOwn }
 {}

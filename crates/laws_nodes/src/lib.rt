@@ -1,9 +1,10 @@
-//! Laws over nodes, embargoes, outcomes and questions: what holds in every state to which a vat comes, and at every moment
-//! of its steps. No code runs here: what each function ensures is the law.
+//! Laws over nodes, embargoes, outcomes, questions and calls: what holds in every state to which a vat comes, and at every
+//! moment of its steps. No code runs here: what each function ensures is the law.
 #![tactic(auto)]
 
 mod laws;
 
 pub use laws::{
-    circles_never_stop, embargoes_pair, nodes_settle, outcomes_have_sources, questions_end,
+    calls_have_their_own, circles_never_stop, embargoes_pair, nodes_settle, outcomes_have_sources,
+    questions_end,
 };

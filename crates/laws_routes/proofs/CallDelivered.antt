@@ -106,6 +106,8 @@ set_rest w s sends ds g m calls tasks unsettled a b c h =
       view = record { imports = view.imports; sessions = view.sessions; link = view.link };
       back = record { imports = back.imports; sessions = back.sessions; link = back.link };
       told = h.told;
+      unborn = h.unborn;
+      unborn_back = h.unborn_back;
     }
 
 -- At an object the call is delivered.
@@ -132,6 +134,8 @@ delivers w d g m c o x then h kn e k =
       view = record { imports = view.imports; sessions = view.sessions; link = view.link };
       back = record { imports = back.imports; sessions = back.sessions; link = back.link };
       told = told_more w.made w.delivered v d.effects.deliveries made m.refs r refl h.told;
+      unborn = h.unborn;
+      unborn_back = h.unborn_back;
     } in
     let a = new_refs_begin w next g n then q.caps t in
     let u : State = with_refs s q.caps in

@@ -114,11 +114,13 @@ counts w d g m r x e t =
       view = record { imports = view.imports; sessions = view.sessions; link = view.link };
       back = record { imports = back.imports; sessions = back.sessions; link = back.link };
       told = counted_told w.made _ m.refs (ref_at w.vat r) t.told;
+      unborn = t.unborn;
+      unborn_back = t.unborn_back;
     }
 
 -- ---- The call
 
-mine : (w : Around) (d : Progress) (g : Ghosts) (m : routing.State routes) (r : ℕ) (x : Reference) → Tied w d g m → map.get d.state.refs r ≡ Some x → IsRef w.vat g.own d.state.next_ref r (Some x) (m.refs (ref_at w.vat r))
+pub mine : (w : Around) (d : Progress) (g : Ghosts) (m : routing.State routes) (r : ℕ) (x : Reference) → Tied w d g m → map.get d.state.refs r ≡ Some x → IsRef w.vat g.own d.state.next_ref r (Some x) (m.refs (ref_at w.vat r))
 mine w d g m r x t e = let h = t.own in subst (λ o. IsRef w.vat g.own d.state.next_ref r o (m.refs (ref_at w.vat r))) e (h.refs r)
 
 pub call_here : (w : Around) (d : Progress) (g : Ghosts) (m : routing.State routes) (r c o : ℕ) (x : Reference) (q : Request) (new : Progress) → Tied w d g m → InvariantWith m [] → map.get d.state.refs r ≡ Some x → x.embargo ≡ None
@@ -161,7 +163,7 @@ send_far s msg (yes e) h = absurd (h e)
 send_far s msg (no e) h = refl
 
 -- What is asked of a state does not look at calls.
-may_ask_still : (s : State) (calls : _) (out back : List rpc.Message) (q : ℕ) → MayAsk s out back q → MayAsk (record s { calls = calls }) out back q
+pub may_ask_still : (s : State) (calls : _) (out back : List rpc.Message) (q : ℕ) → MayAsk s out back q → MayAsk (record s { calls = calls }) out back q
 may_ask_still s calls out back q h = let u = h.unnamed in record { unnamed = record { links = u.links; heads = u.heads; embargoes = u.embargoes }; not_open = h.not_open; met = h.met; own = h.own }
 
 -- The other vat reads a wire's target as what the wire stands for.

@@ -43,6 +43,7 @@ use Rattle.laws_routes.specs.Premises.{Unnamed, MayAsk, EachOpen}
 use Rattle.laws_routes.proofs.Differing.{ends_differ, with_here, with_other}
 use Rattle.laws_routes.proofs.ExportsGrown.{Grown, described_all}
 use Rattle.laws_routes.proofs.LinkShapes.{past_more, shapes_more, shapes_of_more, past_same, shapes_same, open_map, shapes_exports, cap_map}
+use Rattle.laws_routes.proofs.UnbornKept.{unborn_asked, unborn_later}
 
 -- ---- A new session, of a question that nothing names
 
@@ -54,7 +55,7 @@ own_point v g q i (node.Import e) h = refl
 own_point v g q i (node.Pipe k path) h = cc
 own_point v g q i (node.Broken reason) h = refl
 
-same_point : (v : Vat) (g : Ghost) (q i : ℕ) (n : Node) → is_pipe q n ≡ false → point v (asked g q i) n ≡ point v g n
+pub same_point : (v : Vat) (g : Ghost) (q i : ℕ) (n : Node) → is_pipe q n ≡ false → point v (asked g q i) n ≡ point v g n
 same_point v g q i (node.Object o) h = refl
 same_point v g q i (node.Promise p) h = refl
 same_point v g q i (node.Field o path) h = refl
@@ -128,7 +129,7 @@ abbrev IsSomeExport : Option Export → Type 0
 IsSomeExport o = IsSome o
 
 -- An import stands for what it stood for where exports only grow.
-import_still : (v : Vat) (g : Ghost) (q i : ℕ) (E F : Map Export) (e : ℕ) (x : Point) (o : Option Import) → Grown E F → ((y : Export) → map.get E e ≡ Some y → is_wire y.node ≡ false) → IsImportOf v g x (map.get E e) o → IsImportOf v (asked g q i) x (map.get F e) o
+pub import_still : (v : Vat) (g : Ghost) (q i : ℕ) (E F : Map Export) (e : ℕ) (x : Point) (o : Option Import) → Grown E F → ((y : Export) → map.get E e ≡ Some y → is_wire y.node ≡ false) → IsImportOf v g x (map.get E e) o → IsImportOf v (asked g q i) x (map.get F e) o
 import_still v g q i E F e x None grown own h = tt
 import_still v g q i E F e x (Some j) grown own h = by (map.get E e) refl h
   where
@@ -138,7 +139,7 @@ import_still v g q i E F e x (Some j) grown own h = by (map.get E e) refl h
         let z = grown.still e y f in
         subst (IsExportAs v (asked g q i) x) (sym z.1) (k ∙ (sym (own_point v g q i y.node (own y f)) ∙ ap (point v (asked g q i)) (sym z.2)))
 
-point_still : (v : Vat) (g : Ghost) (q i : ℕ) (E F : Map Export) (e : ℕ) → Grown E F → ((y : Export) → map.get E e ≡ Some y → is_wire y.node ≡ false) → IsSome (map.get E e)
+pub point_still : (v : Vat) (g : Ghost) (q i : ℕ) (E F : Map Export) (e : ℕ) → Grown E F → ((y : Export) → map.get E e ≡ Some y → is_wire y.node ≡ false) → IsSome (map.get E e)
     → point v (asked g q i) (export_node (map.get F e)) ≡ point v g (export_node (map.get E e))
 point_still v g q i E F e grown own h = by (map.get E e) refl h
   where
@@ -250,5 +251,7 @@ asks w d g m q role target r to new h may at reads a =
       view = asks_view w s d.effects.sends g m q r to target ids x E h.view may at reads;
       back = asks_back w s d.effects.sends g m q r to target ids x E h.back may at grown.2;
       told = h.told;
+      unborn = unborn_asked g.own.session q w.out d.effects.sends (call w s d.effects.sends g m q r to target ids x E) (other_vat w.vat) w.other g.theirs g.next m may.not_open refl h.theirs h.unborn;
+      unborn_back = unborn_later h.unborn_back;
     } in
     rw b.3 (f, subst (λ (z : State). TiedBy w (record z { questions = map.insert z.questions q x }) sends d.effects.deliveries f m') (sym grown.1) tied, (refl, refl))

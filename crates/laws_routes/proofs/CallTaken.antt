@@ -25,7 +25,6 @@ use Rattle.call_order.specs.Moves.{Moves, Done, Next, Comes, with_link}
 use Rattle.call_order.proofs.Choices.{changed_here, changed_other}
 use Rattle.laws_routes.specs.Points.{Point, end, routes}
 use Rattle.laws_routes.specs.Ghosts.{Ghost, point, with_at, keeping}
-use Rattle.laws_routes.specs.Sides.{IsUnborn}
 use Rattle.laws_routes.specs.Views.{Shape, IsImportOf, IsSession, past, reader, session_of, sessions_at, shapes, shapes_of, target_of, target_point}
 use Rattle.laws_routes.specs.Ties.{Around, Ghosts, Tied}
 use Rattle.laws_routes.specs.Premises.{MayKeep}
@@ -34,6 +33,7 @@ use Rattle.laws_routes.proofs.DisembargoBack.{oldest, relinked}
 use Rattle.laws_routes.proofs.Differing.{ends_differ, with_here, with_other}
 use Rattle.laws_routes.proofs.OutcomeKept.{all_caps, kept_side, keeping_point}
 use Rattle.laws_routes.proofs.LinkShapes.{shapes_exports}
+use Rattle.laws_routes.proofs.UnbornKept.{unborn_first, unborn_received}
 
 some_target : (y : Message routes) (p : Point) (i : ℕ) → y.what ≡ Call i → target_of y.target y.what ≡ Some p → y.target ≡ p
 some_target y p i e h =
@@ -41,17 +41,17 @@ some_target y p i e h =
     cc
 
 module _ (v : Vat) (g : Ghost) (o i : ℕ) where
-  import_still : (x : Point) (y : Option Export) (z : Option Import) → ((e : Export) → y ≡ Some e → is_field o e.node ≡ false) → IsImportOf v g x y z → IsImportOf v (keeping g o i) x y z
+  pub import_still : (x : Point) (y : Option Export) (z : Option Import) → ((e : Export) → y ≡ Some e → is_field o e.node ≡ false) → IsImportOf v g x y z → IsImportOf v (keeping g o i) x y z
   import_still x y None own h = tt
   import_still x None (Some j) own h = absurd h
   import_still x (Some e) (Some j) own h = h ∙ sym (keeping_point v g o i e.node (own e refl))
 
-  point_still : (y : Option Export) → ((e : Export) → y ≡ Some e → is_field o e.node ≡ false) → point v (keeping g o i) (export_node y) ≡ point v g (export_node y)
+  pub point_still : (y : Option Export) → ((e : Export) → y ≡ Some e → is_field o e.node ≡ false) → point v (keeping g o i) (export_node y) ≡ point v g (export_node y)
   point_still None own = refl
   point_still (Some e) own = keeping_point v g o i e.node (own e refl)
 
 -- The new answer is that session.
-sessions_now : (g : Ghost) (s : State) (q o i : ℕ) (entry : AnswerEntry) → entry.outcome ≡ o → ((k : ℕ) (a : AnswerEntry) → map.get s.answers k ≡ Some a → nat_eq a.outcome o ≡ false)
+pub sessions_now : (g : Ghost) (s : State) (q o i : ℕ) (entry : AnswerEntry) → entry.outcome ≡ o → ((k : ℕ) (a : AnswerEntry) → map.get s.answers k ≡ Some a → nat_eq a.outcome o ≡ false)
     → sessions_at (keeping g o i).outcome (map.insert s.answers q entry) ≡ with_at (sessions_at g.outcome s.answers) q i
 sessions_now g s q o i entry e own = fun_ext (λ k. ap (session_of (with_at g.outcome o i)) (get_put s.answers q entry k) ∙ by k (nat_eq k q))
   where
@@ -64,13 +64,14 @@ sessions_now g s q o i entry e own = fun_ext (λ k. ap (session_of (with_at g.ou
     by k false = old (map.get s.answers k) (own k)
 
 pub comes : (w : Around) (d : Progress) (g : Ghosts) (m : routing.State routes) (c : calls.Call) (o : ℕ) (taken : List ℕ) (rest : List rpc.Message) → Tied (with_back w (message.Plain (plain.Call c) ∷ rest)) d g m
-    → map.get d.state.outcomes o ≡ None → MayKeep d.state o → IsUnborn w.vat d.state g.own g.next m (g.theirs.session c.question.0)
+    → map.get d.state.outcomes o ≡ None → MayKeep d.state o
     → (n : routing.State routes) × (y : Message routes)
     × ((y.target ≡ target_point w.vat (d.state).exports g.own (sessions_at g.own.outcome (d.state).answers) c.target) × (y.ref ≡ caller c.stamp) × (y.what ≡ Call c.stamp.index))
     × Moves n (y ∷ []) m []
     × Tied (with_back w rest) (with_state d (opened d.state c.question.0 o taken)) (record { own = keeping g.own o (g.theirs.session c.question.0); theirs = g.theirs; next = g.next }) n
     × ((n.net.stop ≡ m.net.stop) × (n.net.kind ≡ m.net.kind))
-comes w d g m c o taken rest t free may born =
+comes w d g m c o taken rest t free may =
+    let born = unborn_first t.unborn_back in
     let back = t.back in
     let view = t.view in
     let oldest_is = oldest (m.net.links (end v)) first (shapes u v g.theirs (reader w.other s g.own) (with_at now q i) rest) back.link in
@@ -102,6 +103,8 @@ comes w d g m c o taken rest t free may born =
               ∙ (oldest_is.4 ∙ ap shapes_of (sym (changed_here same_vat m.net.links (end v) ys))));
         };
         told = t.told;
+        unborn = t.unborn;
+        unborn_back = unborn_received t.unborn_back o _;
       },
       (refl, refl),
     )

@@ -29,6 +29,7 @@ use Rattle.laws_routes.specs.Sides.{Side, Stops, IsLinked, Queue, AllWait, AllHe
 use Rattle.laws_routes.specs.Ties.{Around, Ghosts, Tied}
 use Rattle.laws_routes.specs.Laws.{Follows}
 use Rattle.laws_routes.proofs.Differing.{not_outcome, not_promise, outcome_elsewhere, outcome_id, promise_elsewhere, promise_id}
+use Rattle.laws_routes.proofs.UnbornKept.{unborn_fewer, unborn_lists, unborn_elsewhere}
 
 -- ---- Lists that are the same
 
@@ -162,6 +163,8 @@ waits_for_promise w d g m c p x then (Some (promise.Open calls)) new h e k at f 
         view = record { imports = view.imports; sessions = view.sessions; link = view.link };
         back = record { imports = back.imports; sessions = back.sessions; link = back.link };
         told = h.told;
+        unborn = unborn_lists h.unborn waiting (λ j z. changed_other routes.same_group m.net.waiting group after (OfOutcome (other_vat v) j) (not_promise (other_vat v) v j (g.own.promise p)));
+        unborn_back = unborn_lists h.unborn_back waiting (λ j z. changed_other routes.same_group m.net.waiting group after (OfOutcome v j) (not_promise v v j (g.own.promise p)));
       },
       (refl, refl, refl, refl),
     )
@@ -279,6 +282,10 @@ waits_for_field w d g m c o path x then (Some z) new h e k at unknown f =
         view = record { imports = view.imports; sessions = view.sessions; link = view.link };
         back = record { imports = back.imports; sessions = back.sessions; link = back.link };
         told = h.told;
+        unborn = unborn_lists h.unborn waiting (λ j z. changed_other routes.same_group m.net.waiting group after (OfOutcome (other_vat v) j) (outcome_elsewhere v j id));
+        unborn_back =
+            unborn_lists (unborn_fewer h.unborn_back (map.insert s.outcomes o y) (kept_before v s o z y at refl)) waiting
+            (λ j a. changed_other routes.same_group m.net.waiting group after (OfOutcome v j) (unborn_elsewhere h.unborn_back o (subst (λ (k : Option KeptOutcome). IsSome k) (sym at) refl) j a));
       },
       (refl, refl, refl, refl),
     )

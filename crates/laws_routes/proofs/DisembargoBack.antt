@@ -19,12 +19,13 @@ use Rattle.call_order.specs.Moves.{Done, Next, Happens}
 use Rattle.call_order.proofs.Choices.{changed_here, changed_other}
 use Rattle.laws_routes.specs.Points.{Point, vat_of, end, routes}
 use Rattle.laws_routes.specs.Ghosts.{Ghost}
-use Rattle.laws_routes.specs.Sides.{Side}
+use Rattle.laws_routes.specs.Sides.{Side, Unborn}
 use Rattle.laws_routes.specs.Views.{IsSession, Shape, reader, embargo_ref, target_point, past, sessions_at, shapes, shapes_of, shape_of, target_of}
 use Rattle.laws_routes.specs.Ties.{Around, Ghosts, Tied}
 use Rattle.laws_routes.specs.Laws.{Comes, with_back}
 use Rattle.laws_routes.proofs.Differing.{ends_differ}
 use Rattle.laws_routes.proofs.LinkShapes.{past_more, shapes_more, shapes_of_more}
+use Rattle.laws_routes.proofs.UnbornKept.{unborn_sent}
 
 -- Other links are of no account to a side.
 pub relinked : (v : Vat) (s : State) (g : Ghost) (next : ℕ) (m : routing.State routes) (links : Bool → List (Message routes)) → Side v s g next m → Side v s g next (record m { net = record (m.net) { links = links } })
@@ -38,7 +39,7 @@ oldest (y ∷ ys) x xs e = (y, ys, refl, (let a : shape_of y ≡ x = cc in a), (
 abbrev content : Shape → Content
 content x = x.what
 
-some_target : (y : Message routes) (p : Point) → y.what ≡ Disembargo → target_of y.target y.what ≡ Some p → y.target ≡ p
+pub some_target : (y : Message routes) (p : Point) → y.what ≡ Disembargo → target_of y.target y.what ≡ Some p → y.target ≡ p
 some_target y p e h =
     let a : Some y.target ≡ Some p = subst (λ z. target_of y.target z ≡ Some p) e h in
     cc
@@ -83,6 +84,8 @@ bounces w d g m x target onward rest far t k at =
         };
         back = record { imports = back.imports; sessions = back.sessions; link = o.4 ∙ ap shapes_of (sym in_link) };
         told = t.told;
+        unborn = subst (λ (ids : List ℕ). Unborn u (w.other).outcomes g.theirs.outcome m.net.stop m.net.kind m.net.waiting g.next ids) (sym (unborn_sent g.own.session w.out d.effects.sends bounced refl)) t.unborn;
+        unborn_back = t.unborn_back;
       },
     )
   where

@@ -48,6 +48,9 @@ exported s n e (Some z) t at h = (
   },
 )
 
+pub none_grown : (E : Map Export) → Grown E E
+none_grown E = record { still = λ e x f. (x, f, refl) }
+
 pub none_new : (s : State) → Exports s s
 none_new s = (s.exports, refl, record { still = λ e x f. (x, f, refl) })
 
@@ -76,7 +79,7 @@ described_all s (n ∷ ns) (d ∷ ds) t h =
 -- ---- What was exported stands for what it stood for
 
 module _ (v : Vat) (g : Ghost) (E F : Map Export) (grown : Grown E F) where
-  import_still : (e : ℕ) (x : Point) (o : Option Import) → IsImportOf v g x (map.get E e) o → IsImportOf v g x (map.get F e) o
+  pub import_still : (e : ℕ) (x : Point) (o : Option Import) → IsImportOf v g x (map.get E e) o → IsImportOf v g x (map.get F e) o
   import_still e x None h = tt
   import_still e x (Some j) h = by (map.get E e) refl h
     where
@@ -84,7 +87,7 @@ module _ (v : Vat) (g : Ghost) (E F : Map Export) (grown : Grown E F) where
       by None f k = absurd k
       by (Some y) f k = let z = grown.still e y f in subst (IsExportAs v g x) (sym z.1) (k ∙ ap (point v g) (sym z.2))
 
-  point_still : (e : ℕ) → IsSome (map.get E e) → point v g (export_node (map.get F e)) ≡ point v g (export_node (map.get E e))
+  pub point_still : (e : ℕ) → IsSome (map.get E e) → point v g (export_node (map.get F e)) ≡ point v g (export_node (map.get E e))
   point_still e i = by (map.get E e) refl i
     where
       by : (o : Option Export) → map.get E e ≡ o → IsSome o → point v g (export_node (map.get F e)) ≡ point v g (export_node o)
@@ -119,6 +122,8 @@ grown_tied w d g m new t met x = subst (λ z. Tied w (with_state d z) g m × Tar
                 (cap_map (λ e. IsSome (map.get (d.state).exports e)) _ w.back (point_still w.vat g.own (d.state).exports x.0 x.2) met) ∙ back.link;
           };
           told = t.told;
+          unborn = t.unborn;
+          unborn_back = t.unborn_back;
         }
 
 pub descriptors_made : (w : Around) (d : Progress) (g : Ghosts) (m : routing.State routes) (ns : List Node) (ds : List Descriptor) (new : State) → Tied w d g m → TargetsAreMet d.state w.back → DescribesAll d.state ns ds new

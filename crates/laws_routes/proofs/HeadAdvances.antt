@@ -115,6 +115,8 @@ breaks w d g m r x k reason t there none head settles broken =
         view = (let a = t.view in record { imports = a.imports; sessions = a.sessions; link = a.link });
         back = (let a = t.back in record { imports = a.imports; sessions = a.sessions; link = a.link });
         told = dead_told v s g.own g.next m r x reason t.own there none w.made _ t.told;
+        unborn = t.unborn;
+        unborn_back = t.unborn_back;
       },
     )
 

@@ -102,6 +102,8 @@ switches w d g m r x k to t e none alive head settles far_k far_to same = (
     view = (let a = t.view in record { imports = a.imports; sessions = a.sessions; link = a.link });
     back = (let a = t.back in record { imports = a.imports; sessions = a.sessions; link = a.link });
     told = headed_told v s g.own g.next m r x to e none alive w.made _ t.told;
+    unborn = t.unborn;
+    unborn_back = t.unborn_back;
   },
 )
   where

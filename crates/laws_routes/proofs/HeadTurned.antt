@@ -27,7 +27,7 @@ use Rattle.call_order.specs.Moves.{Moves, Done, Next, Happens}
 use Rattle.call_order.proofs.Choices.{by_choice, changed_here, changed_other}
 use Rattle.laws_routes.specs.Points.{Point, vat_of, end, routes}
 use Rattle.laws_routes.specs.Ghosts.{Ghost, point, ref_at}
-use Rattle.laws_routes.specs.Sides.{Side, IsRef, IsEmbargo, HasEmbargo, IsEmbargoOf}
+use Rattle.laws_routes.specs.Sides.{Side, IsRef, IsEmbargo, HasEmbargo, IsEmbargoOf, Unborn}
 use Rattle.laws_routes.specs.Views.{IsSession, past, reader, sessions_at, shapes, shapes_of, target_point, embargo_ref}
 use Rattle.laws_routes.specs.Ties.{Around, Ghosts, Tied, Told, deliveries_of}
 use Rattle.laws_routes.specs.Premises.{ExportsAreOwn, IsLastLoop, IsWireThere}
@@ -38,6 +38,7 @@ use Rattle.laws_routes.proofs.Differing.{ends_differ, other_number}
 use Rattle.laws_routes.proofs.CallDelivered.{told_too}
 use Rattle.laws_routes.proofs.LinkShapes.{loops_map, past_more, shapes_loops, shapes_more, shapes_of_more}
 use Rattle.laws_routes.proofs.CallMade.{target_reads}
+use Rattle.laws_routes.proofs.UnbornKept.{unborn_sent}
 
 module _ (v : Vat) (s : State) (g : Ghost) (next : ℕ) (m : routing.State routes) (r e : ℕ) (x : Reference) (n : Node) (old : Point) (h : Side v s g next m) (there : map.get s.refs r ≡ Some x) (none : x.embargo ≡ None) (alive : (m.refs (ref_at v r)).dead ≡ false) (free : map.get s.embargoes e ≡ None) where
   abbrev me : Ref
@@ -122,6 +123,8 @@ turns_back w d g m r e x k n target t there none alive head settles wire wire_th
               ∙ (back.link ∙ ap shapes_of (sym in_link));
         };
         told = turned_told v s g.own g.next linked r e x n old (relinked v s g.own g.next m linked.net.links t.own) there none alive free w.made _ t.told;
+        unborn = subst (λ (ids : List ℕ). Unborn u (w.other).outcomes g.theirs.outcome m.net.stop m.net.kind m.net.waiting g.next ids) (sym (unborn_sent g.own.session w.out d.effects.sends sent refl)) t.unborn;
+        unborn_back = t.unborn_back;
       },
     )
   where

@@ -38,7 +38,7 @@ use Rattle.laws_routes.proofs.OutcomeKept.{all_caps}
 -- ---- What other nodes stand for
 
 module _ (v : Vat) (g : Ghost) (e : ℕ) (x : Point) where
-  same_point : (n : Node) → is_import e n ≡ false → point v (importing g e x) n ≡ point v g n
+  pub same_point : (n : Node) → is_import e n ≡ false → point v (importing g e x) n ≡ point v g n
   same_point (node.Object o) h = refl
   same_point (node.Promise p) h = refl
   same_point (node.Field o path) h = refl
@@ -134,6 +134,8 @@ module _ (w : Around) (d : Progress) (g : Ghosts) (m : routing.State routes) (t 
           link = shapes_exports u w.vat g.theirs (reader w.other s g.own) s.exports f (sessions_at g.own.outcome s.answers) w.back (all_caps _ w.back (λ j. point_same (map.get s.exports j) (own j))) ∙ back.link;
         };
         told = t.told;
+        unborn = t.unborn;
+        unborn_back = t.unborn_back;
       }
     where
       now : ℕ → ℕ
@@ -171,6 +173,8 @@ module _ (w : Around) (d : Progress) (g : Ghosts) (m : routing.State routes) (t 
         };
         back = record { imports = back.imports; sessions = back.sessions; link = back.link };
         told = t.told;
+        unborn = t.unborn;
+        unborn_back = t.unborn_back;
       }
 
   one_import : ExportsAreOwn s → MayTake s w.other e → (h : Ghosts) × Tied w (with_state d (import_one s k e)) h m × SameButImports g h

@@ -4,6 +4,7 @@ pub mod WhereNodesEnd
 pub mod CallDelivered
 pub mod CallWaits
 pub mod LinkShapes
+pub mod UnbornKept
 pub mod CallSent
 pub mod CallRouted
 pub mod CallsRouted
@@ -25,7 +26,6 @@ pub mod HeldCalls
 pub mod ApplicationTold
 pub mod ResolvesSent
 pub mod AnswerKept
-pub mod OutcomeSettled
 pub mod SayingsKept
 pub mod HeadAdvances
 pub mod ExportsGrown
@@ -34,3 +34,21 @@ pub mod ImportsTaken
 pub mod BecomesKnown
 pub mod DescriptorsSaySo
 pub mod ReturnSent
+pub mod StepEnds
+pub mod ExportsLowered
+pub mod AnswerCloses
+pub mod OutcomeSettled
+pub mod BootstrapTaken
+pub mod CallAnswered
+pub mod ReturnTaken
+pub mod DisembargoMet
+pub mod CallEmbargoed
+pub mod CallThrough
+pub mod OtherCommands
+pub mod StepMoves
+pub mod ReturnsSaySo
+pub mod PairsTied
+pub mod StepsTied
+pub mod KnownKept
+pub mod SayingsCarried
+pub mod SayingsTaken

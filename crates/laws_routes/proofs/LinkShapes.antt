@@ -62,7 +62,7 @@ past_plain_same g h now (plain.Release r) k = refl
 past_plain_same g h now (plain.Disembargo x) k = refl
 past_plain_same g h now (plain.Other n) k = refl
 
-past_one_same : (g h : Ghost) (now : ℕ → ℕ) (m : Message) → OpenOf (SameSession g h) m → past_one h now m ≡ past_one g now m
+pub past_one_same : (g h : Ghost) (now : ℕ → ℕ) (m : Message) → OpenOf (SameSession g h) m → past_one h now m ≡ past_one g now m
 past_one_same g h now (message.Plain m) k = past_plain_same g h now m k
 past_one_same g h now (message.Unimplemented m) k = refl
 

@@ -139,6 +139,8 @@ new_ref_begins w d g m unrouted n h =
         view = record { imports = view.imports; sessions = view.sessions; link = view.link };
         back = record { imports = back.imports; sessions = back.sessions; link = back.link };
         told = begins_told w.made _ m.refs r (point v g.own n) e h.told;
+        unborn = h.unborn;
+        unborn_back = h.unborn_back;
       },
       (refl, refl, refl, refl),
     )

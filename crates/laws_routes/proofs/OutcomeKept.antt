@@ -36,6 +36,7 @@ use Rattle.laws_routes.specs.Premises.{Unnamed, MayKeep, OfCap, TargetCap, EachT
 use Rattle.laws_routes.proofs.Differing.{with_here, with_other}
 use Rattle.laws_routes.proofs.LinkShapes.{shapes_exports}
 use Rattle.laws_routes.proofs.CallSent.{linked_side}
+use Rattle.laws_routes.proofs.UnbornKept.{next_unused, unborn_later, unborn_put, still_below}
 
 pub all_caps : (P : ℕ → Type 0) (ms : List rpc.Message) → ((e : ℕ) → P e) → EachTargetCap P ms
 all_caps P [] f = tt
@@ -156,18 +157,6 @@ module _ (v : Vat) (s : State) (g : Ghost) (next up : ℕ) (m : routing.State ro
     ids = kept_ids;
   }
 
--- The identity that comes next will do.
-next_unused : (v : Vat) (s : State) (g : Ghost) (next : ℕ) (m : routing.State routes) → Side v s g next m → m.net.waiting (OfOutcome v next) ≡ []
-next_unused v s g next m h = by (let l = h.lists in l.no_other_outcome next)
-  where
-    there : (q : ℕ) (z : Option KeptOutcome) → map.get s.outcomes q ≡ z → IsOpenOutcome z → IsSome (map.get s.outcomes q)
-    there q None e k = absurd k
-    there q (Some x) e k = subst (λ (z : Option KeptOutcome). IsSome z) (sym e) refl
-
-    by : (m.net.waiting (OfOutcome v next) ≡ []) ⊎ ((q : ℕ) × IsOpenOutcome (map.get s.outcomes q) × (g.outcome q ≡ next)) → m.net.waiting (OfOutcome v next) ≡ []
-    by (inl e) = e
-    by (inr k) = let ids = h.ids in let a = ids.of_outcomes k.0 (there k.0 (map.get s.outcomes k.0) refl k.1) in let b = k.2 in absurd (omega (arith, a, b))
-
 -- A call's outcome is kept here.
 pub keeps : (w : Around) (d : Progress) (g : Ghosts) (m : routing.State routes) (o : ℕ) (who : Caller) → Tied w d g m → map.get d.state.outcomes o ≡ None → MayKeep d.state o
     → Tied w (with_state d (with_outcome d.state o who)) (record { own = keeping g.own o g.next; theirs = g.theirs; next = g.next + 1 }) m
@@ -190,6 +179,8 @@ keeps w d g m o who t free may =
             ∙ (shapes_exports (other_vat v) v g.theirs (reader w.other s g.own) s.exports f (sessions_at g.own.outcome s.answers) w.back (all_caps _ w.back (λ e. point_same (map.get s.exports e) (may.exports e))) ∙ back.link);
       };
       told = t.told;
+      unborn = unborn_later t.unborn;
+      unborn_back = unborn_later (unborn_put t.unborn_back o g.next _ (λ k. (let a = still_below t.unborn_back g.next k in absurd (omega (arith, a)))));
     }
   where
     f : Ghost

@@ -32,6 +32,7 @@ use Rattle.laws_routes.proofs.Differing.{not_outcome, outcome_elsewhere, outcome
 use Rattle.laws_routes.proofs.CallWaits.{lists_same}
 use Rattle.laws_routes.proofs.FieldStops.{known_stops}
 use Rattle.laws_routes.proofs.GroupSettles.{ids_after, linked_after, outcome_after, promise_after}
+use Rattle.laws_routes.proofs.UnbornKept.{unborn_fewer, unborn_settled, unborn_elsewhere}
 
 abbrev IsOf : Group → Type 0
 IsOf Apart = ⊥
@@ -223,6 +224,10 @@ outcome_known w d g m o x fit t e unknown rest =
         view = record { imports = view.imports; sessions = view.sessions; link = view.link };
         back = record { imports = back.imports; sessions = back.sessions; link = back.link };
         told = t.told;
+        unborn = unborn_settled m.net group fate t.unborn (λ j z. outcome_elsewhere v j (g.own.outcome o));
+        unborn_back =
+            unborn_fewer (unborn_settled m.net group fate t.unborn_back (unborn_elsewhere t.unborn_back o (there v s g.own g.next m o x fit t.own e unknown rest))) _
+            (before v s g.own g.next m o x fit t.own e unknown rest);
       },
       learnt_to_go v s g.own g.next m o x fit t.own e unknown rest,
     )
@@ -291,4 +296,6 @@ emptied w d g m o x from waiting fit t e is =
       view = record { imports = view.imports; sessions = view.sessions; link = view.link };
       back = record { imports = back.imports; sessions = back.sessions; link = back.link };
       told = t.told;
+      unborn = t.unborn;
+      unborn_back = unborn_fewer t.unborn_back _ (before' w.vat d.state g.own g.next m o x from waiting fit t.own e is);
     }

@@ -31,25 +31,26 @@ use Rattle.laws_routes.proofs.ApplicationTold.{application_told, call_alone}
 use Rattle.laws_routes.proofs.AnswerKept.{peer_alone}
 use Rattle.laws_routes.proofs.ResolvesSent.{resolves_sent}
 use Rattle.laws_routes.proofs.ReturnSent.{return_sent}
+use Rattle.laws_routes.proofs.AnswerCloses.{return_closes}
 
 abbrev known_as : KeptOutcome → Value → KeptOutcome
 known_as x fit = record { caller = x.caller; value = Some fit; waiting = x.waiting }
 
 -- Whoever is told.
-caller_told : (w : Around) (d : Progress) (o : ℕ) (from : Caller) (v : Value) (told : Progress) → Tells d from v told → PeerIsTold w d o from told → IsFollowed w d told
+caller_told : (w : Around) (d : Progress) (o : ℕ) (from : Caller) (v : Value) (told : Progress) → Tells d from v told → PeerIsTold w d o from → IsFollowed w d told
 caller_told w d o (who.Application c) v told h may = λ g m us t i. application_told w d g m us c.0 v told t h
 caller_told w d o (who.Peer q) v told h may = by (map.get d.state.answers q.0) refl h may.0
   where
-    by_finish : (a : AnswerEntry) (b : Bool) → map.get d.state.answers q.0 ≡ Some a → a.finished ≡ b → Returns d q a v told → ReturnGoesAs w d told b → IsFollowed w d told
-    by_finish a true e f h may = may
-    by_finish a false e f h may = return_sent w d q a v told e f may h
+    by_finish : (a : AnswerEntry) (b : Bool) → map.get d.state.answers q.0 ≡ Some a → a.finished ≡ b → Returns d q a v told → ReturnGoesAs w q.0 b → IsFollowed w d told
+    by_finish a true e f h close = return_closes w d q a v told e f may.2 close h
+    by_finish a false e f h close = return_sent w d q a v told e f may.2 h
 
-    by : (o : Option AnswerEntry) → map.get d.state.answers q.0 ≡ o → TellsPeer d q v o told → ReturnMayGo w d told o → IsFollowed w d told
-    by None e h may = absurd may
-    by (Some a) e h may = by_finish a a.finished e refl h may
+    by : (o : Option AnswerEntry) → map.get d.state.answers q.0 ≡ o → TellsPeer d q v o told → ReturnMayGo w q.0 o → IsFollowed w d told
+    by None e h close = absurd close
+    by (Some a) e h close = by_finish a a.finished e refl h close
 
 -- The outcome is still there.
-caller_alone : (w : Around) (d : Progress) (o : ℕ) (x : KeptOutcome) (from : Caller) (v : Value) (told : Progress) → x.caller ≡ from → map.get d.state.outcomes o ≡ Some x → Tells d from v told → PeerIsTold w d o from told
+caller_alone : (w : Around) (d : Progress) (o : ℕ) (x : KeptOutcome) (from : Caller) (v : Value) (told : Progress) → x.caller ≡ from → map.get d.state.outcomes o ≡ Some x → Tells d from v told → PeerIsTold w d o from
     → map.get told.state.outcomes o ≡ Some x
 caller_alone w d o x (who.Application c) v told of e h may = ap (λ z. map.get z o) (call_alone d c.0 v (map.get d.state.calls c.0) told h) ∙ e
 caller_alone w d o x (who.Peer q) v told of e h may = peer_alone o x q of d v (map.get d.state.answers q.0) told e may.1 h

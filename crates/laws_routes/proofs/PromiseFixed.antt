@@ -34,6 +34,7 @@ use Rattle.laws_routes.proofs.CallWaits.{lists_same}
 use Rattle.laws_routes.proofs.CallsRouted.{law, list_routed}
 use Rattle.laws_routes.proofs.CallRouted.{own_vat}
 use Rattle.laws_routes.proofs.GroupSettles.{ids_after, keeps_at, linked_after, outcome_after, promise_after}
+use Rattle.laws_routes.proofs.UnbornKept.{unborn_settled}
 
 abbrev IsOf : Group → Type 0
 IsOf Apart = ⊥
@@ -259,6 +260,8 @@ promise_fixed w d g m p calls to new t i e may h go =
       view = record { imports = view.imports; sessions = view.sessions; link = view.link };
       back = record { imports = back.imports; sessions = back.sessions; link = back.link };
       told = t.told;
+      unborn = unborn_settled m.net group fate t.unborn (λ j z. not_promise (other_vat v) v j (g.own.promise p));
+      unborn_back = unborn_settled m.net group fate t.unborn_back (λ j z. not_promise v v j (g.own.promise p));
     } in
     let first : Moves n ms m [] = Next (Settles group fate (fixed_allowed v s g.own g.next m p calls to t.own e may i.in_place) refl refl refl) Done in
     let r = list_routed w mid g n calls ms (node.Promise p) new tied (moves_keep n ms m [] first i) refl (fixed_to_go v s g.own g.next m p calls to t.own e may) h go in

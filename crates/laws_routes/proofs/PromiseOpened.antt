@@ -28,8 +28,9 @@ use Rattle.laws_routes.proofs.Differing.{with_here, with_other}
 use Rattle.laws_routes.proofs.OutcomeKept.{all_caps}
 use Rattle.laws_routes.proofs.LinkShapes.{shapes_exports}
 use Rattle.laws_routes.proofs.CallSent.{linked_side}
+use Rattle.laws_routes.proofs.UnbornKept.{unborn_later}
 
-holding_point : (v : Vat) (g : Ghost) (p i : ℕ) (n : Node) → is_promise p n ≡ false → point v (holding g p i) n ≡ point v g n
+pub holding_point : (v : Vat) (g : Ghost) (p i : ℕ) (n : Node) → is_promise p n ≡ false → point v (holding g p i) n ≡ point v g n
 holding_point v g p i (node.Object x) h = refl
 holding_point v g p i (node.Promise k) h = ap (λ (z : ℕ). APromise v z) (with_other g.promise p i k h)
 holding_point v g p i (node.Field k path) h = refl
@@ -158,6 +159,8 @@ promise_opens w d g m p t free may =
         link = shapes_exports (other_vat v) v g.theirs (reader w.other s g.own) s.exports f (sessions_at g.own.outcome s.answers) w.back (all_caps _ w.back (λ e. point_same (map.get s.exports e) (may.exports e))) ∙ back.link;
       };
       told = t.told;
+      unborn = unborn_later t.unborn;
+      unborn_back = unborn_later t.unborn_back;
     }
   where
     f : Ghost

@@ -33,12 +33,12 @@ use Rattle.laws_routes.proofs.WhatGoes.{gone, none_there}
 
 -- ---- What it leaves of exports, and of what no place names
 
-says_exports : (s : State) (b : Bool) (v : Value) (said : ReturnBody) (ds : List Descriptor) (new : State) → SaysBack s b v said ds new → Exports s new
+pub says_exports : (s : State) (b : Bool) (v : Value) (said : ReturnBody) (ds : List Descriptor) (new : State) → SaysBack s b v said ds new → Exports s new
 says_exports s true v said ds new h = rw h.2 (none_new s)
 says_exports s false (value.Exception exception) said ds new h = rw h.2 (none_new s)
 says_exports s false (value.Results payload caps) said ds new h = described_all s caps ds new h.1
 
-collected : (w : Around) (g : Ghosts) (m : routing.State routes) (new d : Progress) → Collects new d → Tied w d g m → Tied w new g m
+pub collected : (w : Around) (g : Ghosts) (m : routing.State routes) (new d : Progress) → Collects new d → Tied w d g m → Tied w new g m
 collected w g m new d (Tight h) t = t
 collected w g m new d (Loose {mid = k} h more) t = collected w g m new k more (gone w d g m k t h)
 
@@ -47,13 +47,13 @@ goes_answers d new (PromiseGoes p h e) = ap (λ (z : Progress). z.state.answers)
 goes_answers d new (OutcomeGoes o h e) = ap (λ (z : Progress). z.state.answers) e
 goes_answers d new (ImportGoes i h e) = ap (λ (z : Progress). z.state.answers) e
 
-collected_answers : (new d : Progress) → Collects new d → new.state.answers ≡ d.state.answers
+pub collected_answers : (new d : Progress) → Collects new d → new.state.answers ≡ d.state.answers
 collected_answers new d (Tight h) = refl
 collected_answers new d (Loose {mid = k} h more) = collected_answers new k more ∙ goes_answers d k h
 
 -- ---- Fewer imports
 
-abbrev Fewer : Map Import → Map Import → Type 0
+abbrev pub Fewer : Map Import → Map Import → Type 0
 Fewer m n = (e : ℕ) → IsSome (map.get n e) → IsSome (map.get m e)
 
 give_one_fewer : (m : Map Import) (e : ℕ) → Fewer m (give_one m e (map.get m e))
@@ -72,7 +72,7 @@ give_each_fewer m [] = λ j i. i
 give_each_fewer m (e ∷ es) = λ j i. give_one_fewer m e j (give_each_fewer (give_one m e (map.get m e)) es j i)
 
 module _ (w : Around) (d : Progress) (g : Ghosts) (m : routing.State routes) (t : Tied w d g m) where
-  fewer_tied : (I : Map Import) → Fewer (d.state).imports I → Tied w (with_state d (record (d.state) { imports = I })) g m
+  pub fewer_tied : (I : Map Import) → Fewer (d.state).imports I → Tied w (with_state d (record (d.state) { imports = I })) g m
   fewer_tied I fewer =
       let side = t.own in
       let view = t.view in
@@ -83,6 +83,8 @@ module _ (w : Around) (d : Progress) (g : Ghosts) (m : routing.State routes) (t 
         view = record { imports = λ e. left e (map.get (d.state).imports e) (map.get I e) (fewer e) (view.imports e); sessions = view.sessions; link = view.link };
         back = record { imports = back.imports; sessions = back.sessions; link = back.link };
         told = t.told;
+        unborn = t.unborn;
+        unborn_back = t.unborn_back;
       }
     where
       left : (e : ℕ) (o n : Option Import) → (IsSome n → IsSome o) → IsImportOf (other_vat w.vat) g.theirs (g.own.import e) (map.get (w.other).exports e) o → IsImportOf (other_vat w.vat) g.theirs (g.own.import e) (map.get (w.other).exports e) n
@@ -90,12 +92,12 @@ module _ (w : Around) (d : Progress) (g : Ghosts) (m : routing.State routes) (t 
       left e None (Some x) f h = none_there Import (f refl)
       left e (Some y) (Some x) f h = h
 
-  given_tied : (b : Bool) (es : List ℕ) → Tied w (with_state d (give_if d.state b es)) g m
+  pub given_tied : (b : Bool) (es : List ℕ) → Tied w (with_state d (give_if d.state b es)) g m
   given_tied true es = fewer_tied (give_each (d.state).imports es) (give_each_fewer (d.state).imports es)
   given_tied false es = t
 
   -- Answers that stand for the same outcomes.
-  answers_tied : (A : Map AnswerEntry) → sessions_at g.own.outcome A ≡ sessions_at g.own.outcome (d.state).answers → Tied w (with_state d (record (d.state) { answers = A })) g m
+  pub answers_tied : (A : Map AnswerEntry) → sessions_at g.own.outcome A ≡ sessions_at g.own.outcome (d.state).answers → Tied w (with_state d (record (d.state) { answers = A })) g m
   answers_tied A e =
       let side = t.own in
       let view = t.view in
@@ -110,14 +112,16 @@ module _ (w : Around) (d : Progress) (g : Ghosts) (m : routing.State routes) (t 
           link = ap (λ z. shapes (other_vat w.vat) w.vat g.theirs (reader w.other d.state g.own) z w.back) e ∙ back.link;
         };
         told = t.told;
+        unborn = t.unborn;
+        unborn_back = t.unborn_back;
       }
 
-given_answers : (s : State) (b : Bool) (es : List ℕ) → (give_if s b es).answers ≡ s.answers
+pub given_answers : (s : State) (b : Bool) (es : List ℕ) → (give_if s b es).answers ≡ s.answers
 given_answers s true es = refl
 given_answers s false es = refl
 
 -- An answer that changes, and keeps its outcome, stands for what it stood for.
-sessions_same : (outcome : ℕ → ℕ) (m : Map AnswerEntry) (q : ℕ) (a b : AnswerEntry) → map.get m q ≡ Some a → b.outcome ≡ a.outcome → sessions_at outcome (map.insert m q b) ≡ sessions_at outcome m
+pub sessions_same : (outcome : ℕ → ℕ) (m : Map AnswerEntry) (q : ℕ) (a b : AnswerEntry) → map.get m q ≡ Some a → b.outcome ≡ a.outcome → sessions_at outcome (map.insert m q b) ≡ sessions_at outcome m
 sessions_same outcome m q a b e same =
     fun_ext (at_put (λ j o. session_of outcome o ≡ session_of outcome (map.get m j)) m q b (ap outcome same ∙ ap (session_of outcome) (sym e)) (λ j n. refl))
 

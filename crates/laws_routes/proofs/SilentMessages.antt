@@ -1,6 +1,6 @@
 -- A message that is nothing in the machine of routes is sent, or taken.
 use Rattle.std.specs.FinMap as map
-use Rattle.std.proofs.Common.{◌≡◌, ℕ, List, [], ◌∷◌, ◌++◌, append_assoc, append-nil, None, refl, sym, ap, subst, ◌∙◌}
+use Rattle.std.proofs.Common.{◌≡◌, ℕ, List, [], ◌∷◌, ◌++◌, append_assoc, append-nil, Option, None, refl, sym, ap, subst, ◌∙◌}
 use Rattle.rpc_msg.specs.declared.ids.Vat.{Vat}
 use Rattle.rpc_msg.specs.declared.message.PlainMessage.TheVariants as plain
 use Rattle.rpc_msg.specs.declared.message.Message.{Message}
@@ -11,11 +11,13 @@ use Rattle.vat_machine.specs.Progress.{Progress}
 use Rattle.call_order.specs.Machine as routing
 use Rattle.laws_routes.specs.Points.{routes}
 use Rattle.laws_routes.specs.Ghosts.{Ghost}
-use Rattle.laws_routes.specs.Views.{Reader, IsSession, reader, past_one, past, shape, shapes, sessions_at}
+use Rattle.laws_routes.specs.Views.{Reader, IsSession, reader, past_one, past, shape, shapes, sessions_at, unborn_ids, unborn_of}
 use Rattle.laws_routes.specs.Ties.{Around, Ghosts, Tied}
 use Rattle.laws_routes.specs.Laws.{with_back}
 use Rattle.laws_routes.specs.MessageLaws.{IsSilent, sending}
 use Rattle.laws_routes.proofs.LinkShapes.{past_more, shapes_more}
+use Rattle.laws_routes.proofs.UnbornKept.{unborn_sent}
+use Rattle.laws_routes.specs.Sides.{Unborn}
 
 opens_none : (g : Ghost) (now : ℕ → ℕ) (x : Message) → IsSilent x → past_one g now x ≡ now
 opens_none g now (message.Plain (plain.Abort exception)) h = refl
@@ -28,6 +30,18 @@ opens_none g now (message.Plain (plain.Release r)) h = refl
 opens_none g now (message.Plain (plain.Disembargo y)) h = absurd h
 opens_none g now (message.Plain (plain.Other n)) h = refl
 opens_none g now (message.Unimplemented m) h = refl
+
+silent_makes_none : (f : ℕ → ℕ) (x : Message) → IsSilent x → unborn_of f x ≡ None
+silent_makes_none f (message.Plain (plain.Abort exception)) h = refl
+silent_makes_none f (message.Plain (plain.Bootstrap q)) h = absurd h
+silent_makes_none f (message.Plain (plain.Call c)) h = absurd h
+silent_makes_none f (message.Plain (plain.Return y)) h = refl
+silent_makes_none f (message.Plain (plain.Finish y)) h = refl
+silent_makes_none f (message.Plain (plain.Resolve y)) h = refl
+silent_makes_none f (message.Plain (plain.Release y)) h = refl
+silent_makes_none f (message.Plain (plain.Disembargo y)) h = absurd h
+silent_makes_none f (message.Plain (plain.Other n)) h = refl
+silent_makes_none f (message.Unimplemented m) h = refl
 
 no_shape : (v u : Vat) (r : Reader) (now : ℕ → ℕ) (x : Message) → IsSilent x → shape v u r now x ≡ None
 no_shape v u r now (message.Plain (plain.Abort exception)) h = refl
@@ -57,6 +71,8 @@ silent_goes w d g m x t h =
       };
       back = t.back;
       told = t.told;
+      unborn = subst (λ (ids : List ℕ). Unborn u (w.other).outcomes g.theirs.outcome m.net.stop m.net.kind m.net.waiting g.next ids) (sym (unborn_sent g.own.session w.out d.effects.sends x (silent_makes_none g.own.session x h))) t.unborn;
+      unborn_back = t.unborn_back;
     }
   where
     u : Vat
@@ -89,6 +105,8 @@ silent_comes w d g m x rest t h =
             ∙ (ap (λ z. in_front z (shapes u w.vat g.theirs reads (past_one g.theirs now x) rest)) (sym (no_shape u w.vat reads now x h)) ∙ back.link);
       };
       told = t.told;
+      unborn = t.unborn;
+      unborn_back = subst (λ (o : Option ℕ). Unborn w.vat (d.state).outcomes g.own.outcome m.net.stop m.net.kind m.net.waiting g.next (in_front o (unborn_ids g.theirs.session rest))) (silent_makes_none g.theirs.session x h) t.unborn_back;
     }
   where
     u : Vat

@@ -19,6 +19,7 @@ use Rattle.laws_routes.specs.Ghosts.{Ghost}
 use Rattle.laws_routes.specs.Sides.{Side, Stops, IsLinked, PromiseWaits, OutcomeHolds, IsOpenPromise, IsOpenOutcome}
 use Rattle.laws_routes.specs.Views.{IsImportOf}
 use Rattle.laws_routes.specs.Ties.{Around, Ghosts, Tied}
+use Rattle.laws_routes.proofs.UnbornKept.{unborn_fewer}
 
 pub none_there : (X : Type 0) {A : Type 0} → IsSome {T = X} None → A
 none_there X h = cc
@@ -121,6 +122,8 @@ gone w d g m new t (PromiseGoes p loose e) =
       view = record { imports = view.imports; sessions = view.sessions; link = view.link };
       back = record { imports = back.imports; sessions = back.sessions; link = back.link };
       told = t.told;
+      unborn = t.unborn;
+      unborn_back = t.unborn_back;
     })
 gone w d g m new t (OutcomeGoes o loose e) =
     let view = t.view in
@@ -131,6 +134,8 @@ gone w d g m new t (OutcomeGoes o loose e) =
       view = record { imports = view.imports; sessions = view.sessions; link = view.link };
       back = record { imports = back.imports; sessions = back.sessions; link = back.link };
       told = t.told;
+      unborn = t.unborn;
+      unborn_back = unborn_fewer t.unborn_back _ (at_cut (λ q z. IsSome z → IsSome (map.get d.state.outcomes q)) d.state.outcomes o (λ i. none_there KeptOutcome i) (λ q n i. i));
     })
 gone w d g m new t (ImportGoes i loose e) =
     let own = t.own in
@@ -146,4 +151,6 @@ gone w d g m new t (ImportGoes i loose e) =
       };
       back = record { imports = back.imports; sessions = back.sessions; link = back.link };
       told = t.told;
+      unborn = t.unborn;
+      unborn_back = t.unborn_back;
     })

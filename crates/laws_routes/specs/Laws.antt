@@ -37,7 +37,7 @@ use Rattle.call_order.specs.Machine.{Message as Routed, Net, Call, changed}
 use Rattle.call_order.specs.Machine as routing
 use Rattle.call_order.specs.Moves.{Moves}
 use Rattle.call_order.specs.Invariant.{InvariantWith}
-use Rattle.laws_routes.specs.Sides.{EndsAs, IsUnborn, Side, Stops}
+use Rattle.laws_routes.specs.Sides.{EndsAs, Side, Stops}
 use Rattle.laws_routes.specs.Views.{target_point, sessions_at}
 use Rattle.laws_routes.specs.Points.{Point, AnObject, APromise, AField, Nowhere, OfOutcome, vat_of, routes}
 use Rattle.laws_routes.specs.Ghosts.{Ghost, point, ref_at, keeping}
@@ -196,7 +196,7 @@ OutcomeIsKept =
 abbrev pub CallComes : Type 0
 CallComes =
     (w : Around) (d : Progress) (g : Ghosts) (m : routing.State routes) (c : Call_message) (o : ℕ) (taken : List ℕ) (rest : List Message) → Tied (with_back w (message.Plain (plain.Call c) ∷ rest)) d g m
-    → map.get d.state.outcomes o ≡ None → MayKeep d.state o → IsUnborn w.vat d.state g.own g.next m (g.theirs.session c.question.0)
+    → map.get d.state.outcomes o ≡ None → MayKeep d.state o
     → (n : routing.State routes) × (y : Routed routes)
     × ((y.target ≡ target_point w.vat (d.state).exports g.own (sessions_at g.own.outcome (d.state).answers) c.target) × (y.ref ≡ caller c.stamp) × (y.what ≡ Call c.stamp.index))
     × Moves n (y ∷ []) m []

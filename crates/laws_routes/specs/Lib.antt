@@ -7,5 +7,12 @@ pub mod Sayings
 pub mod Premises
 pub mod Laws
 pub mod MessageLaws
+pub mod QuietLaws
 pub mod OutcomeLaws
 pub mod SayingLaws
+pub mod TakingLaws
+pub mod MakingLaws
+pub mod StepLaws
+pub mod PairLaws
+pub mod KnownLaws
+pub mod ChainLaws

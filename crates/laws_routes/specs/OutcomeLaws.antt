@@ -27,7 +27,8 @@ use Rattle.call_order.specs.Invariant.{InvariantWith}
 use Rattle.laws_routes.specs.Points.{AField, OfOutcome, routes}
 use Rattle.laws_routes.specs.Premises.{LinksRest, TargetsAreMet, MayGoTo, MayOpen, EachMayOpen, IsAnswerOf}
 use Rattle.laws_routes.specs.Ties.{Around, Ghosts, Tied}
-use Rattle.laws_routes.specs.Laws.{Follows, Comes, IsFollowed, AllMayGo, MayFix, fixing}
+use Rattle.laws_routes.specs.Laws.{Follows, Comes, AllMayGo, MayFix, fixing}
+use Rattle.laws_routes.specs.QuietLaws.{MayClose}
 use Rattle.laws_routes.specs.Ghosts.{holding}
 
 -- ---- A promise with no calls
@@ -88,20 +89,19 @@ ApplicationIsTold =
 
 -- ---- The whole
 
--- A Return that closes its answer is to be followed. (This is a piece of its own.) Of another no more is asked than that the
--- targets on the way are met.
-abbrev pub ReturnGoesAs : Around → Progress → Progress → (finished : Bool) → Type 0
-ReturnGoesAs w d told true = IsFollowed w d told
-ReturnGoesAs w d told false = TargetsAreMet d.state w.back
+-- A Return that closes its answer needs more: nothing is aimed at that any more.
+abbrev pub ReturnGoesAs : Around → ℕ → (finished : Bool) → Type 0
+ReturnGoesAs w q true = MayClose w.other w.back q
+ReturnGoesAs w q false = Unit {0}
 
-abbrev pub ReturnMayGo : Around → Progress → Progress → Option AnswerEntry → Type 0
-ReturnMayGo w d told None = ⊥
-ReturnMayGo w d told (Some a) = ReturnGoesAs w d told a.finished
+abbrev pub ReturnMayGo : Around → ℕ → Option AnswerEntry → Type 0
+ReturnMayGo w q None = ⊥
+ReturnMayGo w q (Some a) = ReturnGoesAs w q a.finished
 
 -- The other vat is told by a Return. Of the application nothing is asked.
-abbrev pub PeerIsTold : Around → Progress → ℕ → Caller → Progress → Type 0
-PeerIsTold w d o (who.Application c) told = Unit {0}
-PeerIsTold w d o (who.Peer q) told = ReturnMayGo w d told (map.get d.state.answers q.0) × IsAnswerOf o (map.get d.state.answers q.0)
+abbrev pub PeerIsTold : Around → Progress → ℕ → Caller → Type 0
+PeerIsTold w d o (who.Application c) = Unit {0}
+PeerIsTold w d o (who.Peer q) = ReturnMayGo w q.0 (map.get d.state.answers q.0) × IsAnswerOf o (map.get d.state.answers q.0) × TargetsAreMet d.state w.back
 
 abbrev pub with_known : Progress → State → ℕ → KeptOutcome → List HeldCall → Value → Progress
 with_known d s o x waiting fit = with_state d (known s o x.caller waiting fit)
@@ -120,7 +120,7 @@ pub record MaySettle
     : Type 0 where
   pub opens : EachMayOpen d.state
   pub rest : LinksRest (known mid o x.caller x.waiting fit)
-  pub tells : PeerIsTold w (with_known d mid o x x.waiting fit) o x.caller told
+  pub tells : PeerIsTold w (with_known d mid o x x.waiting fit) o x.caller
   pub goes : AllHeldMayGo w (with_known told told.state o x [] fit) o x.waiting routed held
   pub resolves : TargetsAreMet routed.state w.back
 

@@ -11,17 +11,20 @@ use Rattle.rpc_msg.specs.Vats.{other_vat}
 use Rattle.rpc_msg.specs.declared.message.ReturnBody.{ReturnBody}
 use Rattle.rpc_msg.specs.declared.message.ReturnBody.TheVariants as body
 use Rattle.rpc_msg.specs.Messages.{descriptors_of_body}
+use Rattle.capn_wire.specs.Payloads.{Contents as Payload}
+use Rattle.rpc_msg.specs.declared.exception.Exception.{Exception}
+use Rattle.vat_machine.specs.declared.calls.Value.TheVariants as value
 use Rattle.vat_machine.specs.declared.command.Level.TheVariants.{One}
 use Rattle.vat_machine.specs.declared.entries.Import.{Import}
 use Rattle.vat_machine.specs.declared.entries.Resolution.{Resolution}
 use Rattle.vat_machine.specs.declared.entries.Resolution.TheVariants as resolution
-use Rattle.vat_machine.specs.Descriptors.{Described, read}
+use Rattle.vat_machine.specs.Descriptors.{Described, DescribesAll, read}
 use Rattle.vat_machine.specs.declared.entries.Question.{Question}
 use Rattle.vat_machine.specs.Messages.{kept_returned, resolve_import, results_of}
 use Rattle.vat_machine.specs.declared.command.Granted.{Granted}
 use Rattle.vat_machine.specs.declared.entries.Reference.{Reference}
 use Rattle.vat_machine.specs.State.{State}
-use Rattle.vat_machine.specs.Nodes.{link, settle, is_wire}
+use Rattle.vat_machine.specs.Nodes.{link, settle, is_wire, value_of}
 use Rattle.vat_machine.specs.Progress.{Progress}
 use Rattle.vat_machine.specs.Advancing.{Advances}
 use Rattle.vat_machine.specs.declared.node.Node.{Node}
@@ -32,7 +35,7 @@ use Rattle.call_order.specs.Events.{Fate, settled}
 use Rattle.laws_routes.specs.Views.{past, sessions_at}
 use Rattle.laws_routes.specs.Points.{Point, Group, vat_of, routes}
 use Rattle.laws_routes.specs.Ghosts.{Ghost}
-use Rattle.laws_routes.specs.Premises.{ExportsAreOwn, IsLastLoop, IsWireThere, LinksRest}
+use Rattle.laws_routes.specs.Premises.{ExportsAreOwn, IsLastLoop, IsWireThere, LinksRest, TargetsAreMet}
 use Rattle.laws_routes.specs.Sides.{EndsAs}
 use Rattle.laws_routes.specs.Ties.{Around, Ghosts, Tied}
 use Rattle.laws_routes.specs.Sayings.{IsSaid, KnownIsSo, SaidOfAnswer, SaidOfExport, Sayings, descriptor_point}
@@ -81,6 +84,26 @@ abbrev pub DescriptorSaysSo : Type 0
 DescriptorSaysSo =
     (w : Around) (d : Progress) (g : Ghosts) (m : routing.State routes) (x : Point) (k : Node) (said : Descriptor) (new : State) → Tied w d g m → vat_of x ≡ w.vat → EndsAs w.vat g.own m.net x k
     → MaySay w d.state k → Described d.state k said new → IsSaid m.net x said (will_read w new (w.out ++ d.effects.sends) g said)
+
+-- Descriptors may be made of these nodes, one after the other.
+abbrev pub AllMaySay : (w : Around) (s : State) (ns : List Node) (ds : List Descriptor) (new : State) → DescribesAll s ns ds new → Type 0
+AllMaySay w s [] [] new h = LinksRest s
+AllMaySay w s [] (d ∷ ds) new h = Unit {0}
+AllMaySay w s (n ∷ ns) [] new h = Unit {0}
+AllMaySay w s (n ∷ ns) (d ∷ ds) new h = LinksRest s × MaySay w s (settle s n) × AllMaySay w h.0 ns ds new h.2
+
+-- The results of a known outcome, with the descriptors of its capabilities, say of each of its fields what is so.
+abbrev pub ResultsSaySo : Type 0
+ResultsSaySo =
+    (w : Around) (d : Progress) (g : Ghosts) (m : routing.State routes) (o : ℕ) (payload : Payload) (caps : List Node) (ds : List Descriptor) (new : State) → Tied w d g m → TargetsAreMet d.state w.back
+    → value_of (map.get d.state.outcomes o) ≡ Some (value.Results payload caps) → (h : DescribesAll d.state caps ds new) → AllMaySay w d.state caps ds new h
+    → SaidOfAnswer m.net w.vat (g.own.outcome o) (will_read w new (w.out ++ d.effects.sends) g) (body.Results payload ds)
+
+-- So does its exception: each of its fields is broken.
+abbrev pub ExceptionSaysSo : Type 0
+ExceptionSaysSo =
+    (w : Around) (d : Progress) (g : Ghosts) (m : routing.State routes) (o : ℕ) (exception : Exception) (read : Descriptor → Point) → Tied w d g m
+    → value_of (map.get d.state.outcomes o) ≡ Some (value.Exception exception) → LinksRest d.state → SaidOfAnswer m.net w.vat (g.own.outcome o) read (body.Exception exception)
 
 -- ---- What is received
 

@@ -196,8 +196,21 @@ pub record Side (v : Vat) (s : State) (g : Ghost) (next : ℕ) (m : routing.Stat
 
 -- Of an identity that was given to a session, while its Call or Bootstrap is on the way to v: no outcome of v has it, and
 -- nothing came of it yet.
-pub record IsUnborn (v : Vat) (s : State) (g : Ghost) (next : ℕ) (m : routing.State routes) (i : ℕ) : Type 0 where
+pub record IsUnborn (v : Vat) (outcomes : Map KeptOutcome) (outcome_id : ℕ → ℕ) (stop : Point → Point) (kind : Point → Kind routes) (waiting : Group → Queue) (next : ℕ) (i : ℕ) : Type 0 where
   pub below : i < next
-  pub unused : (o : ℕ) → IsSome (map.get s.outcomes o) → g.outcome o ≡ i → ⊥
-  pub new : (path : List Op) → IsStop m.net.stop m.net.kind (AField v i path) routing.Open
-  pub empty : m.net.waiting (OfOutcome v i) ≡ []
+  pub unused : (o : ℕ) → IsSome (map.get outcomes o) → outcome_id o ≡ i → ⊥
+  pub new : (path : List Op) → IsStop stop kind (AField v i path) routing.Open
+  pub empty : waiting (OfOutcome v i) ≡ []
+
+abbrev pub IsIn : ℕ → List ℕ → Type 0
+IsIn i [] = ⊥
+IsIn i (x ∷ xs) = (i ≡ x) ⊎ IsIn i xs
+
+abbrev pub AllDiffer : List ℕ → Type 0
+AllDiffer [] = Unit {0}
+AllDiffer (x ∷ xs) = (IsIn x xs → ⊥) × AllDiffer xs
+
+-- Of the identities of the outcomes that the messages on the way to v will make.
+pub record Unborn (v : Vat) (outcomes : Map KeptOutcome) (outcome_id : ℕ → ℕ) (stop : Point → Point) (kind : Point → Kind routes) (waiting : Group → Queue) (next : ℕ) (ids : List ℕ) : Type 0 where
+  pub each : (i : ℕ) → IsIn i ids → IsUnborn v outcomes outcome_id stop kind waiting next i
+  pub differ : AllDiffer ids

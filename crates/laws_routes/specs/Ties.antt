@@ -11,8 +11,8 @@ use Rattle.call_order.specs.Machine.{choose}
 use Rattle.call_order.specs.Machine as routing
 use Rattle.laws_routes.specs.Points.{AnObject, routes}
 use Rattle.laws_routes.specs.Ghosts.{Ghost}
-use Rattle.laws_routes.specs.Sides.{Side}
-use Rattle.laws_routes.specs.Views.{View}
+use Rattle.laws_routes.specs.Sides.{Side, Unborn}
+use Rattle.laws_routes.specs.Views.{View, unborn_ids}
 
 -- ---- 6. What the history tells
 
@@ -58,6 +58,9 @@ pub record TiedBy (w : Around) (s : State) (sends : List Message) (deliveries : 
   pub view : View w.vat (other_vat w.vat) s g.own w.other g.theirs (w.out ++ sends) m
   pub back : View (other_vat w.vat) w.vat w.other g.theirs s g.own w.back m
   pub told : Told w.made (w.delivered ++ all_at w.vat deliveries) m.refs
+  -- what will be made of what is on the way there, and on the way back
+  pub unborn : Unborn (other_vat w.vat) w.other.outcomes g.theirs.outcome m.net.stop m.net.kind m.net.waiting g.next (unborn_ids g.own.session (w.out ++ sends))
+  pub unborn_back : Unborn w.vat s.outcomes g.own.outcome m.net.stop m.net.kind m.net.waiting g.next (unborn_ids g.theirs.session w.back)
 
 abbrev pub Tied : Around → Progress → Ghosts → routing.State routes → Type 0
 Tied w d g m = TiedBy w d.state d.effects.sends d.effects.deliveries g m

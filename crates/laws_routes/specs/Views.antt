@@ -62,6 +62,27 @@ abbrev pub past : Ghost → (ℕ → ℕ) → List Message → ℕ → ℕ
 past g now [] = now
 past g now (m ∷ ms) = past g (past_one g now m) ms
 
+-- The identity of the outcome that a message will make.
+abbrev pub unborn_of_plain : (ℕ → ℕ) → PlainMessage → Option ℕ
+unborn_of_plain session (plain.Abort exception) = None
+unborn_of_plain session (plain.Bootstrap q) = Some (session q.0)
+unborn_of_plain session (plain.Call c) = Some (session c.question.0)
+unborn_of_plain session (plain.Return r) = None
+unborn_of_plain session (plain.Finish x) = None
+unborn_of_plain session (plain.Resolve r) = None
+unborn_of_plain session (plain.Release r) = None
+unborn_of_plain session (plain.Disembargo x) = None
+unborn_of_plain session (plain.Other n) = None
+
+abbrev pub unborn_of : (ℕ → ℕ) → Message → Option ℕ
+unborn_of session (message.Plain m) = unborn_of_plain session m
+unborn_of session (message.Unimplemented m) = None
+
+-- Of those that the messages of a link will make.
+abbrev pub unborn_ids : (ℕ → ℕ) → List Message → List ℕ
+unborn_ids session [] = []
+unborn_ids session (m ∷ ms) = in_front (unborn_of session m) (unborn_ids session ms)
+
 abbrev pub embargo_ref : Vat → Option Embargo → Ref
 embargo_ref v None = ref_at v 0
 embargo_ref v (Some b) = ref_at v b.reference.0

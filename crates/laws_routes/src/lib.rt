@@ -3,13 +3,20 @@
 #![tactic(auto)]
 
 mod laws;
+mod making;
 mod messages;
 mod outcomes;
+mod quiet;
 mod sayings;
+mod steps;
+mod taking;
 
 pub use laws::{
     calls_are_made, calls_are_routed, calls_come, embargoes_end, gone_is_no_move,
     known_outcomes_stop, new_refs_begin, outcomes_are_kept, promises_are_fixed, references_advance,
+};
+pub use making::{
+    bootstraps_are_asked, each_call_is_made, lettings_go_are_no_move, promises_are_made,
 };
 pub use messages::{
     descriptors_are_made, descriptors_are_taken, resolves_are_sent, returns_are_sent,
@@ -19,6 +26,16 @@ pub use outcomes::{
     applications_are_told, held_calls_are_routed, outcomes_become_known, outcomes_settle,
     promises_open, promises_settle,
 };
+pub use quiet::{answers_close, ends_are_no_move, exports_are_lowered};
 pub use sayings::{
-    advances_are_followed, descriptors_say_so, sayings_stay, what_is_said_becomes_known,
+    advances_are_followed, descriptors_say_so, returns_say_so, sayings_stay, what_is_known_stays,
+    what_is_said_becomes_known, what_is_said_stays,
+};
+pub use steps::{
+    acts_are_moves, deliveries_are_in_order, steps_are_moves, steps_keep_order, takes_are_moves,
+    vats_are_tied,
+};
+pub use taking::{
+    bootstraps_are_taken, calls_are_taken, disembargos_meet_wires, resolves_are_taken,
+    returns_are_taken,
 };

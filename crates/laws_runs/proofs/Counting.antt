@@ -25,7 +25,6 @@ use Rattle.vat_machine.specs.State.{State, start}
 use Rattle.vat_machine.specs.Steps.{Does}
 use Rattle.vat_machine.specs.World.{World, core, put_inbox, after, Answered, Handled}
 use Rattle.vat_machine.specs.Journal.{index_in, made_entries, granted_entries, effect_entries, command_entries, deliver_entries, journal}
-use Rattle.laws_steps.proofs.Pieces.{counting, IsNoCall}
 use Rattle.laws_runs.specs.Scenes.{Scene, IsScene, begins, goes_on, stopped, Steps, Commanded, Received, GivesUp, Stops, LeadsTo, NoMore, Then}
 use Rattle.laws_runs.specs.Telling.{telling}
 use Rattle.laws_runs.specs.MadeCalls.{NumbersItsCalls, ScenesCount, RunsCount}
@@ -34,7 +33,7 @@ use Rattle.laws_runs.proofs.MakesNone.{MakesNone, both, none_behind, effects_mak
 use Rattle.laws_runs.proofs.ToldAlike.{same_made}
 use Rattle.laws_runs.proofs.AtVats.{not_over, mine}
 use Rattle.laws_runs.proofs.Showing.{every_run}
-use Rattle.laws_runs.proofs.KeptCounts.{KeepsCounts, KeptOrNew, same, does, does_call, handles}
+use Rattle.laws_runs.proofs.KeptCounts.{counting, IsNoCall, KeepsCounts, KeptOrNew, same, does, does_call, handles}
 
 abbrev at : Vat → ℕ → Ref
 at v r = record { vat = v; number = r }
@@ -172,7 +171,7 @@ ended B x es m b = let k = no_call B x.world x.world.b.core x.journal es (pair B
 stepped : (x new : Scene) → Steps x new → Both x → Both new
 stepped x new (Commanded v c g told s over up ref d w e) b = rw e (went_on v x told s _ (commanded v x.world s x.journal c g told (pair v x b) d))
 stepped x new (Received v m ms told s over up i f d w e) b =
-    rw e (took v x ms told s _ (no_call v x.world s x.journal (deliver_entries v (Handled told)) (pair v x b) (handles (core x.world v) m told s d) (deliver_none v (Handled told))))
+    rw e (took v x ms told s _ (no_call v x.world s x.journal (deliver_entries v (Handled told)) (pair v x b) (handles (core x.world v) m told s f d) (deliver_none v (Handled told))))
 stepped x new (GivesUp v c over ref m e) b = rw e (ended v x _ (granted_none x.journal v c granted.Done (falls_no_call c m)) b)
 stepped x new (Stops v over e) b = rw e (ended v x [] (λ r. refl) b)
 

@@ -15,3 +15,10 @@ pub mod Showing
 pub mod Running
 pub mod KeptCounts
 pub mod Counting
+pub mod Lifting
+pub mod FallCauses
+pub mod FallEntries
+pub mod WhoIsDown
+pub mod FallsInRuns
+pub mod Whole
+pub mod Weaving

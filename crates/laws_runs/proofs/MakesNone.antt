@@ -19,7 +19,7 @@ use Rattle.vat_machine.specs.declared.command.Effects.{Effects}
 use Rattle.vat_machine.specs.Steps.{MayFall}
 use Rattle.vat_machine.specs.World.{StepAnswer, Answered, Handled, Empty}
 use Rattle.vat_machine.specs.Journal.{went_down, effect_entries, refused_entries, born, born_promise, asked_entries, advanced_entries, granted_entries, deliver_entries}
-use Rattle.laws_steps.proofs.Pieces.{IsNoCall}
+use Rattle.laws_runs.proofs.KeptCounts.{IsNoCall}
 use Rattle.laws_runs.proofs.Reading.{made-append}
 
 abbrev pub MakesNone : List JournalEntry → Type 0

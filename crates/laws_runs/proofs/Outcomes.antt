@@ -20,7 +20,7 @@ use Rattle.vat_machine.specs.Faults.{fault_of}
 use Rattle.vat_machine.specs.Down.{fallen, falling, falling_by, IsUnchanged, Falls, ShutsFrom}
 use Rattle.vat_machine.specs.Steps.{Does, Handles, MayFall, Obeys, Refuses, LacksMemory, GoesDown, Shuts, IsDone, Receives, WasDown, FaultsBy, LacksRoom, IsHandled}
 use Rattle.vat_machine.specs.World.{overflow_effects, overflown, Tells, CommandTold, MessageTold}
-use Rattle.laws_steps.proofs.Rising.{does, handles}
+use Rattle.laws_steps.proofs.UsedOnce.{command_leaves_up, message_leaves_up}
 use Rattle.laws_runs.specs.Scenes.{IsLast}
 
 -- The vat went down, and said no more than one Abort.
@@ -51,7 +51,7 @@ obeys_ways s c a x t e (Refuses r f g u) = unchanged s x t e u
 obeys_ways s c a x t e (LacksMemory f g k u) = unchanged s x t e u
 obeys_ways s c a x t e (GoesDown f g k u) = inr (falls s want_of_room x t u)
 obeys_ways s c a x t e (Shuts n f g h) = inr (shuts s n s.down x t e h)
-obeys_ways s c a x t e (IsDone g f k h w) = inl ((does s c g x t h).4 ∙ e)
+obeys_ways s c a x t e (IsDone g f k h w) = inl (command_leaves_up s c g x t h ∙ e)
 
 falling_by_so : (m : Message) (s : State) (n : ℕ) → IsFall (falling_by m n) (fallen s n)
 falling_by_so (message.Plain (plain.Abort x)) s n = record { last = inl refl; deliveries = refl; answers = refl; down = refl }
@@ -65,7 +65,7 @@ receives_ways : (s : State) (m : Message) (x : Effects) (t : State) → s.down �
 receives_ways s m x t e (WasDown d u) = absurd (not_down s.down e d)
 receives_ways s m x t e (FaultsBy n d f g h) = inr (rw (g, h) (falling_by_so m s n))
 receives_ways s m x t e (LacksRoom d f u) = inr (falls s want_of_room x t u)
-receives_ways s m x t e (IsHandled d f h w) = inl ((handles s m x t h).4 ∙ e)
+receives_ways s m x t e (IsHandled d f h w) = inl (message_leaves_up s m x t f h ∙ e)
 
 -- Without room it falls.
 overflows : (x : Effects) (mid : State) (o : Option ℕ) → mid.down ≡ o → Ways x mid → IsFall (overflow_effects x o) (overflown mid o)
@@ -92,7 +92,7 @@ with_room s c a said x told mid t up e f g (GoesDown i j k u) = GaveUp i j (e �
 with_room s c a said x told mid t up e f g (Shuts n i j h) = WasShut n i (e ∙ j) (rw (f, g) (shuts s n s.down x mid up h))
 with_room s c a said x told mid t up e f g (IsDone given i j h w) =
     WasDone given i (e ∙ j) refl (subst (λ (y : Effects). Does s c given y t) (sym f) (subst (λ (y : State). Does s c given x y) (sym g) h))
-    (subst (λ (y : State). IsWithin y) (sym g) w) (ap (λ (y : State). y.down) g ∙ (does s c given x mid h).4 ∙ up)
+    (subst (λ (y : State). IsWithin y) (sym g) w) (ap (λ (y : State). y.down) g ∙ command_leaves_up s c given x mid h ∙ up)
 
 pub command_kind : (s : State) (c : Command) (a : Result Granted Refusal) (told : Effects) (room : Bool) (t : State) → s.down ≡ None → CommandTold s c a told room t → CommandKind s c a told room t
 command_kind s c a told true t up k = with_room s c a k.0 k.1 told k.2 t up k.4 k.5.0 k.5.1 k.3
@@ -110,7 +110,7 @@ received_well s m x told mid t up f g (FaultsBy n d i j h) = Fell (rw (f, g, j, 
 received_well s m x told mid t up f g (LacksRoom d i u) = Fell (rw (f, g) (falls s want_of_room x mid u))
 received_well s m x told mid t up f g (IsHandled d i h w) =
     WasHandled i (subst (λ (y : Effects). Handles s m y t) (sym f) (subst (λ (y : State). Handles s m x y) (sym g) h))
-    (subst (λ (y : State). IsWithin y) (sym g) w) (ap (λ (y : State). y.down) g ∙ (handles s m x mid h).4 ∙ up)
+    (subst (λ (y : State). IsWithin y) (sym g) w) (ap (λ (y : State). y.down) g ∙ message_leaves_up s m x mid i h ∙ up)
 
 pub message_kind : (s : State) (m : Message) (told : Effects) (room : Bool) (t : State) → s.down ≡ None → MessageTold s m told room t → MessageKind s m told t
 message_kind s m told true t up k = received_well s m k.0 told k.1 t up k.3.0 k.3.1 k.2

@@ -28,7 +28,7 @@ use Rattle.vat_machine.specs.World.{World, StepAnswer, Answered, Handled, Empty,
 use Rattle.vat_machine.specs.Journal.{effect_entries, refused_entries, granted_entries, own_entries, command_entries, deliver_entries, event_entries, journal_from, journal}
 use Rattle.vat_machine.specs.Progress.{begin}
 use Rattle.vat_machine.specs.Claims.{IsQuietWhenDown, EveryRun}
-use Rattle.laws_steps.proofs.Rising.{does, handles}
+use Rattle.laws_steps.proofs.UsedOnce.{command_leaves_up, message_leaves_up}
 use Rattle.vat_machine.proofs.StaysDown.{command_down, acts_no_shut, falls_no_shut, not_open}
 use Rattle.laws_runs.proofs.Reading.{same_is}
 use Rattle.laws_runs.proofs.QuietEntries as quiet
@@ -57,7 +57,7 @@ obeys_tells s c a x t e (Refuses r f g u) = unchanged s x t e u
 obeys_tells s c a x t e (LacksMemory f g k u) = unchanged s x t e u
 obeys_tells s c a x t e (GoesDown f g k u) = falls s want_of_room x t u
 obeys_tells s c a x t e (Shuts n f g h) = shuts s n s.down x t e h
-obeys_tells s c a x t e (IsDone g f k h w) = ap (λ (y : Effects). is_some y.down) h.ends.effects_are ∙ sym (ap is_some ((does s c g x t h).4 ∙ e))
+obeys_tells s c a x t e (IsDone g f k h w) = ap (λ (y : Effects). is_some y.down) h.ends.effects_are ∙ sym (ap is_some (command_leaves_up s c g x t h ∙ e))
 
 falling_told : (m : Message) (n : ℕ) → is_some (falling_by m n).down ≡ true
 falling_told (message.Plain (plain.Abort x)) n = refl
@@ -67,7 +67,7 @@ pub receives_tells : (s : State) (m : Message) (x : Effects) (t : State) → s.d
 receives_tells s m x t e (WasDown d u) = unchanged s x t e u
 receives_tells s m x t e (FaultsBy n d f g h) = ap (λ (y : Effects). is_some y.down) g ∙ falling_told m n ∙ sym (ap is_down h)
 receives_tells s m x t e (LacksRoom d f u) = falls s want_of_room x t u
-receives_tells s m x t e (IsHandled d f h w) = ap (λ (y : Effects). is_some y.down) h.ends.effects_are ∙ sym (ap is_some ((handles s m x t h).4 ∙ e))
+receives_tells s m x t e (IsHandled d f h w) = ap (λ (y : Effects). is_some y.down) h.ends.effects_are ∙ sym (ap is_some (message_leaves_up s m x t f h ∙ e))
 
 -- ---- A step in a world
 

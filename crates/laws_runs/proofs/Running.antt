@@ -22,7 +22,7 @@ use Rattle.vat_machine.specs.Steps.{Does, Handles, MayFall, Obeys, GoesDown, Shu
 use Rattle.vat_machine.specs.World.{World, core, inbox, put_inbox, after, new_world, StepAnswer, Answered, Handled, Happening, CommandTold, CommandsAt, ReceivesAt, HappensBy, MessageTold, Run}
 use Rattle.vat_machine.specs.Journal.{granted_entries, command_entries, deliver_entries, event_entries, journal_from}
 use Rattle.vat_machine.specs.Claims.{BothUp}
-use Rattle.laws_steps.proofs.Rising.{does, handles}
+use Rattle.laws_steps.proofs.UsedOnce.{command_leaves_up, message_leaves_up}
 use Rattle.laws_runs.specs.Telling.{telling}
 use Rattle.laws_runs.specs.Scenes.{Scene, is_over, begins, goes_on, stopped, Steps, Commanded, Received, GivesUp, Stops, LeadsTo, NoMore, Then, AtVat, Shows}
 use Rattle.laws_runs.specs.Shown.{ScenesAreUp, ScenesAreReached, EverySceneShowsARun}
@@ -80,8 +80,8 @@ taken_up A w ms b = (b.0, b.1)
 taken_up B w ms b = (b.0, b.1)
 
 step_up : (x y : Scene) → Steps x y → BothUp x.world → BothUp y.world
-step_up x y (Commanded v c g told t over up r d i e) b = rw e (still_up v x.world told t b ((does (core x.world v) c g told t d).4 ∙ up))
-step_up x y (Received v m ms told t over up i f d k e) b = rw e (still_up v (put_inbox x.world v ms) told t (taken_up v x.world ms b) ((handles (core x.world v) m told t d).4 ∙ up))
+step_up x y (Commanded v c g told t over up r d i e) b = rw e (still_up v x.world told t b (command_leaves_up (core x.world v) c g told t d ∙ up))
+step_up x y (Received v m ms told t over up i f d k e) b = rw e (still_up v (put_inbox x.world v ms) told t (taken_up v x.world ms b) (message_leaves_up (core x.world v) m told t f d ∙ up))
 step_up x y (GivesUp v c over r m e) b = subst BothUp (sym (ap (λ (z : Scene). z.world) e ∙ same_stopped x v _)) b
 step_up x y (Stops v over e) b = subst BothUp (sym (ap (λ (z : Scene). z.world) e ∙ same_stopped x v [])) b
 
@@ -124,7 +124,7 @@ module _ (x : Scene) (h : List JournalEntry) (w : World) (shows : Shows x h w) (
         event_of (event.Command v c) (Answered (Ok g) told),
         after w v told t,
         command_happens w v c g told t here.0 (subst (λ (s : State). refused s c ≡ None) back r) f i,
-        done_so x h w v c shows here.0 told t g ((does (core w v) c g told t f).4 ∙ here.0),
+        done_so x h w v c shows here.0 told t g (command_leaves_up (core w v) c g told t f ∙ here.0),
       )
 
   received : (m : Message) (ms : List Message) (told : Effects) (t : State) → inbox x.world v ≡ m ∷ ms → fault_of (core x.world v) m ≡ None → Handles (core x.world v) m told t → IsWithin t → Follows (goes_on x (after (put_inbox x.world v ms) v told t) (deliver_entries v (Handled told))) h w
@@ -137,7 +137,7 @@ module _ (x : Scene) (h : List JournalEntry) (w : World) (shows : Shows x h w) (
         event_of (event.Deliver v) (Handled told),
         after (put_inbox w v left) v told t,
         message_happens w v m left told t here.0 j (subst (λ (s : State). fault_of s m ≡ None) back f) g k,
-        done_shows v x w (h ++ deliver_entries v (Handled told)) (deliver_entries v (Handled told)) left ms told t over ((handles (core w v) m told t g).4 ∙ here.0)
+        done_shows v x w (h ++ deliver_entries v (Handled told)) (deliver_entries v (Handled told)) left ms told t over (message_leaves_up (core w v) m told t (subst (λ (s : State). fault_of s m ≡ None) back f) g ∙ here.0)
             (got_words v x h w shows told) (here.0, here.1, (last, here.2.1, refl)) (theirs v x h w shows over),
       )
 

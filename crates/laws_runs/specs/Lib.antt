@@ -4,3 +4,6 @@ pub mod Scenes
 pub mod Shown
 pub mod MadeCalls
 pub mod Quiet
+pub mod SoundScenes
+pub mod Sides
+pub mod Woven

@@ -46,7 +46,7 @@ one_less a b m ms last (Again k) h r = (last, (Known k, First k, h), inl refl)
 one_less a b m ms last Late h r = (last, (Unknown, Late, h), inl refl)
 one_less a b m ms last Last h r = (r.0, (Unknown, Late, r.1), r.2)
 
-forgets : (a : Seen) (ms : List Out) (last : Seen) → LearnsAll a ms last → Less Unknown ms last
+pub forgets : (a : Seen) (ms : List Out) (last : Seen) → LearnsAll a ms last → Less Unknown ms last
 forgets a [] last h = (Unknown, refl, inr refl)
 forgets a (m ∷ ms) last h = one_less a h.0 m ms last h.1 h.2 (forgets h.0 ms last h.2)
 
@@ -65,11 +65,11 @@ fewer : (m : Out) (ms : List Out) → gives (m ∷ ms) ≡ 0 → gives ms ≡ 0
 fewer (Give k) ms e = omega (arith, e)
 fewer Resolve ms e = e
 
-learns_none : (a : Seen) (ms : List Out) (last : Seen) → a ≡ Unknown → gives ms ≡ 0 → LearnsAll a ms last → last ≡ Unknown
+pub learns_none : (a : Seen) (ms : List Out) (last : Seen) → a ≡ Unknown → gives ms ≡ 0 → LearnsAll a ms last → last ≡ Unknown
 learns_none a [] last e g h = sym h ∙ e
 learns_none a (m ∷ ms) last e g h = learns_none h.0 ms last (stays a m h.0 ms e g h.1) (fewer m ms g) h.2
 
-holds_none : (y : Importer) → IsHeld y → held y ≡ 0 → seen y ≡ Unknown
+pub holds_none : (y : Importer) → IsHeld y → held y ≡ 0 → seen y ≡ Unknown
 holds_none Absent i e = refl
 holds_none (Holds n k s) i e = absurd (omega (arith, i, e))
 
@@ -134,7 +134,7 @@ answers x out y z m back h (LetsAll n k s p) =
 
 -- ---- What is received
 
-fits_lower : (l : Seen) (n m : ℕ) (s : Stage) → Fits l (Has n s) → Fits l (Has m s)
+pub fits_lower : (l : Seen) (n m : ℕ) (s : Stage) → Fits l (Has n s) → Fits l (Has m s)
 fits_lower l n m s (Free w) = Free (Has m s)
 fits_lower l n m s (Object k) = Object m
 fits_lower l n m s (Open k) = Open m

@@ -9,6 +9,7 @@ use Rattle.vat_machine.specs.declared.command.Command.{Command}
 use Rattle.vat_machine.specs.declared.command.Granted.{Granted}
 use Rattle.vat_machine.specs.declared.command.Effects.{Effects}
 use Rattle.vat_machine.specs.State.{State}
+use Rattle.vat_machine.specs.Refusals.{refused}
 use Rattle.vat_machine.specs.Faults.{fault_of}
 use Rattle.vat_machine.specs.Steps.{Does, Handles}
 use Rattle.vat_machine.specs.World.{World, new_world, core, inbox, put_inbox, after}
@@ -30,9 +31,9 @@ module _ {R : State → List Noted → State → List Noted → Type 0} (r : IsK
   by_b : (w : World) (s : State) (ms : List Message) (x : Effects) (to_a to_b : List Noted) → w.a.inbox ≡ messages to_a → ms ≡ messages to_b → StillHolds R s to_b w.a.core to_a x → HoldsIn R (after (put_inbox w B ms) B x s)
   by_b w s ms x to_a to_b e f h = record { to_a = to_a ++ h.0; to_b = to_b; is_a = behind w.a.inbox x.sends to_a h.0 e h.1; is_b = f; holds = r.turned s w.a.core to_b (to_a ++ h.0) h.2 }
 
-  commanded : (w : World) (v : Vat) (c : Command) (g : Granted) (x : Effects) (s : State) → HoldsIn R w → Does (core w v) c g x s → HoldsIn R (after w v x s)
-  commanded w A c g x s k h = by_a w s w.a.inbox x k.to_a k.to_b k.is_a k.is_b (r.commands w.a.core w.b.core s k.to_a k.to_b c g x k.holds h)
-  commanded w B c g x s k h = by_b w s w.b.inbox x k.to_a k.to_b k.is_a k.is_b (r.commands w.b.core w.a.core s k.to_b k.to_a c g x (r.turned w.a.core w.b.core k.to_a k.to_b k.holds) h)
+  commanded : (w : World) (v : Vat) (c : Command) (g : Granted) (x : Effects) (s : State) → HoldsIn R w → refused (core w v) c ≡ None → Does (core w v) c g x s → HoldsIn R (after w v x s)
+  commanded w A c g x s k f h = by_a w s w.a.inbox x k.to_a k.to_b k.is_a k.is_b (r.commands w.a.core w.b.core s k.to_a k.to_b c g x k.holds f h)
+  commanded w B c g x s k f h = by_b w s w.b.inbox x k.to_a k.to_b k.is_a k.is_b (r.commands w.b.core w.a.core s k.to_b k.to_a c g x (r.turned w.a.core w.b.core k.to_a k.to_b k.holds) f h)
 
   -- The vat s takes its oldest message.
   takes : (s t new : State) (to_s to_t : List Noted) (m : Message) (ms : List Message) (x : Effects) → R s to_s t to_t → m ∷ ms ≡ messages to_s → fault_of s m ≡ None → Handles s m x new → (rest : List Noted) × (ms ≡ messages rest) × StillHolds R new rest t to_t x
@@ -50,7 +51,7 @@ module _ {R : State → List Noted → State → List Noted → Type 0} (r : IsK
       by_b w s ms x k.to_a t.0 k.is_a t.1 t.2
 
   stepped : (w new : World) → HoldsIn R w → IsSteady w new → HoldsIn R new
-  stepped w new k (Commands v c g x s h e) = subst (λ (y : World). HoldsIn R y) (sym e) (commanded w v c g x s k h)
+  stepped w new k (Commands v c g x s f h e) = subst (λ (y : World). HoldsIn R y) (sym e) (commanded w v c g x s k f h)
   stepped w new k (Receives v m ms x s i f h e) = subst (λ (y : World). HoldsIn R y) (sym e) (took w v m ms x s k i f h)
 
   runs : (end w : World) → HoldsIn R w → Steady end w → HoldsIn R end

@@ -8,3 +8,10 @@ pub mod EachAct
 pub mod Acted
 pub mod Heard
 pub mod Standing
+pub mod Paid
+pub mod Got
+pub mod AboveZero
+pub mod Flags
+pub mod Agreeing
+pub mod Oldest
+pub mod InScenes

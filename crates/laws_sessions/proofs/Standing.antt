@@ -17,6 +17,7 @@ use Rattle.vat_machine.specs.declared.entries.Question.{Question}
 use Rattle.vat_machine.specs.declared.entries.AnswerEntry.{AnswerEntry}
 use Rattle.vat_machine.specs.State.{State, start}
 use Rattle.vat_machine.specs.Progress.{begin, with_state}
+use Rattle.vat_machine.specs.Refusals.{refused}
 use Rattle.vat_machine.specs.Faults.{fault_of}
 use Rattle.vat_machine.specs.Steps.{Does, Handles}
 use Rattle.laws_steps.specs.Callers.{IsOpenFor}
@@ -116,8 +117,8 @@ starts a b = record { useful_s = tt; useful_t = tt; ready_s = ready A a; ready_t
 -- ---- Steps
 
 module _ (law : StepsAreActs) where
-  commands : (s t new : State) (to_s to_t : List Noted) (c : Command) (g : Granted) (x : Effects) → Stand s to_s t to_t → Does s c g x new → StillHolds Stand new to_s t to_t x
-  commands s t new to_s to_t c g x k h =
+  commands : (s t new : State) (to_s to_t : List Noted) (c : Command) (g : Granted) (x : Effects) → Stand s to_s t to_t → refused s c ≡ None → Does s c g x new → StillHolds Stand new to_s t to_t x
+  commands s t new to_s to_t c g x k f h =
       let a = law.commands s c g x new h in
       let d = acts a.0 (begin s) k.ready_s a.1 in
       (all_sent a.1, ap (λ (y : Effects). y.sends) a.2 ∙ d.said, subst (λ (u : State). Stand u to_s t (to_t ++ all_sent a.1)) (sym a.3) (moved s t (let y = a.0 in y.state) to_s to_t (all_sent a.1) k d.moves))

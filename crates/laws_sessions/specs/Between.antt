@@ -10,6 +10,7 @@ use Rattle.vat_machine.specs.declared.command.Granted.{Granted}
 use Rattle.vat_machine.specs.declared.command.Effects.{Effects}
 use Rattle.vat_machine.specs.declared.command.Level.TheVariants.{One}
 use Rattle.vat_machine.specs.State.{State, start}
+use Rattle.vat_machine.specs.Refusals.{refused}
 use Rattle.vat_machine.specs.Faults.{fault_of}
 use Rattle.vat_machine.specs.Steps.{Does, Handles}
 use Rattle.vat_machine.specs.World.{World, new_world, core, inbox, put_inbox, after}
@@ -17,7 +18,7 @@ use Rattle.laws_acts.specs.Sent.{Noted, messages}
 
 -- A step in which no vat falls and nothing is refused.
 pub data IsSteady (w new : World) : Type 0 where
-  Commands : (v : Vat) (c : Command) (g : Granted) (x : Effects) (s : State) → Does (core w v) c g x s → new ≡ after w v x s → IsSteady w new
+  Commands : (v : Vat) (c : Command) (g : Granted) (x : Effects) (s : State) → refused (core w v) c ≡ None → Does (core w v) c g x s → new ≡ after w v x s → IsSteady w new
   Receives : (v : Vat) (m : Message) (ms : List Message) (x : Effects) (s : State) → inbox w v ≡ m ∷ ms → fault_of (core w v) m ≡ None → Handles (core w v) m x s → new ≡ after (put_inbox w v ms) v x s → IsSteady w new
 
 -- Such steps lead from one world to the other.
@@ -45,5 +46,5 @@ StillHolds R s to_s t to_t x = (sent : List Noted) × (x.sends ≡ messages sent
 pub record IsKept (R : State → List Noted → State → List Noted → Type 0) : Type 0 where
   pub turned : (s t : State) (to_s to_t : List Noted) → R s to_s t to_t → R t to_t s to_s
   pub starts : (root_a root_b : Option ObjectId) → R (start A One root_a) [] (start B One root_b) []
-  pub commands : (s t new : State) (to_s to_t : List Noted) (c : Command) (g : Granted) (x : Effects) → R s to_s t to_t → Does s c g x new → StillHolds R new to_s t to_t x
+  pub commands : (s t new : State) (to_s to_t : List Noted) (c : Command) (g : Granted) (x : Effects) → R s to_s t to_t → refused s c ≡ None → Does s c g x new → StillHolds R new to_s t to_t x
   pub receives : (s t new : State) (n : Noted) (to_s to_t : List Noted) (x : Effects) → R s (n ∷ to_s) t to_t → fault_of s (message.Plain n.message) ≡ None → Handles s (message.Plain n.message) x new → StillHolds R new to_s t to_t x

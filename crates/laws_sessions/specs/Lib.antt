@@ -4,3 +4,7 @@ pub mod Names
 pub mod Views
 pub mod Between
 pub mod Worlds
+pub mod Imports
+pub mod Entries
+pub mod Agreed
+pub mod Scenes

@@ -15,7 +15,7 @@ use Rattle.vat_machine.specs.declared.command.Granted.{Granted}
 use Rattle.vat_machine.specs.Settling.{SettlesOutcome, TellsCall}
 use Rattle.vat_machine.specs.Commands.{Acts}
 use Rattle.vat_machine.specs.Messages.{TakesPlain, TakesDisembargo}
-use Rattle.laws_steps.proofs.Pieces.{AllExceptions, StayExceptions, Walks, CountsCalls, Takes, LetsGo}
+use Rattle.laws_steps.proofs.Pieces.{AllExceptions, StayExceptions, Walks, Takes, LetsGo}
 use Rattle.laws_steps.proofs.Walking.{tells_call}
 use Rattle.laws_steps.proofs.WholeSteps as whole
 
@@ -44,22 +44,11 @@ walks = record {
   quiet = λ d new a e. as_before d new e;
   next_arisen = others;
   fails = failed_too;
-  refs = λ d m h e. e;
-  calls = λ d m h e. e;
-  tasks = λ d m h e. e;
-  unsettled = λ d m h e. e;
-  new_ref = λ d n e. e;
-  new_call = λ d from e. e;
-  new_task = λ d o e. e;
-  new_promise = λ d p e. e;
   waits = λ d p calls after h e. e;
   fixes = λ d p calls to h e. e;
   holds = λ d o x after h e. e;
   knows = λ d o x who w v h i e. e;
 }
-
-counts : CountsCalls StayExceptions
-counts = record { counts = λ d r x h e. e }
 
 takes : Takes StayExceptions
 takes = record { new_outcome = λ d o who h e. e; new_key = λ d p h e. e }
@@ -72,7 +61,7 @@ both : (d new : Progress) → whole.Both walks takes walks lets_go d new → Sta
 both d new h e = h.2 (h.1 e)
 
 pub act_arises : (d : Progress) (c : Command) (g : Granted) (new : Progress) → Acts d c g new → StayExceptions d new
-act_arises d c g new h = both d new (whole.acts walks takes walks lets_go counts d c g new h)
+act_arises d c g new h = both d new (whole.acts walks takes walks lets_go d c g new h)
 
 pub call_arises : (d : Progress) (c : Call) (new : Progress) → TakesPlain d (plain.Call c) new → StayExceptions d new
 call_arises d c new h = both d new (whole.takes_call walks takes walks lets_go d c new h)

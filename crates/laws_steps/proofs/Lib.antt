@@ -4,7 +4,6 @@ pub mod Pieces
 pub mod Walking
 pub mod WholeSteps
 pub mod Exceptions
-pub mod Rising
 pub mod UsedOnce
 pub mod SaysTheSame
 pub mod LeadsOn

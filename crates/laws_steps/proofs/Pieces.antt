@@ -1,24 +1,19 @@
--- The small pieces of a step, as what a relation has to hold of so that it holds of each whole step. Exports, imports,
--- answers, questions and embargoes are not looked at.
-use Rattle.std.proofs.Common.{◌≡◌, ℕ, ◌+◌, List, [], ◌∷◌, None, Some}
+-- The small pieces of a step, as what a relation has to hold of so that it holds of each whole step. Promises, outcomes and
+-- what arose are looked at, and nothing else.
+use Rattle.std.proofs.Common.{◌≡◌, ℕ, List, [], ◌∷◌, None, Some}
 use Rattle.std.specs.FinMap as map
 use Rattle.rpc_msg.specs.declared.exception.Exception.{Exception}
-use Rattle.finite_maps.specs.Tally.{Map}
 use Rattle.vat_machine.specs.declared.node.Node.{Node}
 use Rattle.vat_machine.specs.declared.calls.WaitingCall.{WaitingCall}
 use Rattle.vat_machine.specs.declared.calls.HeldCall.{HeldCall}
 use Rattle.vat_machine.specs.declared.calls.Promise.TheVariants as promise
 use Rattle.vat_machine.specs.declared.calls.KeptOutcome.{KeptOutcome}
-use Rattle.vat_machine.specs.declared.calls.OwnCall.{OwnCall}
 use Rattle.vat_machine.specs.declared.calls.Value.{Value}
 use Rattle.vat_machine.specs.declared.calls.Value.TheVariants as value
 use Rattle.vat_machine.specs.declared.calls.Caller.{Caller}
-use Rattle.vat_machine.specs.declared.command.Command.{Command}
-use Rattle.vat_machine.specs.declared.command.Command.TheVariants as command
-use Rattle.vat_machine.specs.declared.entries.Reference.{Reference}
 use Rattle.vat_machine.specs.State.{State}
 use Rattle.vat_machine.specs.Nodes.{value_of}
-use Rattle.vat_machine.specs.Progress.{Progress, with_state, with_refs, arises}
+use Rattle.vat_machine.specs.Progress.{Progress, with_state, arises}
 use Rattle.vat_machine.specs.Collecting.{Goes}
 use Rattle.vat_machine.specs.Settling.{known}
 use Rattle.vat_machine.specs.Commands.{with_outcome}
@@ -35,29 +30,9 @@ AllExceptions (x ∷ xs) = IsException x.1 × AllExceptions xs
 abbrev pub StayExceptions : Progress → Progress → Type 0
 StayExceptions d new = AllExceptions d.arisen → AllExceptions new.arisen
 
--- Which vat it is, whether it is up, and what it keeps for its own, is the same.
+-- Promises and outcomes are the same.
 abbrev pub SameOwn : State → State → Type 0
-SameOwn s t =
-    (t.refs ≡ s.refs) × (t.calls ≡ s.calls) × (t.tasks ≡ s.tasks) × (t.unsettled ≡ s.unsettled) × (t.promises ≡ s.promises) × (t.outcomes ≡ s.outcomes)
-    × (t.next_ref ≡ s.next_ref) × (t.next_call ≡ s.next_call) × (t.next_task ≡ s.next_task) × (t.next_promise ≡ s.next_promise)
-    × (t.vat ≡ s.vat) × (t.down ≡ s.down)
-
--- No key is new.
-abbrev pub NoneNew : {X : Type 0} → Map X → Map X → Type 0
-NoneNew m n = (k : ℕ) → map.get m k ≡ None → map.get n k ≡ None
-
--- Each reference that is left was there, and has counted as many calls.
-abbrev pub KeepMade : Map Reference → Map Reference → Type 0
-KeepMade m n = (r : ℕ) (y : Reference) → map.get n r ≡ Some y → (x : Reference) × (map.get m r ≡ Some x) × (y.made ≡ x.made)
-
--- The reference counts one call more.
-abbrev pub counting : State → ℕ → Reference → State
-counting s r x = record s { refs = map.insert s.refs r (record x { made = x.made + 1 }) }
-
--- Any command but a call.
-abbrev pub IsNoCall : Command → Type 0
-IsNoCall (command.Call c) = ⊥
-IsNoCall c = Unit {0}
+SameOwn s t = (t.promises ≡ s.promises) × (t.outcomes ≡ s.outcomes)
 
 -- What may happen in each part of a step.
 pub record Walks (R : Progress → Progress → Type 0) : Type 0 where
@@ -66,22 +41,10 @@ pub record Walks (R : Progress → Progress → Type 0) : Type 0 where
   pub quiet : (d new : Progress) → SameOwn d.state new.state → new.arisen ≡ d.arisen → R d new
   pub next_arisen : (d : Progress) (o : ℕ) (v : Value) (rest : List (ℕ × Value)) → d.arisen ≡ (o, v) ∷ rest → R d (record d { arisen = rest })
   pub fails : (d : Progress) (o : ℕ) (e : Exception) → R d (arises d o (value.Exception e))
-  pub refs : (d : Progress) (m : Map Reference) → KeepMade d.state.refs m → R d (with_state d (record (d.state) { refs = m }))
-  pub calls : (d : Progress) (m : Map OwnCall) → NoneNew d.state.calls m → R d (with_state d (record (d.state) { calls = m }))
-  pub tasks : (d : Progress) (m : Map ℕ) → NoneNew d.state.tasks m → R d (with_state d (record (d.state) { tasks = m }))
-  pub unsettled : (d : Progress) (m : Map ℕ) → NoneNew d.state.unsettled m → R d (with_state d (record (d.state) { unsettled = m }))
-  pub new_ref : (d : Progress) (n : Node) → R d (with_state d (with_refs d.state (n ∷ [])))
-  pub new_call : (d : Progress) (from : OwnCall) → R d (with_state d (record (d.state) { calls = map.insert d.state.calls d.state.next_call from; next_call = d.state.next_call + 1 }))
-  pub new_task : (d : Progress) (o : ℕ) → R d (with_state d (record (d.state) { tasks = map.insert d.state.tasks d.state.next_task o; next_task = d.state.next_task + 1 }))
-  pub new_promise : (d : Progress) (p : ℕ) → R d (with_state d (record (d.state) { unsettled = map.insert d.state.unsettled d.state.next_promise p; next_promise = d.state.next_promise + 1 }))
   pub waits : (d : Progress) (p : ℕ) (calls after : List WaitingCall) → map.get d.state.promises p ≡ Some (promise.Open calls) → R d (with_state d (record (d.state) { promises = map.insert d.state.promises p (promise.Open after) }))
   pub fixes : (d : Progress) (p : ℕ) (calls : List WaitingCall) (to : Node) → map.get d.state.promises p ≡ Some (promise.Open calls) → R d (with_state d (record (d.state) { promises = map.insert d.state.promises p (promise.Fixed to) }))
   pub holds : (d : Progress) (o : ℕ) (x : KeptOutcome) (after : List HeldCall) → map.get d.state.outcomes o ≡ Some x → R d (with_state d (record (d.state) { outcomes = map.insert d.state.outcomes o (record x { waiting = after }) }))
   pub knows : (d : Progress) (o : ℕ) (x : KeptOutcome) (who : Caller) (w : List HeldCall) (v : Value) → map.get d.state.outcomes o ≡ Some x → x.value ≡ None → R d (with_state d (known d.state o who w v))
-
--- What happens first in a call, and nowhere else.
-pub record CountsCalls (R : Progress → Progress → Type 0) : Type 0 where
-  pub counts : (d : Progress) (r : ℕ) (x : Reference) → map.get d.state.refs r ≡ Some x → R d (with_state d (counting d.state r x))
 
 -- What may happen until a first outcome is settled: keys are taken.
 pub record Takes (R : Progress → Progress → Type 0) : Type 0 where

@@ -24,7 +24,7 @@ use Rattle.vat_machine.specs.Down.{IsUnchanged, ShutsFrom, fallen}
 use Rattle.vat_machine.specs.Steps.{Does, Handles, Obeys, Refuses, LacksMemory, GoesDown, Shuts, IsDone, Receives, WasDown, FaultsBy, LacksRoom, IsHandled}
 use Rattle.laws_steps.specs.Settled as laws
 use Rattle.finite_maps.proofs.Tested.{equal, get_put, get_cut}
-use Rattle.laws_steps.proofs.Pieces.{StayExceptions, Walks, CountsCalls, Takes, LetsGo}
+use Rattle.laws_steps.proofs.Pieces.{StayExceptions, Walks, Takes, LetsGo}
 use Rattle.laws_steps.proofs.Exceptions.{failed_too, others, as_before, gone_beside}
 use Rattle.laws_steps.proofs.WholeSteps.{does, handles}
 
@@ -77,25 +77,14 @@ module _ (A : Node → Option Promise → Type 0) (B : Value → Option KeptOutc
     walks = record {
       exceptions = λ d new h. h.1;
       then = λ d mid new h k. let f = h.0 in let g = k.0 in ((λ to p x. g.0 to p (f.0 to p x), λ v o x. g.1 v o (f.1 v o x)), λ e. k.1 (h.1 e));
-      quiet = λ d new h e. (same_said d.state new.state h.4 h.5, as_before d new e);
+      quiet = λ d new h e. (same_said d.state new.state h.0 h.1, as_before d new e);
       next_arisen = λ d o v rest e. (all_same d.state, others d o v rest e);
       fails = λ d o e. (all_same d.state, failed_too d o e);
-      refs = λ d m h. (all_same d.state, λ e. e);
-      calls = λ d m h. (all_same d.state, λ e. e);
-      tasks = λ d m h. (all_same d.state, λ e. e);
-      unsettled = λ d m h. (all_same d.state, λ e. e);
-      new_ref = λ d n. (all_same d.state, λ e. e);
-      new_call = λ d from. (all_same d.state, λ e. e);
-      new_task = λ d o. (all_same d.state, λ e. e);
-      new_promise = λ d p. (all_same d.state, λ e. e);
       waits = λ d p calls after h. ((was_open d.state p calls (promise.Open after) h, λ v o k. k), λ e. e);
       fixes = λ d p calls to h. ((was_open d.state p calls (promise.Fixed to) h, λ v o k. k), λ e. e);
       holds = λ d o x after h. ((λ to p k. k, still_waits d.state o x after h), λ e. e);
       knows = λ d o x who w v h i. ((λ to p k. k, was_unknown d.state o x _ h i), λ e. e);
     }
-
-  counts : CountsCalls Keeps
-  counts = record { counts = λ d r x h. (all_same d.state, λ e. e) }
 
 -- ---- In the first part it stands
 
@@ -172,7 +161,7 @@ stood s t u h k x = record { promises = λ p to e. k.0 to p (inr (h.0 to p e)); 
 
 done : (s : State) (c : Command) (a : Granted) (x : Effects) (new : State) → Does s c a x new → laws.SaysTheSame s x new
 done s c a x new h =
-    let k = does (walks Fixed Known standing) takes (walks FixedOrGone KnownOrGone going) lets_go (counts Fixed Known) s c a x new h in
+    let k = does (walks Fixed Known standing) takes (walks FixedOrGone KnownOrGone going) lets_go s c a x new h in
     let b = k.1 in
     let one = b.1 in
     let two = b.2 in

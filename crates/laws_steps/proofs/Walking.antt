@@ -8,7 +8,6 @@ use Rattle.capn_wire.specs.Payloads.{Contents as Payload}
 use Rattle.rpc_msg.specs.declared.parts.Target.{Target}
 use Rattle.rpc_msg.specs.declared.ids.QuestionId.{QuestionId}
 use Rattle.rpc_msg.specs.declared.message.ReturnBody.{ReturnBody}
-use Rattle.finite_maps.specs.Tally.{Map}
 use Rattle.vat_machine.specs.declared.node.Node.{Node}
 use Rattle.vat_machine.specs.declared.node.Node.TheVariants as node
 use Rattle.vat_machine.specs.declared.calls.Request.{Request}
@@ -32,7 +31,7 @@ use Rattle.vat_machine.specs.State.{State}
 use Rattle.vat_machine.specs.Nodes.{settle, value_of}
 use Rattle.vat_machine.specs.Progress.{Progress, with_state, with_refs, numbers, caps_of}
 use Rattle.vat_machine.specs.Descriptors.{ExportedAs, Described, DescribesAll}
-use Rattle.vat_machine.specs.Routing.{deliver, Asks, WaitsForPromise, WaitsForField, RoutedTo, Routes, RoutesAll, RoutesHeld}
+use Rattle.vat_machine.specs.Routing.{Asks, WaitsForPromise, WaitsForField, RoutedTo, Routes, RoutesAll, RoutesHeld}
 use Rattle.vat_machine.specs.Collecting.{Collects, Tight, Loose}
 use Rattle.vat_machine.specs.Flags.{give_if, flag_for}
 use Rattle.vat_machine.specs.Settling.{known, PutsIn, Untangles, Fits, TellsCall, SaysBack, Returns, TellsPeer, Tells, ResolvesTo, ResolvesBy, ResolvesEach, SettlesOpen, SettlesFrom, SettlesOutcome, FixesFrom, FixesPromise, Drains, NoneLeft, OneMore}
@@ -40,14 +39,17 @@ use Rattle.vat_machine.specs.Sweeping.{got_of, finished_by, FinishesEach, releas
 use Rattle.finite_maps.proofs.Gets.{get-insert_same}
 use Rattle.laws_steps.proofs.Pieces.{SameOwn, IsException, AllExceptions, Walks, Takes, LetsGo}
 
--- ---- What changes nothing of a vat's own
+-- ---- What changes no promise and no outcome
 
 pub same_own : (s : State) → SameOwn s s
-same_own s = (refl, refl, refl, refl, refl, refl, refl, refl, refl, refl, refl, refl)
+same_own s = (refl, refl)
 
 pub then_same : (s t u : State) → SameOwn s t → SameOwn t u → SameOwn s u
-then_same s t u h k =
-    (k.0 ∙ h.0, k.1 ∙ h.1, k.2 ∙ h.2, k.3 ∙ h.3, k.4 ∙ h.4, k.5 ∙ h.5, k.6 ∙ h.6, k.7 ∙ h.7, k.8 ∙ h.8, k.9 ∙ h.9, k.10 ∙ h.10, k.11 ∙ h.11)
+then_same s t u h k = (k.0 ∙ h.0, k.1 ∙ h.1)
+
+refs_same : (s : State) (ns : List Node) → SameOwn s (with_refs s ns)
+refs_same s [] = same_own s
+refs_same s (n ∷ ns) = refs_same (with_refs s (n ∷ [])) ns
 
 exported : (s : State) (n : Node) (e : ℕ) (o : Option Export) (new : State) → ExportedAs s n e o new → SameOwn s new
 exported s n e None new h = rw h.1 (same_own s)
@@ -76,11 +78,6 @@ says s true v said ds new h = rw h.2 (same_own s)
 says s false (value.Exception exception) said ds new h = rw h.2 (same_own s)
 says s false (value.Results payload caps) said ds new h = describes_all s caps ds new h.1
 
--- New references and a new task change different parts.
-apart : (s : State) (m : Map ℕ) (n : ℕ) (ns : List Node) → record (with_refs s ns) { tasks = m; next_task = n } ≡ with_refs (record s { tasks = m; next_task = n }) ns
-apart s m n [] = refl
-apart s m n (x ∷ xs) = apart (record s { refs = map.insert s.refs s.next_ref (record { head = x; embargo = None; made = 0 }); next_ref = s.next_ref + 1 }) m n xs
-
 pub now_known : (s : State) (o : ℕ) (who : Caller) (w : List HeldCall) (v : Value) → value_of (map.get (known s o who w v).outcomes o) ≡ Some v
 now_known s o who w v = ap value_of (get-insert_same s.outcomes o (record { caller = who; value = Some v; waiting = w }))
 
@@ -94,26 +91,11 @@ module _ {R : Progress → Progress → Type 0} (r : Walks R) where
   pub quiet_by : (d new : Progress) {x : Progress} → new ≡ x → SameOwn d.state x.state → x.arisen ≡ d.arisen → R d new
   quiet_by d new {x} h a f = subst (λ (p : Progress). R d p) (sym h) (r.quiet d x a f)
 
-  pub new_refs : (d : Progress) (ns : List Node) → R d (with_state d (with_refs d.state ns))
-  new_refs d [] = same d
-  new_refs d (n ∷ ns) =
-      let mid = with_state d (with_refs d.state (n ∷ [])) in
-      r.then d mid (with_state mid (with_refs mid.state ns)) (r.new_ref d n) (new_refs mid ns)
-
-  delivers : (d : Progress) (c : WaitingCall) (o : _) → R d (deliver d c o)
-  delivers d c o =
-      let s = d.state in
-      let t : State = record s { tasks = map.insert s.tasks s.next_task c.outcome; next_task = s.next_task + 1 } in
-      let mid = with_state d (with_refs t c.request.caps) in
-      let f : (deliver d c o).state ≡ mid.state = apart s t.tasks t.next_task c.request.caps in
-      r.then d mid (deliver d c o) (r.then d (with_state d t) mid (r.new_task d c.outcome) (new_refs (with_state d t) c.request.caps))
-      (r.quiet mid (deliver d c o) (subst (λ (u : State). SameOwn mid.state u) (sym f) (same_own mid.state)) refl)
-
   pub asks : (d : Progress) (q : ℕ) (role : Role) (t : Target) (x : Request) (new : Progress) → Asks d q role t x new → R d new
   asks d q role t x new h = let g = h.1 in quiet_by d new g.3 (describes_all d.state x.caps g.0 g.1 g.2) refl
 
   routed_to : (d : Progress) (c : WaitingCall) (n : Node) (new : Progress) → RoutedTo d c n new → R d new
-  routed_to d c (node.Object o) new h = rw h (delivers d c o)
+  routed_to d c (node.Object o) new h = quiet_by d new h (refs_same d.state c.request.caps) refl
   routed_to d c (node.Promise p) new h = waits (map.get d.state.promises p) refl h
     where
       waits : (o : Option Promise) → map.get d.state.promises p ≡ o → WaitsForPromise d c p o new → R d new
@@ -142,9 +124,7 @@ module _ {R : Progress → Progress → Type 0} (r : Walks R) where
 
   pub tells_call : (d : Progress) (c : ℕ) (v : Value) (o : Option OwnCall) (new : Progress) → TellsCall d c v o new → R d new
   tells_call d c v None new h = rw h (same d)
-  tells_call d c v (Some from) new h =
-      let mid = with_state d (with_refs d.state (caps_of v)) in
-      r.then d mid new (new_refs d (caps_of v)) (quiet_by mid new h (same_own mid.state) refl)
+  tells_call d c v (Some from) new h = quiet_by d new h (refs_same d.state (caps_of v)) refl
 
   resolves_to : (d : Progress) (e : ℕ) (n : Node) (new : Progress) → ResolvesTo d e n new → R d new
   resolves_to d e n new h = quiet_by d new h.3 (described d.state (settle d.state n) h.0 h.1 h.2) refl

@@ -1,5 +1,5 @@
 -- Each step goes in two parts: in the first keys are taken, in the second things go.
-use Rattle.std.proofs.Common.{◌≡◌, ◌⊎◌, inl, inr, ℕ, ◌+◌, Bool, true, false, cond, nat_eq, List, [], ◌∷◌, ◌++◌, Option, None, Some, refl, sym, ap, subst, ◌∙◌}
+use Rattle.std.proofs.Common.{◌≡◌, ◌⊎◌, inl, inr, ℕ, ◌+◌, Bool, true, false, List, [], ◌∷◌, ◌++◌, Option, None, Some, refl, sym, ap, subst, ◌∙◌}
 use Rattle.std.specs.FinMap as map
 use Rattle.rpc_msg.specs.declared.ids.EmbargoId.{EmbargoId}
 use Rattle.capn_wire.specs.declared.path.Op.{Op}
@@ -27,7 +27,6 @@ use Rattle.vat_machine.specs.declared.command.Command.{Command}
 use Rattle.vat_machine.specs.declared.command.Command.TheVariants as command
 use Rattle.vat_machine.specs.declared.command.CallCommand.{CallCommand}
 use Rattle.vat_machine.specs.declared.command.Granted.{Granted}
-use Rattle.vat_machine.specs.declared.command.Granted.TheVariants as granted
 use Rattle.vat_machine.specs.declared.command.Effects.{Effects}
 use Rattle.vat_machine.specs.declared.calls.Request.{Request}
 use Rattle.vat_machine.specs.declared.calls.WaitingCall.{WaitingCall}
@@ -52,7 +51,7 @@ use Rattle.vat_machine.specs.declared.entries.Embargo.{Embargo}
 use Rattle.vat_machine.specs.State.{State}
 use Rattle.vat_machine.specs.Nodes.{settle}
 use Rattle.vat_machine.specs.Lists.{updated}
-use Rattle.vat_machine.specs.Progress.{Progress, begin, with_state, with_refs, arises, numbers}
+use Rattle.vat_machine.specs.Progress.{Progress, begin, with_state, arises, numbers}
 use Rattle.vat_machine.specs.Descriptors.{taken_of, take_one, take_each, take_at, take_all}
 use Rattle.vat_machine.specs.Settling.{known, FixesPromise, SettlesOpen, SettlesFrom, SettlesOutcome, Drains, NoneLeft, OneMore}
 use Rattle.vat_machine.specs.Commands.{heads, request, field_node, with_outcome, NewRef, ClonesRef, DropsRef, settled_now, CallsDirect, CallsHere, CallsBy, WaitsForEmbargo, CallsThrough, MakesCall, NamesField, ResolvesPromise, RejectsPromise, AnswersTask, FinishesCall, Acts}
@@ -62,54 +61,10 @@ use Rattle.vat_machine.specs.Messages as received
 use Rattle.vat_machine.specs.Flags.{obey}
 use Rattle.vat_machine.specs.Faults.{target_node, is_foreign}
 use Rattle.vat_machine.specs.Steps.{Ends, Does, Handles}
-use Rattle.finite_maps.proofs.Tested.{equal, get_put, get_cut}
-use Rattle.laws_steps.proofs.Pieces.{SameOwn, AllExceptions, NoneNew, KeepMade, counting, IsNoCall, Walks, CountsCalls, Takes, LetsGo}
+use Rattle.laws_steps.proofs.Pieces.{SameOwn, AllExceptions, Walks, Takes, LetsGo}
 use Rattle.laws_steps.proofs.Walking.{same_own, then_same, now_known, same, quiet_by, asks, routes, routes_all, tells_call, fixed, fitted, settled, drained, swept}
 
--- ---- Maps that get no new key
-
-pub removed : {X : Type 0} (m : Map X) (k : ℕ) → NoneNew m (map.remove m k)
-removed m k q h = get_cut m k q ∙ by (nat_eq q k)
-  where
-    by : (b : Bool) → cond b None (map.get m q) ≡ None
-    by true = refl
-    by false = h
-
-pub replaced : {X : Type 0} (m : Map X) (k : ℕ) (x y : X) → map.get m k ≡ Some x → NoneNew m (map.insert m k y)
-replaced m k x y f q h = get_put m k y q ∙ by (nat_eq q k) refl
-  where
-    by : (b : Bool) → nat_eq q k ≡ b → cond b (Some y) (map.get m q) ≡ None
-    by true e = let g : Some x ≡ None = sym f ∙ ap (map.get m) (sym (equal q k e)) ∙ h in cc
-    by false e = h
-
--- ---- References that count what they counted
-
-pub none_kept : (m n : Map Reference) → KeepMade m n → NoneNew m n
-none_kept m n h r e = by (map.get n r) refl
-  where
-    by : (o : Option Reference) → map.get n r ≡ o → map.get n r ≡ None
-    by None f = f
-    by (Some y) f = let g = h r y f in absurd (let i : ◌≡◌ {A = Option Reference} None (Some g.0) = sym e ∙ g.1 in cc)
-
-dropped : (m : Map Reference) (k : ℕ) → KeepMade m (map.remove m k)
-dropped m k r y h = by (nat_eq r k) (sym (get_cut m k r) ∙ h)
-  where
-    by : (b : Bool) → cond b None (map.get m r) ≡ Some y → (x : Reference) × (map.get m r ≡ Some x) × (y.made ≡ x.made)
-    by true e = absurd (let i : ◌≡◌ {A = Option Reference} None (Some y) = e in cc)
-    by false e = (y, e, refl)
-
-headed_anew : (m : Map Reference) (k : ℕ) (x z : Reference) → map.get m k ≡ Some x → z.made ≡ x.made → KeepMade m (map.insert m k z)
-headed_anew m k x z f g r y h = by (nat_eq r k) refl (sym (get_put m k z r) ∙ h)
-  where
-    by : (b : Bool) → nat_eq r k ≡ b → cond b (Some z) (map.get m r) ≡ Some y → (x : Reference) × (map.get m r ≡ Some x) × (y.made ≡ x.made)
-    by true e i = let j : z ≡ y = cc in (x, ap (map.get m) (equal r k e) ∙ f, ap (λ (q : Reference). q.made) (sym j) ∙ g)
-    by false e i = (y, i, refl)
-
-turned_back : (m : Map Reference) (k : ℕ) (o : Option Reference) → map.get m k ≡ o → KeepMade m (updated m k unembargoed o)
-turned_back m k None e = λ r y h. (y, h, refl)
-turned_back m k (Some x) e = headed_anew m k x (unembargoed x) e refl
-
--- ---- What changes nothing of a vat's own
+-- ---- What changes no promise and no outcome
 
 take_one_same : (s : State) (d : Descriptor) → SameOwn s (take_one s d)
 take_one_same s descriptor.None = same_own s
@@ -161,7 +116,7 @@ module _ {F S : Progress → Progress → Type 0} (f : Walks F) (t : Takes F) (g
 
   -- After which no results are still to be settled.
   new_ref : (a : Granted) (d : Progress) (n : Node) (new : Progress) → NewRef a d n new → S d new
-  new_ref a d n new h = rw h.1 (g.new_ref d n)
+  new_ref a d n new h = quiet_by g d new h.1 (same_own d.state) refl
 
   clones : (d : Progress) (o : Option Reference) (a : Granted) (new : Progress) → ClonesRef d o a new → S d new
   clones d None a new h = absurd h
@@ -169,7 +124,7 @@ module _ {F S : Progress → Progress → Type 0} (f : Walks F) (t : Takes F) (g
 
   drops : (d : Progress) (r : ℕ) (o : Option Reference) (a : Granted) (new : Progress) → DropsRef d r o a new → S d new
   drops d r None a new h = absurd h
-  drops d r (Some x) a new h = rw h.1 (g.refs d (map.remove d.state.refs r) (dropped d.state.refs r))
+  drops d r (Some x) a new h = quiet_by g d new h.1 (same_own d.state) refl
 
   -- A call that its reference has counted.
   module _ (d : Progress) where
@@ -177,13 +132,16 @@ module _ {F S : Progress → Progress → Type 0} (f : Walks F) (t : Takes F) (g
     made = with_state d (record (d.state) { next_call = d.state.next_call + 1 })
 
     direct : (r : Request) (to : Target) (new : Progress) → CallsDirect made d.state.next_call r to new → Both d new
-    direct r to new h = late d new (g.then d _ new (g.new_call d (own.Direct (record { 0 = h.0 }))) (asks g _ h.0 _ to r new h.1))
+    direct r to new h =
+        let mid = with_state d (record (d.state) { calls = map.insert d.state.calls d.state.next_call (own.Direct (record { 0 = h.0 })); next_call = d.state.next_call + 1 }) in
+        late d new (g.then d mid new (g.quiet d mid (same_own d.state) refl) (asks g mid h.0 _ to r new h.1))
 
     -- A new outcome, and then the number.
     kept_here : (o : ℕ) → map.get d.state.outcomes o ≡ None → Both d (with_state d (record (with_outcome d.state o (caller.Application (record { 0 = d.state.next_call }))) { calls = map.insert d.state.calls d.state.next_call (own.Kept o); next_call = d.state.next_call + 1 }))
     kept_here o free =
         let mid = with_state d (with_outcome d.state o (caller.Application (record { 0 = d.state.next_call }))) in
-        (mid, t.new_outcome d o (caller.Application (record { 0 = d.state.next_call })) free, g.new_call mid (own.Kept o))
+        let new = with_state mid (record (mid.state) { calls = map.insert d.state.calls d.state.next_call (own.Kept o); next_call = d.state.next_call + 1 }) in
+        (mid, t.new_outcome d o (caller.Application (record { 0 = d.state.next_call })) free, g.quiet mid new (same_own mid.state) refl)
 
     here : (r : Request) (n : Node) (new : Progress) → CallsHere made d.state.next_call r n new → Both d new
     here r n new h = on d _ new (kept_here h.0 h.1) (routes g _ (record { request = r; outcome = h.0 }) n new h.2)
@@ -205,14 +163,11 @@ module _ {F S : Progress → Progress → Type 0} (f : Walks F) (t : Takes F) (g
     through r head (Some e) new h = on d _ new (kept_here h.0 h.1) (embargoed _ (record { request = r; outcome = h.0 }) e.0 (map.get d.state.embargoes e.0) new h.2)
 
   -- Its reference counts it first.
-  abbrev pub Calls : Progress → CallCommand → Granted → Progress → Type 0
-  Calls d c a new =
-      (x : Reference) × (map.get d.state.refs c.reference.0 ≡ Some x) × (a ≡ granted.Call (record { 0 = d.state.next_call }))
-      × Both (with_state d (counting d.state c.reference.0 x)) new
-
-  calls : (d : Progress) (c : CallCommand) (o : Option Reference) (a : Granted) (new : Progress) → map.get d.state.refs c.reference.0 ≡ o → MakesCall d c o a new → Calls d c a new
-  calls d c None a new e h = absurd h
-  calls d c (Some x) a new e h = (x, e, h.0, through (with_state d (counting d.state c.reference.0 x)) (request d.state c x) x.head x.embargo new h.1)
+  calls : (d : Progress) (c : CallCommand) (o : Option Reference) (a : Granted) (new : Progress) → MakesCall d c o a new → Both d new
+  calls d c None a new h = absurd h
+  calls d c (Some x) a new h =
+      let mid = with_state d (record (d.state) { refs = map.insert d.state.refs c.reference.0 (record x { made = x.made + 1 }) }) in
+      before d mid new (f.quiet d mid (same_own d.state) refl) (through mid (request d.state c x) x.head x.embargo new h.1)
 
   field : (d : Progress) (path : List Op) (o : Option OwnCall) (a : Granted) (new : Progress) → NamesField d path o a new → S d new
   field d path None a new h = absurd h
@@ -221,7 +176,7 @@ module _ {F S : Progress → Progress → Type 0} (f : Walks F) (t : Takes F) (g
   fixing : (d : Progress) (p : ℕ) (key : ℕ) (to : Node) (e : Option Exception) (new : Progress) → FixesPromise (settled_now d p) key to e new → S d new
   fixing d p key to e new h =
       let mid = with_state d (record (d.state) { unsettled = map.remove d.state.unsettled p }) in
-      g.then d mid new (g.unsettled d (map.remove d.state.unsettled p) (removed d.state.unsettled p)) (fixed g mid key to e new h)
+      g.then d mid new (g.quiet d mid (same_own d.state) refl) (fixed g mid key to e new h)
 
   resolves : (d : Progress) (p : ℕ) (o : Option ℕ) (x : Option Reference) (a : Granted) (new : Progress) → ResolvesPromise d p o x a new → S d new
   resolves d p None x a new h = absurd h
@@ -255,29 +210,19 @@ module _ {F S : Progress → Progress → Type 0} (f : Walks F) (t : Takes F) (g
   answers d n v None a new h = absurd h
   answers d n v (Some o) a new h =
       let mid = with_state d (record (d.state) { tasks = map.remove d.state.tasks n }) in
-      before d mid new (f.tasks d (map.remove d.state.tasks n) (removed d.state.tasks n)) (first mid o v new h.1)
+      before d mid new (f.quiet d mid (same_own d.state) refl) (first mid o v new h.1)
 
   finishes : (d : Progress) (c : ℕ) (o : Option OwnCall) (a : Granted) (new : Progress) → FinishesCall d c o a new → S d new
   finishes d c None a new h = absurd h
-  finishes d c (Some from) a new h = rw h.1 (g.calls d (map.remove d.state.calls c) (removed d.state.calls c))
+  finishes d c (Some from) a new h = quiet_by g d new h.1 (same_own d.state) refl
 
-  module _ (d : Progress) (r : ℕ) (x : Reference) (there : map.get d.state.refs r ≡ Some x) where
-    -- The reference is another one, and no more of the vat's own.
-    turned : (y : Reference) (m : Map Embargo) → y.made ≡ x.made → S d (with_state d (record (d.state) { refs = map.insert d.state.refs r y; embargoes = m }))
-    turned y m e =
-        let mid = with_state d (record (d.state) { refs = map.insert d.state.refs r y }) in
-        let new = with_state d (record (d.state) { refs = map.insert d.state.refs r y; embargoes = m }) in
-        g.then d mid new (g.refs d (map.insert d.state.refs r y) (headed_anew d.state.refs r x y there e)) (g.quiet mid new (same_own mid.state) refl)
-
+  module _ (d : Progress) (r : ℕ) (x : Reference) where
     embargoes : (to : Option Target) (n : Node) (a : Granted) (new : Progress) → Embargoes d r x to n a new → S d new
     embargoes None n a new h = absurd h
-    embargoes (Some to) n a new h =
-        let k = h.1 in
-        let mid = with_state d (record (d.state) { refs = map.insert d.state.refs r (record { head = n; embargo = Some (record { 0 = k.0 }); made = x.made }); embargoes = map.insert d.state.embargoes k.0 (record { reference = record { 0 = r }; node = n; waiting = [] }) }) in
-        g.then d mid new (turned (record { head = n; embargo = Some (record { 0 = k.0 }); made = x.made }) _ refl) (quiet_by g mid new k.2 (same_own mid.state) refl)
+    embargoes (Some to) n a new h = let k = h.1 in quiet_by g d new k.2 (same_own d.state) refl
 
     headed : (n : Node) (new : Progress) → new ≡ with_state d (record (d.state) { refs = map.insert d.state.refs r (record x { head = n }) }) → S d new
-    headed n new h = rw h (turned (record x { head = n }) d.state.embargoes refl)
+    headed n new h = quiet_by g d new h (same_own d.state) refl
 
     advances_by : (w : Node) (said : Descriptor) (n : Node) (a : Granted) (new : Progress) → AdvancesBy d r x w said n a new → S d new
     advances_by w descriptor.None n a new h = absurd h
@@ -296,36 +241,27 @@ module _ {F S : Progress → Progress → Type 0} (f : Walks F) (t : Takes F) (g
     advances_from (Some e) a new h = rw h.1 (same g d)
     advances_from None a new h = advances_to (settle d.state x.head) (known_of_wire d.state (settle d.state x.head)) a new h
 
-  advances : (d : Progress) (r : ℕ) (o : Option Reference) (a : Granted) (new : Progress) → map.get d.state.refs r ≡ o → Advances d r o a new → S d new
-  advances d r None a new e h = absurd h
-  advances d r (Some x) a new e h = advances_from d r x e x.embargo a new h
+  advances : (d : Progress) (r : ℕ) (o : Option Reference) (a : Granted) (new : Progress) → Advances d r o a new → S d new
+  advances d r None a new h = absurd h
+  advances d r (Some x) a new h = advances_from d r x x.embargo a new h
 
-  other_acts : (d : Progress) (c : Command) (a : Granted) (new : Progress) → IsNoCall c → Acts d c a new → Both d new
-  other_acts d (command.Host o) a new i h = late d new (new_ref a d _ new h)
-  other_acts d (command.CloneRef r) a new i h = late d new (clones d _ a new h)
-  other_acts d (command.DropRef r) a new i h = late d new (drops d r.0 _ a new h)
-  other_acts d command.Bootstrap a new i h =
-      let mid = with_state d (record (d.state) { calls = map.insert d.state.calls d.state.next_call (own.Direct (record { 0 = h.0 })); next_call = d.state.next_call + 1 }) in
-      late d new (g.then d mid new (g.new_call d (own.Direct (record { 0 = h.0 }))) (quiet_by g mid new h.3 (same_own mid.state) refl))
-  other_acts d (command.Call c) a new i h = absurd i
-  other_acts d (command.Field c path) a new i h = late d new (field d path _ a new h)
-  other_acts d command.Promise a new i h =
-      let one = with_state d (record (d.state) { promises = map.insert d.state.promises h.0 (promise.Open []) }) in
-      let two = with_state one (record (one.state) { unsettled = map.insert one.state.unsettled one.state.next_promise h.0; next_promise = one.state.next_promise + 1 }) in
-      let e : new ≡ with_state two (with_refs two.state (node.Promise h.0 ∷ [])) = h.3 in
-      rw e (one, t.new_key d h.0 h.1, g.then one two _ (g.new_promise one h.0) (g.new_ref two (node.Promise h.0)))
-  other_acts d (command.Resolve p r) a new i h = late d new (resolves d p.0 _ _ a new h)
-  other_acts d (command.Reject p e) a new i h = late d new (rejects d p.0 e _ a new h)
-  other_acts d (command.Answer n payload refs) a new i h = answers d n.0 (value.Results payload (heads d.state refs)) _ a new h
-  other_acts d (command.Fail n e) a new i h = answers d n.0 (value.Exception e) _ a new h
-  other_acts d (command.Finish c) a new i h = late d new (finishes d c.0 _ a new h)
-  other_acts d (command.Advance r) a new i h = late d new (advances d r.0 _ a new refl h)
-  other_acts d (command.Shut n) a new i h = absurd h
-
-  -- Where a call may be counted too.
-  pub acts : CountsCalls F → (d : Progress) (c : Command) (a : Granted) (new : Progress) → Acts d c a new → Both d new
-  acts n d (command.Call c) a new h = let k = calls d c _ a new refl h in before d (with_state d (counting d.state c.reference.0 k.0)) new (n.counts d c.reference.0 k.0 k.1) k.3
-  acts n d c a new h = other_acts d c a new tt h
+  pub acts : (d : Progress) (c : Command) (a : Granted) (new : Progress) → Acts d c a new → Both d new
+  acts d (command.Host o) a new h = late d new (new_ref a d _ new h)
+  acts d (command.CloneRef r) a new h = late d new (clones d _ a new h)
+  acts d (command.DropRef r) a new h = late d new (drops d r.0 _ a new h)
+  acts d command.Bootstrap a new h = late d new (quiet_by g d new h.3 (same_own d.state) refl)
+  acts d (command.Call c) a new h = calls d c _ a new h
+  acts d (command.Field c path) a new h = late d new (field d path _ a new h)
+  acts d command.Promise a new h =
+      let mid = with_state d (record (d.state) { promises = map.insert d.state.promises h.0 (promise.Open []) }) in
+      (mid, t.new_key d h.0 h.1, quiet_by g mid new h.3 (same_own mid.state) refl)
+  acts d (command.Resolve p r) a new h = late d new (resolves d p.0 _ _ a new h)
+  acts d (command.Reject p e) a new h = late d new (rejects d p.0 e _ a new h)
+  acts d (command.Answer n payload refs) a new h = answers d n.0 (value.Results payload (heads d.state refs)) _ a new h
+  acts d (command.Fail n e) a new h = answers d n.0 (value.Exception e) _ a new h
+  acts d (command.Finish c) a new h = late d new (finishes d c.0 _ a new h)
+  acts d (command.Advance r) a new h = late d new (advances d r.0 _ a new h)
+  acts d (command.Shut n) a new h = absurd h
 
   -- ---- Received messages
 
@@ -369,10 +305,8 @@ module _ {F S : Progress → Progress → Type 0} (f : Walks F) (t : Takes F) (g
   lifts d e None new h = absurd h
   lifts d e (Some b) new h =
       let m = updated d.state.refs b.reference.0 unembargoed (map.get d.state.refs b.reference.0) in
-      let mid = with_state d (record (d.state) { refs = m }) in
-      let lifted = with_state d (record (d.state) { refs = m; embargoes = map.remove d.state.embargoes e }) in
-      g.then d mid new (g.refs d m (turned_back d.state.refs b.reference.0 _ refl))
-      (g.then mid lifted new (g.quiet mid lifted (same_own mid.state) refl) (routes_all g lifted b.waiting b.node new h))
+      let mid = with_state d (record (d.state) { refs = m; embargoes = map.remove d.state.embargoes e }) in
+      g.then d mid new (g.quiet d mid (same_own d.state) refl) (routes_all g mid b.waiting b.node new h)
 
   pub disembargo : (d : Progress) (to : Target) (c : DisembargoContext) (new : Progress) → TakesDisembargo d to c new → S d new
   disembargo d to (SenderLoopback x) new h = bounces d x _ new h
@@ -384,7 +318,7 @@ module _ {F S : Progress → Progress → Type 0} (f : Walks F) (t : Takes F) (g
       let one = with_state d s in
       let two = with_state d (with_outcome s o (caller.Peer (record { 0 = q }))) in
       let three = with_state d (opened s q o ids) in
-      let e : map.get s.outcomes o ≡ None = ap (λ (m : Map KeptOutcome). map.get m o) a.5 ∙ free in
+      let e : map.get s.outcomes o ≡ None = ap (λ (m : Map KeptOutcome). map.get m o) a.1 ∙ free in
       f.then d one three (f.quiet d one a refl) (f.then one two three (t.new_outcome one o (caller.Peer (record { 0 = q })) e) (f.quiet two three (same_own two.state) refl))
 
   pub takes_call : (d : Progress) (c : Call) (new : Progress) → TakesPlain d (plain.Call c) new → Both d new
@@ -456,16 +390,8 @@ module _ {F S : Progress → Progress → Type 0} (f : Walks F) (t : Takes F) (g
       let one = only (begin s) h.0 j.0 j.1 k.drained h.1 h.2 refl (subst (λ (d : Progress). Drains k.drained d) j.2 k.drains) in
       (k.swept, on (begin s) k.drained k.swept one (swept g l k.drained k.swept k.sweeps), k.new_is)
 
-  pub does : CountsCalls F → (s : State) (c : Command) (a : Granted) (x : Effects) (new : State) → Does s c a x new → Goes s new
-  does n s c a x new h = ends s h.acted x new (acts n (begin s) c a h.acted h.acts) h.ends
-
-  pub does_other : (s : State) (c : Command) (a : Granted) (x : Effects) (new : State) → IsNoCall c → Does s c a x new → Goes s new
-  does_other s c a x new i h = ends s h.acted x new (other_acts (begin s) c a h.acted i h.acts) h.ends
-
-  pub does_call : (s : State) (c : CallCommand) (a : Granted) (x : Effects) (new : State) → Does s (command.Call c) a x new → (y : Reference) × (map.get s.refs c.reference.0 ≡ Some y) × (a ≡ granted.Call (record { 0 = s.next_call })) × Goes (counting s c.reference.0 y) new
-  does_call s c a x new h =
-      let k = calls (begin s) c _ a h.acted refl h.acts in
-      (k.0, k.1, k.2, ends (counting s c.reference.0 k.0) h.acted x new k.3 h.ends)
+  pub does : (s : State) (c : Command) (a : Granted) (x : Effects) (new : State) → Does s c a x new → Goes s new
+  does s c a x new h = ends s h.acted x new (acts (begin s) c a h.acted h.acts) h.ends
 
   pub handles : (s : State) (m : Message) (x : Effects) (new : State) → Handles s m x new → Goes s new
   handles s m x new h = by_part (takes (begin s) m h.taken h.takes)

@@ -1,1 +1,4 @@
+pub mod Beside
+pub mod Ending
+pub mod Listing
 pub mod Numbered

@@ -1,10 +1,13 @@
-ghost use Rattle.std.specs.Prelude.{◌≡◌, ◌+◌, ◌-◌, ◌<◌, [], ◌∷◌};
+ghost use Rattle.std.specs.Prelude.{◌≡◌, ◌+◌, ◌-◌, ◌≤◌, ◌<◌, [], ◌∷◌, ◌++◌, IsSome, length, vec_len, vec_capacity};
 ghost use Rattle.std.specs.FinMap as map;
-ghost use Rattle.vat_machine.specs.Limits.{number_limit};
-ghost use Rattle.vat_machine.specs.Progress.{with_refs};
+ghost use Rattle.vat_machine.specs.Lists.{update};
+ghost use Rattle.vat_machine.specs.Limits.{number_limit, made_through};
+ghost use Rattle.vat_machine.specs.Messages.{unembargoed};
+ghost use Rattle.vat_machine.specs.Progress.{with_refs, new_refs};
 ghost use Rattle.vat_store.specs.Holding.{state_of, IsSound};
+ghost use Rattle.store_names.specs.Changes.{headed_to, turned_under, counted_once};
 
-use rpc_msg::RefId;
+use rpc_msg::{EmbargoId, RefId};
 use vat_machine::{Node, Reference};
 use vat_store::Store;
 
@@ -36,6 +39,104 @@ pub fn add_ref(store: &mut Store, node: Node) -> RefId
     store.added += 1;
     store.slack -= 1;
     RefId(number)
+}
+
+/// Makes a new reference to each of the nodes, and puts their numbers behind those of the list, which has room for
+/// them. Takes no memory, but one of the slack for each.
+pub fn add_refs(store: &mut Store, nodes: &[Node], ids: &mut Vec<RefId>)
+    requires sound { IsSound store.old }
+    requires slack { length nodes.now ≤ store.old.slack }
+    requires number { store.old.next_ref + length nodes.now < number_limit }
+    requires room { vec_len ids.old + length nodes.now ≤ vec_capacity ids.old }
+    ensures ids { ids.new.items ≡ ids.old.items ++ new_refs store.old.next_ref nodes.now }
+    ensures state { state_of store.new ≡ with_refs (state_of store.old) nodes.now }
+    ensures left { store.new.slack ≡ store.old.slack - length nodes.now }
+    ensures waits { store.new.waits ≡ store.old.waits }
+    ensures sound { IsSound store.new }
+{
+    for node in nodes {
+        let id = add_ref(store, *node);
+        let Ok(()) = ids.push(id) else { unreachable!() };
+    }
+}
+
+/// Lets a reference that is there lead to another node. Takes no memory, but one of the slack.
+pub fn set_head(store: &mut Store, id: RefId, node: Node)
+    requires sound { IsSound store.old }
+    requires there { IsSome (map.get (state_of store.old).refs id.0) }
+    requires slack { 0 < store.old.slack }
+    ensures state { state_of store.new ≡ record (state_of store.old) { refs = update (state_of store.old).refs id.0 (headed_to node) } }
+    ensures left { store.new.slack ≡ store.old.slack - 1 }
+    ensures waits { store.new.waits ≡ store.old.waits }
+    ensures sound { IsSound store.new }
+{
+    let head = node;
+    let Some(reference) = store.refs.get_mut(id.0) else {
+        unreachable!()
+    };
+    let before = reference.head;
+    reference.head = head;
+    let Ok(()) = store.names.add(node) else {
+        unreachable!()
+    };
+    store.names.sub(before);
+    store.added += 1;
+    store.slack -= 1;
+}
+
+/// Lets a reference that is there lead to another node, and its calls wait under an embargo. Takes no memory, but one
+/// of the slack.
+pub fn turn_under(store: &mut Store, id: RefId, node: Node, embargo: EmbargoId)
+    requires sound { IsSound store.old }
+    requires there { IsSome (map.get (state_of store.old).refs id.0) }
+    requires slack { 0 < store.old.slack }
+    ensures state { state_of store.new ≡ record (state_of store.old) { refs = update (state_of store.old).refs id.0 (turned_under node embargo) } }
+    ensures left { store.new.slack ≡ store.old.slack - 1 }
+    ensures waits { store.new.waits ≡ store.old.waits }
+    ensures sound { IsSound store.new }
+{
+    let head = node;
+    let Some(reference) = store.refs.get_mut(id.0) else {
+        unreachable!()
+    };
+    let before = reference.head;
+    reference.head = head;
+    reference.embargo = Some(embargo);
+    let Ok(()) = store.names.add(node) else {
+        unreachable!()
+    };
+    store.names.sub(before);
+    store.added += 1;
+    store.slack -= 1;
+}
+
+/// Lets the calls of a reference, if it is there, wait under no embargo any more. Takes no memory.
+pub fn lift_from(store: &mut Store, id: RefId)
+    requires { IsSound store.old }
+    ensures state { state_of store.new ≡ record (state_of store.old) { refs = update (state_of store.old).refs id.0 unembargoed } }
+    ensures left { store.new.slack ≡ store.old.slack }
+    ensures waits { store.new.waits ≡ store.old.waits }
+    ensures sound { IsSound store.new }
+{
+    let Some(reference) = store.refs.get_mut(id.0) else {
+        return;
+    };
+    reference.embargo = None;
+}
+
+/// Counts one more call that was made through a reference, if it is there. Takes no memory.
+pub fn count_made(store: &mut Store, id: RefId)
+    requires sound { IsSound store.old }
+    requires number { made_through (map.get (state_of store.old).refs id.0) + 1 < number_limit }
+    ensures state { state_of store.new ≡ record (state_of store.old) { refs = update (state_of store.old).refs id.0 counted_once } }
+    ensures left { store.new.slack ≡ store.old.slack }
+    ensures waits { store.new.waits ≡ store.old.waits }
+    ensures sound { IsSound store.new }
+{
+    let Some(reference) = store.refs.get_mut(id.0) else {
+        return;
+    };
+    reference.made += 1;
 }
 
 /// Takes out a reference, if it is there: what its head is of is named once less. Takes no memory.

@@ -15,25 +15,30 @@ use Rattle.vat_machine.specs.Progress.{Progress, quiet, export_id}
 use Rattle.vat_machine.specs.Sweeping.{releases}
 
 -- What was said so far but for Finishes and Releases; the flag of each Finish, by question id, and the count of each
--- Release, by export id; whether the room of an Abort is still kept; and how many more of each kind fit without memory.
+-- Release, by export id; whether the room of an Abort is still kept; and how many more fit without memory: messages,
+-- deliveries and ended calls, of each kind so many, Finishes, and Releases.
 pub record Outgoing : Type 0 where
   pub said : Effects
   pub finishes : Map Bool
   pub releases : Map ℕ
   pub can_abort : Bool
   pub room : ℕ
+  pub finish_room : ℕ
+  pub release_room : ℕ
 
 abbrev pub outgoing_code : Coded Outgoing
 outgoing_code =
-    code_by ((Effects × (Map Bool × Map ℕ)) × (Bool × ℕ))
-    (coded× (coded× effects_row.the_row.coded (coded× (map_code coded_bool) (map_code coded_ℕ))) (coded× coded_bool coded_ℕ))
-    (λ o. ((o.said, (o.finishes, o.releases)), (o.can_abort, o.room)))
-    (λ p. record { said = p.0.0; finishes = p.0.1.0; releases = p.0.1.1; can_abort = p.1.0; room = p.1.1 })
+    code_by ((Effects × (Map Bool × Map ℕ)) × ((Bool × ℕ) × (ℕ × ℕ)))
+    (coded×
+    (coded× effects_row.the_row.coded (coded× (map_code coded_bool) (map_code coded_ℕ)))
+    (coded× (coded× coded_bool coded_ℕ) (coded× coded_ℕ coded_ℕ)))
+    (λ o. ((o.said, (o.finishes, o.releases)), ((o.can_abort, o.room), (o.finish_room, o.release_room))))
+    (λ p. record { said = p.0.0; finishes = p.0.1.0; releases = p.0.1.1; can_abort = p.1.0.0; room = p.1.0.1; finish_room = p.1.1.0; release_room = p.1.1.1 })
     (λ o. refl)
 
 -- Nothing was said, and there is no room but the Abort's.
 abbrev pub nothing_said : Outgoing
-nothing_said = record { said = quiet; finishes = map.empty; releases = map.empty; can_abort = true; room = 0 }
+nothing_said = record { said = quiet; finishes = map.empty; releases = map.empty; can_abort = true; room = 0; finish_room = 0; release_room = 0 }
 
 -- One message more.
 abbrev pub with_message : Outgoing → Message → Outgoing
@@ -47,10 +52,10 @@ with_ended o e = record o { said = record (o.said) { answers = o.said.answers ++
 
 -- A Finish of the question q, and a Release of the export e. A later one of the same id takes the place of the first.
 abbrev pub with_finish : Outgoing → ℕ → Bool → Outgoing
-with_finish o q flag = record o { finishes = map.insert o.finishes q flag; room = o.room - 1 }
+with_finish o q flag = record o { finishes = map.insert o.finishes q flag; finish_room = o.finish_room - 1 }
 
 abbrev pub with_release : Outgoing → ℕ → ℕ → Outgoing
-with_release o e count = record o { releases = map.insert o.releases e count; room = o.room - 1 }
+with_release o e count = record o { releases = map.insert o.releases e count; release_room = o.release_room - 1 }
 
 -- The messages of Finishes and of Releases.
 abbrev pub finish_message : ℕ × Bool → Message
@@ -85,4 +90,4 @@ AreReleasesOf effects o = (d : Progress) → d.effects ≡ with_finishes o → d
 
 -- All of it was taken, and its memory with it.
 abbrev pub emptied : Outgoing → Outgoing
-emptied o = record o { said = quiet; finishes = map.empty; releases = map.empty; room = 0 }
+emptied o = record o { said = quiet; finishes = map.empty; releases = map.empty; room = 0; finish_room = 0; release_room = 0 }

@@ -1,4 +1,4 @@
-ghost use Rattle.std.specs.Prelude.{◌≡◌, ◌+◌, ◌≤◌, ◌<◌, ◌↔◌, cond, false, IsOk, IfOk, IfErr, OnOk, OnErr};
+ghost use Rattle.std.specs.Prelude.{◌≡◌, ◌+◌, ◌≤◌, ◌<◌, ◌↔◌, cond, false, IsOk, IfOk, IfErr, IfSome, OnOk, OnErr};
 ghost use Rattle.std.specs.FinMap as map;
 ghost use Rattle.rpc_msg.specs.declared.message.Message.TheVariants.{Plain, Unimplemented};
 
@@ -14,8 +14,8 @@ use vat_machine::Effects;
 /// The effects of a step in the making.
 ///
 /// What is sent, delivered and ended stands in order. Finishes and Releases come at the end of a step, by rising ids, in
-/// whatever order they are said. Only `new` and `reserve` take memory: all else answers where there is no room, and is never
-/// refused with room.
+/// whatever order they are said. Only `new`, `reserve` and `reserve_ends` take memory: all else answers where there is no
+/// room, and is never refused with room.
 #[derive(Drop)]
 pub struct Outbox {
     sends: Vec<Message>,
@@ -23,8 +23,10 @@ pub struct Outbox {
     releases: Rising<u32>,
     deliveries: Vec<Delivery>,
     answers: Vec<Ended>,
-    // So many more of each need no more memory.
+    // So many more of each need no more memory: of messages, deliveries and ended calls; of Finishes; of Releases.
     room: usize,
+    finish_room: usize,
+    release_room: usize,
     abort: Option<AbortRoom>,
     alloc: Global,
 }
@@ -44,12 +46,14 @@ impl Model for Outbox {
       releases = a.releases.0;
       can_abort = is_some a.abort;
       room = a.room;
+      finish_room = a.finish_room;
+      release_room = a.release_room;
     } };
 
     ghost invariant = { λ a.
-        (vec_len a.sends + map.len a.finishes.0 + map.len a.releases.0 + a.room ≤ vec_capacity a.sends)
-        × (a.room ≤ a.finishes.1)
-        × (a.room ≤ a.releases.1)
+        (vec_len a.sends + map.len a.finishes.0 + map.len a.releases.0 + a.room + a.finish_room + a.release_room ≤ vec_capacity a.sends)
+        × (a.finish_room ≤ a.finishes.1)
+        × (a.release_room ≤ a.releases.1)
         × (vec_len a.deliveries + a.room ≤ vec_capacity a.deliveries)
         × (vec_len a.answers + a.room ≤ vec_capacity a.answers) };
 }
@@ -71,6 +75,8 @@ impl Outbox {
             deliveries: Vec::new(alloc),
             answers: Vec::new(alloc),
             room: 0,
+            finish_room: 0,
+            release_room: 0,
             abort: Some(abort),
             alloc,
         })
@@ -83,8 +89,8 @@ impl Outbox {
         self.room
     }
 
-    /// Makes room for so many more of each. Where a growth is refused nothing is changed; where there is room none is
-    /// asked for.
+    /// Makes room for so many more messages, deliveries and ended calls, of each kind. Where a growth is refused nothing
+    /// is changed; where there is room none is asked for.
     pub fn reserve(&mut self, more: usize) -> Result<(), Memory>
         ensures said { self.new ≡ record self.old { room = self.new.room } }
         ensures ok { OnOk result (more ≤ self.new.room) }
@@ -95,20 +101,54 @@ impl Outbox {
         if more <= self.room {
             return Ok(());
         }
-        // A Finish or a Release is a message in the end.
-        let messages = more
-            .checked_add(self.finishes.len())
-            .and_then(|sum| sum.checked_add(self.releases.len()));
-        let Some(messages) = messages else {
+        let Some(ends) = self.ends(self.finish_room, self.release_room) else {
+            return Err(Memory);
+        };
+        let Some(messages) = more.checked_add(ends) else {
             return Err(Memory);
         };
         grow(&mut self.sends, messages)?;
-        self.finishes.reserve(more)?;
-        self.releases.reserve(more)?;
         grow(&mut self.deliveries, more)?;
         grow(&mut self.answers, more)?;
         self.room = more;
         Ok(())
+    }
+
+    /// Makes room for so many more Finishes and Releases, of which a step makes no more than there are questions and
+    /// imports. Where a growth is refused nothing is changed; where there is room none is asked for.
+    pub fn reserve_ends(&mut self, finishes: usize, releases: usize) -> Result<(), Memory>
+        ensures said { self.new ≡ record self.old { finish_room = self.new.finish_room; release_room = self.new.release_room } }
+        ensures ok { OnOk result ((finishes ≤ self.new.finish_room) × (releases ≤ self.new.release_room)) }
+        ensures keeps_room { (self.old.finish_room ≤ self.new.finish_room) × (self.old.release_room ≤ self.new.release_room) }
+        ensures had_room { finishes ≤ self.old.finish_room → releases ≤ self.old.release_room → IsOk result }
+        ensures same { OnErr result (self.new ≡ self.old) }
+    {
+        if finishes <= self.finish_room && releases <= self.release_room {
+            return Ok(());
+        }
+        let finishes = finishes.max(self.finish_room);
+        let releases = releases.max(self.release_room);
+        let Some(ends) = self.ends(finishes, releases) else {
+            return Err(Memory);
+        };
+        let Some(messages) = self.room.checked_add(ends) else {
+            return Err(Memory);
+        };
+        grow(&mut self.sends, messages)?;
+        self.finishes.reserve(finishes)?;
+        self.releases.reserve(releases)?;
+        self.finish_room = finishes;
+        self.release_room = releases;
+        Ok(())
+    }
+
+    // So many messages the Finishes and Releases are in the end, with so many more of each.
+    fn ends(&self, finishes: usize, releases: usize) -> Option<usize>
+        ensures { IfSome result (λ sum. sum ≡ map.len self.now.finishes + map.len self.now.releases + finishes + releases) }
+    {
+        let said = self.finishes.len().checked_add(self.releases.len())?;
+        let more = finishes.checked_add(releases)?;
+        said.checked_add(more)
     }
 
     /// A message is sent. It comes back where there is no room.
@@ -171,32 +211,34 @@ impl Outbox {
         Ok(())
     }
 
-    /// A Finish is sent at the end of the step, with that flag: behind those of smaller ids. `Err` where there is no room.
+    /// A Finish is sent at the end of the step, with that flag: behind those of smaller ids. `Err` where there is no room
+    /// for one.
     pub fn finish(&mut self, question: QuestionId, release_result_caps: bool) -> Result<(), Memory>
         ensures ok { OnOk result (self.new ≡ with_finish self.old question.0 release_result_caps) }
         ensures last { OnOk result (AllBelow question.0 (map.entries self.old.finishes) → with_finishes self.new ≡ finishing (with_finishes self.old) question.0 release_result_caps) }
-        ensures room { IsOk result ↔ 0 < self.old.room }
+        ensures room { IsOk result ↔ 0 < self.old.finish_room }
         ensures same { OnErr result (self.new ≡ self.old) }
     {
-        if self.room == 0 {
+        if self.finish_room == 0 {
             return Err(Memory);
         }
         self.finishes.put(question.0, release_result_caps);
-        self.room -= 1;
+        self.finish_room -= 1;
         Ok(())
     }
 
-    /// A Release of so many is sent at the end of the step, behind the Finishes. `Err` where there is no room.
+    /// A Release of so many is sent at the end of the step, behind the Finishes. `Err` where there is no room for
+    /// one.
     pub fn release(&mut self, export: ExportId, count: u32) -> Result<(), Memory>
         ensures ok { OnOk result (self.new ≡ with_release self.old export.0 count) }
-        ensures room { IsOk result ↔ 0 < self.old.room }
+        ensures room { IsOk result ↔ 0 < self.old.release_room }
         ensures same { OnErr result (self.new ≡ self.old) }
     {
-        if self.room == 0 {
+        if self.release_room == 0 {
             return Err(Memory);
         }
         self.releases.put(export.0, count);
-        self.room -= 1;
+        self.release_room -= 1;
         Ok(())
     }
 
@@ -208,6 +250,8 @@ impl Outbox {
         ensures left { self.new ≡ emptied self.old }
     {
         self.room = 0;
+        self.finish_room = 0;
+        self.release_room = 0;
         push_finishes(&mut self.sends, self.finishes.entries());
         push_releases(&mut self.sends, self.releases.entries());
         self.finishes.clear();
@@ -254,6 +298,8 @@ impl Outbox {
         ensures left { self.new ≡ emptied self.old }
     {
         self.room = 0;
+        self.finish_room = 0;
+        self.release_room = 0;
         self.sends = Vec::new(self.alloc);
         self.finishes = Rising::new(self.alloc);
         self.releases = Rising::new(self.alloc);

@@ -84,7 +84,8 @@ fn ended(alloc: Global) -> Result<Ended, Memory> {
 
 /// Says one of each kind, with the Finishes and Releases in front and by falling ids.
 fn say_all(outbox: &mut Outbox, alloc: Global) -> Result<(), Memory> {
-    outbox.reserve(8)?;
+    outbox.reserve(4)?;
+    outbox.reserve_ends(2, 2)?;
     outbox.release(ExportId(7), 2)?;
     outbox.release(ExportId(3), 1)?;
     outbox.finish(QuestionId(5), true)?;
@@ -152,7 +153,7 @@ fn released_at_last(outbox: &mut Outbox, export: u32) -> bool {
     if outbox.release(ExportId(export), 1).is_ok() {
         return false;
     }
-    if outbox.reserve(1).is_err() && (outbox.room() != 0 || outbox.reserve(1).is_err()) {
+    if outbox.reserve_ends(0, 1).is_err() && outbox.reserve_ends(0, 1).is_err() {
         return false;
     }
     outbox.release(ExportId(export), 1).is_ok()

@@ -11,5 +11,7 @@ returns-clause-last c =
       releases = c.self.inside.releases.0;
       can_abort = is_some c.self.inside.abort;
       room = c.self.inside.room;
+      finish_room = c.self.inside.finish_room;
+      release_room = c.self.inside.release_room;
     } in
     rw (← c.self.view_is) (finish_last before _ c.args.question.0 c.args.release_result_caps c.put.ensures.put)

@@ -1,4 +1,0 @@
-pub mod Imports
-pub mod Entries
-pub mod Agreed
-pub mod Scenes

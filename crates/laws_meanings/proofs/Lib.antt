@@ -1,0 +1,11 @@
+pub mod Entries
+pub mod Stamped
+pub mod Walked
+pub mod Made
+pub mod Making
+pub mod Given
+pub mod Giving
+pub mod Ends
+pub mod Ending
+pub mod Left
+pub mod Asked

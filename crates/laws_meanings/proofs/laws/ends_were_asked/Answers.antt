@@ -1,0 +1,5 @@
+use Rattle.laws_meanings.proofs.Asked.{ends_asked}
+use Rattle.laws_meanings.proofs.laws.ends_were_asked.Goals as goal
+
+pub returns : goal.returns
+returns c = ends_asked

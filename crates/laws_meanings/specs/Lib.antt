@@ -1,0 +1,5 @@
+pub mod AsMade
+pub mod NewReferences
+pub mod FirstEnds
+pub mod WhatIsLeft
+pub mod AskedCalls

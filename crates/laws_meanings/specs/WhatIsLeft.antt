@@ -1,0 +1,31 @@
+-- What is promised of deliveries and ends in scenes, but for what references stand for and how calls were answered.
+use Rattle.std.specs.Prelude.{Option}
+use Rattle.rpc_msg.specs.declared.ids.ObjectId.{ObjectId}
+use Rattle.vat_journal.specs.declared.entry.JournalEntry.{JournalEntry}
+use Rattle.vat_journal.specs.declared.entry.JournalEntry.TheVariants as entry
+use Rattle.vat_journal.specs.History.{caller}
+use Rattle.vat_journal.specs.Sources.{asking}
+use Rattle.vat_journal.specs.Meaning.{History}
+use Rattle.vat_machine.specs.Claims.{IsTo, EndsAsked, Upto, IsInTime, EndsAreSo, history}
+use Rattle.laws_runs.specs.Scenes.{Scene, IsScene}
+
+-- A delivery is to the object that its call's reference stands for.
+abbrev pub IfToObject : History → JournalEntry → Type 0
+IfToObject h (entry.Delivered v d) = IsTo h (caller d.stamp) (record { vat = v; delivery = d })
+IfToObject h e = Unit {0}
+
+-- An end is as the call was asked and answered.
+abbrev pub IfAnswered : History → JournalEntry → Type 0
+IfAnswered h (entry.Ended v x) = EndsAsked h v (asking h.journal v x.call.0) x.outcome x.refs
+IfAnswered h e = Unit {0}
+
+-- If that is so in a scene, the rest is.
+abbrev pub ObjectsAreLeft : Type 0
+ObjectsAreLeft =
+    (root_a root_b : Option ObjectId) (x : Scene)
+    → IsScene root_a root_b x → Upto IfToObject (history root_a root_b x.journal) → IsInTime (history root_a root_b x.journal)
+
+abbrev pub AnswersAreLeft : Type 0
+AnswersAreLeft =
+    (root_a root_b : Option ObjectId) (x : Scene)
+    → IsScene root_a root_b x → Upto IfAnswered (history root_a root_b x.journal) → EndsAreSo (history root_a root_b x.journal)

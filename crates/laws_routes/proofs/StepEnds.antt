@@ -1,0 +1,88 @@
+-- The end of a step: what no place names goes, questions are finished, and imports are released.
+use Rattle.std.specs.FinMap as map
+use Rattle.std.proofs.Common.{ℕ, List, [], ◌∷◌, ◌++◌, Option, None, Some, sym, subst}
+use Rattle.finite_maps.specs.Tally.{Map}
+use Rattle.finite_maps.proofs.Tested.{at_cut, at_put}
+use Rattle.rpc_msg.specs.declared.message.PlainMessage.TheVariants as plain
+use Rattle.rpc_msg.specs.declared.message.Message.TheVariants as message
+use Rattle.vat_machine.specs.declared.entries.Finishing.{Finishing}
+use Rattle.vat_machine.specs.declared.entries.Finishing.TheVariants as finishing
+use Rattle.vat_machine.specs.declared.entries.Question.{Question}
+use Rattle.vat_machine.specs.declared.entries.Returned.{Returned}
+use Rattle.vat_machine.specs.Progress.{Progress, with_state, send, export_id}
+use Rattle.vat_machine.specs.Flags.{flag_for, give_back}
+use Rattle.vat_machine.specs.Sweeping.{Sweeps, FinishesEach, closed, closed_map, finished_by, got_of, release_each}
+use Rattle.call_order.specs.Machine as routing
+use Rattle.laws_routes.specs.Points.{routes}
+use Rattle.laws_routes.specs.Views.{IsSession, past, sessions_at}
+use Rattle.laws_routes.specs.Ties.{Around, Ghosts, Tied}
+use Rattle.laws_routes.proofs.ReturnSent.{collected, given_tied}
+use Rattle.laws_routes.proofs.SilentMessages.{silent_goes}
+
+-- Other questions, each of the same session where its Finish was not sent.
+pub questions_tied : (w : Around) (d : Progress) (g : Ghosts) (m : routing.State routes) → Tied w d g m → (Q : Map Question)
+    → ((q : ℕ) → IsSession (g.own.session q) (past g.own (sessions_at g.theirs.outcome (w.other).answers) (w.out ++ d.effects.sends) q) (map.get Q q)) → Tied w (with_state d (record (d.state) { questions = Q })) g m
+questions_tied w d g m t Q h =
+    let side = t.own in
+    let view = t.view in
+    let back = t.back in
+    record {
+      own = record { stops = side.stops; refs = side.refs; embargoes = side.embargoes; no_other_embargoes = side.no_other_embargoes; lists = side.lists; ids = side.ids };
+      theirs = t.theirs;
+      view = record { imports = view.imports; sessions = h; link = view.link };
+      back = record { imports = back.imports; sessions = back.sessions; link = back.link };
+      told = t.told;
+      unborn = t.unborn;
+      unborn_back = t.unborn_back;
+    }
+
+-- A question goes.
+pub question_gone : (w : Around) (d : Progress) (g : Ghosts) (m : routing.State routes) → Tied w d g m → (q : ℕ) → Tied w (with_state d (record (d.state) { questions = map.remove d.state.questions q })) g m
+question_gone w d g m t q =
+    let view = t.view in
+    questions_tied w d g m t (map.remove (d.state).questions q)
+    (at_cut (λ k o. IsSession (g.own.session k) (past g.own (sessions_at g.theirs.outcome (w.other).answers) (w.out ++ d.effects.sends) k) o) (d.state).questions q tt (λ k n. view.sessions k))
+
+-- It changes: if its Finish is not sent behind, it was not before.
+pub question_put : (w : Around) (d : Progress) (g : Ghosts) (m : routing.State routes) → Tied w d g m → (q : ℕ) (x : Question)
+    → IsSession (g.own.session q) (past g.own (sessions_at g.theirs.outcome (w.other).answers) (w.out ++ d.effects.sends) q) (Some x) → Tied w (with_state d (record (d.state) { questions = map.insert d.state.questions q x })) g m
+question_put w d g m t q x h =
+    let view = t.view in
+    questions_tied w d g m t (map.insert (d.state).questions q x)
+    (at_put (λ k o. IsSession (g.own.session k) (past g.own (sessions_at g.theirs.outcome (w.other).answers) (w.out ++ d.effects.sends) k) o) (d.state).questions q x h (λ k n. view.sessions k))
+
+closed_tied : (w : Around) (d : Progress) (g : Ghosts) (m : routing.State routes) → Tied w d g m → (q : ℕ) (x : Question) → Tied w (with_state d (closed d.state q x)) g m
+closed_tied w d g m t q x = by x.returned
+  where
+    by : (o : Option Returned) → Tied w (with_state d (record (d.state) { questions = closed_map d.state.questions q x o })) g m
+    by None = question_put w d g m t q (record x { finish = finishing.Sent }) (λ h. absurd h)
+    by (Some said) = question_gone w d g m t q
+
+finished_tied : (w : Around) (d : Progress) (g : Ghosts) (m : routing.State routes) → Tied w d g m → (q : ℕ) (x : Question) (f : Finishing) → Tied w (finished_by d q x f) g m
+finished_tied w d g m t q x finishing.Owed =
+    let flag = flag_for d.state (got_of x.returned) in
+    let left = give_back d.state (got_of x.returned) in
+    silent_goes w (with_state d (closed left q x)) g m (message.Plain (plain.Finish (record { question = record { 0 = q }; release_result_caps = flag })))
+    (closed_tied w (with_state d left) g m (given_tied w d g m t flag (got_of x.returned)) q x) tt
+finished_tied w d g m t q x finishing.Sent = t
+finished_tied w d g m t q x finishing.Waived = closed_tied w d g m t q x
+
+each_finished : (w : Around) (d : Progress) (g : Ghosts) (m : routing.State routes) (xs : List (ℕ × Question)) (new : Progress) → Tied w d g m → FinishesEach d xs new → Tied w new g m
+each_finished w d g m [] new t h = rw h t
+each_finished w d g m (x ∷ xs) new t h =
+    let y : Question = x.1 in
+    each_finished w (finished_by h.0 x.0 y y.finish) g m xs new (finished_tied w h.0 g m (collected w g m h.0 d h.1 t) x.0 y y.finish) h.2
+
+each_released : (w : Around) (d : Progress) (g : Ghosts) (m : routing.State routes) (xs : List (ℕ × ℕ)) → Tied w d g m → Tied w (release_each d xs) g m
+each_released w d g m [] t = t
+each_released w d g m (x ∷ xs) t =
+    let said = plain.Release (record { export = export_id x.0; count = x.1 }) in
+    each_released w (send d said) g m xs (silent_goes w d g m (message.Plain said) t tt)
+
+pub swept : (w : Around) (d : Progress) (g : Ghosts) (m : routing.State routes) (new : Progress) → Tied w d g m → Sweeps d new → Tied w new g m
+swept w d g m new t h =
+    let mid : Progress = h.2.0 in
+    let tight : Progress = h.2.2.0 in
+    let at_mid = each_finished w d g m (map.entries h.0) mid t h.2.1 in
+    let at_tight = collected w g m tight mid h.2.2.1 at_mid in
+    subst (λ (z : Progress). Tied w z g m) (sym h.2.2.2) (each_released w tight g m (map.entries tight.released) at_tight)

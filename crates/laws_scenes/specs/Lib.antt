@@ -1,3 +1,0 @@
-pub mod SoundScenes
-pub mod Sides
-pub mod Woven

@@ -1,0 +1,67 @@
+ghost use Rattle.std.specs.Prelude.{◌≡◌, ◌≤◌, ◌+◌, IsOk, OnOk, OnErr};
+ghost use Rattle.std.specs.FinMap as map;
+ghost use Rattle.vat_machine.specs.Progress.{begin};
+ghost use Rattle.vat_store.specs.Holding.{state_of, IsSound, IsSameButRoom};
+ghost use Rattle.step_base.specs.InProgress.{progress_of, IsIdle, IsReady};
+
+use crate::step::Step;
+use rpc_msg::Memory;
+
+/// Begins a step, with room for so many entries of every kind, names, messages, deliveries, ends and outcomes, and for the
+/// Finish of each question and the Release of each import. `Err` where a growth was refused; no step is begun then, and at
+/// most room is changed.
+pub fn begin(step: &mut Step, more: usize) -> Result<(), Memory>
+    requires { IsIdle step.old }
+    ensures store { IsSameButRoom step.old.store step.new.store }
+    ensures begun { OnOk result (progress_of step.new ≡ begin (state_of step.old.store)) }
+    ensures ready { OnOk result (IsReady step.new) }
+    ensures ok { OnOk result (more ≤ step.new.store.slack) }
+    ensures idle { OnErr result (IsIdle step.new) }
+{
+    vat_store::reserve(&mut step.store, more)?;
+    make_room(step, step.store.slack)
+}
+
+/// Makes room, so that so many more entries of every kind, names, messages, deliveries, ends and outcomes need no more
+/// memory; at once where there is enough. `Err` where a growth was refused; there may be less room then. All else stays.
+pub fn reserve(step: &mut Step, more: usize) -> Result<(), Memory>
+    requires { IsReady step.old }
+    ensures same { progress_of step.new ≡ progress_of step.old }
+    ensures store { IsSameButRoom step.old.store step.new.store }
+    ensures ready { IsReady step.new }
+    ensures ok { OnOk result (more ≤ step.new.store.slack) }
+    ensures had_room { more ≤ step.old.store.slack → IsOk result }
+{
+    if more <= step.store.slack {
+        return Ok(());
+    }
+    let made = vat_store::reserve(&mut step.store, more);
+    let room = step.store.slack;
+    step.store.slack = 0;
+    made?;
+    make_room(step, room)?;
+    step.store.slack = room;
+    Ok(())
+}
+
+// Makes room for what the step says, and for the outcomes that arise in it.
+fn make_room(step: &mut Step, more: usize) -> Result<(), Memory>
+    ensures store { step.new.store ≡ step.old.store }
+    ensures outbox { step.new.outbox ≡ record step.old.outbox { room = step.new.outbox.room; finish_room = step.new.outbox.finish_room; release_room = step.new.outbox.release_room } }
+    ensures arisen { step.new.arisen.0 ≡ step.old.arisen.0 }
+    ensures ok { OnOk result ((more ≤ step.new.outbox.room) × (more ≤ step.new.arisen.1)) }
+    ensures ends { OnOk result (
+        (map.len step.new.store.questions.entries + more ≤ step.new.outbox.finish_room)
+        × (map.len step.new.store.imports.entries + more ≤ step.new.outbox.release_room)) }
+    ensures keeps { (step.old.outbox.finish_room ≤ step.new.outbox.finish_room) × (step.old.outbox.release_room ≤ step.new.outbox.release_room) }
+{
+    let Some(finishes) = more.checked_add(step.store.questions.len()) else {
+        return Err(Memory);
+    };
+    let Some(releases) = more.checked_add(step.store.imports.len()) else {
+        return Err(Memory);
+    };
+    step.outbox.reserve(more)?;
+    step.outbox.reserve_ends(finishes, releases)?;
+    step.arisen.reserve(more)
+}

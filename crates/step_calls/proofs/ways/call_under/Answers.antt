@@ -1,0 +1,19 @@
+use Rattle.std.proofs.Common.{◌+◌, length}
+use Rattle.std.proofs.lemmas.Result.{on_ok_weaker}
+use Rattle.step_base.specs.InProgress.{progress_of}
+use Rattle.step_routes.proofs.Behind.{ready_behind}
+use Rattle.step_calls.proofs.Keeping.{same_under, under_kept}
+use Rattle.step_calls.proofs.ways.call_under.Goals as goal
+
+pub returns-clause-called : goal.returns-clause-called
+returns-clause-called c =
+    let kept = c.keep_outcome-outcome in
+    let p = progress_of kept.new.step in
+    on_ok_weaker c.hold_under.result (λ h. under_kept (progress_of c.args.step.now) p c.args.request c.args.id.0 kept.result c.args.embargo.0 _ kept.ensures.free kept.ensures.kept (h p)) c.hold_under.ensures.ok
+
+pub returns-clause-ready : goal.returns-clause-ready
+returns-clause-ready c =
+    let kept = c.keep_outcome-outcome in
+    let p = progress_of kept.new.step in
+    ready_behind c.hold_under.result kept.new.step c.hold_under.new.store (length c.args.request.caps + 1) kept.ensures.ready c.hold_under.ensures.sound
+    (on_ok_weaker c.hold_under.result (λ h. same_under p (record { request = c.args.request; outcome = kept.result }) c.args.embargo.0 _ _ (h p)) c.hold_under.ensures.ok) c.hold_under.ensures.left c.hold_under.ensures.same

@@ -1,0 +1,152 @@
+ghost use Rattle.std.specs.Prelude.{◌≡◌, ◌+◌, ◌<◌, ◌≤◌, None, [], length, vec_capacity, IfOk, OnOk};
+ghost use Rattle.std.specs.FinMap as map;
+ghost use Rattle.vat_machine.specs.declared.command.Command.TheVariants as command;
+ghost use Rattle.vat_machine.specs.declared.command.Granted.TheVariants as granted;
+ghost use Rattle.vat_machine.specs.Advancing.{wire_target};
+ghost use Rattle.vat_machine.specs.Commands.{Acts, CallsBy, CallsThrough};
+ghost use Rattle.vat_machine.specs.Limits.{number_limit, made_through};
+ghost use Rattle.vat_machine.specs.Nodes.{settle};
+ghost use Rattle.vat_store.specs.Holding.{state_of};
+ghost use Rattle.step_base.specs.InProgress.{progress_of, IsReady};
+ghost use Rattle.step_routes.specs.Prepared.{IsPrepared};
+ghost use Rattle.step_calls.specs.Ways.{numbered};
+
+use crate::request::request_of;
+use crate::ways::{call_here, call_over, call_under};
+use rpc_msg::{CallId, EmbargoId, RefId, Target};
+use step_base::Step;
+use step_routes::Lists;
+use store_names::{count_made, number_call};
+use vat_machine::{CallCommand, Node, Reference, Request};
+use vat_store::Store;
+use vat_tables::TableFault;
+
+// A copy of a reference, if it is there.
+fn ref_of(store: &Store, id: RefId) -> Option<Reference>
+    ensures { result ≡ map.get (state_of store.now).refs id.0 }
+{
+    let found = store.refs.get(id.0)?;
+    Some(Reference {
+        head: found.head,
+        embargo: found.embargo,
+        made: found.made,
+    })
+}
+
+// One more call is made through the reference, and has the next number.
+fn number_through(step: &mut Step, reference: RefId) -> CallId
+    requires ready { IsReady step.old }
+    requires number { step.old.store.next_call + 1 < number_limit }
+    requires made { made_through (map.get (state_of step.old.store).refs reference.0) + 1 < number_limit }
+    ensures value { result ≡ record { 0 = step.old.store.next_call } }
+    ensures numbered { progress_of step.new ≡ numbered (progress_of step.old) reference.0 }
+    ensures left { step.new.store.slack ≡ step.old.store.slack }
+    ensures taken { step.new.store.waits.taken ≡ step.old.store.waits.taken }
+    ensures ready { IsReady step.new }
+{
+    count_made(&mut step.store, reference);
+    number_call(&mut step.store)
+}
+
+// The target on the wire, of a node that is one.
+fn wire_target(at: &Node) -> Option<Target>
+    ensures { result ≡ wire_target at.now }
+{
+    match at {
+        Node::Import(id) => Some(Target::ImportedCap(*id)),
+        Node::Pipe(question, path) => Some(Target::PromisedAnswer(*question, *path)),
+        _ => None,
+    }
+}
+
+// By where the head settles.
+#[tactic(auto, using(crate::proofs::Wired::goes_by))]
+fn call_by(
+    step: &mut Step,
+    lists: Lists,
+    id: CallId,
+    request: Request,
+    head: Node,
+) -> Result<(), TableFault>
+    requires ready { IsReady step.old }
+    requires slack { length request.caps + 4 ≤ step.old.store.slack }
+    requires new { map.get (state_of step.old.store).calls id.0 ≡ None }
+    requires counted { id.0 < step.old.store.next_call }
+    requires next_refs { step.old.store.next_ref + length request.caps < number_limit }
+    requires next_task { step.old.store.next_task + 1 < number_limit }
+    requires prepared { IsPrepared (length request.caps) lists }
+    ensures called { OnOk result (CallsBy (progress_of step.old) id.0 request head (settle (state_of step.old.store) head) (progress_of step.new)) }
+    ensures taken { OnOk result (step.new.store.waits.taken ≡ step.old.store.waits.taken) }
+    ensures ready { OnOk result (IsReady step.new) }
+{
+    let from = head;
+    let at = vat_store::settle(&step.store, head);
+    match wire_target(&at) {
+        Some(target) => call_over(step, lists, id, request, target),
+        None => call_here(step, lists, id, request, from),
+    }
+}
+
+// By the embargo of the reference.
+fn call_through(
+    step: &mut Step,
+    lists: Lists,
+    id: CallId,
+    request: Request,
+    head: Node,
+    embargo: Option<EmbargoId>,
+) -> Result<(), TableFault>
+    requires ready { IsReady step.old }
+    requires slack { length request.caps + 4 ≤ step.old.store.slack }
+    requires new { map.get (state_of step.old.store).calls id.0 ≡ None }
+    requires counted { id.0 < step.old.store.next_call }
+    requires next_refs { step.old.store.next_ref + length request.caps < number_limit }
+    requires next_task { step.old.store.next_task + 1 < number_limit }
+    requires prepared { IsPrepared (length request.caps) lists }
+    ensures called { OnOk result (CallsThrough (progress_of step.old) id.0 request head embargo (progress_of step.new)) }
+    ensures taken { OnOk result (step.new.store.waits.taken ≡ step.old.store.waits.taken) }
+    ensures ready { OnOk result (IsReady step.new) }
+{
+    match embargo {
+        Some(embargo) => call_under(step, id, request, embargo),
+        None => call_by(step, lists, id, request, head),
+    }
+}
+
+/// Makes a call of the application through a reference, and gives its number: it waits under the reference's embargo, goes
+/// to a node of this vat, or over a wire. The list of nodes is empty and has room for one of each capability. `Full` where
+/// a limit of the waiting calls, the questions or the exports is passed, `Memory` where there is no such reference; the
+/// step is only to be dropped then. Takes no memory, but at most one of the slack for each capability, and four.
+pub fn call_kept(
+    step: &mut Step,
+    lists: Lists,
+    nodes: Vec<Node>,
+    call: CallCommand,
+) -> Result<CallId, TableFault>
+    requires ready { IsReady step.old }
+    requires slack { length call.refs + 4 ≤ step.old.store.slack }
+    requires number { step.old.store.next_call + 1 < number_limit }
+    requires made { made_through (map.get (state_of step.old.store).refs call.reference.0) + 1 < number_limit }
+    requires next_refs { step.old.store.next_ref + length call.refs < number_limit }
+    requires next_task { step.old.store.next_task + 1 < number_limit }
+    requires prepared { IsPrepared (length call.refs) lists }
+    requires no_nodes { nodes.items ≡ [] }
+    requires room { length call.refs ≤ vec_capacity nodes }
+    ensures acts { IfOk result (λ c. Acts (progress_of step.old) (command.Call call) (granted.Call c) (progress_of step.new)) }
+    ensures taken { OnOk result (step.new.store.waits.taken ≡ step.old.store.waits.taken) }
+    ensures ready { OnOk result (IsReady step.new) }
+{
+    let id = call.reference;
+    let Some(reference) = ref_of(&step.store, id) else {
+        return Err(TableFault::Memory);
+    };
+    let request = request_of(&step.store, call, &reference, nodes);
+    let Reference {
+        head,
+        embargo,
+        made: _,
+    } = reference;
+    let number = number_through(step, id);
+    call_through(step, lists, number, request, head, embargo)?;
+    Ok(number)
+}

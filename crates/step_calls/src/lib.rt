@@ -1,0 +1,12 @@
+//! What a call of the application does first, where it is not refused.
+#![tactic(auto)]
+
+mod call;
+mod kept;
+mod request;
+mod ways;
+
+pub use call::call_kept;
+pub use kept::keep_outcome;
+pub use request::{heads, request_of};
+pub use ways::{call_here, call_over, call_under};

@@ -1,0 +1,90 @@
+ghost use Rattle.std.specs.Prelude.{◌≡◌, ◌+◌, ◌<◌, ◌≤◌, None, length, OnOk};
+ghost use Rattle.std.specs.FinMap as map;
+ghost use Rattle.vat_machine.specs.Commands.{CallsHere, CallsDirect};
+ghost use Rattle.vat_machine.specs.Limits.{number_limit};
+ghost use Rattle.vat_store.specs.Holding.{state_of};
+ghost use Rattle.step_base.specs.InProgress.{progress_of, IsReady};
+ghost use Rattle.step_routes.specs.Prepared.{IsPrepared};
+ghost use Rattle.step_calls.specs.Ways.{CallsUnder};
+
+use crate::kept::keep_outcome;
+use rpc_msg::{CallId, EmbargoId, Target};
+use step_base::Step;
+use step_routes::{Lists, call_direct_kept, route_kept};
+use store_waits::hold_under;
+use vat_machine::{Node, Request, WaitingCall};
+use vat_tables::TableFault;
+
+/// A call of the application, which has its number and no entry yet, waits under an embargo, and its outcome is kept here.
+/// `Full` at 65,536 calls, and `Memory` where there is no such embargo; the step is only to be dropped then. Takes no
+/// memory, but one of the slack for each capability, and three.
+pub fn call_under(
+    step: &mut Step,
+    id: CallId,
+    request: Request,
+    embargo: EmbargoId,
+) -> Result<(), TableFault>
+    requires ready { IsReady step.old }
+    requires slack { length request.caps + 3 ≤ step.old.store.slack }
+    requires new { map.get (state_of step.old.store).calls id.0 ≡ None }
+    requires counted { id.0 < step.old.store.next_call }
+    ensures called { OnOk result (CallsUnder (progress_of step.old) id.0 request embargo.0 (progress_of step.new)) }
+    ensures taken { step.new.store.waits.taken ≡ step.old.store.waits.taken }
+    ensures ready { IsReady step.new }
+{
+    let outcome = keep_outcome(step, id);
+    hold_under(&mut step.store, embargo, WaitingCall { request, outcome })
+}
+
+/// A call of the application, which has its number and no entry yet, goes to where a node of this vat settles, and its
+/// outcome is kept here. `Full` where a limit of the waiting calls, the questions or the exports is passed; the step is
+/// only to be dropped then. Takes no memory, but at most one of the slack for each capability, and four.
+pub fn call_here(
+    step: &mut Step,
+    lists: Lists,
+    id: CallId,
+    request: Request,
+    head: Node,
+) -> Result<(), TableFault>
+    requires ready { IsReady step.old }
+    requires slack { length request.caps + 4 ≤ step.old.store.slack }
+    requires new { map.get (state_of step.old.store).calls id.0 ≡ None }
+    requires counted { id.0 < step.old.store.next_call }
+    requires next_refs { step.old.store.next_ref + length request.caps < number_limit }
+    requires next_task { step.old.store.next_task + 1 < number_limit }
+    requires prepared { IsPrepared (length request.caps) lists }
+    ensures called { OnOk result (CallsHere (progress_of step.old) id.0 request head (progress_of step.new)) }
+    ensures taken { OnOk result (step.new.store.waits.taken ≡ step.old.store.waits.taken) }
+    ensures ready { OnOk result (IsReady step.new) }
+{
+    let outcome = keep_outcome(step, id);
+    route_kept(step, lists, WaitingCall { request, outcome }, head)
+}
+
+/// A call of the application, which has its number and no entry yet, goes over a wire, as a question of its own. `Full`
+/// where a limit of the questions or the exports is passed; the step is only to be dropped then. Takes no memory, but at
+/// most one of the slack for each capability, and two.
+pub fn call_over(
+    step: &mut Step,
+    lists: Lists,
+    id: CallId,
+    request: Request,
+    target: Target,
+) -> Result<(), TableFault>
+    requires ready { IsReady step.old }
+    requires slack { length request.caps + 2 ≤ step.old.store.slack }
+    requires new { map.get (state_of step.old.store).calls id.0 ≡ None }
+    requires counted { id.0 < step.old.store.next_call }
+    requires prepared { IsPrepared (length request.caps) lists }
+    ensures called { OnOk result (CallsDirect (progress_of step.old) id.0 request target (progress_of step.new)) }
+    ensures taken { OnOk result (step.new.store.waits.taken ≡ step.old.store.waits.taken) }
+    ensures ready { OnOk result (IsReady step.new) }
+{
+    let Lists {
+        refs: _,
+        said,
+        given,
+        text: _,
+    } = lists;
+    call_direct_kept(step, id, request, target, said, given)
+}

@@ -1,0 +1,4 @@
+pub mod CallParts
+pub mod FaultParts
+pub mod InTurn
+pub mod Wires

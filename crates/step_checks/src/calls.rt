@@ -1,0 +1,107 @@
+ghost use Rattle.std.specs.Prelude.{◌≡◌, ◌||◌, None, Some, [], true, false, nat_le, OnOk, IfErr};
+ghost use Rattle.std.specs.FinMap as map;
+ghost use Rattle.vat_machine.specs.declared.command.Refusal.TheVariants as refusal;
+ghost use Rattle.vat_machine.specs.Fullness.{is_spent};
+ghost use Rattle.vat_machine.specs.Limits.{held, held_limit};
+ghost use Rattle.vat_store.specs.Holding.{state_of, IsSound};
+ghost use Rattle.step_checks.specs.Rooms.{lacks_at, lacks_through, call_lacks, refused_but_exports};
+
+use crate::refusals::{
+    has_caps, has_level, has_number, has_question_room, has_ref, has_refs, is_up,
+};
+use rpc_msg::RefId;
+use vat_machine::{CallCommand, Node, Reference, Refusal};
+use vat_store::{Store, settle};
+use vat_tables::POOL_LIMIT;
+
+fn has_numbers(next: u64, more: usize) -> Result<(), Refusal>
+    ensures ok { OnOk result (is_spent next more ≡ false) }
+    ensures err { IfErr result (λ r. (r ≡ refusal.Full) × (is_spent next more ≡ true)) }
+{
+    match next.checked_add(more as u64) {
+        Some(_) => Ok(()),
+        None => Err(Refusal::Full),
+    }
+}
+
+// One more call may wait.
+fn has_held_room(store: &Store) -> Result<(), Refusal>
+    requires sound { IsSound store.now }
+    requires handed_out { store.now.waits.taken ≡ [] }
+    ensures ok { OnOk result (nat_le held_limit (held (state_of store.now)) ≡ false) }
+    ensures err { IfErr result (λ r. (r ≡ refusal.Full) × (nat_le held_limit (held (state_of store.now)) ≡ true)) }
+{
+    if store.waits.held() < POOL_LIMIT {
+        Ok(())
+    } else {
+        Err(Refusal::Full)
+    }
+}
+
+fn has_task_room(store: &Store, caps: usize) -> Result<(), Refusal>
+    ensures ok { OnOk result ((is_spent store.now.next_task 1 ≡ false) × (is_spent store.now.next_ref caps ≡ false)) }
+    ensures err { IfErr result (λ r. (r ≡ refusal.Full) × ((is_spent store.now.next_task 1 || is_spent store.now.next_ref caps) ≡ true)) }
+{
+    has_number(store.next_task)?;
+    has_numbers(store.next_ref, caps)
+}
+
+// By where the call goes.
+fn has_room_at(store: &Store, caps: usize, node: Node) -> Result<(), Refusal>
+    requires sound { IsSound store.now }
+    requires handed_out { store.now.waits.taken ≡ [] }
+    ensures ok { OnOk result (lacks_at (state_of store.now) caps node ≡ false) }
+    ensures err { IfErr result (λ r. (r ≡ refusal.Full) × (lacks_at (state_of store.now) caps node ≡ true)) }
+{
+    match node {
+        Node::Object(_) => has_task_room(store, caps),
+        Node::Promise(_) => has_held_room(store),
+        Node::Field(_, _) => has_held_room(store),
+        Node::Import(_) => has_question_room(store),
+        Node::Pipe(_, _) => has_question_room(store),
+        Node::Broken(_) => Ok(()),
+    }
+}
+
+fn has_room_through(store: &Store, caps: usize, reference: &Reference) -> Result<(), Refusal>
+    requires sound { IsSound store.now }
+    requires handed_out { store.now.waits.taken ≡ [] }
+    ensures ok { OnOk result (lacks_through (state_of store.now) caps reference.now.head reference.now.embargo ≡ false) }
+    ensures err { IfErr result (λ r. (r ≡ refusal.Full) × (lacks_through (state_of store.now) caps reference.now.head reference.now.embargo ≡ true)) }
+{
+    match reference.embargo {
+        Some(_) => has_held_room(store),
+        None => has_room_at(store, caps, settle(store, reference.head)),
+    }
+}
+
+// All but the exports have room for a call through that reference.
+fn has_call_room(store: &Store, caps: usize, id: RefId) -> Result<(), Refusal>
+    requires sound { IsSound store.now }
+    requires handed_out { store.now.waits.taken ≡ [] }
+    ensures ok { OnOk result (call_lacks (state_of store.now) caps (map.get store.now.refs.entries id.0) ≡ false) }
+    ensures err { IfErr result (λ r. (r ≡ refusal.Full) × (call_lacks (state_of store.now) caps (map.get store.now.refs.entries id.0) ≡ true)) }
+{
+    let Some(reference) = store.refs.get(id.0) else {
+        return Ok(());
+    };
+    has_number(store.next_call)?;
+    has_number(reference.made)?;
+    has_room_through(store, caps, reference)
+}
+
+/// Whether `call` is refused, whatever room the exports have, and with what. Where it goes over a wire, the exports need
+/// room for the capabilities that go out: that is left to the caller, and comes last (`calls_are_refused`).
+pub fn check_call(store: &Store, call: &CallCommand) -> Result<(), Refusal>
+    requires sound { IsSound store.now }
+    requires handed_out { store.now.waits.taken ≡ [] }
+    ensures ok { OnOk result (refused_but_exports (state_of store.now) call.now ≡ None) }
+    ensures err { IfErr result (λ r. refused_but_exports (state_of store.now) call.now ≡ Some r) }
+{
+    is_up(store)?;
+    has_level(store, !call.refs.is_empty())?;
+    has_ref(store, call.reference)?;
+    has_refs(store, call.refs.as_slice())?;
+    has_caps(&call.payload, call.refs.as_slice())?;
+    has_call_room(store, call.refs.len(), call.reference)
+}

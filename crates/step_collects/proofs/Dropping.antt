@@ -1,0 +1,162 @@
+-- A thing that no place names goes.
+use Rattle.std.proofs.Common.{◌≡◌, Bool, true, false, ℕ, ◌+◌, ◌<◌, Option, None, Some, refl, sym, ap, subst, ◌∙◌, arith}
+use Rattle.std.specs.Prelude.{MatchBool}
+use Rattle.std.specs.FinMap as map
+use Rattle.finite_maps.specs.Tally.{Map}
+use Rattle.finite_maps.proofs.Lens.{len_gone}
+use Rattle.vat_machine.specs.declared.calls.Promise.{Promise}
+use Rattle.vat_machine.specs.declared.calls.KeptOutcome.{KeptOutcome}
+use Rattle.vat_machine.specs.declared.entries.Import.{Import}
+use Rattle.vat_machine.specs.State.{State}
+use Rattle.vat_machine.specs.Progress.{Progress, with_state}
+use Rattle.vat_machine.specs.Collecting.{IsLoosePromise, IsLooseOutcome, IsLooseImport, IsTight, Collects, Tight, Goes, PromiseGoes, OutcomeGoes, ImportGoes, release}
+use Rattle.vat_outbox.specs.Outgoing.{with_release}
+use Rattle.vat_store.specs.declared.store.Store.{Store}
+use Rattle.vat_store.specs.Holding.{state_of, IsSound, IsThere}
+use Rattle.store_peer.specs.Peer.{whole_count}
+use Rattle.step_base.specs.declared.step.Step.{Step}
+use Rattle.step_base.specs.InProgress.{progress_of, IsReady}
+use Rattle.step_base.proofs.Readying.{ready_same}
+use Rattle.step_collects.specs.Dropping.{things, Drops, Rests}
+
+-- ---- What is loose is there
+
+loose_promise : (s : State) (p : ℕ) (o : Option Promise) → IsLoosePromise s p o → IsThere o
+loose_promise s p None h = absurd h
+loose_promise s p (Some x) h = tt
+
+loose_outcome : (s : State) (k : ℕ) (o : Option KeptOutcome) → IsLooseOutcome s k o → IsThere o
+loose_outcome s k None h = absurd h
+loose_outcome s k (Some x) h = tt
+
+loose_import : (s : State) (e : ℕ) (o : Option Import) → IsLooseImport s e o → IsThere o
+loose_import s e None h = absurd h
+loose_import s e (Some x) h = tt
+
+to_release : (m : Map ℕ) (e n : ℕ) (o : Option Import) → Some n ≡ whole_count o → map.insert m e n ≡ release m e o
+to_release m e n None h = absurd (let g : ◌≡◌ {A = Option ℕ} (Some n) None = h in cc)
+to_release m e n (Some x) h = let g : ◌≡◌ {A = Option ℕ} (Some n) (Some x.count) = h in ap (λ (k : ℕ). map.insert m e k) (let f : n ≡ x.count = cc in f)
+
+-- ---- One fewer
+
+one_fewer : {X : Type 0} (m : Map X) (k : ℕ) (o : Option X) → map.get m k ≡ o → IsThere o → map.len (map.remove m k) + 1 ≡ map.len m
+one_fewer m k None e h = absurd h
+one_fewer m k (Some x) e h = len_gone m k x e
+
+fewer : {X : Type 0} (m : Map X) (k : ℕ) → IsThere (map.get m k) → map.len (map.remove m k) + 1 ≡ map.len m
+fewer m k h = one_fewer m k (map.get m k) refl h
+
+-- ---- The steps
+
+-- Other names, and then another store.
+module _ (x : Step) (t s : Store) (same : t ≡ record (x.store) { names = t.names }) where
+  abbrev before : State
+  before = state_of x.store
+
+  abbrev after : Step
+  after = record x { store = s }
+
+  mid : state_of t ≡ before
+  mid = ap state_of same
+
+  slack : t.slack ≡ x.store.slack
+  slack = ap (λ (y : Store). y.slack) same
+
+  pub promise_drops : (p : ℕ) → IsLoosePromise before p (map.get before.promises p) → state_of s ≡ record (state_of t) { promises = map.remove (state_of t).promises p } → Drops x after
+  promise_drops p loose gone =
+      let now : state_of s ≡ record before { promises = map.remove before.promises p } = gone ∙ ap (λ (y : State). record y { promises = map.remove y.promises p }) mid in
+      let one = fewer before.promises p (loose_promise before p (map.get before.promises p) loose) in
+      let all : things (state_of s) ≡ things (record before { promises = map.remove before.promises p }) = ap things now in record {
+        goes = PromiseGoes p loose (ap (λ (y : State). with_state (progress_of x) y) now);
+        fewer = omega (arith, one, all);
+      }
+
+  pub outcome_drops : (k : ℕ) → IsLooseOutcome before k (map.get before.outcomes k) → state_of s ≡ record (state_of t) { outcomes = map.remove (state_of t).outcomes k } → Drops x after
+  outcome_drops k loose gone =
+      let now : state_of s ≡ record before { outcomes = map.remove before.outcomes k } = gone ∙ ap (λ (y : State). record y { outcomes = map.remove y.outcomes k }) mid in
+      let one = fewer before.outcomes k (loose_outcome before k (map.get before.outcomes k) loose) in
+      let all : things (state_of s) ≡ things (record before { outcomes = map.remove before.outcomes k }) = ap things now in record {
+        goes = OutcomeGoes k loose (ap (λ (y : State). with_state (progress_of x) y) now);
+        fewer = omega (arith, one, all);
+      }
+
+  -- Questions and imports stay.
+  pub ready_beside : IsReady x → IsSound s → s.slack ≡ t.slack → (state_of s).questions ≡ (state_of t).questions → (state_of s).imports ≡ (state_of t).imports → IsReady after
+  ready_beside h sound left asked taken =
+      ready_same x s h sound (let a = slack in omega (arith, a, left)) (asked ∙ ap (λ (y : State). y.questions) mid) (taken ∙ ap (λ (y : State). y.imports) mid)
+
+  -- An import goes, and is to be released.
+  module _ (e n : ℕ) (loose : IsLooseImport before e (map.get before.imports e)) (gone : state_of s ≡ record (state_of t) { imports = map.remove (state_of t).imports e }) where
+    abbrev released : Step
+    released = record x { store = s; outbox = with_release x.outbox e n }
+
+    now : state_of s ≡ record before { imports = map.remove before.imports e }
+    now = gone ∙ ap (λ (y : State). record y { imports = map.remove y.imports e }) mid
+
+    one : map.len (map.remove before.imports e) + 1 ≡ map.len before.imports
+    one = fewer before.imports e (loose_import before e (map.get before.imports e) loose)
+
+    pub import_drops : Some n ≡ whole_count (map.get (state_of t).imports e) → Drops x released
+    import_drops count =
+        let whole : Some n ≡ whole_count (map.get before.imports e) = count ∙ ap (λ (y : State). whole_count (map.get y.imports e)) mid in
+        let all : things (state_of s) ≡ things (record before { imports = map.remove before.imports e }) = ap things now in
+        let a = one in record {
+          goes = ImportGoes e loose (
+              ap (λ (y : State). record (progress_of x) { state = y; released = map.insert x.outbox.releases e n }) now
+              ∙ ap (λ (m : Map ℕ). record (progress_of x) { state = record before { imports = map.remove before.imports e }; released = m }) (to_release x.outbox.releases e n (map.get before.imports e) whole));
+          fewer = omega (arith, a, all);
+        }
+
+    pub has_room : IsReady x → 0 < x.outbox.release_room
+    has_room h = let a = one in let b = h.releases in omega (arith, a, b)
+
+    pub ready_released : IsReady x → IsSound s → s.slack ≡ t.slack → IsReady released
+    ready_released h sound left =
+        let a = slack in
+        let asked : map.len s.questions.entries ≡ map.len x.store.questions.entries = ap (λ (y : State). map.len y.questions) now in
+        let taken : map.len s.imports.entries ≡ map.len (map.remove before.imports e) = ap (λ (y : State). map.len y.imports) now in
+        let b = one in record {
+          sound = sound;
+          outbox = let r = h.outbox in omega (arith, a, left, r);
+          arisen = let r = h.arisen in omega (arith, a, left, r);
+          finishes = let r = h.finishes in omega (arith, a, left, asked, r);
+          releases = let r = h.releases in omega (arith, a, left, taken, b, r);
+          unfinished = h.unfinished;
+          can_abort = h.can_abort;
+        }
+
+-- ---- One after the other
+
+pub drops_after : (old mid new : Step) → progress_of mid ≡ progress_of old → Drops mid new → Drops old new
+drops_after old mid new same h = record {
+  goes = subst (λ (d : Progress). Goes d (progress_of new)) same h.goes;
+  fewer = let a = ap (λ (d : Progress). things d.state) same in let b = h.fewer in omega (arith, a, b);
+}
+
+abbrev NoPromise : State → Type 0
+NoPromise s = (p : ℕ) → ¬ (IsLoosePromise s p (map.get s.promises p))
+
+abbrev NoOutcome : State → Type 0
+NoOutcome s = (k : ℕ) → ¬ (IsLooseOutcome s k (map.get s.outcomes k))
+
+abbrev NoImport : State → Type 0
+NoImport s = (e : ℕ) → ¬ (IsLooseImport s e (map.get s.imports e))
+
+pub all_tight : (old first second new : Step) → Rests old first (NoPromise (state_of old.store)) → Rests first second (NoOutcome (state_of first.store)) → Rests second new (NoImport (state_of second.store)) → Rests old new (IsTight (state_of old.store))
+all_tight old first second new a b c = record {
+  same = c.same ∙ b.same ∙ a.same;
+  rest = record {
+    promises = a.rest;
+    outcomes = subst (λ (d : Progress). NoOutcome d.state) a.same b.rest;
+    imports = subst (λ (d : Progress). NoImport d.state) (b.same ∙ a.same) c.rest;
+  };
+}
+
+pub last_drops : (b : Bool) (old first second new : Step) → Rests old first (NoPromise (state_of old.store)) → Rests first second (NoOutcome (state_of first.store))
+    → MatchBool b (Drops second new) (Rests second new (NoImport (state_of second.store))) → MatchBool b (Drops old new) (Rests old new (IsTight (state_of old.store)))
+last_drops true old first second new a b c = drops_after old second new (b.same ∙ a.same) c
+last_drops false old first second new a b c = all_tight old first second new a b c
+
+-- Nothing is left that would go.
+pub rests_tight : (old new : Step) → Rests old new (IsTight (state_of old.store)) → Collects (progress_of new) (progress_of old)
+rests_tight old new h = subst (λ (d : Progress). Collects d (progress_of old)) (sym h.same) (Tight h.rest)

@@ -1,0 +1,16 @@
+use Rattle.std.proofs.Common.{ap, ◌∙◌}
+use Rattle.vat_store.specs.declared.store.Store.{Store}
+use Rattle.step_collects.proofs.Searching.{import_passed, import_again}
+use Rattle.step_collects.proofs.search.next_loose_import.Goals as goal
+
+pub returns-then-is_loose_import-clause-sound : goal.returns-then-is_loose_import-clause-sound
+returns-then-is_loose_import-clause-sound c =
+    let none = ap (λ (x : Store). x.waits.taken) c.loop-id.invariant.same ∙ c.requires.none_taken in
+    import_again c.loop-id.store none c.loop-id.invariant.sound c.take_import.new.self c.note_import.new.self c.in-Some.id.0 c.in-Some.ensures c.in-Ok.ensures.ok
+
+pub loop-id-preserved : goal.loop-id-preserved
+loop-id-preserved c =
+    let none = ap (λ (x : Store). x.waits.taken) c.loop-id.invariant.same ∙ c.requires.none_taken in record {
+      same = ap (λ (x : Store). record x { names = c.take_import.new.self }) c.loop-id.invariant.same;
+      sound = import_passed c.loop-id.store none c.loop-id.invariant.sound c.take_import.new.self c.in-Some.id.0 c.in-Some.ensures c.if-is_loose_import.ensures;
+    }

@@ -1,0 +1,12 @@
+use Rattle.std.proofs.Common.{◌≡◌, length}
+use Rattle.vat_store.specs.Holding.{IsSound}
+use Rattle.step_collects.proofs.search.next_loose_import.Given as goal
+
+abbrev pub invariant-loop-id : goal.invariant-loop-id
+invariant-loop-id l = record {
+  same : l.store ≡ record (l.fn.store) { names = l.store.names };
+  sound : IsSound l.store;
+}
+
+abbrev pub decreases-loop-id : goal.decreases-loop-id
+decreases-loop-id l = length l.store.names.imports.noted

@@ -1,0 +1,22 @@
+-- One thing after the other goes of a vat.
+use Rattle.std.specs.Prelude.{◌≡◌, ℕ, ◌+◌, ◌<◌}
+use Rattle.std.specs.FinMap as map
+use Rattle.vat_machine.specs.State.{State}
+use Rattle.vat_machine.specs.Collecting.{Goes}
+use Rattle.vat_store.specs.Holding.{state_of}
+use Rattle.step_base.specs.declared.step.Step.{Step}
+use Rattle.step_base.specs.InProgress.{progress_of}
+
+-- How many things there are that may have to go.
+abbrev pub things : State → ℕ
+things s = map.len s.promises + map.len s.outcomes + map.len s.imports
+
+-- One thing went.
+pub record Drops (old new : Step) : Type 0 where
+  pub goes : Goes (progress_of old) (progress_of new)
+  pub fewer : things (state_of new.store) < things (state_of old.store)
+
+-- Nothing went, and this holds.
+pub record Rests (old new : Step) (P : Type 0) : Type 0 where
+  pub same : progress_of new ≡ progress_of old
+  pub rest : P

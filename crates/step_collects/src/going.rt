@@ -1,0 +1,92 @@
+ghost use Rattle.std.specs.Prelude.{◌≡◌, ℕ, [], MatchBool};
+ghost use Rattle.std.specs.FinMap as map;
+ghost use Rattle.vat_machine.specs.Collecting.{IsLoosePromise, IsLooseOutcome, IsLooseImport, IsTight, Collects};
+ghost use Rattle.vat_store.specs.Holding.{state_of};
+ghost use Rattle.step_base.specs.InProgress.{progress_of, IsReady};
+ghost use Rattle.step_collects.specs.Dropping.{Drops, Rests};
+
+use crate::search::{next_loose_import, next_loose_outcome, next_loose_promise};
+use step_base::Step;
+use store_peer::take_import;
+use store_waits::{remove_outcome, remove_promise};
+
+/// What no place names goes, one thing after the other, until nothing is left that would; each import is released with its
+/// whole count. Takes no memory. No call may be taken out to be routed.
+pub fn collect(step: &mut Step)
+    requires ready { IsReady step.old }
+    requires none_taken { step.old.store.waits.taken ≡ [] }
+    ensures collects { Collects (progress_of step.new) (progress_of step.old) }
+    ensures taken { step.new.store.waits.taken ≡ [] }
+    ensures ready { IsReady step.new }
+{
+    'dropping: while drop_one(step) {}
+}
+
+// One thing goes that no place names, if there is one.
+fn drop_one(step: &mut Step) -> bool
+    requires ready { IsReady step.old }
+    requires none_taken { step.old.store.waits.taken ≡ [] }
+    ensures drops { MatchBool result (Drops step.old step.new) (Rests step.old step.new (IsTight (state_of step.old.store))) }
+    ensures taken { step.new.store.waits.taken ≡ [] }
+    ensures ready { IsReady step.new }
+{
+    if drop_promise(step) {
+        return true;
+    }
+    if drop_outcome(step) {
+        return true;
+    }
+    drop_import(step)
+}
+
+// A promise goes that no place names, if there is one.
+fn drop_promise(step: &mut Step) -> bool
+    requires ready { IsReady step.old }
+    requires none_taken { step.old.store.waits.taken ≡ [] }
+    ensures drops { MatchBool result (Drops step.old step.new) (Rests step.old step.new ((p : ℕ) → ¬ (IsLoosePromise (state_of step.old.store) p (map.get (state_of step.old.store).promises p)))) }
+    ensures taken { step.new.store.waits.taken ≡ [] }
+    ensures ready { IsReady step.new }
+{
+    let Some(key) = next_loose_promise(&mut step.store) else {
+        return false;
+    };
+    let Some(_) = remove_promise(&mut step.store, key) else {
+        unreachable!()
+    };
+    true
+}
+
+// An outcome goes of which no place names a field, if there is one that may go.
+fn drop_outcome(step: &mut Step) -> bool
+    requires ready { IsReady step.old }
+    requires none_taken { step.old.store.waits.taken ≡ [] }
+    ensures drops { MatchBool result (Drops step.old step.new) (Rests step.old step.new ((o : ℕ) → ¬ (IsLooseOutcome (state_of step.old.store) o (map.get (state_of step.old.store).outcomes o)))) }
+    ensures taken { step.new.store.waits.taken ≡ [] }
+    ensures ready { IsReady step.new }
+{
+    let Some(key) = next_loose_outcome(&mut step.store) else {
+        return false;
+    };
+    remove_outcome(&mut step.store, key);
+    true
+}
+
+// An import goes that no place names, if there is one, and is to be released.
+fn drop_import(step: &mut Step) -> bool
+    requires ready { IsReady step.old }
+    requires none_taken { step.old.store.waits.taken ≡ [] }
+    ensures drops { MatchBool result (Drops step.old step.new) (Rests step.old step.new ((e : ℕ) → ¬ (IsLooseImport (state_of step.old.store) e (map.get (state_of step.old.store).imports e)))) }
+    ensures taken { step.new.store.waits.taken ≡ [] }
+    ensures ready { IsReady step.new }
+{
+    let Some(id) = next_loose_import(&mut step.store) else {
+        return false;
+    };
+    let Some(count) = take_import(&mut step.store, id) else {
+        unreachable!()
+    };
+    let Ok(()) = step.outbox.release(id, count) else {
+        unreachable!()
+    };
+    true
+}

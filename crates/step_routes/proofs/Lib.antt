@@ -1,0 +1,6 @@
+pub mod Behind
+pub mod Calling
+pub mod Delivering
+pub mod Describing
+pub mod Draining
+pub mod Sending

@@ -1,0 +1,36 @@
+use Rattle.std.proofs.Common.{◌≡◌, ◌+◌, List, [], ◌∷◌, ◌++◌, take, sym, ap, subst, ◌∙◌, arith}
+use Rattle.std.proofs.lemmas.List.{take_more}
+use Rattle.rpc_msg.specs.declared.ids.ExportId.{ExportId}
+use Rattle.rpc_msg.specs.declared.parts.Descriptor.{Descriptor}
+use Rattle.rpc_msg.specs.Messages.{given}
+use Rattle.vat_machine.specs.Progress.{export_ids}
+use Rattle.vat_machine.specs.declared.node.Node.{Node}
+use Rattle.vat_machine.specs.Descriptors.{DescribesAll}
+use Rattle.vat_store.specs.Holding.{state_of}
+use Rattle.step_routes.proofs.Describing.{describes_more, given_more}
+use Rattle.step_routes.proofs.descriptors.describe_all_kept.Goals as goal
+
+pub loop-node-preserved : goal.loop-node-preserved
+loop-node-preserved c =
+    let s = state_of c.args.store.now in
+    let xs : List Node = c.args.nodes.now in
+    let i = c.loop-node.node-index in
+    let x = c.node-item.result in
+    let before = c.loop-node.invariant in
+    let one = c.in_ok-one.one in
+    let new = state_of c.describe.new.store in
+    let made = c.in_ok-one.ensures in
+    let ids = c.push_given.ensures in
+    let taken : take i xs ++ x ∷ [] ≡ take (i + 1) xs = ap (λ n. take i xs ++ n ∷ []) c.node-item.is ∙ sym (take_more xs i x c.loop-node-test.true) in
+    let more : DescribesAll s (take i xs ++ x ∷ []) (c.loop-node.said.items ++ one ∷ []) new =
+    describes_more s (take i xs) c.loop-node.said.items (state_of c.loop-node.store) x one new before.said made.ok in
+    let pushed = c.in-Ok.ensures.items in record {
+      sound = c.describe.ensures.sound;
+      said = subst (λ (ds : List Descriptor). DescribesAll s (take (i + 1) xs) ds new) (sym pushed) (subst (λ (ns : List Node). DescribesAll s ns (c.loop-node.said.items ++ one ∷ []) new) taken more);
+      given = ids.ids ∙ ap (λ (l : List ExportId). l ++ export_ids (given (one ∷ []))) before.given ∙ sym (given_more c.loop-node.said.items one) ∙ ap (λ (ds : List Descriptor). export_ids (given ds)) (sym pushed);
+      left = let a = c.describe.ensures.left.0 in let b = before.left in omega (arith, a, b);
+      less = let a = c.describe.ensures.left.1 in let b = before.less in omega (arith, a, b);
+      waits = c.describe.ensures.waits ∙ before.waits;
+      room = let e = c.in-Ok.ensures.len in let f = c.push.ensures.capacity in let g = before.room in omega (arith, e, f, g, c.loop-node-test.true);
+      id_room = let e = ids.len in let f = ids.capacity in let g = before.id_room in omega (arith, e, f, g, c.loop-node-test.true);
+    }

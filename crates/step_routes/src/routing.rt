@@ -1,0 +1,125 @@
+ghost use Rattle.std.specs.Prelude.{◌≡◌, ◌+◌, ◌<◌, ◌≤◌, [], length, OnOk};
+ghost use Rattle.vat_machine.specs.Limits.{number_limit};
+ghost use Rattle.vat_machine.specs.Routing.{Routes, RoutesAll, RoutesHeld};
+ghost use Rattle.vat_waits.specs.Waiting.{calls_of};
+ghost use Rattle.step_base.specs.InProgress.{progress_of, IsReady};
+ghost use Rattle.step_routes.specs.Prepared.{IsPrepared};
+
+use crate::asking::relay_kept;
+use crate::broken::{end_broken_kept, exception_in};
+use crate::deliver::deliver_kept;
+use crate::lists::Lists;
+use crate::waiting::{wait_for_field, wait_for_promise};
+use rpc_msg::{Memory, Target};
+use std::alloc::Global;
+use step_base::Step;
+use vat_machine::{HeldCall, Node, WaitingCall};
+use vat_tables::TableFault;
+
+/// Routes a call to where the node settles: at an object it is delivered, at an open node it waits, at a wire it is sent,
+/// and at a broken node it ends. `Full` where a limit of the waiting calls, the questions or the exports is passed; the
+/// step is only to be dropped then. Takes no memory, but at most one of the slack for each capability, and two.
+pub fn route_kept(
+    step: &mut Step,
+    lists: Lists,
+    call: WaitingCall,
+    node: Node,
+) -> Result<(), TableFault>
+    requires ready { IsReady step.old }
+    requires slack { length call.request.caps + 2 ≤ step.old.store.slack }
+    requires next_refs { step.old.store.next_ref + length call.request.caps < number_limit }
+    requires next_task { step.old.store.next_task + 1 < number_limit }
+    requires prepared { IsPrepared (length call.request.caps) lists }
+    ensures routed { OnOk result (Routes (progress_of step.old) call node (progress_of step.new)) }
+    ensures left { OnOk result (step.old.store.slack ≤ step.new.store.slack + (length call.request.caps + 2)) }
+    ensures less { OnOk result (step.new.store.slack ≤ step.old.store.slack) }
+    ensures taken { OnOk result (step.new.store.waits.taken ≡ step.old.store.waits.taken) }
+    ensures ready { OnOk result (IsReady step.new) }
+{
+    let Lists {
+        refs,
+        said,
+        given,
+        text,
+    } = lists;
+    let at = vat_store::settle(&step.store, node);
+    match at {
+        Node::Object(object) => {
+            deliver_kept(step, call, object, refs);
+            Ok(())
+        }
+        Node::Promise(key) => wait_for_promise(step, call, key),
+        Node::Field(key, path) => wait_for_field(step, call, key, path),
+        Node::Import(id) => relay_kept(step, call, Target::ImportedCap(id), said, given),
+        Node::Pipe(question, path) => {
+            relay_kept(
+                step,
+                call,
+                Target::PromisedAnswer(question, path),
+                said,
+                given,
+            )
+        }
+        Node::Broken(reason) => {
+            end_broken_kept(step, call, exception_in(text, reason));
+            Ok(())
+        }
+    }
+}
+
+/// Routes a call to where the node settles, as `route_kept` does, and makes the room for it. `Err` for want of memory, or
+/// where a limit is passed; the step is only to be dropped then.
+pub fn route(step: &mut Step, alloc: Global, call: WaitingCall, node: Node) -> Result<(), Memory>
+    requires { IsReady step.old }
+    ensures routed { OnOk result (Routes (progress_of step.old) call node (progress_of step.new)) }
+    ensures taken { OnOk result (step.new.store.waits.taken ≡ step.old.store.waits.taken) }
+    ensures ready { OnOk result (IsReady step.new) }
+{
+    let count = call.request.caps.len();
+    let Some(_) = step.store.next_ref.checked_add(count as u64) else {
+        return Err(Memory);
+    };
+    let Some(_) = step.store.next_task.checked_add(1) else {
+        return Err(Memory);
+    };
+    let Some(more) = count.checked_add(2) else {
+        return Err(Memory);
+    };
+    let lists = Lists::new(alloc, count)?;
+    step_base::reserve(step, more)?;
+    let Ok(()) = route_kept(step, lists, call, node) else {
+        return Err(Memory);
+    };
+    Ok(())
+}
+
+/// Routes all calls that were taken out, in order, to where the node settles. `Err` for want of memory, or where a limit is
+/// passed; the step is only to be dropped then.
+pub fn route_taken(step: &mut Step, alloc: Global, node: Node) -> Result<(), Memory>
+    requires { IsReady step.old }
+    ensures routed { OnOk result (RoutesAll (progress_of step.old) (calls_of step.old.store.waits.taken) node (progress_of step.new)) }
+    ensures none { OnOk result (step.new.store.waits.taken ≡ []) }
+    ensures ready { OnOk result (IsReady step.new) }
+{
+    let target = &node;
+    while let Some(held) = store_waits::next_taken(&mut step.store) {
+        let HeldCall { path: _, call } = held;
+        route(step, alloc, call, *target)?;
+    }
+    Ok(())
+}
+
+/// Routes all calls that were taken out, in order, each to the field of that outcome for which it waited. `Err` for want of
+/// memory, or where a limit is passed; the step is only to be dropped then.
+pub fn route_held(step: &mut Step, alloc: Global, o: u64) -> Result<(), Memory>
+    requires { IsReady step.old }
+    ensures routed { OnOk result (RoutesHeld (progress_of step.old) o step.old.store.waits.taken (progress_of step.new)) }
+    ensures none { OnOk result (step.new.store.waits.taken ≡ []) }
+    ensures ready { OnOk result (IsReady step.new) }
+{
+    while let Some(held) = store_waits::next_taken(&mut step.store) {
+        let HeldCall { path, call } = held;
+        route(step, alloc, call, Node::Field(o, path))?;
+    }
+    Ok(())
+}

@@ -1,0 +1,6 @@
+pub mod Beside
+pub mod Listed
+pub mod Asking
+pub mod Answering
+pub mod Importing
+pub mod Exporting

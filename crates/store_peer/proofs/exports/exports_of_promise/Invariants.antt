@@ -1,0 +1,11 @@
+use Rattle.std.proofs.Common.{◌≡◌, ◌<◌, ◌++◌, All}
+use Rattle.std.specs.FinMap as map
+use Rattle.vat_machine.specs.Nodes.{is_promise}
+use Rattle.vat_machine.specs.Settling.{exports_where}
+use Rattle.store_peer.proofs.exports.exports_of_promise.Given as goal
+
+abbrev pub invariant-loop-id : goal.invariant-loop-id
+invariant-loop-id l = record {
+  so_far : l.found ++ exports_where (is_promise l.p) l.id-iterator ≡ exports_where (is_promise l.p) (map.entries l.store.exports.entries);
+  ids : All (λ entry. entry.0 < 4294967296) l.id-iterator;
+}

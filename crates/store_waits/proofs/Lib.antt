@@ -1,0 +1,6 @@
+pub mod Beside
+pub mod Keeping
+pub mod Knowing
+pub mod Lifting
+pub mod Linked
+pub mod Promising

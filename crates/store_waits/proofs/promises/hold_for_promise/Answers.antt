@@ -1,0 +1,16 @@
+use Rattle.std.proofs.Common.{arith}
+use Rattle.std.specs.FinMap as map
+use Rattle.store_waits.proofs.Beside.{named_each}
+use Rattle.store_waits.proofs.Promising.{waits_there, sound_held}
+use Rattle.store_waits.proofs.promises.hold_for_promise.Goals as goal
+
+pub returns-clause-sound : goal.returns-clause-sound
+returns-clause-sound c =
+    let x = c.args.store.now in
+    let some = c.requires.slack in
+    sound_held x c.args.key c.args.call c.hold_for_promise.new.self c.add_all.new.self c.len-count.result c.len-count.ensures c.requires.sound some
+    (omega (arith, c.held.ensures.within, c.held.ensures.value, c.if-held-eq-POOL_LIMIT.false)) c.in-Ok-hold_for_promise.ensures.ok
+    (named_each x c.as_slice.result.now c.args.call.request.caps c.add_all.new.self c.requires.sound c.as_slice.ensures (omega (arith, some)) c.in-Ok.ensures.in_room)
+
+pub returns-clause-ok : goal.returns-clause-ok
+returns-clause-ok c = λ d. waits_there c.args.store.now c.args.key c.args.call (map.get c.args.store.now.waits.promises c.args.key) c.hold_for_promise.new.self d c.in-Ok-hold_for_promise.ensures.ok
