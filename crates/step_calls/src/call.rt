@@ -13,8 +13,9 @@ ghost use Rattle.step_calls.specs.Ways.{numbered};
 
 use crate::request::request_of;
 use crate::ways::{call_here, call_over, call_under};
-use rpc_msg::{CallId, EmbargoId, RefId, Target};
+use rpc_msg::{CallId, EmbargoId, RefId};
 use step_base::Step;
+use step_checks::wire_target;
 use step_routes::Lists;
 use store_names::{count_made, number_call};
 use vat_machine::{CallCommand, Node, Reference, Request};
@@ -46,17 +47,6 @@ fn number_through(step: &mut Step, reference: RefId) -> CallId
 {
     count_made(&mut step.store, reference);
     number_call(&mut step.store)
-}
-
-// The target on the wire, of a node that is one.
-fn wire_target(at: &Node) -> Option<Target>
-    ensures { result ≡ wire_target at.now }
-{
-    match at {
-        Node::Import(id) => Some(Target::ImportedCap(*id)),
-        Node::Pipe(question, path) => Some(Target::PromisedAnswer(*question, *path)),
-        _ => None,
-    }
 }
 
 // By where the head settles.

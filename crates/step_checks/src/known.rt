@@ -1,12 +1,12 @@
 ghost use Rattle.std.specs.Prelude.{◌≡◌, ◌↔◌, IsTrue, true};
 ghost use Rattle.vat_machine.specs.Nodes.{settle, is_wire, is_same_node};
-ghost use Rattle.vat_machine.specs.Advancing.{known_of_wire, known_by, known_cap};
+ghost use Rattle.vat_machine.specs.Advancing.{known_of_wire, known_by, known_cap, wire_target};
 ghost use Rattle.vat_machine.specs.Payloads.{cap_at};
 ghost use Rattle.vat_machine.specs.declared.node.Node.TheVariants as node;
 ghost use Rattle.vat_store.specs.Holding.{state_of, IsSound};
 ghost use Rattle.step_checks.specs.Wires.{as_known};
 
-use rpc_msg::{CapAt, Descriptor, ExportId, Op, Path, Payload, QuestionId};
+use rpc_msg::{CapAt, Descriptor, ExportId, Op, Path, Payload, QuestionId, Target};
 use vat_machine::{Node, Reason, Resolution, Returned};
 use vat_store::{Store, settle};
 
@@ -83,6 +83,17 @@ pub fn known_of_wire(store: &Store, node: Node) -> Known
         Node::Import(id) => of_import(store, id),
         Node::Pipe(id, path) => of_pipe(store, id, path),
         _ => Known::Nothing,
+    }
+}
+
+/// The target of messages on a wire. Of other nodes there is none.
+pub fn wire_target(node: &Node) -> Option<Target>
+    ensures { result ≡ wire_target node.now }
+{
+    match node {
+        Node::Import(id) => Some(Target::ImportedCap(*id)),
+        Node::Pipe(question, path) => Some(Target::PromisedAnswer(*question, *path)),
+        _ => None,
     }
 }
 

@@ -18,7 +18,7 @@ pub use faults::{
     fault_before_call, fault_before_finish, fault_before_return, fault_behind_call,
     fault_of_bootstrap, fault_of_disembargo, fault_of_release, fault_of_resolve, target_node,
 };
-pub use known::{Known, known_of_wire, leads_back};
+pub use known::{Known, known_of_wire, leads_back, wire_target};
 pub use laws::{calls_are_refused, descriptors_in_turn, faults_in_parts, flags_in_turn};
 pub use received::{fault_before, fault_before_echoed, fault_behind, is_foreign};
 pub use refusals::{

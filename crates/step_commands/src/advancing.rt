@@ -12,25 +12,14 @@ ghost use Rattle.step_base.specs.InProgress.{progress_of, IsReady};
 ghost use Rattle.step_checks.specs.Wires.{as_known};
 ghost use Rattle.step_commands.specs.Named.{IsNamed};
 
-use rpc_msg::{Descriptor, Disembargo, DisembargoContext, PlainMessage, RefId, Target};
+use rpc_msg::{Descriptor, Disembargo, DisembargoContext, PlainMessage, RefId};
 use step_base::{Step, send};
-use step_checks::{Known, known_of_wire, leads_back};
+use step_checks::{Known, known_of_wire, leads_back, wire_target};
 use store_names::{set_head, turn_under};
 use store_waits::open_embargo;
 use vat_journal::Advanced;
 use vat_machine::{Node, Reference};
 use vat_store::settle;
-
-// The target on the wire, of a wire.
-fn wire_target(wire: &Node) -> Option<Target>
-    ensures { result ≡ wire_target wire.now }
-{
-    match wire {
-        Node::Import(id) => Some(Target::ImportedCap(*id)),
-        Node::Pipe(question, path) => Some(Target::PromisedAnswer(*question, *path)),
-        _ => None,
-    }
-}
 
 // The reference leads there from now on.
 fn head_to(step: &mut Step, id: RefId, from: &Reference, to: &Node)

@@ -1,29 +1,29 @@
-ghost use Rattle.std.specs.Prelude.{◌≡◌, ◌<◌, IsSome, IsOk, OnOk};
+ghost use Rattle.std.specs.Prelude.{◌≡◌, ◌<◌, None};
 ghost use Rattle.std.specs.FinMap as map;
 ghost use Rattle.vat_machine.specs.declared.command.Command.TheVariants as command;
 ghost use Rattle.vat_machine.specs.declared.command.Granted.TheVariants as granted;
 ghost use Rattle.vat_machine.specs.Commands.{Acts};
+ghost use Rattle.vat_machine.specs.Refusals.{refused};
 ghost use Rattle.vat_store.specs.Holding.{state_of};
 ghost use Rattle.store_names.specs.Ends.{HasItsOwnAlone};
 ghost use Rattle.step_base.specs.InProgress.{progress_of, IsReady};
 
-use rpc_msg::{CallId, Memory};
+use rpc_msg::CallId;
 use step_base::Step;
 use store_names::end_call;
 
-/// The application is not told of a call any more, which has no question and no outcome but its own. What follows is found
-/// at the end of the step. `Err` where there is no such call. Takes no memory, but one of the slack.
-pub fn finish_call(step: &mut Step, id: CallId) -> Result<(), Memory>
+/// The application is not told of a call any more, which has no question and no outcome but its own, where that is not
+/// refused. What follows is found at the end of the step. Takes no memory, but one of the slack.
+pub fn finish_call(step: &mut Step, id: CallId)
     requires ready { IsReady step.old }
     requires slack { 0 < step.old.store.slack }
+    requires allowed { refused (state_of step.old.store) (command.Finish id) ≡ None }
     requires own { HasItsOwnAlone (state_of step.old.store) id.0 (map.get (state_of step.old.store).calls id.0) }
-    ensures acts { OnOk result (Acts (progress_of step.old) (command.Finish id) granted.Done (progress_of step.new)) }
-    ensures never { IsSome (map.get (state_of step.old.store).calls id.0) → IsOk result }
+    ensures acts { Acts (progress_of step.old) (command.Finish id) granted.Done (progress_of step.new) }
     ensures taken { step.new.store.waits.taken ≡ step.old.store.waits.taken }
     ensures ready { IsReady step.new }
 {
-    match end_call(&mut step.store, id) {
-        Some(_) => Ok(()),
-        None => Err(Memory),
-    }
+    let Some(_) = end_call(&mut step.store, id) else {
+        unreachable!()
+    };
 }
