@@ -33,7 +33,7 @@ use Rattle.laws_acts.specs.MessageActs as message
 use Rattle.laws_acts.specs.SmallActs.{Act}
 use Rattle.laws_acts.specs.SmallActs as act
 use Rattle.laws_acts.proofs.EachStep.{IsLaw, of_each_step}
-use Rattle.laws_nodes.specs.OwnCalls.{IsOutcomeFor, IsQuestionFor, HasItsOwnAlone, CallsHaveTheirOwn}
+use Rattle.vat_machine.specs.OwnCalls.{IsOutcomeFor, IsQuestionFor, HasItsOwnAlone, CallsHaveTheirOwn}
 
 -- ---- What is of a call is its own
 

@@ -5,7 +5,7 @@ ghost use Rattle.vat_machine.specs.declared.command.Granted.TheVariants as grant
 ghost use Rattle.vat_machine.specs.Commands.{Acts};
 ghost use Rattle.vat_machine.specs.Refusals.{refused};
 ghost use Rattle.vat_store.specs.Holding.{state_of};
-ghost use Rattle.store_names.specs.Ends.{HasItsOwnAlone};
+ghost use Rattle.vat_machine.specs.OwnCalls.{HasItsOwnAlone};
 ghost use Rattle.step_base.specs.InProgress.{progress_of, IsReady};
 
 use rpc_msg::CallId;

@@ -23,7 +23,8 @@ use Rattle.vat_names.specs.Names.{Counted, Names, Counts, times, times_named, Ha
 use Rattle.vat_names.proofs.Rooms.{room_fewer}
 use Rattle.vat_store.specs.declared.store.Store.{Store}
 use Rattle.vat_store.specs.Holding.{state_of, all_named, IsToldTo, IsTold, IsNoted, IsNotedFor, IsNotedAs, IsCovered, IsSound}
-use Rattle.store_names.specs.Ends.{IsOutcomeFor, IsQuestionFor, HasItsOwnAlone, noted_unnamed, noted_for}
+use Rattle.vat_machine.specs.OwnCalls.{IsOutcomeFor, IsQuestionFor, HasItsOwnAlone}
+use Rattle.store_names.specs.Ends.{noted_unnamed, noted_for}
 use Rattle.store_names.proofs.Beside.{AreNamed, call_numbers, task_numbers, promise_numbers, same_counts, same_room, spare_less, still_noted, noted_here, noted_more, numbers_still, numbers_given, numbers_without, same_names, kept_numbers}
 
 -- ---- A call comes

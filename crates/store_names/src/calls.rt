@@ -3,7 +3,8 @@ ghost use Rattle.std.specs.FinMap as map;
 ghost use Rattle.vat_machine.specs.Limits.{number_limit};
 ghost use Rattle.vat_names.specs.Names.{HasSpare};
 ghost use Rattle.vat_store.specs.Holding.{state_of, IsSound};
-ghost use Rattle.store_names.specs.Ends.{HasItsOwnAlone, noted_for};
+ghost use Rattle.vat_machine.specs.OwnCalls.{HasItsOwnAlone};
+ghost use Rattle.store_names.specs.Ends.{noted_for};
 
 use rpc_msg::CallId;
 use vat_machine::OwnCall;

@@ -2,6 +2,7 @@ pub mod Lists
 pub mod Numbers
 pub mod Payloads
 pub mod State
+pub mod OwnCalls
 pub mod Nodes
 pub mod Places
 pub mod Progress

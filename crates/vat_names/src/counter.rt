@@ -180,6 +180,13 @@ impl Counter {
         Ok(())
     }
 
+    /// The keys that are noted, some perhaps more than once. Takes no memory.
+    pub fn noted(&self) -> &[u64]
+        ensures { result.now ≡ self.now.noted }
+    {
+        &self.noted
+    }
+
     /// Takes out the key that was noted last; its place is spare then, until the next `reserve`. Takes no memory.
     pub fn take_noted(&mut self) -> Option<u64>
         ensures { TakesNoted self.old result self.new }

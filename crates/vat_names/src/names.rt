@@ -30,7 +30,7 @@ impl Model for Names {
 }
 
 impl Names {
-    ghost use Rattle.vat_names.specs.Names.{no_names, times, times_named, named, unnamed, named_all, unnamed_all, noting, Takes, HasRoom, HasSpare, CanCount, all_roomier, all_with_rooms, export_key, question_key};
+    ghost use Rattle.vat_names.specs.Names.{no_names, times, times_named, named, unnamed, named_all, unnamed_all, noting, Takes, HasRoom, HasSpare, CanCount, all_roomier, all_with_rooms, export_key, question_key, HasIds};
 
     /// Counts nothing. Takes no memory.
     pub fn new(alloc: Global) -> Self
@@ -225,6 +225,36 @@ impl Names {
         ensures same { OnErr result (self.new ≡ self.old) }
     {
         self.questions.note(id.0 as u64)
+    }
+
+    /// The promises that are noted, some perhaps more than once. Takes no memory, as do the next three.
+    pub fn noted_promises(&self) -> &[u64]
+        ensures { result.now ≡ self.now.promises.noted }
+    {
+        self.promises.noted()
+    }
+
+    /// The outcomes that are noted.
+    pub fn noted_outcomes(&self) -> &[u64]
+        ensures { result.now ≡ self.now.outcomes.noted }
+    {
+        self.outcomes.noted()
+    }
+
+    /// The ids of the imports that are noted.
+    pub fn noted_imports(&self) -> &[u64]
+        ensures value { result.now ≡ self.now.imports.noted }
+        ensures ids { HasIds result.now }
+    {
+        self.imports.noted()
+    }
+
+    /// The ids of the questions that are noted.
+    pub fn noted_questions(&self) -> &[u64]
+        ensures value { result.now ≡ self.now.questions.noted }
+        ensures ids { HasIds result.now }
+    {
+        self.questions.noted()
     }
 
     /// Takes out the promise that was noted last. Takes no memory, as do the next three.
