@@ -49,7 +49,7 @@ use Rattle.laws_acts.proofs.Alone.{go_out, same_out}
 use Rattle.laws_acts.proofs.Pieces.{then, routes, routes_all, settles, lists}
 use Rattle.laws_acts.proofs.Ends.{ended}
 
-abbrev Begun : State → Command → Granted → Progress → Type 0
+abbrev pub Begun : State → Command → Granted → Progress → Type 0
 Begun s c g new = (m : Moment) × Starts (beginning s) c g m × Acts (at_rest new) m
 
 -- It is the first act alone.
@@ -199,7 +199,7 @@ advances s r (Some x) g new e h = advances_from s r x g new e x.embargo refl h
 
 -- ---- All
 
-begun : (s : State) (c : Command) (g : Granted) (new : Progress) → commands.Acts (begin s) c g new → Begun s c g new
+pub begun : (s : State) (c : Command) (g : Granted) (new : Progress) → commands.Acts (begin s) c g new → Begun s c g new
 begun s (command.Host o) g new h = alone (first.Hosts o refl h.0 (ap at_rest h.1))
 begun s (command.CloneRef r) g new h = clones s r _ g new refl h
 begun s (command.DropRef r) g new h = drops s r _ g new refl h

@@ -26,9 +26,7 @@ use Rattle.vat_machine.specs.Settling.{ResolvesEach, SendsResolves, SettlesOpen,
 use Rattle.laws_steps.specs.Callers.{IsOpenFor, AnswersWith, IsAskedFor, peer}
 use Rattle.laws_steps.specs.NodesThere.{Stands}
 use Rattle.finite_maps.proofs.Gets.{get-insert_same}
-use Rattle.laws_steps.proofs.Pieces.{IsException, AllExceptions}
-use Rattle.laws_steps.proofs.Exceptions.{walks, lets_go, first_arises}
-use Rattle.laws_steps.proofs.Walking.{excepted}
+use Rattle.laws_steps.proofs.Exceptions.{IsException, AllExceptions, first_arises}
 use Rattle.laws_steps.proofs.NamedNodes.{Present, Asked, asker, asker_by, AllIn, all_none, all_one, all_append, all_left, all_right, each_at, HereIn, Fine, settle_here, grows_promise, grows_outcome, set_promise, set_outcome}
 use Rattle.vat_machine.specs.Places.{named_by_promise, named_by_outcome, named_by_export, named_by_value, named_by_held, named_by_calls}
 use Rattle.laws_steps.proofs.NamedPieces.{EachHere, each_here, where_here, all_of_map, by_value, same_caller, all_grow, routes as routed_on, routes_all as all_routed_on, routes_held as held_routed_on, resolved_to as resolved_on, fitted, tells}
@@ -236,7 +234,7 @@ module _ {w : Asked} where
       let b = subst (λ (xs : List (ℕ × Value)). AllExceptions xs) e a in
       let left : Progress = record d { arisen = rest } in
       let none_said = no_caps (HereIn w d.state) v b.0 in
-      first d left new (NextArisen o v rest e refl) tt (then left mid new (settles left o v mid i none_said h) (drained new mid (excepted walks lets_go left o v mid b.0 h b.1) (settled_on left o v mid i none_said h) more))
+      first d left new (NextArisen o v rest e refl) tt (then left mid new (settles left o v mid i none_said h) (drained new mid (first_arises left o v mid h b.1) (settled_on left o v mid i none_said h) more))
 
   -- The only outcome that arose.
   pub drained_first : (new d : Progress) (o : ℕ) (v : Value) → d.arisen ≡ (o, v) ∷ [] → Fine w d.state → AllIn (HereIn w d.state) (caps_of v) → Drains new d → Said d new

@@ -66,8 +66,7 @@ use Rattle.rpc_msg.specs.declared.message.Call.{Call}
 use Rattle.vat_machine.specs.Settling.{TellsCall}
 use Rattle.vat_machine.specs.Lists.{updated}
 use Rattle.finite_maps.proofs.Sorted.{first_entry, sorted_tail}
-use Rattle.laws_steps.proofs.Pieces.{AllExceptions}
-use Rattle.laws_steps.proofs.Exceptions.{act_arises}
+use Rattle.laws_steps.proofs.Exceptions.{AllExceptions, act_arises}
 use Rattle.laws_steps.proofs.NamedNodes.{set_refs, set_embargoes, each_cut, Asked, AllIn, all_none, all_one, each_at, HereIn, Fine, settle_here, grows_outcome}
 use Rattle.laws_steps.proofs.NamedPieces.{set_rest, all_grow}
 use Rattle.laws_steps.proofs.NamedSteps.{heads_here, kept_here, grown, acts as acted_on}
@@ -258,7 +257,7 @@ module _ {w : Asked} where
   acted d (command.Shut n) a new i h = absurd h
 
 pub does_whole : (s : State) (c : Command) (a : Granted) (x : Effects) (new : State) → Whole s → Does s c a x new → NamingActs (begin s) x new
-does_whole s c a x new i h = ended (begin s) h.acted x new (acted (begin s) c a h.acted i.fine h.acts) (acted_on (begin s) c a h.acted i.fine h.acts, inl (act_arises (begin s) c a h.acted h.acts tt)) h.ends
+does_whole s c a x new i h = ended (begin s) h.acted x new (acted (begin s) c a h.acted i.fine h.acts) (acted_on (begin s) c a h.acted i.fine h.acts, inl (act_arises s c a h.acted h.acts)) h.ends
 
 pub does : (s : State) (c : Command) (a : Granted) (x : Effects) (new : State) → IsReached s → Does s c a x new → NamingActs (begin s) x new
 does s c a x new r h = does_whole s c a x new (reached s r) h

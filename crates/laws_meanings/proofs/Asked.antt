@@ -48,7 +48,7 @@ IsAsked v h c = (a : Asking) × (asking h v c ≡ Some a)
 
 -- ---- The next number through a step
 
-same_next : (n : ℕ) (d new : Moment) → d.state.next_call ≡ n → Act d new → new.state.next_call ≡ n
+pub same_next : (n : ℕ) (d new : Moment) → d.state.next_call ≡ n → Act d new → new.state.next_call ≡ n
 same_next n d new i (act.Delivers c m rest u e f h) = rw h i
 same_next n d new i (act.Waits c m rest p calls e f j h) = rw h i
 same_next n d new i (act.Holds c m rest u path x e f j h) = rw h i
@@ -136,12 +136,12 @@ grown v s n h own a (inr e) c l = by (nat_eq c s.next_call) refl
 
 -- ---- Steps
 
-commands : (h : List JournalEntry) (v : Vat) (s : State) (c : Command) (g : Granted) (x : Effects) (t : State) → Does s c g x t → Raises h v s c g t.next_call
+pub commands : (h : List JournalEntry) (v : Vat) (s : State) (c : Command) (g : Granted) (x : Effects) (t : State) → Does s c g x t → Raises h v s c g t.next_call
 commands h v s c g x t d =
     let k = done (λ m. Raises h v s c g m.state.next_call) s c g x t (λ new j. raises h v s c g new j) (λ m new i a. subst (Raises h v s c g) (sym (same_next m.state.next_call m new refl a)) i) d in
     at_end (λ u y. Raises h v s c g u.next_call) k.last x t k.ends k.holds
 
-messages : (s : State) (m : Message) (x : Effects) (t : State) → fault_of s m ≡ None → Handles s m x t → t.next_call ≡ s.next_call
+pub messages : (s : State) (m : Message) (x : Effects) (t : State) → fault_of s m ≡ None → Handles s m x t → t.next_call ≡ s.next_call
 messages s m x t f d =
     let k = handled (λ m. m.state.next_call ≡ s.next_call) s m x t f (λ new j. keeps_next s m new j) (λ m new i a. same_next s.next_call m new i a) d in
     at_end (λ u y. u.next_call ≡ s.next_call) k.last x t k.ends k.holds

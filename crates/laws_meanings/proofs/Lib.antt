@@ -9,3 +9,12 @@ pub mod Ends
 pub mod Ending
 pub mod Left
 pub mod Asked
+pub mod Placed
+pub mod Placing
+pub mod Numbers
+pub mod Asking
+pub mod Rooting
+pub mod Opening
+pub mod Hosting
+pub mod Rooted
+pub mod Leaving

@@ -155,7 +155,7 @@ module _ (h : List JournalEntry) where
       at_end Kept k.last x t k.ends (let z = k.holds in (z.0, z.3, z.4))
 
 -- A call that is granted is answered with its number.
-grants : (s : State) (c : Command) (g : Granted) (new : Moment) (k : CallCommand) → c ≡ command.Call k → Starts (beginning s) c g new → g ≡ granted.Call (record { 0 = s.next_call })
+pub grants : (s : State) (c : Command) (g : Granted) (new : Moment) (k : CallCommand) → c ≡ command.Call k → Starts (beginning s) c g new → g ≡ granted.Call (record { 0 = s.next_call })
 grants s c g new k j (first.CallsOut y x q t ds es e f w l m n a u) = a
 grants s c g new k j (first.CallsHere y x o e f w l m a u) = a
 grants s c g new k j (first.CallsLater y x o z b e f w l m a u) = a

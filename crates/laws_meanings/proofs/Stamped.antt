@@ -45,7 +45,7 @@ is_unused h v k n = by (made_with h s) refl
     by None e = refl
     by (Some m) e = let b = below h s 0 m (n (caller s)) e in absurd (omega arith)
 
-same_itself : (s : Stamp) → same_stamp s s ≡ true
+pub same_itself : (s : Stamp) → same_stamp s s ≡ true
 same_itself s = by (same_vat s.vat s.vat) (nat_eq s.reference.0 s.reference.0) (nat_eq s.index s.index) (reading.itself s.vat) (itself s.reference.0) (itself s.index)
   where
     by : (a b c : Bool) → a ≡ true → b ≡ true → c ≡ true → (a && b && c) ≡ true

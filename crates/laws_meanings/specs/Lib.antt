@@ -3,3 +3,5 @@ pub mod NewReferences
 pub mod FirstEnds
 pub mod WhatIsLeft
 pub mod AskedCalls
+pub mod OnePlace
+pub mod Bootstraps

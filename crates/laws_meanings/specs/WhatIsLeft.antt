@@ -1,12 +1,14 @@
 -- What is promised of deliveries and ends in scenes, but for what references stand for and how calls were answered.
-use Rattle.std.specs.Prelude.{Option}
+use Rattle.std.specs.Prelude.{◌≡◌, Option, Some}
 use Rattle.rpc_msg.specs.declared.ids.ObjectId.{ObjectId}
 use Rattle.vat_journal.specs.declared.entry.JournalEntry.{JournalEntry}
 use Rattle.vat_journal.specs.declared.entry.JournalEntry.TheVariants as entry
 use Rattle.vat_journal.specs.History.{caller}
-use Rattle.vat_journal.specs.Sources.{asking}
+use Rattle.rpc_msg.specs.declared.ids.Stamp.{Stamp}
+use Rattle.vat_journal.specs.Sources.{OfCall, asking}
 use Rattle.vat_journal.specs.Meaning.{History}
-use Rattle.vat_machine.specs.Claims.{IsTo, EndsAsked, Upto, IsInTime, EndsAreSo, history}
+use Rattle.vat_journal.specs.History.{answer_of}
+use Rattle.vat_machine.specs.Claims.{IsTo, EndsCall, EndsAsked, Upto, IsInTime, EndsAreSo, history}
 use Rattle.laws_runs.specs.Scenes.{Scene, IsScene}
 
 -- A delivery is to the object that its call's reference stands for.
@@ -29,3 +31,13 @@ abbrev pub AnswersAreLeft : Type 0
 AnswersAreLeft =
     (root_a root_b : Option ObjectId) (x : Scene)
     → IsScene root_a root_b x → Upto IfAnswered (history root_a root_b x.journal) → EndsAreSo (history root_a root_b x.journal)
+
+-- Of these what is not known is how calls end: each as it was answered.
+abbrev pub IfCallAnswered : History → JournalEntry → Type 0
+IfCallAnswered h (entry.Ended v x) = (s : Stamp) → asking h.journal v x.call.0 ≡ Some (OfCall s) → EndsCall h s (answer_of h.journal s) x.outcome x.refs
+IfCallAnswered h e = Unit {0}
+
+abbrev pub CallsAreLeft : Type 0
+CallsAreLeft =
+    (root_a root_b : Option ObjectId) (x : Scene)
+    → IsScene root_a root_b x → Upto IfCallAnswered (history root_a root_b x.journal) → EndsAreSo (history root_a root_b x.journal)

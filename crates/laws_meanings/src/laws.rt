@@ -2,9 +2,14 @@
 
 ghost use Rattle.laws_meanings.specs.AsMade.{CallsAreAsMade, DeliveriesAreAsMade};
 ghost use Rattle.laws_meanings.specs.NewReferences.{GivenAreNew};
+ghost use Rattle.laws_meanings.specs.OnePlace.{CallsAreAtOnePlace, DeliveriesAreFirst, DeliveredOnce};
 ghost use Rattle.laws_meanings.specs.FirstEnds.{EndsAreFirst};
 ghost use Rattle.laws_meanings.specs.AskedCalls.{EndsWereAsked};
-ghost use Rattle.laws_meanings.specs.WhatIsLeft.{ObjectsAreLeft, AnswersAreLeft};
+ghost use Rattle.laws_meanings.specs.Bootstraps.{NumbersAreAsked, RootsAreReturned, RootsAreLeft, BootstrapsEnd};
+ghost use Rattle.laws_meanings.specs.WhatIsLeft.{ObjectsAreLeft, AnswersAreLeft, CallsAreLeft};
+
+use laws_answers::named_answers_are_there;
+use laws_sessions::counts_agree_in_scenes;
 
 /// In each scene every call that waits or is on its way, and every delivery in the history up to it, has the interface,
 /// method and payload of the call that was made with its stamp, and as many capabilities as that had references.
@@ -17,6 +22,14 @@ pub fn calls_are_as_made()
 /// are different ones.
 pub fn given_references_are_new()
     ensures { GivenAreNew }
+{}
+
+/// In each scene each call is at one place at most: it waits at one vat, is on its way to one, or was delivered. So each
+/// delivery of a call is its first; and in every run no call is delivered twice.
+pub fn calls_are_at_one_place()
+    ensures places { CallsAreAtOnePlace }
+    ensures deliveries { DeliveriesAreFirst }
+    ensures runs { DeliveredOnce }
 {}
 
 /// In each scene each end of a call, or of a Bootstrap, is its first.
@@ -39,3 +52,36 @@ pub fn meanings_are_left()
 pub fn ends_were_asked()
     ensures { EndsWereAsked }
 {}
+
+/// In each scene an outcome of which the application is told is of one of its calls, and no Bootstrap; a question that is
+/// asked for the application was asked by it; and a number to come was asked for nothing.
+pub fn own_numbers_were_asked()
+    ensures { NumbersAreAsked }
+{}
+
+/// Where in each scene the oldest Return to a Bootstrap says the other vat's bootstrap object, or that there is none, each
+/// Bootstrap ends so.
+pub fn bootstraps_are_left()
+    ensures { RootsAreLeft }
+{
+    named_answers_are_there();
+}
+
+/// In each scene the oldest Return to a Bootstrap that is not finished says the other vat's bootstrap object, or that there
+/// is none; and each Bootstrap ends so.
+pub fn bootstraps_end_with_roots()
+    ensures returned { RootsAreReturned }
+    ensures ends { BootstrapsEnd }
+{
+    counts_agree_in_scenes();
+    bootstraps_are_left();
+}
+
+/// Where in a scene each end of a call is as that was answered, all that is promised of its ends holds.
+pub fn ends_of_calls_are_left()
+    ensures { CallsAreLeft }
+{
+    ends_were_asked();
+    bootstraps_end_with_roots();
+    meanings_are_left();
+}

@@ -4,5 +4,7 @@
 mod laws;
 
 pub use laws::{
-    calls_are_as_made, ends_are_first, ends_were_asked, given_references_are_new, meanings_are_left,
+    bootstraps_are_left, bootstraps_end_with_roots, calls_are_as_made, calls_are_at_one_place,
+    ends_are_first, ends_of_calls_are_left, ends_were_asked, given_references_are_new,
+    meanings_are_left, own_numbers_were_asked,
 };

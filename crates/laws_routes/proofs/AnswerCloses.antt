@@ -1,7 +1,6 @@
 -- An answer closes: its Finish has come, and its Return was sent.
-use mathlib.Core.Path.{fun_ext}
 use Rattle.std.specs.FinMap as map
-use Rattle.std.proofs.Common.{◌≡◌, ◌⊎◌, inl, inr, ℕ, Bool, nat_eq, true, false, cond, List, [], ◌∷◌, Option, None, Some, refl, sym, ap, ap₂, subst, ◌∙◌, arith}
+use Rattle.std.proofs.Common.{◌≡◌, ◌⊎◌, inl, inr, ℕ, Bool, nat_eq, true, false, List, [], ◌∷◌, ◌++◌, Option, None, Some, refl, sym, ap, ap₂, subst, ◌∙◌}
 use Rattle.finite_maps.specs.Tally.{Map}
 use Rattle.finite_maps.proofs.Tested.{equal, get_left}
 use Rattle.rpc_msg.specs.declared.ids.Vat.{Vat}
@@ -33,58 +32,26 @@ use Rattle.call_order.specs.Machine.{Call, Disembargo}
 use Rattle.call_order.specs.Machine as routing
 use Rattle.call_order.specs.Moves.{Done}
 use Rattle.laws_routes.specs.Points.{AField, routes}
-use Rattle.laws_routes.specs.Ghosts.{Ghost, with_at}
+use Rattle.laws_routes.specs.Ghosts.{Ghost}
 use Rattle.laws_routes.specs.Views.{Reader, IsSession, disembargo_shape, embargo_ref, past, past_one, reader, session_of, sessions_at, shape, shapes, target_point}
 use Rattle.laws_routes.specs.Ties.{Around, Ghosts, Tied}
-use Rattle.laws_routes.specs.Premises.{TargetsAreMet}
 use Rattle.laws_routes.specs.Laws.{IsFollowed, with_back}
 use Rattle.laws_routes.specs.QuietLaws.{AimsElsewhere, IsAsked, IsFinished, IsOffAnswer, MayClose, MayCloseIf, MayLower, NoneAims, Unless, opens}
+use Rattle.laws_routes.proofs.AlikeSessions.{AlikeBut, past_alike, past_opened}
 use Rattle.laws_routes.proofs.ExportsGrown.{Exports, grown_tied}
 use Rattle.laws_routes.proofs.ExportsLowered.{obeyed}
 use Rattle.laws_routes.proofs.ReturnSent.{answers_tied, collected, given_tied, says_exports, sessions_same}
 use Rattle.laws_routes.proofs.SilentMessages.{silent_comes, silent_goes}
+use Rattle.laws_routes.specs.Sayings.{SaidIfThere, SaidOfAnswer, bare, descriptor_point, has_of}
+use Rattle.laws_routes.specs.SayingLaws.{MaySayBack}
+use Rattle.laws_routes.specs.MessageLaws.{SaysSo}
+use Rattle.laws_routes.specs.KnownLaws.{has_past}
+use Rattle.laws_routes.proofs.SayingsCarried.{said_as_closed}
+use Rattle.rpc_msg.specs.declared.message.ReturnBody.{ReturnBody}
+use Rattle.rpc_msg.specs.declared.message.ReturnBody.TheVariants as body
+use Rattle.vat_machine.specs.Settling.{SaysBack}
 
 -- ---- A link, read by other sessions of the question q at which nothing is aimed
-
-abbrev AlikeBut : ℕ → (ℕ → ℕ) → (ℕ → ℕ) → Type 0
-AlikeBut q now then = (k : ℕ) → nat_eq k q ≡ false → then k ≡ now k
-
-with_alike : (q k i : ℕ) (now then : ℕ → ℕ) → AlikeBut q now then → AlikeBut q (with_at now k i) (with_at then k i)
-with_alike q k i now then h = λ j n. ap (λ z. cond (nat_eq j k) i z) (h j n)
-
-with_same : (q k i : ℕ) (now then : ℕ → ℕ) → AlikeBut q now then → nat_eq k q ≡ true → with_at then k i ≡ with_at now k i
-with_same q k i now then h e = fun_ext (λ j. by j (nat_eq j q) refl)
-  where
-    by : (j : ℕ) (b : Bool) → nat_eq j q ≡ b → with_at then k i j ≡ with_at now k i j
-    by j true f =
-        let a : j ≡ k = equal j q f ∙ sym (equal k q e) in
-        let c : nat_eq j k ≡ true = grind (arith, a) in
-        ap (λ b. cond b i (then j)) c ∙ sym (ap (λ b. cond b i (now j)) c)
-    by j false f = ap (λ z. cond (nat_eq j k) i z) (h j f)
-
-pub past_alike : (q : ℕ) (g : Ghost) (now then : ℕ → ℕ) (m : Message) → AlikeBut q now then → AlikeBut q (past_one g now m) (past_one g then m)
-past_alike q g now then (message.Plain (plain.Abort exception)) h = h
-past_alike q g now then (message.Plain (plain.Bootstrap k)) h = with_alike q k.0 (g.session k.0) now then h
-past_alike q g now then (message.Plain (plain.Call c)) h = with_alike q c.question.0 (g.session c.question.0) now then h
-past_alike q g now then (message.Plain (plain.Return r)) h = h
-past_alike q g now then (message.Plain (plain.Finish x)) h = h
-past_alike q g now then (message.Plain (plain.Resolve r)) h = h
-past_alike q g now then (message.Plain (plain.Release r)) h = h
-past_alike q g now then (message.Plain (plain.Disembargo x)) h = h
-past_alike q g now then (message.Plain (plain.Other n)) h = h
-past_alike q g now then (message.Unimplemented m) h = h
-
-pub past_opened : (q : ℕ) (g : Ghost) (now then : ℕ → ℕ) (m : Message) → AlikeBut q now then → opens q m ≡ true → past_one g then m ≡ past_one g now m
-past_opened q g now then (message.Plain (plain.Abort exception)) h e = cc
-past_opened q g now then (message.Plain (plain.Bootstrap k)) h e = with_same q k.0 (g.session k.0) now then h e
-past_opened q g now then (message.Plain (plain.Call c)) h e = with_same q c.question.0 (g.session c.question.0) now then h e
-past_opened q g now then (message.Plain (plain.Return r)) h e = cc
-past_opened q g now then (message.Plain (plain.Finish x)) h e = cc
-past_opened q g now then (message.Plain (plain.Resolve r)) h e = cc
-past_opened q g now then (message.Plain (plain.Release r)) h e = cc
-past_opened q g now then (message.Plain (plain.Disembargo x)) h e = cc
-past_opened q g now then (message.Plain (plain.Other n)) h e = cc
-past_opened q g now then (message.Unimplemented m) h e = cc
 
 target_alike : (q : ℕ) (v : Vat) (r : Reader) (now then : ℕ → ℕ) (t : Target) → AlikeBut q now then → IsOffAnswer q t → target_point v r.exports r.ghost then t ≡ target_point v r.exports r.ghost now t
 target_alike q v r now then (ImportedCap e) h a = refl
@@ -147,6 +114,10 @@ answer_gone w d g m q t may =
       told = t.told;
       unborn = t.unborn;
       unborn_back = t.unborn_back;
+      known = t.known;
+      known_there = t.known_there;
+      goes = t.goes;
+      comes = said_as_closed (bare m.net) (other_vat w.vat) (w.other).exports g.theirs w.vat (d.state).exports g.own (has_of [] (d.state).imports (d.state).questions) q now then w.back alike may.names t.comes;
     }
   where
     now : ℕ → ℕ
@@ -170,9 +141,9 @@ answer_gone w d g m q t may =
 
 -- ---- A Return that closes its answer
 
-pub return_closes : (w : Around) (d : Progress) (q : QuestionId) (a : AnswerEntry) (v : Value) (new : Progress) → map.get d.state.answers q.0 ≡ Some a → a.finished ≡ true → TargetsAreMet d.state w.back → MayClose w.other w.back q.0 → Returns d q a v new
-    → IsFollowed w d new
-return_closes w d q a v new e finished met may h = λ g m us t i. (g, m, Done, tied g m t, (refl, refl, refl, refl))
+pub return_closes : (w : Around) (d : Progress) (q : QuestionId) (a : AnswerEntry) (v : Value) (new : Progress) → map.get d.state.answers q.0 ≡ Some a → a.finished ≡ true → MayClose w.other w.back q.0
+    → (h : Returns d q a v new) → MaySayBack w d q a v new h → IsFollowed w d new
+return_closes w d q a v new e finished may h ask = λ g m us t i. (g, m, Done, tied g m t, (refl, refl, refl, refl))
   where
     ds : List Descriptor
     ds = h.1
@@ -195,15 +166,29 @@ return_closes w d q a v new e finished met may h = λ g m us t i. (g, m, Done, t
     exports : Exports d.state mid
     exports = says_exports d.state a.finished v h.0 ds mid h.3
 
+    -- It says nothing.
+    is_canceled : (b : Bool) (v : Value) (ds : List Descriptor) → b ≡ true → SaysBack d.state b v h.0 ds mid → h.0 ≡ body.Canceled
+    is_canceled true v ds e k = k.0
+    is_canceled false v ds e k = cc
+
+    nothing : (b : Bool) (P : ReturnBody → Type 0) → P body.Canceled → SaidIfThere b (P h.0)
+    nothing true P k = subst P (sym (is_canceled a.finished v ds finished h.3)) k
+    nothing false P k = tt
+
+    canceled : (g : Ghosts) (m : routing.State routes) → SaysSo w (with_state then (returned left q.0 a (given ds))) g m (message.Plain (plain.Return (record { answer = q; release_param_caps = flag; body = h.0 })))
+    canceled g m =
+        let out = w.out ++ then.effects.sends in
+        nothing ((has_past (has_of [] (w.other).imports (w.other).questions) out).question q.0) (λ (said : ReturnBody). SaidOfAnswer (bare m.net) w.vat (g.theirs.session q.0) (descriptor_point w.vat left.exports g.own (other_vat w.vat) (w.other).exports g.theirs (past g.own (sessions_at g.theirs.outcome (w.other).answers) out)) said) tt
+
     tied : (g : Ghosts) (m : routing.State routes) → Tied w d g m → Tied w new g m
     tied g m t =
-        let at_mid = grown_tied w d g m mid t met exports in
+        let at_mid = grown_tied w d g m mid t ask.met ask.links exports in
         let at_then = collected w g m then (with_state d mid) h.4.1 at_mid.0 in
         let at_left : Tied w (with_state then left) g m = given_tied w then g m at_then flag ids in
         let at_open = answer_gone w (with_state then left) g m q.0 at_left may in
         let at_end = subst (λ (z : Bool). Tied w (with_state then (record left { answers = returned_map left.answers q.0 a z (given ds) })) g m) (sym finished) at_open in
         subst (λ (z : Progress). Tied w z g m) (sym h.4.2)
-        (silent_goes w (with_state then (returned left q.0 a (given ds))) g m (message.Plain (plain.Return (record { answer = q; release_param_caps = flag; body = h.0 }))) at_end tt)
+        (silent_goes w (with_state then (returned left q.0 a (given ds))) g m (message.Plain (plain.Return (record { answer = q; release_param_caps = flag; body = h.0 }))) at_end tt (canceled g m))
 
 -- ---- A Finish
 
@@ -212,15 +197,15 @@ obeyed_answers s true es = refl
 obeyed_answers s false es = refl
 
 pub finish_taken : (w : Around) (d : Progress) (g : Ghosts) (m : routing.State routes) (x : Finish) (a : AnswerEntry) (rest : List Message) (new : Progress) → Tied (with_back w (message.Plain (plain.Finish x) ∷ rest)) d g m
-    → map.get d.state.answers x.question.0 ≡ Some a → MayLower new.state w.other rest → MayCloseIf w.other rest x.question.0 a.returned
+    → map.get d.state.answers x.question.0 ≡ Some a → MayLower new.state w.other (w.out ++ d.effects.sends) rest → MayCloseIf w.other rest x.question.0 a.returned
     → TakesFinish d x.question.0 x.release_result_caps (Some a) new → Tied (with_back w rest) new g m
 finish_taken w d g m x a rest new t e may close h =
     let w' = with_back w rest in
     let q = x.question.0 in
     let ids = gave a.returned in
     let left = obey d.state x.release_result_caps ids in
-    let lower = subst (λ (z : Progress). MayLower z.state w.other rest) h may in
-    let at_left = obeyed w' d g m x.release_result_caps ids (silent_comes w d g m (message.Plain (plain.Finish x)) rest t tt) (record { imported = lower.imported; met = lower.met }) in
+    let lower = subst (λ (z : Progress). MayLower z.state w.other (w.out ++ d.effects.sends) rest) h may in
+    let at_left = obeyed w' d g m x.release_result_caps ids (silent_comes w d g m (message.Plain (plain.Finish x)) rest t tt) (record { imported = lower.imported; met = lower.met; named = lower.named; named_back = lower.named_back }) in
     subst (λ (z : Progress). Tied w' z g m) (sym h) (subst (λ z. Tied w' (with_state d (record left { answers = finished_map z q a a.returned })) g m) (obeyed_answers d.state x.release_result_caps ids) (by at_left a.returned close))
   where
     left_state : State

@@ -17,7 +17,6 @@ use Rattle.rpc_msg.specs.declared.message.ReturnBody.TheVariants as body
 use Rattle.rpc_msg.specs.Messages.{descriptors_of_body}
 use Rattle.vat_machine.specs.declared.command.Level.{Level}
 use Rattle.vat_machine.specs.declared.command.Level.TheVariants.{One}
-use Rattle.vat_machine.specs.declared.node.Node.TheVariants as node
 use Rattle.vat_machine.specs.declared.entries.AnswerEntry.{AnswerEntry}
 use Rattle.vat_machine.specs.declared.entries.Export.{Export}
 use Rattle.vat_machine.specs.declared.entries.Import.{Import}
@@ -35,7 +34,7 @@ use Rattle.laws_routes.specs.Points.{Point, AField, vat_of, routes}
 use Rattle.laws_routes.specs.Ghosts.{Ghost, point}
 use Rattle.laws_routes.specs.Views.{IsImportOf, session_of}
 use Rattle.laws_routes.specs.Ties.{Around, Ghosts, Tied}
-use Rattle.laws_routes.specs.Sayings.{IsSaid, IsKnown, KnownIsSo, SaidAt, SaidOfAnswer, SaidOfCap, SaidOfExport}
+use Rattle.laws_routes.specs.Sayings.{bare, IsSaid, IsKnown, KnownIsSo, SaidAt, SaidOfAnswer, SaidOfCap, SaidOfExport}
 use Rattle.laws_routes.specs.SayingLaws.{EachReadable, IsNotCanceled, IsReadable, IsReadableIn, reads, resolution_by}
 
 -- What an import that is there stands for.
@@ -55,7 +54,7 @@ module _ (w : Around) (d : Progress) (g : Ghosts) (m : routing.State routes) (t 
   s = d.state
 
   abbrev n : Net routes
-  n = m.net
+  n = bare m.net
 
   imported : (e : ℕ) → IsSome (map.get s.imports e) → point u g.theirs (export_node (map.get (w.other).exports e)) ≡ g.own.import e
   imported e i = let view = t.view in sym (stands_for u g.theirs (g.own.import e) (map.get (w.other).exports e) (map.get s.imports e) i (view.imports e))
@@ -79,62 +78,55 @@ module _ (w : Around) (d : Progress) (g : Ghosts) (m : routing.State routes) (t 
       (by_descriptor x c r (subst (λ (z : Point). IsSaid n z c (reads w s g c)) (sym e) h))
   by_resolve level x y (resolved.Exception exception) e r h = ap (λ z. n.kind (n.stop z)) e ∙ h
 
-  module _ (level : s.level ≡ One) (known : KnownIsSo v s g.own n) (e : ℕ) (to : ResolvedTo) (r : IsReadableIn s to) (said : SaidOfExport n u g.theirs (map.get (w.other).exports e) (reads w s g) to) where
+  module _ (level : s.level ≡ One) (e : ℕ) (to : ResolvedTo) (r : IsReadableIn s to) (said : SaidOfExport n u g.theirs (map.get (w.other).exports e) (reads w s g) to) where
     here : (o : Option Export) (z : Import) → map.get (w.other).exports e ≡ o → map.get s.imports e ≡ Some z → SaidOfExport n u g.theirs o (reads w s g) to → IsImportOf u g.theirs (g.own.import e) o (Some z)
         → IsKnown v g.own n (g.own.import e) (known_by_resolve (Some (resolution_by s to)))
     here None z a b h i = absurd i
     here (Some y) z a b h i = by_resolve level (g.own.import e) y to i r h
 
+    known : KnownIsSo v s g.own n
+    known = t.known level
+
     changed_at : (o : Option Import) → map.get s.imports e ≡ o → (j : ℕ) → IsKnown v g.own n (g.own.import j) (known_by_resolve (resolution_of (map.get (updated s.imports e (set_resolution (resolution_by s to)) o) j)))
-    changed_at None f j = known (node.Import (record { 0 = j })) refl
+    changed_at None f j = known.0 j
     changed_at (Some z) f j = at_put (λ j o. IsKnown v g.own n (g.own.import j) (known_by_resolve (resolution_of o))) s.imports e (set_resolution (resolution_by s to) z)
         (let view = t.view in here (map.get (w.other).exports e) z refl f said (subst (IsImportOf u g.theirs (g.own.import e) (map.get (w.other).exports e)) f (view.imports e)))
-        (λ j b. known (node.Import (record { 0 = j })) refl) j
+        (λ j b. known.0 j) j
 
     kept : (before : Option Import) → KnownIsSo v (resolve_import s e (resolution_by s to) before) g.own n
-    kept None k i = known k i
-    kept (Some z) (node.Object o) i = cc
-    kept (Some z) (node.Promise p) i = cc
-    kept (Some z) (node.Field o path) i = cc
-    kept (Some z) (node.Import j) i = changed_at (map.get s.imports e) refl j.0
-    kept (Some z) (node.Pipe q path) i = known (node.Pipe q path) i
-    kept (Some z) (node.Broken reason) i = cc
+    kept None = known
+    kept (Some z) = (λ j. changed_at (map.get s.imports e) refl j, known.1)
 
-pub resolve_known : (w : Around) (d : Progress) (g : Ghosts) (m : routing.State routes) (e : ℕ) (to : ResolvedTo) (before : Option Import) → Tied w d g m → d.state.level ≡ One → KnownIsSo w.vat d.state g.own m.net → IsReadableIn d.state to
-    → SaidOfExport m.net (other_vat w.vat) g.theirs (map.get w.other.exports e) (reads w d.state g) to
-    → KnownIsSo w.vat (resolve_import d.state e (resolution_by d.state to) before) g.own m.net
-resolve_known w d g m e to before t level known r said = kept w d g m t level known e to r said before
+pub resolve_known : (w : Around) (d : Progress) (g : Ghosts) (m : routing.State routes) (e : ℕ) (to : ResolvedTo) (before : Option Import) → Tied w d g m → d.state.level ≡ One → IsReadableIn d.state to
+    → SaidOfExport (bare m.net) (other_vat w.vat) g.theirs (map.get w.other.exports e) (reads w d.state g) to
+    → KnownIsSo w.vat (resolve_import d.state e (resolution_by d.state to) before) g.own (bare m.net)
+resolve_known w d g m e to before t level r said = kept w d g m t level e to r said before
 
 module _ (w : Around) (d : Progress) (g : Ghosts) (m : routing.State routes) (t : Tied w d g m) (level : (d.state).level ≡ One) where
-  read_so : (x : Point) (c : Descriptor) → IsReadable d.state c → IsSaid m.net x c (reads w d.state g c) → IsKnown w.vat g.own m.net x (known_by c (read_at (d.state).level d.state c))
-  read_so x c r h = subst (λ (l : Level). IsKnown w.vat g.own m.net x (known_by c (read_at l d.state c))) (sym level) (by_descriptor w d g m t x c r h)
+  read_so : (x : Point) (c : Descriptor) → IsReadable d.state c → IsSaid (bare m.net) x c (reads w d.state g c) → IsKnown w.vat g.own (bare m.net) x (known_by c (read_at (d.state).level d.state c))
+  read_so x c r h = subst (λ (l : Level). IsKnown w.vat g.own (bare m.net) x (known_by c (read_at l d.state c))) (sym level) (by_descriptor w d g m t x c r h)
 
-  at_index : (x : Point) (ds : List Descriptor) (i : ℕ) → EachReadable d.state ds → SaidAt m.net x (reads w d.state g) ds i → IsKnown w.vat g.own m.net x (known_at (read_beside d.state ds) i)
+  at_index : (x : Point) (ds : List Descriptor) (i : ℕ) → EachReadable d.state ds → SaidAt (bare m.net) x (reads w d.state g) ds i → IsKnown w.vat g.own (bare m.net) x (known_at (read_beside d.state ds) i)
   at_index x [] i r h = h
   at_index x (c ∷ ds) zero r h = read_so x c r.0 h
   at_index x (c ∷ ds) (suc i) r h = at_index x ds i r.1 h
 
-  at_cap : (x : Point) (ds : List Descriptor) (c : CapAt) → EachReadable d.state ds → SaidOfCap m.net x (reads w d.state g) ds c → IsKnown w.vat g.own m.net x (known_cap (read_beside d.state ds) c)
+  at_cap : (x : Point) (ds : List Descriptor) (c : CapAt) → EachReadable d.state ds → SaidOfCap (bare m.net) x (reads w d.state g) ds c → IsKnown w.vat g.own (bare m.net) x (known_cap (read_beside d.state ds) c)
   at_cap x ds (Cap i) r h = at_index x ds i r h
   at_cap x ds Null r h = h
   at_cap x ds NotCap r h = h
 
-  at_path : (i : ℕ) (path : List Op) (said : ReturnBody) → EachReadable d.state (descriptors_of_body said) → IsNotCanceled said → SaidOfAnswer m.net (other_vat w.vat) i (reads w d.state g) said
-      → IsKnown w.vat g.own m.net (AField (other_vat w.vat) i path) (known_by_return path (Some (results_of d.state said)))
+  at_path : (i : ℕ) (path : List Op) (said : ReturnBody) → EachReadable d.state (descriptors_of_body said) → IsNotCanceled said → SaidOfAnswer (bare m.net) (other_vat w.vat) i (reads w d.state g) said
+      → IsKnown w.vat g.own (bare m.net) (AField (other_vat w.vat) i path) (known_by_return path (Some (results_of d.state said)))
   at_path i path (body.Results payload ds) r not h = at_cap (AField (other_vat w.vat) i path) ds (cap_at payload path) r (h path)
   at_path i path (body.Exception exception) r not h = h path
   at_path i path body.Canceled r not h = absurd not
 
-pub return_known : (w : Around) (d : Progress) (g : Ghosts) (m : routing.State routes) (q : ℕ) (x : Question) (said : ReturnBody) → Tied w d g m → d.state.level ≡ One → KnownIsSo w.vat d.state g.own m.net
-    → EachReadable d.state (descriptors_of_body said) → IsNotCanceled said → SaidOfAnswer m.net (other_vat w.vat) (g.own.session q) (reads w d.state g) said
-    → KnownIsSo w.vat (kept_returned d q x (results_of d.state said)).state g.own m.net
-return_known w d g m q x said t level known r not h = by
-  where
-    by : KnownIsSo w.vat (kept_returned d q x (results_of d.state said)).state g.own m.net
-    by (node.Object o) i = cc
-    by (node.Promise p) i = cc
-    by (node.Field o path) i = cc
-    by (node.Import e) i = known (node.Import e) i
-    by (node.Pipe j path) i = at_put (λ j o. IsKnown w.vat g.own m.net (AField (other_vat w.vat) (g.own.session j) path) (known_by_return path (returned_of o))) (d.state).questions q (record x { returned = Some (results_of d.state said) })
-        (at_path w d g m t level (g.own.session q) path said r not h) (λ j b. known (node.Pipe (record { 0 = j }) path) refl) j.0
-    by (node.Broken reason) i = cc
+pub return_known : (w : Around) (d : Progress) (g : Ghosts) (m : routing.State routes) (q : ℕ) (x : Question) (said : ReturnBody) → Tied w d g m → d.state.level ≡ One
+    → EachReadable d.state (descriptors_of_body said) → IsNotCanceled said → SaidOfAnswer (bare m.net) (other_vat w.vat) (g.own.session q) (reads w d.state g) said
+    → KnownIsSo w.vat (kept_returned d q x (results_of d.state said)).state g.own (bare m.net)
+return_known w d g m q x said t level r not h = let known = t.known level in (
+  known.0,
+  λ j path. at_put (λ j o. IsKnown w.vat g.own (bare m.net) (AField (other_vat w.vat) (g.own.session j) path) (known_by_return path (returned_of o))) (d.state).questions q (record x { returned = Some (results_of d.state said) })
+      (at_path w d g m t level (g.own.session q) path said r not h) (λ j b. known.1 j path) j,
+)

@@ -1,6 +1,6 @@
 -- A Bootstrap is received, and answered.
 use Rattle.std.specs.FinMap as map
-use Rattle.std.proofs.Common.{◌≡◌, ℕ, ◌≤◌, false, List, [], ◌∷◌, None, refl, sym, ap, subst, ◌∙◌, arith}
+use Rattle.std.proofs.Common.{◌≡◌, ℕ, ◌≤◌, false, List, [], ◌∷◌, None, refl, sym, ap, subst, ◌∙◌, arith, ◌++◌}
 use Rattle.rpc_msg.specs.declared.ids.Vat.{Vat}
 use Rattle.rpc_msg.specs.declared.ids.QuestionId.{QuestionId}
 use Rattle.rpc_msg.specs.declared.message.PlainMessage.TheVariants as plain
@@ -25,6 +25,11 @@ use Rattle.laws_routes.proofs.OutcomeKept.{all_caps, kept_side}
 use Rattle.laws_routes.proofs.LinkShapes.{shapes_exports}
 use Rattle.laws_routes.proofs.OutcomeSettled.{outcome_settles}
 use Rattle.laws_routes.proofs.UnbornKept.{unborn_first, unborn_received}
+use Rattle.laws_routes.specs.Sayings.{AllSaid, bare, has_of}
+use Rattle.laws_routes.specs.KnownLaws.{SamePoints}
+use Rattle.laws_routes.proofs.KnownKept.{known_as_kept}
+use Rattle.laws_routes.proofs.LinkShapes.{all_opens}
+use Rattle.laws_routes.proofs.SayingsCarried.{each_return, said_as_given}
 
 pub bootstrap_comes : (w : Around) (d : Progress) (g : Ghosts) (m : routing.State routes) (id : QuestionId) (o : ℕ) (rest : List rpc.Message) → Tied (with_back w (message.Plain (plain.Bootstrap id) ∷ rest)) d g m
     → map.get d.state.outcomes o ≡ None → MayKeep d.state o
@@ -49,6 +54,12 @@ bootstrap_comes w d g m id o rest t free may =
       told = t.told;
       unborn = t.unborn;
       unborn_back = unborn_received t.unborn_back o _;
+      known = λ l. known_as_kept v s g.own (bare m.net) o i may.unsaid (t.known l);
+      known_there = t.known_there;
+      goes = said_as_given (bare m.net) v s.exports g.own (keeping g.own o i) u (w.other).exports g.theirs g.theirs (has_of [] (w.other).imports (w.other).questions) (sessions_at g.theirs.outcome (w.other).answers) (w.out ++ d.effects.sends)
+          same_points (λ e. refl) (all_opens _ (w.out ++ d.effects.sends) (λ k. refl)) (each_return _ (w.out ++ d.effects.sends) (λ k. refl)) t.goes;
+      comes = subst (λ (z : ℕ → ℕ). AllSaid (bare m.net) u (w.other).exports g.theirs v s.exports (keeping g.own o i) (has_of [] s.imports s.questions) z rest) (sym changes)
+          (said_as_given (bare m.net) u (w.other).exports g.theirs g.theirs v s.exports g.own (keeping g.own o i) (has_of [] s.imports s.questions) (with_at now q i) rest (λ e. refl) same_points (all_opens _ rest (λ k. refl)) (each_return _ rest (λ k. refl)) t.comes.1);
     }
   where
     v : Vat
@@ -68,6 +79,9 @@ bootstrap_comes w d g m id o rest t free may =
 
     now : ℕ → ℕ
     now = sessions_at g.own.outcome (d.state).answers
+
+    same_points : SamePoints v g.own (keeping g.own o i) s.exports
+    same_points e = point_still v g.own o i (map.get s.exports e) (may.exports e)
 
     same_number : (k : ℕ) → k ≤ k
     same_number k = omega arith

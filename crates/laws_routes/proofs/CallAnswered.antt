@@ -1,6 +1,6 @@
 -- A Call is taken: its descriptors, its answer, and then it is routed.
 use Rattle.std.specs.FinMap as map
-use Rattle.std.proofs.Common.{◌≡◌, ℕ, nat_eq, true, false, List, [], ◌∷◌, ◌++◌, Option, None, Some, IsSome, refl, sym, ap, ap₂, subst, ◌∙◌}
+use Rattle.std.proofs.Common.{◌≡◌, ℕ, nat_eq, true, false, List, [], ◌∷◌, ◌++◌, Option, None, Some, IsSome, refl, sym, ap, ap₂, subst, ◌∙◌, ◌||◌, Bool}
 use Rattle.rpc_msg.specs.declared.ids.Vat.{Vat}
 use Rattle.rpc_msg.specs.declared.parts.Descriptor.{Descriptor}
 use Rattle.rpc_msg.specs.declared.parts.Descriptor.TheVariants as descriptor
@@ -34,7 +34,7 @@ use Rattle.laws_routes.specs.Points.{Point, AField, routes}
 use Rattle.laws_routes.specs.Ghosts.{Ghost, point, keeping}
 use Rattle.laws_routes.specs.Sides.{EndsAs, Side}
 use Rattle.laws_routes.specs.Views.{session_of, sessions_at, target_point}
-use Rattle.laws_routes.specs.Ties.{Around, Ghosts, Tied}
+use Rattle.laws_routes.specs.Ties.{Around, Ghosts, Tied, TiedBy}
 use Rattle.laws_routes.specs.Premises.{ExportsAreOwn, MayGoTo, MayKeep}
 use Rattle.laws_routes.specs.Laws.{Comes, with_back}
 use Rattle.laws_routes.specs.TakingLaws.{IsAnswered, MayTakeCall}
@@ -43,8 +43,14 @@ use Rattle.laws_routes.proofs.CallRouted.{routed}
 use Rattle.laws_routes.proofs.CallsRouted.{first_known, law}
 use Rattle.laws_routes.proofs.ImportsTaken.{descriptors_taken}
 use Rattle.laws_routes.proofs.NewReferences.{moves_on}
-use Rattle.laws_routes.proofs.OutcomeKept.{keeping_point}
+use Rattle.laws_routes.proofs.NewPoints.{keeping_point}
 use Rattle.laws_routes.proofs.WhereNodesEnd.{ends}
+use Rattle.laws_routes.specs.Sayings.{bare, has_behind, has_of, is_among}
+use Rattle.laws_routes.specs.Views.{past_one}
+use Rattle.laws_routes.proofs.SayingsCarried.{each_return, said_of_fewer}
+use Rattle.rpc_msg.specs.Messages.{given}
+use Rattle.std.specs.Prelude.{is_some}
+use Rattle.rpc_msg.specs.Vats.{other_vat}
 
 -- ---- Descriptors change imports alone
 
@@ -131,12 +137,38 @@ answered w d g m c o ids q rest new t i free may there own go st h =
     let b = routed (with_back w rest) d' g' n q x [] (settle d'.state k) new a.4 known go.may ends_as h in
     (b.0, b.1, moves_on b.1 [] n (y ∷ []) m [] (subst (λ z. Moves b.1 [] n (z ∷ [])) (sym same) b.2) a.3, b.3)
 
+-- The descriptors of a Call are coming, while it is still on its way.
+or_twice : (a b : Bool) → (a || (a || b)) ≡ true → (a || b) ≡ true
+or_twice true b h = h
+or_twice false b h = h
+
+call_coming : (w : Around) (d : Progress) (g : Ghosts) (m : routing.State routes) (c : calls.Call) (rest : List rpc.Message) → Tied (with_back w (message.Plain (plain.Call c) ∷ rest)) d g m
+    → TiedBy (with_back w (message.Plain (plain.Call c) ∷ rest)) (given c.descriptors) d.state d.effects.sends d.effects.deliveries g m
+call_coming w d g m c rest t = record {
+  own = t.own;
+  theirs = t.theirs;
+  view = t.view;
+  back = t.back;
+  told = t.told;
+  unborn = t.unborn;
+  unborn_back = t.unborn_back;
+  known = t.known;
+  known_there = t.known_there;
+  goes = t.goes;
+  comes = (
+    tt,
+    said_of_fewer (bare m.net) (other_vat w.vat) (w.other).exports g.theirs w.vat (d.state).exports g.own (has_behind (has_of [] (d.state).imports (d.state).questions) c.descriptors)
+        (has_behind (has_of (given c.descriptors) (d.state).imports (d.state).questions) c.descriptors) (past_one g.theirs (sessions_at g.own.outcome (d.state).answers) (message.Plain (plain.Call c))) rest
+        (λ e h. or_twice (is_among e (given c.descriptors)) (is_some (map.get (d.state).imports e)) h) (each_return _ rest (λ q h. h)) t.comes.1,
+  );
+}
+
 pub call_taken : (w : Around) (d : Progress) (g : Ghosts) (m : routing.State routes) (c : calls.Call) (rest : List rpc.Message) (new : Progress) → Tied (with_back w (message.Plain (plain.Call c) ∷ rest)) d g m → InvariantWith m []
     → (h : TakesCall d c new) → MayTakeCall (with_back w rest) d c h.0 → Comes (with_back w rest) new m [] []
 call_taken w d g m c rest new t i h may =
     let s = d.state in
     let o : ℕ = h.0 in
-    let a = descriptors_taken (with_back w (message.Plain (plain.Call c) ∷ rest)) d g m c.descriptors t may.own may.takes in
+    let a = descriptors_taken (with_back w (message.Plain (plain.Call c) ∷ rest)) d g m c.descriptors (call_coming w d g m c rest t) may.own may.takes in
     let f = a.0 in
     let e = a.2 in
     let q : WaitingCall = record { request = received_request s c; outcome = o } in

@@ -94,8 +94,8 @@ told_more made before v ds x refs r c h = record {
     split q = ap (λ z. deliveries_of q (before ++ z)) (all_more v ds x) ∙ (ap (deliveries_of q) (sym (append_assoc before (all_at v ds) (new ∷ []))) ∙ deliveries_more q old new)
 
 -- Tasks, calls and numbers are of no account.
-pub set_rest : (w : Around) (s : State) (sends : _) (ds : _) (g : Ghosts) (m : routing.State routes) (calls : _) (tasks unsettled : _) (a b c : ℕ) → TiedBy w s sends ds g m
-    → TiedBy w (record s { calls = calls; tasks = tasks; unsettled = unsettled; next_call = a; next_task = b; next_promise = c }) sends ds g m
+pub set_rest : (w : Around) (s : State) (sends : _) (ds : _) (g : Ghosts) (m : routing.State routes) (calls : _) (tasks unsettled : _) (a b c : ℕ) → TiedBy w [] s sends ds g m
+    → TiedBy w [] (record s { calls = calls; tasks = tasks; unsettled = unsettled; next_call = a; next_task = b; next_promise = c }) sends ds g m
 set_rest w s sends ds g m calls tasks unsettled a b c h =
     let own = h.own in
     let view = h.view in
@@ -108,6 +108,10 @@ set_rest w s sends ds g m calls tasks unsettled a b c h =
       told = h.told;
       unborn = h.unborn;
       unborn_back = h.unborn_back;
+      known = h.known;
+      known_there = h.known_there;
+      goes = h.goes;
+      comes = h.comes;
     }
 
 -- At an object the call is delivered.
@@ -136,6 +140,10 @@ delivers w d g m c o x then h kn e k =
       told = told_more w.made w.delivered v d.effects.deliveries made m.refs r refl h.told;
       unborn = h.unborn;
       unborn_back = h.unborn_back;
+      known = h.known;
+      known_there = h.known_there;
+      goes = h.goes;
+      comes = h.comes;
     } in
     let a = new_refs_begin w next g n then q.caps t in
     let u : State = with_refs s q.caps in

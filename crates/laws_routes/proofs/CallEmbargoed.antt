@@ -185,6 +185,10 @@ waits w d g m e b c t there only mine has =
       told = waiting_told v s g.own g.next m e b c t.own there only mine has w.made (w.delivered ++ all_at v d.effects.deliveries) t.told;
       unborn = t.unborn;
       unborn_back = t.unborn_back;
+      known = t.known;
+      known_there = t.known_there;
+      goes = t.goes;
+      comes = t.comes;
     }
 
 -- ---- The whole

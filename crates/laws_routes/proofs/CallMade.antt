@@ -41,7 +41,8 @@ use Rattle.laws_routes.specs.Laws.{Comes, one_made, made_from}
 use Rattle.laws_routes.proofs.Differing.{ends_differ, other_number, other_ref}
 use Rattle.laws_routes.proofs.CallDelivered.{set_rest, told_too}
 use Rattle.laws_routes.proofs.WhereNodesEnd.{ends}
-use Rattle.laws_routes.proofs.OutcomeKept.{keeps, keeping_point}
+use Rattle.laws_routes.proofs.NewPoints.{keeping_point}
+use Rattle.laws_routes.proofs.OutcomeKept.{keeps}
 use Rattle.laws_routes.proofs.CallsRouted.{law}
 use Rattle.laws_routes.proofs.CallRouted.{own_vat, routed, wire_reads, pipe_reads}
 use Rattle.laws_routes.proofs.CallSent.{asks}
@@ -116,6 +117,10 @@ counts w d g m r x e t =
       told = counted_told w.made _ m.refs (ref_at w.vat r) t.told;
       unborn = t.unborn;
       unborn_back = t.unborn_back;
+      known = t.known;
+      known_there = t.known_there;
+      goes = t.goes;
+      comes = t.comes;
     }
 
 -- ---- The call
@@ -164,7 +169,7 @@ send_far s msg (no e) h = refl
 
 -- What is asked of a state does not look at calls.
 pub may_ask_still : (s : State) (calls : _) (out back : List rpc.Message) (q : ℕ) → MayAsk s out back q → MayAsk (record s { calls = calls }) out back q
-may_ask_still s calls out back q h = let u = h.unnamed in record { unnamed = record { links = u.links; heads = u.heads; embargoes = u.embargoes }; not_open = h.not_open; met = h.met; own = h.own }
+may_ask_still s calls out back q h = let u = h.unnamed in record { unnamed = record { links = u.links; heads = u.heads; embargoes = u.embargoes }; unsaid = h.unsaid; not_open = h.not_open; not_returned = h.not_returned; met = h.met; own = h.own }
 
 -- The other vat reads a wire's target as what the wire stands for.
 pub target_reads : (v u : Vat) (s : State) (g : Ghost) (t : State) (f : Ghost) (ms : List rpc.Message) (m : routing.State routes) (k : Node) (target : Target) → View v u s g t f ms m → u ≡ other_vat v → ExportsAreOwn t → IsWireThere s k → wire_target k ≡ Some target
@@ -206,7 +211,7 @@ call_far w d g m r c x q target new t e none alive head wire st ix may h =
     let reads = target_reads v u s1 g.own w.other g.theirs (w.out ++ d.effects.sends) m' x.head target t1.view refl may.theirs may.wire wire in
     let far : vat_of y.head ≡ u = ap vat_of head ∙ reads.0 in
     let k = h.1 in
-    let b = asks w' d2 g m' h.0 (role.Direct (record { 0 = c })) target q y.head new t2 (may_ask_still s1 calls (w.out ++ d.effects.sends) w.back h.0 (may.asks h.0 k.0)) far (reads.1 ∙ sym head) k in
+    let b = asks w' d2 g m' h.0 (role.Direct (record { 0 = c })) target q y.head new t2 (may_ask_still s1 calls (w.out ++ d.effects.sends) w.back h.0 (may.asks h.0 k.0)) may.links far (reads.1 ∙ sym head) k in
     let msg : Message routes = record { target = y.head; ref = me; what = Call y.made } in
     let same : record { target = y.head; ref = caller q.stamp; what = Call q.stamp.index } ≡ msg = ap₂ (λ j k. record { target = y.head; ref = j; what = Call k }) st (ix ∙ sym a.2) in
     let away : end (vat_of y.head) ≡ end v → ⊥ = λ z. ends_differ v (ap end (sym far) ∙ z) in

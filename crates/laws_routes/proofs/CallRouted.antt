@@ -71,7 +71,7 @@ relays : (w : Around) (d : Progress) (g : Ghosts) (m : routing.State routes) (c 
 relays w d g m c target to x then n new h may at reads k f =
     let i = c.request.stamp.index in
     let msg : Message routes = record { target = x; ref = caller c.request.stamp; what = Call i } in
-    let a = asks w d g m f.0 (role.Relay c.outcome) target c.request to new h (may.asks f.0 f.1.0) at reads f.1 in
+    let a = asks w d g m f.0 (role.Relay c.outcome) target c.request to new h (may.asks f.0 f.1.0) may.links at reads f.1 in
     (a.0, record m { net = route.onto_link m.net (record { target = to; ref = caller c.request.stamp; what = Call i }) }, Next (Routes msg refl (sym (ap (route.route_by m msg i) k))) Done, a.1, (refl, refl, a.2.0, a.2.1))
 
 -- One call goes on from a point, by where the node of that settles.

@@ -1,6 +1,6 @@
 -- A call is sent over a wire.
 use Rattle.std.specs.FinMap as map
-use Rattle.std.proofs.Common.{◌≡◌, ℕ, ◌+◌, Bool, nat_eq, false, List, [], ◌∷◌, ◌++◌, append_assoc, Option, None, Some, IsSome, refl, sym, ap, ap₂, subst, ◌∙◌, arith}
+use Rattle.std.proofs.Common.{◌≡◌, ℕ, ◌+◌, Bool, nat_eq, false, List, [], ◌∷◌, ◌++◌, append_assoc, Option, None, Some, IsSome, refl, sym, ap, ap₂, subst, ◌∙◌, arith, true}
 use Rattle.finite_maps.specs.Tally.{Map}
 use Rattle.finite_maps.proofs.Tested.{at_put}
 use Rattle.rpc_msg.specs.declared.ids.Vat.{Vat}
@@ -43,25 +43,17 @@ use Rattle.laws_routes.specs.Premises.{Unnamed, MayAsk, EachOpen}
 use Rattle.laws_routes.proofs.Differing.{ends_differ, with_here, with_other}
 use Rattle.laws_routes.proofs.ExportsGrown.{Grown, described_all}
 use Rattle.laws_routes.proofs.LinkShapes.{past_more, shapes_more, shapes_of_more, past_same, shapes_same, open_map, shapes_exports, cap_map}
+use Rattle.laws_routes.proofs.NewPoints.{asked_own, asked_point}
 use Rattle.laws_routes.proofs.UnbornKept.{unborn_asked, unborn_later}
+use Rattle.laws_routes.specs.Named.{EachReturn, LinksMet}
+use Rattle.laws_routes.specs.KnownLaws.{StillThere}
+use Rattle.laws_routes.specs.Sayings.{AllSaid, Has, bare, has_of, is_waiting}
+use Rattle.laws_routes.proofs.KnownKept.{known_as_asked}
+use Rattle.laws_routes.proofs.LinkShapes.{all_opens}
+use Rattle.laws_routes.proofs.SayingsCarried.{all_there, each_return, return_map, said_as_exported, said_as_given, said_is_sent, said_of_fewer}
+use Rattle.finite_maps.proofs.Tested.{get_other}
 
 -- ---- A new session, of a question that nothing names
-
-own_point : (v : Vat) (g : Ghost) (q i : ℕ) (n : Node) → is_wire n ≡ false → point v (asked g q i) n ≡ point v g n
-own_point v g q i (node.Object o) h = refl
-own_point v g q i (node.Promise p) h = refl
-own_point v g q i (node.Field o path) h = refl
-own_point v g q i (node.Import e) h = refl
-own_point v g q i (node.Pipe k path) h = cc
-own_point v g q i (node.Broken reason) h = refl
-
-pub same_point : (v : Vat) (g : Ghost) (q i : ℕ) (n : Node) → is_pipe q n ≡ false → point v (asked g q i) n ≡ point v g n
-same_point v g q i (node.Object o) h = refl
-same_point v g q i (node.Promise p) h = refl
-same_point v g q i (node.Field o path) h = refl
-same_point v g q i (node.Import e) h = refl
-same_point v g q i (node.Pipe k path) h = ap (λ (z : ℕ). point v (record g { session = λ j. z }) (node.Pipe k path)) (with_other g.session q i k.0 h)
-same_point v g q i (node.Broken reason) h = refl
 
 same_far : (v : Vat) (g : Ghost) (q i : ℕ) (n : Node) → is_pipe q n ≡ false → far v (asked g q i) n ≡ far v g n
 same_far v g q i (node.Object o) h = refl
@@ -76,7 +68,7 @@ same_head v g q i (node.Object o) dead head h k = k
 same_head v g q i (node.Promise p) dead head h k = k
 same_head v g q i (node.Field o path) dead head h k = k
 same_head v g q i (node.Import e) dead head h k = k
-same_head v g q i (node.Pipe j path) dead head h k = (k.0, k.1 ∙ sym (same_point v g q i (node.Pipe j path) h))
+same_head v g q i (node.Pipe j path) dead head h k = (k.0, k.1 ∙ sym (asked_point v g q i (node.Pipe j path) h))
 same_head v g q i (node.Broken reason) dead head h k = k
 
 pub ids_up : (v : Vat) (ps : Map Promise) (os : Map KeptOutcome) (pi oi : ℕ → ℕ) (stop : Point → Point) (kind : Point → Kind routes) (next : ℕ) → Ids v ps os pi oi stop kind next → Ids v ps os pi oi stop kind (next + 1)
@@ -102,8 +94,8 @@ asked_side v s g next q m E Q links un h = record {
 }
   where
     linked : (k : Node) → is_wire k ≡ false → (o : Option Node) → ((j : Node) → IsThere s k → link s k ≡ Some j → is_pipe q j ≡ false) → IsThere s k → link s k ≡ o → IsLinked v g m.net k o → IsLinked v (asked g q next) m.net k o
-    linked k w None f i e a = rw (own_point v g q next k w) a
-    linked k w (Some j) f i e a = rw (own_point v g q next k w) (rw (same_point v g q next j (f j i e)) (rw (same_far v g q next j (f j i e)) a))
+    linked k w None f i e a = rw (asked_own v g q next k w) a
+    linked k w (Some j) f i e a = rw (asked_own v g q next k w) (rw (asked_point v g q next j (f j i e)) (rw (same_far v g q next j (f j i e)) a))
 
     ref : (r : ℕ) (o : Option Reference) → map.get s.refs r ≡ o → IsRef v g s.next_ref r o (m.refs (ref_at v r)) → IsRef v (asked g q next) s.next_ref r o (m.refs (ref_at v r))
     ref r None e a = a
@@ -111,7 +103,7 @@ asked_side v s g next q m E Q links un h = record {
 
     embargo : (e : ℕ) (o : Option Embargo) → map.get s.embargoes e ≡ o → HasEmbargo v g m o → HasEmbargo v (asked g q next) m o
     embargo e None f a = tt
-    embargo e (Some b) f a = (a.0, a.1, a.2, a.3, a.4, a.5 ∙ sym (same_point v g q next b.node (un.embargoes e b f)))
+    embargo e (Some b) f a = (a.0, a.1, a.2, a.3, a.4, a.5 ∙ sym (asked_point v g q next b.node (un.embargoes e b f)))
 
 pub linked_side : (u : Vat) (t : State) (f : Ghost) (next : ℕ) (m : routing.State routes) (links : Bool → List (Message routes)) → Side u t f next m → Side u t f (next + 1) (record m { net = record (m.net) { links = links } })
 linked_side u t f next m links h = record {
@@ -137,7 +129,7 @@ import_still v g q i E F e x (Some j) grown own h = by (map.get E e) refl h
     by None f k = absurd k
     by (Some y) f k =
         let z = grown.still e y f in
-        subst (IsExportAs v (asked g q i) x) (sym z.1) (k ∙ (sym (own_point v g q i y.node (own y f)) ∙ ap (point v (asked g q i)) (sym z.2)))
+        subst (IsExportAs v (asked g q i) x) (sym z.1) (k ∙ (sym (asked_own v g q i y.node (own y f)) ∙ ap (point v (asked g q i)) (sym z.2)))
 
 pub point_still : (v : Vat) (g : Ghost) (q i : ℕ) (E F : Map Export) (e : ℕ) → Grown E F → ((y : Export) → map.get E e ≡ Some y → is_wire y.node ≡ false) → IsSome (map.get E e)
     → point v (asked g q i) (export_node (map.get F e)) ≡ point v g (export_node (map.get E e))
@@ -147,7 +139,7 @@ point_still v g q i E F e grown own h = by (map.get E e) refl h
     by None f k = cc
     by (Some y) f k =
         let z = grown.still e y f in
-        ap (λ o. point v (asked g q i) (export_node o)) z.1 ∙ (ap (point v (asked g q i)) z.2 ∙ own_point v g q i y.node (own y f))
+        ap (λ o. point v (asked g q i) (export_node o)) z.1 ∙ (ap (point v (asked g q i)) z.2 ∙ asked_own v g q i y.node (own y f))
 
 module _ (w : Around) (s : State) (sends : List rpc.Message) (g : Ghosts) (m : routing.State routes) (q : ℕ) (r : Request) (to : Point) (target : Target) (ids : List Descriptor) (x : Question) (E : Map Export) where
   abbrev now : ℕ → ℕ
@@ -226,14 +218,36 @@ module _ (w : Around) (s : State) (sends : List rpc.Message) (g : Ghosts) (m : r
       other : sent.net.links (end w.vat) ≡ m.net.links (end w.vat)
       other = changed_other same_vat m.net.links (end (vat_of to)) (m.net.links (end (vat_of to)) ++ msg ∷ []) (end w.vat) (λ e. ends_differ w.vat (sym (e ∙ ap end at)))
 
+-- ---- What is said on the way
+
+module _ (v u : Vat) (s other : State) (g f : Ghost) (n : Net routes) (q i : ℕ) (own : (e : ℕ) (x : Export) → map.get s.exports e ≡ Some x → is_wire x.node ≡ false) where
+  own_same : (e : ℕ) → point v (asked g q i) (export_node (map.get s.exports e)) ≡ point v g (export_node (map.get s.exports e))
+  own_same e = by (map.get s.exports e) refl
+    where
+      by : (o : Option Export) → map.get s.exports e ≡ o → point v (asked g q i) (export_node o) ≡ point v g (export_node o)
+      by None k = refl
+      by (Some x) k = asked_own v g q i x.node (own e x k)
+
+  pub said_asked : (has : Has) (now : ℕ → ℕ) (out : List rpc.Message) → EachOpen (λ k. nat_eq k q ≡ false) out → AllSaid n v s.exports g u other.exports f has now out → AllSaid n v s.exports (asked g q i) u other.exports f has now out
+  said_asked has now out free h = said_as_given n v s.exports g (asked g q i) u other.exports f f has now out own_same (λ e. refl) (open_map _ _ out (λ k a. with_other g.session q i k a) free) (each_return _ out (λ k. refl)) h
+
+  pub said_back_asked : (has : Has) (now : ℕ → ℕ) (back : List rpc.Message) → EachReturn (λ k. nat_eq k q ≡ false) back → AllSaid n u other.exports f v s.exports g has now back → AllSaid n u other.exports f v s.exports (asked g q i) has now back
+  said_back_asked has now back free h = said_as_given n u other.exports f f v s.exports g (asked g q i) has now back (λ e. refl) own_same (all_opens _ back (λ k. refl)) (return_map _ _ back (λ k a. with_other g.session q i k a) free) h
+
+-- The new question counts for nothing that is on its way.
+pub said_to_asker : (n : Net routes) (u : Vat) (F : Map Export) (f : Ghost) (v : Vat) (E : Map Export) (g : Ghost) (imports : Map Import) (questions : Map Question) (q : ℕ) (x : Question) (now : ℕ → ℕ) (back : List rpc.Message)
+    → EachReturn (λ k. nat_eq k q ≡ false) back → AllSaid n u F f v E g (has_of [] imports questions) now back → AllSaid n u F f v E g (has_of [] imports (map.insert questions q x)) now back
+said_to_asker n u F f v E g imports questions q x now back free h =
+    said_of_fewer n u F f v E g (has_of [] imports questions) (has_of [] imports (map.insert questions q x)) now back (λ e a. a) (return_map _ _ back (λ k a b. subst (λ (o : Option Question). is_waiting o ≡ true) (get_other questions q x k a) b) free) h
+
 -- The Call goes out, and the machine's call goes onto the link.
 pub asks : (w : Around) (d : Progress) (g : Ghosts) (m : routing.State routes) (q : ℕ) (role : Role) (target : Target) (r : Request) (to : Point) (new : Progress) → Tied w d g m
-    → MayAsk d.state (w.out ++ d.effects.sends) w.back q
+    → MayAsk d.state (w.out ++ d.effects.sends) w.back q → LinksMet d.state w.other (w.out ++ d.effects.sends) w.back
     → vat_of to ≡ other_vat w.vat → target_point (other_vat w.vat) (w.other).exports g.theirs (past g.own (sessions_at g.theirs.outcome (w.other).answers) (w.out ++ d.effects.sends)) target ≡ to
     → Asks d q role target r new
     → (f : Ghosts) × Tied w new f (record m { net = route.onto_link m.net (record { target = to; ref = caller r.stamp; what = Call r.stamp.index }) })
     × ((f.own.promise ≡ g.own.promise) × (f.own.outcome ≡ g.own.outcome))
-asks w d g m q role target r to new h may at reads a =
+asks w d g m q role target r to new h may links at reads a =
     let b = a.1 in
     let s = d.state in
     let ids = b.0 in
@@ -245,7 +259,21 @@ asks w d g m q role target r to new h may at reads a =
     let m' : routing.State routes = record m { net = route.onto_link m.net msg } in
     let f : Ghosts = record { own = asked g.own q g.next; theirs = g.theirs; next = g.next + 1 } in
     let sends = d.effects.sends ++ call w s d.effects.sends g m q r to target ids x E ∷ [] in
-    let tied : TiedBy w (record s { exports = E; questions = map.insert s.questions q x }) sends d.effects.deliveries f m' = record {
+    let v = w.vat in
+    let u = other_vat v in
+    let t = w.other in
+    let n = bare m.net in
+    let out = w.out ++ d.effects.sends in
+    let has = has_of [] t.imports t.questions in
+    let has_back = has_of [] s.imports s.questions in
+    let now = sessions_at g.theirs.outcome t.answers in
+    let now_back = sessions_at g.own.outcome s.answers in
+    let grows = grown.2 in
+    let still : StillThere s.exports E = grows.still in
+    let same : StillThere t.exports t.exports = all_there t.exports in
+    let goes = said_as_exported n v s.exports E f.own u t.exports t.exports g.theirs has now out still same links.0 (said_asked v u s t g.own g.theirs n q g.next may.own has now out may.not_open h.goes) in
+    let comes = said_as_exported n u t.exports t.exports g.theirs v s.exports E f.own has_back now_back w.back same still links.1 (said_back_asked v u s t g.own g.theirs n q g.next may.own has_back now_back w.back may.not_returned h.comes) in
+    let tied : TiedBy w [] (record s { exports = E; questions = map.insert s.questions q x }) sends d.effects.deliveries f m' = record {
       own = asked_side w.vat s g.own g.next q m E (map.insert s.questions q x) m'.net.links may.unnamed h.own;
       theirs = linked_side (other_vat w.vat) w.other g.theirs g.next m m'.net.links h.theirs;
       view = asks_view w s d.effects.sends g m q r to target ids x E h.view may at reads;
@@ -253,5 +281,9 @@ asks w d g m q role target r to new h may at reads a =
       told = h.told;
       unborn = unborn_asked g.own.session q w.out d.effects.sends (call w s d.effects.sends g m q r to target ids x E) (other_vat w.vat) w.other g.theirs g.next m may.not_open refl h.theirs h.unborn;
       unborn_back = unborn_later h.unborn_back;
+      known = λ l. known_as_asked v s g.own n q g.next E x a.0 refl may.unsaid (h.known l);
+      known_there = h.known_there;
+      goes = subst (AllSaid n v E f.own u t.exports g.theirs has now) (append_assoc w.out d.effects.sends (call w s d.effects.sends g m q r to target ids x E ∷ [])) (said_is_sent n v E f.own u t.exports g.theirs has now out (plain.Call (record { question = record { 0 = q }; target = target; interface = r.interface; method = r.method; payload = r.payload; descriptors = ids; stamp = r.stamp })) goes tt);
+      comes = said_to_asker n u t.exports g.theirs v E f.own s.imports s.questions q x now_back w.back may.not_returned comes;
     } in
-    rw b.3 (f, subst (λ (z : State). TiedBy w (record z { questions = map.insert z.questions q x }) sends d.effects.deliveries f m') (sym grown.1) tied, (refl, refl))
+    rw b.3 (f, subst (λ (z : State). TiedBy w [] (record z { questions = map.insert z.questions q x }) sends d.effects.deliveries f m') (sym grown.1) tied, (refl, refl))

@@ -1,7 +1,7 @@
 -- A Call is received.
 use mathlib.Core.Path.{fun_ext}
 use Rattle.std.specs.FinMap as map
-use Rattle.std.proofs.Common.{◌≡◌, ℕ, ◌≤◌, Bool, nat_eq, true, false, cond, List, [], ◌∷◌, Option, None, Some, refl, sym, ap, subst, ◌∙◌, arith}
+use Rattle.std.proofs.Common.{◌≡◌, ℕ, ◌≤◌, Bool, nat_eq, true, false, cond, List, [], ◌∷◌, Option, None, Some, refl, sym, ap, subst, ◌∙◌, arith, ◌++◌}
 use Rattle.finite_maps.proofs.Tested.{get_put}
 use Rattle.rpc_msg.specs.declared.ids.Vat.{Vat}
 use Rattle.rpc_msg.specs.declared.message.Call as calls
@@ -31,9 +31,17 @@ use Rattle.laws_routes.specs.Premises.{MayKeep}
 use Rattle.laws_routes.specs.Laws.{with_back}
 use Rattle.laws_routes.proofs.DisembargoBack.{oldest, relinked}
 use Rattle.laws_routes.proofs.Differing.{ends_differ, with_here, with_other}
-use Rattle.laws_routes.proofs.OutcomeKept.{all_caps, kept_side, keeping_point}
+use Rattle.laws_routes.proofs.NewPoints.{keeping_point}
+use Rattle.laws_routes.proofs.OutcomeKept.{all_caps, kept_side}
 use Rattle.laws_routes.proofs.LinkShapes.{shapes_exports}
 use Rattle.laws_routes.proofs.UnbornKept.{unborn_first, unborn_received}
+use Rattle.laws_routes.specs.Sayings.{AllSaid, bare, has_behind, has_of, is_among}
+use Rattle.laws_routes.specs.KnownLaws.{SamePoints}
+use Rattle.laws_routes.proofs.KnownKept.{known_as_kept}
+use Rattle.laws_routes.proofs.LinkShapes.{all_opens}
+use Rattle.laws_routes.proofs.SayingsCarried.{each_return, or_right, said_as_given, said_of_fewer}
+use Rattle.rpc_msg.specs.Messages.{given}
+use Rattle.std.specs.Prelude.{is_some}
 
 some_target : (y : Message routes) (p : Point) (i : ℕ) → y.what ≡ Call i → target_of y.target y.what ≡ Some p → y.target ≡ p
 some_target y p i e h =
@@ -105,6 +113,12 @@ comes w d g m c o taken rest t free may =
         told = t.told;
         unborn = t.unborn;
         unborn_back = unborn_received t.unborn_back o _;
+        known = λ l. known_as_kept v s g.own (bare m.net) o i may.unsaid (t.known l);
+        known_there = t.known_there;
+        goes = said_as_given (bare m.net) v s.exports g.own (keeping g.own o i) u (w.other).exports g.theirs g.theirs (has_of [] (w.other).imports (w.other).questions) (sessions_at g.theirs.outcome (w.other).answers) (w.out ++ d.effects.sends)
+            same_points (λ e. refl) (all_opens _ (w.out ++ d.effects.sends) (λ k. refl)) (each_return _ (w.out ++ d.effects.sends) (λ k. refl)) t.goes;
+        comes = subst (λ (z : ℕ → ℕ). AllSaid (bare m.net) u (w.other).exports g.theirs v s.exports (keeping g.own o i) (has_of [] s.imports s.questions) z rest) (sym changes)
+            (said_as_given (bare m.net) u (w.other).exports g.theirs g.theirs v s.exports g.own (keeping g.own o i) (has_of [] s.imports s.questions) (with_at now q i) rest (λ e. refl) same_points (all_opens _ rest (λ k. refl)) (each_return _ rest (λ k. refl)) fewer);
       },
       (refl, refl),
     )
@@ -132,6 +146,13 @@ comes w d g m c o taken rest t free may =
 
     first : Shape
     first = record { target = Some goes; ref = caller c.stamp; what = Call c.stamp.index }
+
+    same_points : SamePoints v g.own (keeping g.own o i) s.exports
+    same_points e = point_still v g.own o i (map.get s.exports e) (may.exports e)
+
+    fewer : AllSaid (bare m.net) u (w.other).exports g.theirs v s.exports g.own (has_of [] s.imports s.questions) (with_at now q i) rest
+    fewer = said_of_fewer (bare m.net) u (w.other).exports g.theirs v s.exports g.own (has_behind (has_of [] s.imports s.questions) c.descriptors) (has_of [] s.imports s.questions) (with_at now q i) rest
+        (λ e h. or_right (is_among e (given c.descriptors)) (is_some (map.get s.imports e)) h) (each_return _ rest (λ k h. h)) t.comes.1
 
     same_number : (k : ℕ) → k ≤ k
     same_number k = omega arith

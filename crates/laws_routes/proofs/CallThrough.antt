@@ -80,7 +80,7 @@ call_over w d g m r c x q k target new t e none own head to wire st ix go h =
     let ends_as : EndsAs v g.own m'.net y.head k = subst (λ (z : Point). EndsAs v g.own m'.net z k) (sym head) (subst (λ (z : Node). EndsAs v g.own m'.net (point v g.own x.head) z) to (ends law v s1 g.own m'.net side.stops go.rest x.head own go.there)) in
     let exit = wire_exit v g.own m'.net y.head k target ends_as wire in
     let f = h.1 in
-    let b = asks w' d2 g m' h.0 (role.Direct (record { 0 = c })) target q (point v g.own k) new t2 (may_ask_still s1 calls (w.out ++ d.effects.sends) w.back h.0 (may.asks h.0 f.0)) reads.0 reads.1 f in
+    let b = asks w' d2 g m' h.0 (role.Direct (record { 0 = c })) target q (point v g.own k) new t2 (may_ask_still s1 calls (w.out ++ d.effects.sends) w.back h.0 (may.asks h.0 f.0)) may.links reads.0 reads.1 f in
     let msg : Message routes = record { target = y.head; ref = me; what = Call y.made } in
     let sent : Message routes = record { target = point v g.own k; ref = caller q.stamp; what = Call q.stamp.index } in
     let same : record { target = y.head; ref = caller q.stamp; what = Call q.stamp.index } ≡ msg = ap₂ (λ j i. record { target = y.head; ref = j; what = Call i }) st (ix ∙ sym a.2) in

@@ -165,6 +165,10 @@ waits_for_promise w d g m c p x then (Some (promise.Open calls)) new h e k at f 
         told = h.told;
         unborn = unborn_lists h.unborn waiting (λ j z. changed_other routes.same_group m.net.waiting group after (OfOutcome (other_vat v) j) (not_promise (other_vat v) v j (g.own.promise p)));
         unborn_back = unborn_lists h.unborn_back waiting (λ j z. changed_other routes.same_group m.net.waiting group after (OfOutcome v j) (not_promise v v j (g.own.promise p)));
+        known = h.known;
+        known_there = h.known_there;
+        goes = h.goes;
+        comes = h.comes;
       },
       (refl, refl, refl, refl),
     )
@@ -286,6 +290,10 @@ waits_for_field w d g m c o path x then (Some z) new h e k at unknown f =
         unborn_back =
             unborn_lists (unborn_fewer h.unborn_back (map.insert s.outcomes o y) (kept_before v s o z y at refl)) waiting
             (λ j a. changed_other routes.same_group m.net.waiting group after (OfOutcome v j) (unborn_elsewhere h.unborn_back o (subst (λ (k : Option KeptOutcome). IsSome k) (sym at) refl) j a));
+        known = h.known;
+        known_there = h.known_there;
+        goes = h.goes;
+        comes = h.comes;
       },
       (refl, refl, refl, refl),
     )

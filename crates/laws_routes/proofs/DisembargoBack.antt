@@ -26,6 +26,8 @@ use Rattle.laws_routes.specs.Laws.{Comes, with_back}
 use Rattle.laws_routes.proofs.Differing.{ends_differ}
 use Rattle.laws_routes.proofs.LinkShapes.{past_more, shapes_more, shapes_of_more}
 use Rattle.laws_routes.proofs.UnbornKept.{unborn_sent}
+use Rattle.laws_routes.specs.Sayings.{AllSaid, Has, bare, has_of}
+use Rattle.laws_routes.proofs.SayingsCarried.{said_is_sent}
 
 -- Other links are of no account to a side.
 pub relinked : (v : Vat) (s : State) (g : Ghost) (next : ℕ) (m : routing.State routes) (links : Bool → List (Message routes)) → Side v s g next m → Side v s g next (record m { net = record (m.net) { links = links } })
@@ -86,6 +88,10 @@ bounces w d g m x target onward rest far t k at =
         told = t.told;
         unborn = subst (λ (ids : List ℕ). Unborn u (w.other).outcomes g.theirs.outcome m.net.stop m.net.kind m.net.waiting g.next ids) (sym (unborn_sent g.own.session w.out d.effects.sends bounced refl)) t.unborn;
         unborn_back = t.unborn_back;
+        known = t.known;
+        known_there = t.known_there;
+        goes = subst (AllSaid (bare m.net) v s.exports g.own u (w.other).exports g.theirs has there) (sym assoc) (said_is_sent (bare m.net) v s.exports g.own u (w.other).exports g.theirs has there out (plain.Disembargo (record { target = onward; context = ReceiverLoopback x })) t.goes tt);
+        comes = t.comes.1;
       },
     )
   where
@@ -103,6 +109,9 @@ bounces w d g m x target onward rest far t k at =
 
     there : ℕ → ℕ
     there = sessions_at g.theirs.outcome (w.other).answers
+
+    has : Has
+    has = has_of [] (w.other).imports (w.other).questions
 
     out : List rpc.Message
     out = w.out ++ d.effects.sends

@@ -161,6 +161,10 @@ lifts w d g m x target b rest new t i at only last own h may =
       told = lifted_told w.made _ m.refs me t.told;
       unborn = t.unborn;
       unborn_back = t.unborn_back;
+      known = t.known;
+      known_there = t.known_there;
+      goes = t.goes;
+      comes = t.comes.1;
     } in
     let r = list_routed w' d' g m' b.waiting us b.node new tied (moves_keep m' us m [] move i) own (to_go m'.net (point v g.own b.node) me b.waiting kept.calls k.2) h may in
     (r.0, r.1, moves_on r.1 [] m' us m [] r.2 move, r.3)

@@ -1,6 +1,6 @@
 -- As descriptors are made, exports only grow: each that was there is there, and of the same node.
 use Rattle.std.specs.FinMap as map
-use Rattle.std.proofs.Common.{◌≡◌, ℕ, ◌+◌, List, [], ◌∷◌, Option, None, Some, IsSome, refl, sym, ap, subst, ◌∙◌}
+use Rattle.std.proofs.Common.{◌≡◌, ℕ, ◌+◌, List, [], ◌∷◌, Option, None, Some, IsSome, refl, sym, ap, subst, ◌∙◌, ◌++◌}
 use Rattle.finite_maps.specs.Tally.{Map}
 use Rattle.finite_maps.proofs.Tested.{at_put}
 use Rattle.rpc_msg.specs.declared.ids.Vat.{Vat}
@@ -21,6 +21,10 @@ use Rattle.laws_routes.specs.Views.{IsExportAs, IsImportOf, reader, sessions_at}
 use Rattle.laws_routes.specs.Ties.{Around, Ghosts, Tied}
 use Rattle.laws_routes.specs.Premises.{TargetsAreMet}
 use Rattle.laws_routes.proofs.LinkShapes.{shapes_exports, cap_map}
+use Rattle.laws_routes.specs.Named.{LinksMet}
+use Rattle.laws_routes.specs.Sayings.{bare, has_of}
+use Rattle.laws_routes.specs.KnownLaws.{StillThere}
+use Rattle.laws_routes.proofs.SayingsCarried.{all_met, all_there, said_as_exported}
 
 pub record Grown (E F : Map Export) : Type 0 where
   pub still : (e : ℕ) (x : Export) → map.get E e ≡ Some x → (y : Export) × (map.get F e ≡ Some y) × (y.node ≡ x.node)
@@ -94,38 +98,51 @@ module _ (v : Vat) (g : Ghost) (E F : Map Export) (grown : Grown E F) where
       by None f k = cc
       by (Some y) f k = let z = grown.still e y f in ap (λ o. point v g (export_node o)) z.1 ∙ ap (point v g) z.2
 
-  there_still : (e : ℕ) → IsSome (map.get E e) → IsSome (map.get F e)
+  pub there_still : (e : ℕ) → IsSome (map.get E e) → IsSome (map.get F e)
   there_still e i = by (map.get E e) refl i
     where
       by : (o : Option Export) → map.get E e ≡ o → IsSome o → IsSome (map.get F e)
       by None f k = cc
       by (Some y) f k = let z = grown.still e y f in subst (λ (o : Option Export). IsSome o) (sym z.1) refl
 
--- So a vat stays tied, and the targets on the way to it are met.
-pub grown_tied : (w : Around) (d : Progress) (g : Ghosts) (m : routing.State routes) (new : State) → Tied w d g m → TargetsAreMet d.state w.back → Exports d.state new → Tied w (with_state d new) g m × TargetsAreMet new w.back
-grown_tied w d g m new t met x = subst (λ z. Tied w (with_state d z) g m × TargetsAreMet z w.back) (sym x.1) (tied, cap_map _ _ w.back (there_still w.vat g.own (d.state).exports x.0 x.2) met)
-  where
-    tied : Tied w (with_state d (record (d.state) { exports = x.0 })) g m
-    tied =
-        let own = t.own in
-        let view = t.view in
-        let back = t.back in
-        record {
-          own = record { stops = own.stops; refs = own.refs; embargoes = own.embargoes; no_other_embargoes = own.no_other_embargoes; lists = own.lists; ids = own.ids };
-          theirs = t.theirs;
-          view = record { imports = view.imports; sessions = view.sessions; link = view.link };
-          back = record {
-            imports = λ e. import_still w.vat g.own (d.state).exports x.0 x.2 e (g.theirs.import e) (map.get (w.other).imports e) (back.imports e);
-            sessions = back.sessions;
-            link =
-                shapes_exports (other_vat w.vat) w.vat g.theirs (reader w.other d.state g.own) x.0 g.own (sessions_at g.own.outcome (d.state).answers) w.back
-                (cap_map (λ e. IsSome (map.get (d.state).exports e)) _ w.back (point_still w.vat g.own (d.state).exports x.0 x.2) met) ∙ back.link;
-          };
-          told = t.told;
-          unborn = t.unborn;
-          unborn_back = t.unborn_back;
-        }
+-- So a vat stays tied, and what is named on the way is there.
+pub grown_tied : (w : Around) (d : Progress) (g : Ghosts) (m : routing.State routes) (new : State) → Tied w d g m → TargetsAreMet d.state w.back → LinksMet d.state w.other (w.out ++ d.effects.sends) w.back → Exports d.state new
+    → Tied w (with_state d new) g m × TargetsAreMet new w.back × LinksMet new w.other (w.out ++ d.effects.sends) w.back
+grown_tied w d g m new t met links x =
+    let s = d.state in
+    let f = w.other in
+    let u = other_vat w.vat in
+    let still : StillThere s.exports x.0 = (let a = x.2 in a.still) in
+    let none : StillThere f.exports f.exports = all_there f.exports in
+    let out = w.out ++ d.effects.sends in
+    let has = has_of [] f.imports f.questions in
+    let has_back = has_of [] s.imports s.questions in
+    let own = t.own in
+    let view = t.view in
+    let back = t.back in
+    let tied : Tied w (with_state d (record s { exports = x.0 })) g m =
+    record {
+      own = record { stops = own.stops; refs = own.refs; embargoes = own.embargoes; no_other_embargoes = own.no_other_embargoes; lists = own.lists; ids = own.ids };
+      theirs = t.theirs;
+      view = record { imports = view.imports; sessions = view.sessions; link = view.link };
+      back = record {
+        imports = λ e. import_still w.vat g.own s.exports x.0 x.2 e (g.theirs.import e) (map.get f.imports e) (back.imports e);
+        sessions = back.sessions;
+        link =
+            shapes_exports u w.vat g.theirs (reader f s g.own) x.0 g.own (sessions_at g.own.outcome s.answers) w.back
+            (cap_map (λ e. IsSome (map.get s.exports e)) _ w.back (point_still w.vat g.own s.exports x.0 x.2) met) ∙ back.link;
+      };
+      told = t.told;
+      unborn = t.unborn;
+      unborn_back = t.unborn_back;
+      known = t.known;
+      known_there = t.known_there;
+      goes = said_as_exported (bare m.net) w.vat s.exports x.0 g.own u f.exports f.exports g.theirs has (sessions_at g.theirs.outcome f.answers) out still none links.0 t.goes;
+      comes = said_as_exported (bare m.net) u f.exports f.exports g.theirs w.vat s.exports x.0 g.own has_back (sessions_at g.own.outcome s.answers) w.back none still links.1 t.comes;
+    } in
+    subst (λ z. Tied w (with_state d z) g m × TargetsAreMet z w.back × LinksMet z w.other (w.out ++ d.effects.sends) w.back) (sym x.1)
+    (tied, cap_map _ _ w.back (there_still w.vat g.own s.exports x.0 x.2) met, (all_met s.exports x.0 f.exports f.exports still none has out links.0, all_met f.exports f.exports s.exports x.0 none still has_back w.back links.1))
 
-pub descriptors_made : (w : Around) (d : Progress) (g : Ghosts) (m : routing.State routes) (ns : List Node) (ds : List Descriptor) (new : State) → Tied w d g m → TargetsAreMet d.state w.back → DescribesAll d.state ns ds new
-    → Tied w (with_state d new) g m × TargetsAreMet new w.back
-descriptors_made w d g m ns ds new t met h = grown_tied w d g m new t met (described_all d.state ns ds new h)
+pub descriptors_made : (w : Around) (d : Progress) (g : Ghosts) (m : routing.State routes) (ns : List Node) (ds : List Descriptor) (new : State) → Tied w d g m → TargetsAreMet d.state w.back → LinksMet d.state w.other (w.out ++ d.effects.sends) w.back
+    → DescribesAll d.state ns ds new → Tied w (with_state d new) g m × TargetsAreMet new w.back × LinksMet new w.other (w.out ++ d.effects.sends) w.back
+descriptors_made w d g m ns ds new t met links h = grown_tied w d g m new t met links (described_all d.state ns ds new h)

@@ -1,6 +1,6 @@
 -- Counts of exports fall: each that is still there is of the same node.
 use Rattle.std.specs.FinMap as map
-use Rattle.std.proofs.Common.{◌≡◌, ℕ, ◌-◌, Bool, nat_le, true, false, cond, List, [], ◌∷◌, Option, None, Some, IsSome, refl, sym, ap, subst, ◌∙◌}
+use Rattle.std.proofs.Common.{◌≡◌, ℕ, ◌-◌, Bool, nat_le, true, false, cond, List, [], ◌∷◌, ◌++◌, Option, None, Some, IsSome, refl, sym, ap, subst, ◌∙◌}
 use Rattle.finite_maps.specs.Tally.{Map}
 use Rattle.finite_maps.proofs.Tested.{at_cut, at_put}
 use Rattle.rpc_msg.specs.declared.ids.Vat.{Vat}
@@ -23,6 +23,8 @@ use Rattle.laws_routes.specs.Laws.{with_back}
 use Rattle.laws_routes.specs.QuietLaws.{MayLower, lowering}
 use Rattle.laws_routes.proofs.LinkShapes.{shapes_exports, cap_map}
 use Rattle.laws_routes.proofs.SilentMessages.{silent_comes}
+use Rattle.laws_routes.specs.Sayings.{bare, has_of}
+use Rattle.laws_routes.proofs.SayingsCarried.{all_there, said_as_lowered}
 
 -- Each of F was in E, with the same node.
 abbrev pub Lowered : Map Export → Map Export → Type 0
@@ -63,7 +65,7 @@ module _ (v : Vat) (g : Ghost) (E F : Map Export) (lower : Lowered E F) where
       by None f k = cc
       by (Some y) f k = let z = lower e y f in ap (point v g) (sym z.2) ∙ ap (λ o. point v g (export_node o)) (sym z.1)
 
-pub lower_tied : (w : Around) (d : Progress) (g : Ghosts) (m : routing.State routes) (F : Map Export) → Lowered d.state.exports F → Tied w d g m → MayLower (record (d.state) { exports = F }) w.other w.back → Tied w (with_state d (record (d.state) { exports = F })) g m
+pub lower_tied : (w : Around) (d : Progress) (g : Ghosts) (m : routing.State routes) (F : Map Export) → Lowered d.state.exports F → Tied w d g m → MayLower (record (d.state) { exports = F }) w.other (w.out ++ d.effects.sends) w.back → Tied w (with_state d (record (d.state) { exports = F })) g m
 lower_tied w d g m F lower t may =
     let own = t.own in
     let view = t.view in
@@ -82,13 +84,17 @@ lower_tied w d g m F lower t may =
       told = t.told;
       unborn = t.unborn;
       unborn_back = t.unborn_back;
+      known = t.known;
+      known_there = t.known_there;
+      goes = said_as_lowered (bare m.net) w.vat (d.state).exports F g.own (other_vat w.vat) (w.other).exports (w.other).exports g.theirs (has_of [] (w.other).imports (w.other).questions) (sessions_at g.theirs.outcome (w.other).answers) (w.out ++ d.effects.sends) lower (all_there (w.other).exports) may.named t.goes;
+      comes = said_as_lowered (bare m.net) (other_vat w.vat) (w.other).exports (w.other).exports g.theirs w.vat (d.state).exports F g.own (has_of [] (d.state).imports (d.state).questions) (sessions_at g.own.outcome (d.state).answers) w.back (all_there (w.other).exports) lower may.named_back t.comes;
     }
 
-pub obeyed : (w : Around) (d : Progress) (g : Ghosts) (m : routing.State routes) (flag : Bool) (ids : List ℕ) → Tied w d g m → MayLower (obey d.state flag ids) w.other w.back → Tied w (with_state d (obey d.state flag ids)) g m
+pub obeyed : (w : Around) (d : Progress) (g : Ghosts) (m : routing.State routes) (flag : Bool) (ids : List ℕ) → Tied w d g m → MayLower (obey d.state flag ids) w.other (w.out ++ d.effects.sends) w.back → Tied w (with_state d (obey d.state flag ids)) g m
 obeyed w d g m true ids t may = lower_tied w d g m (lower_each (d.state).exports ids) (each_lowered (d.state).exports ids) t may
 obeyed w d g m false ids t may = t
 
 pub release_taken : (w : Around) (d : Progress) (g : Ghosts) (m : routing.State routes) (x : Release) (rest : List Message) → Tied (with_back w (message.Plain (plain.Release x) ∷ rest)) d g m
-    → MayLower (lowering d.state x.export.0 x.count) w.other rest → Tied (with_back w rest) (with_state d (lowering d.state x.export.0 x.count)) g m
+    → MayLower (lowering d.state x.export.0 x.count) w.other (w.out ++ d.effects.sends) rest → Tied (with_back w rest) (with_state d (lowering d.state x.export.0 x.count)) g m
 release_taken w d g m x rest t may =
     lower_tied (with_back w rest) d g m (lower_by (d.state).exports x.export.0 x.count) (by_lowered (d.state).exports x.export.0 x.count) (silent_comes w d g m (message.Plain (plain.Release x)) rest t tt) may

@@ -31,7 +31,7 @@ use Rattle.laws_routes.specs.Points.{Point, vat_of, routes}
 use Rattle.laws_routes.specs.Ghosts.{Ghost, point, ref_at}
 use Rattle.laws_routes.specs.Sides.{Side, EndsAs, HasHead, IsRef, IsEmbargo, HasEmbargo, IsEmbargoOf}
 use Rattle.laws_routes.specs.Ties.{Around, Ghosts, Tied, Told, deliveries_of}
-use Rattle.laws_routes.specs.Sayings.{IsKnown, KnownIsSo}
+use Rattle.laws_routes.specs.Sayings.{IsKnown}
 use Rattle.laws_routes.specs.Laws.{Comes, IsSettledTo}
 use Rattle.laws_routes.specs.SayingLaws.{MayAdvance, MayAdvanceFrom}
 use Rattle.laws_routes.proofs.Differing.{other_number}
@@ -43,6 +43,7 @@ use Rattle.laws_routes.proofs.CallRouted.{own_vat}
 use Rattle.laws_routes.proofs.CallMade.{target_reads}
 use Rattle.laws_routes.proofs.HeadSwitched.{switches}
 use Rattle.laws_routes.proofs.HeadTurned.{turns_back}
+use Rattle.laws_routes.proofs.SayingsKept.{wire_known}
 
 -- ---- It breaks
 
@@ -117,6 +118,10 @@ breaks w d g m r x k reason t there none head settles broken =
         told = dead_told v s g.own g.next m r x reason t.own there none w.made _ t.told;
         unborn = t.unborn;
         unborn_back = t.unborn_back;
+        known = t.known;
+        known_there = t.known_there;
+        goes = t.goes;
+        comes = t.comes;
       },
     )
 
@@ -229,18 +234,18 @@ module _ (w : Around) (d : Progress) (g : Ghosts) (m : routing.State routes) (r 
   nothing_of_others (node.Pipe q path) e = cc
   nothing_of_others (node.Broken reason) e = tt
 
-  known_here : KnownIsSo v d.state g.own m.net → (b : Bool) → is_wire k ≡ b → IsKnown v g.own m.net (point v g.own k) (known_of_wire d.state k)
-  known_here so true e = so k e
-  known_here so false e = nothing_of_others k e
+  known_here : (b : Bool) → is_wire k ≡ b → IsKnown v g.own m.net (point v g.own k) (known_of_wire d.state k)
+  known_here true e = wire_known v d.state g.own m.net k (t.known may.level) e
+  known_here false e = nothing_of_others k e
 
-pub advances : (w : Around) (d : Progress) (g : Ghosts) (m : routing.State routes) (r : ℕ) (granted : Granted) (new : Progress) → Tied w d g m → KnownIsSo w.vat d.state g.own m.net → MayAdvanceFrom w d (map.get d.state.refs r)
+pub advances : (w : Around) (d : Progress) (g : Ghosts) (m : routing.State routes) (r : ℕ) (granted : Granted) (new : Progress) → Tied w d g m → MayAdvanceFrom w d (map.get d.state.refs r)
     → Advances d r (map.get d.state.refs r) granted new → Comes w new m [] []
-advances w d g m r granted new t so may h = by (map.get d.state.refs r) refl may h
+advances w d g m r granted new t may h = by (map.get d.state.refs r) refl may h
   where
     go : (x : Reference) (o : Option EmbargoId) → x.embargo ≡ o → map.get d.state.refs r ≡ Some x → MayAdvance w d x → AdvancesFrom d r x o granted new → Comes w new m [] []
     go x (Some e) i there may h = subst (λ z. Comes w z m [] []) (sym h.1) (g, m, Done, t)
     go x None i there may h =
-        by_known w d g m r x t there i may (known_of_wire d.state (settle d.state x.head)) refl (known_here w d g m r x t there i may so (is_wire (settle d.state x.head)) refl) granted new h
+        by_known w d g m r x t there i may (known_of_wire d.state (settle d.state x.head)) refl (known_here w d g m r x t there i may (is_wire (settle d.state x.head)) refl) granted new h
 
     by : (o : Option Reference) → map.get d.state.refs r ≡ o → MayAdvanceFrom w d o → Advances d r o granted new → Comes w new m [] []
     by None e may h = absurd h

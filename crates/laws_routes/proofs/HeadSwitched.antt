@@ -104,6 +104,10 @@ switches w d g m r x k to t e none alive head settles far_k far_to same = (
     told = headed_told v s g.own g.next m r x to e none alive w.made _ t.told;
     unborn = t.unborn;
     unborn_back = t.unborn_back;
+    known = t.known;
+    known_there = t.known_there;
+    goes = t.goes;
+    comes = t.comes;
   },
 )
   where

@@ -39,6 +39,8 @@ use Rattle.laws_routes.proofs.CallDelivered.{told_too}
 use Rattle.laws_routes.proofs.LinkShapes.{loops_map, past_more, shapes_loops, shapes_more, shapes_of_more}
 use Rattle.laws_routes.proofs.CallMade.{target_reads}
 use Rattle.laws_routes.proofs.UnbornKept.{unborn_sent}
+use Rattle.laws_routes.specs.Sayings.{AllSaid, Has, bare, has_of}
+use Rattle.laws_routes.proofs.SayingsCarried.{said_is_sent}
 
 module _ (v : Vat) (s : State) (g : Ghost) (next : ℕ) (m : routing.State routes) (r e : ℕ) (x : Reference) (n : Node) (old : Point) (h : Side v s g next m) (there : map.get s.refs r ≡ Some x) (none : x.embargo ≡ None) (alive : (m.refs (ref_at v r)).dead ≡ false) (free : map.get s.embargoes e ≡ None) where
   abbrev me : Ref
@@ -125,6 +127,10 @@ turns_back w d g m r e x k n target t there none alive head settles wire wire_th
         told = turned_told v s g.own g.next linked r e x n old (relinked v s g.own g.next m linked.net.links t.own) there none alive free w.made _ t.told;
         unborn = subst (λ (ids : List ℕ). Unborn u (w.other).outcomes g.theirs.outcome m.net.stop m.net.kind m.net.waiting g.next ids) (sym (unborn_sent g.own.session w.out d.effects.sends sent refl)) t.unborn;
         unborn_back = t.unborn_back;
+        known = t.known;
+        known_there = t.known_there;
+        goes = subst (AllSaid (bare m.net) v s.exports g.own u (w.other).exports g.theirs has now) (sym assoc) (said_is_sent (bare m.net) v s.exports g.own u (w.other).exports g.theirs has now out (plain.Disembargo (record { target = target; context = SenderLoopback (record { 0 = e }) })) t.goes tt);
+        comes = t.comes;
       },
     )
   where
@@ -166,6 +172,9 @@ turns_back w d g m r e x k n target t there none alive head settles wire wire_th
 
     now : ℕ → ℕ
     now = sessions_at g.theirs.outcome (w.other).answers
+
+    has : Has
+    has = has_of [] (w.other).imports (w.other).questions
 
     out : List rpc.Message
     out = w.out ++ d.effects.sends

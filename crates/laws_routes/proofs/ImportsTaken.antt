@@ -1,6 +1,6 @@
 -- Descriptors are taken, and imports come.
 use Rattle.std.specs.FinMap as map
-use Rattle.std.proofs.Common.{◌≡◌, ℕ, Bool, false, List, [], ◌∷◌, ◌++◌, Option, None, Some, IsSome, refl, sym, ap, subst, ◌∙◌}
+use Rattle.std.proofs.Common.{◌≡◌, ℕ, Bool, false, List, [], ◌∷◌, ◌++◌, Option, None, Some, IsSome, refl, sym, ap, subst, ◌∙◌, nat_eq, true, ◌||◌, arith}
 use Rattle.finite_maps.proofs.Tested.{at_put}
 use Rattle.rpc_msg.specs.declared.ids.Vat.{Vat}
 use Rattle.rpc_msg.specs.declared.parts.Descriptor.{Descriptor}
@@ -28,32 +28,24 @@ use Rattle.laws_routes.specs.Points.{Point, routes}
 use Rattle.laws_routes.specs.Ghosts.{Ghost, point, far, ref_at, importing}
 use Rattle.laws_routes.specs.Sides.{Side, IsLinked, HasHead, IsRef, HasEmbargo}
 use Rattle.laws_routes.specs.Views.{IsExportAs, IsImportOf, IsSession, reader, sessions_at}
-use Rattle.laws_routes.specs.Ties.{Around, Ghosts, Tied}
+use Rattle.laws_routes.specs.Ties.{Around, Ghosts, Tied, TiedBy}
 use Rattle.laws_routes.specs.Premises.{EachMayTake, EachOpen, ExportsAreOwn, MayTake, Unnamed}
 use Rattle.laws_routes.specs.MessageLaws.{SameButImports}
 use Rattle.laws_routes.proofs.Differing.{with_here, with_other}
 use Rattle.laws_routes.proofs.LinkShapes.{all_opens, past_same, shapes_exports, shapes_same}
+use Rattle.laws_routes.proofs.NewPoints.{imported_own, imported_point}
 use Rattle.laws_routes.proofs.OutcomeKept.{all_caps}
+use Rattle.laws_routes.specs.Named.{NoneLeads}
+use Rattle.laws_routes.specs.KnownLaws.{SamePoints}
+use Rattle.laws_routes.specs.Sayings.{AllSaid, bare, has_of, is_among}
+use Rattle.laws_routes.proofs.KnownKept.{known_as_imported, known_as_received, none_received}
+use Rattle.laws_routes.proofs.SayingsCarried.{each_return, or_right, said_as_given, said_of_fewer}
+use Rattle.laws_routes.proofs.SilentMessages.{none_coming}
+use Rattle.std.specs.Prelude.{is_some}
 
 -- ---- What other nodes stand for
 
 module _ (v : Vat) (g : Ghost) (e : ℕ) (x : Point) where
-  pub same_point : (n : Node) → is_import e n ≡ false → point v (importing g e x) n ≡ point v g n
-  same_point (node.Object o) h = refl
-  same_point (node.Promise p) h = refl
-  same_point (node.Field o path) h = refl
-  same_point (node.Import k) h = with_other g.import e x k.0 h
-  same_point (node.Pipe q path) h = refl
-  same_point (node.Broken reason) h = refl
-
-  own_point : (n : Node) → is_wire n ≡ false → point v (importing g e x) n ≡ point v g n
-  own_point (node.Object o) h = refl
-  own_point (node.Promise p) h = refl
-  own_point (node.Field o path) h = refl
-  own_point (node.Import k) h = cc
-  own_point (node.Pipe q path) h = refl
-  own_point (node.Broken reason) h = refl
-
   same_far : (n : Node) → is_import e n ≡ false → far v (importing g e x) n ≡ far v g n
   same_far (node.Object o) h = refl
   same_far (node.Promise p) h = refl
@@ -86,8 +78,8 @@ new_side v s g next m e x k un h = record {
     f = importing g e x
 
     linked : (n : Node) → is_wire n ≡ false → (o : Option Node) → ((j : Node) → o ≡ Some j → is_import e j ≡ false) → IsLinked v g m.net n o → IsLinked v (importing g e x) m.net n o
-    linked n w None un a = rw (own_point v g e x n w) a
-    linked n w (Some j) un a = rw (own_point v g e x n w) (rw (same_point v g e x j (un j refl)) (rw (same_far v g e x j (un j refl)) a))
+    linked n w None un a = rw (imported_own v g e x n w) a
+    linked n w (Some j) un a = rw (imported_own v g e x n w) (rw (imported_point v g e x j (un j refl)) (rw (same_far v g e x j (un j refl)) a))
 
     ref : (r : ℕ) (o : Option Reference) → map.get s.refs r ≡ o → IsRef v g s.next_ref r o (m.refs (ref_at v r)) → IsRef v (importing g e x) s.next_ref r o (m.refs (ref_at v r))
     ref r None i a = a
@@ -95,9 +87,9 @@ new_side v s g next m e x k un h = record {
 
     embargo : (b : ℕ) (o : Option Embargo) → map.get s.embargoes b ≡ o → HasEmbargo v g m o → HasEmbargo v (importing g e x) m o
     embargo b None i a = tt
-    embargo b (Some y) i a = (a.0, a.1, a.2, a.3, a.4, a.5 ∙ sym (same_point v g e x y.node (un.embargoes b y i)))
+    embargo b (Some y) i a = (a.0, a.1, a.2, a.3, a.4, a.5 ∙ sym (imported_point v g e x y.node (un.embargoes b y i)))
 
-module _ (w : Around) (d : Progress) (g : Ghosts) (m : routing.State routes) (t : Tied w d g m) (e : ℕ) (k : SenderKind) where
+module _ (w : Around) (coming : List ℕ) (d : Progress) (g : Ghosts) (m : routing.State routes) (t : TiedBy w coming d.state d.effects.sends d.effects.deliveries g m) (e : ℕ) (k : SenderKind) (among : is_among e coming ≡ true) where
   abbrev s : State
   s = d.state
 
@@ -114,8 +106,16 @@ module _ (w : Around) (d : Progress) (g : Ghosts) (m : routing.State routes) (t 
   is_export None i = cc
   is_export (Some y) i = refl
 
-  new_import : ExportsAreOwn s → IsSome (map.get (w.other).exports e) → Unnamed s (is_import e) → Tied w (with_state d (import_one s k e)) (record g { own = f }) m
-  new_import own there un =
+  -- It was coming.
+  no_more : (j : ℕ) → (is_among j coming || is_some (map.get (import_one s k e).imports j)) ≡ true → (is_among j coming || is_some (map.get s.imports j)) ≡ true
+  no_more = at_put (λ j o. (is_among j coming || is_some o) ≡ true → (is_among j coming || is_some (map.get s.imports j)) ≡ true) s.imports e (received k (map.get s.imports e))
+      (λ h. subst (λ (b : Bool). (b || is_some (map.get s.imports e)) ≡ true) (sym among) refl) (λ j n h. h)
+
+  still_comes : AllSaid (bare m.net) u (w.other).exports g.theirs w.vat s.exports g.own (has_of coming (import_one s k e).imports s.questions) (sessions_at g.own.outcome s.answers) w.back
+  still_comes = said_of_fewer (bare m.net) u (w.other).exports g.theirs w.vat s.exports g.own (has_of coming s.imports s.questions) (has_of coming (import_one s k e).imports s.questions) (sessions_at g.own.outcome s.answers) w.back no_more (each_return _ w.back (λ q h. h)) t.comes
+
+  new_import : ExportsAreOwn s → IsSome (map.get (w.other).exports e) → map.get s.imports e ≡ None → Unnamed s (is_import e) → NoneLeads s (is_import e) → TiedBy w coming (import_one s k e) d.effects.sends d.effects.deliveries (record g { own = f }) m
+  new_import own there free un unsaid =
       let view = t.view in
       let back = t.back in
       record {
@@ -136,6 +136,10 @@ module _ (w : Around) (d : Progress) (g : Ghosts) (m : routing.State routes) (t 
         told = t.told;
         unborn = t.unborn;
         unborn_back = t.unborn_back;
+        known = λ l. known_as_imported w.vat s g.own (bare m.net) k e x free unsaid (t.known l);
+        known_there = t.known_there;
+        goes = said_as_given (bare m.net) w.vat s.exports g.own f u (w.other).exports g.theirs g.theirs (has_of [] (w.other).imports (w.other).questions) now out same (λ j. refl) opens (each_return _ out (λ q. refl)) t.goes;
+        comes = said_as_given (bare m.net) u (w.other).exports g.theirs g.theirs w.vat s.exports g.own f (has_of coming (import_one s k e).imports s.questions) (sessions_at g.own.outcome s.answers) w.back (λ j. refl) same (all_opens _ w.back (λ q. refl)) (each_return _ w.back (λ q. refl)) still_comes;
       }
     where
       now : ℕ → ℕ
@@ -150,14 +154,17 @@ module _ (w : Around) (d : Progress) (g : Ghosts) (m : routing.State routes) (t 
       import_same : (p : Point) (y : Option Export) (o : Option Import) → ((z : Export) → y ≡ Some z → is_wire z.node ≡ false) → IsImportOf w.vat g.own p y o → IsImportOf w.vat f p y o
       import_same p y None h i = tt
       import_same p None (Some o) h i = absurd i
-      import_same p (Some y) (Some o) h i = i ∙ sym (own_point w.vat g.own e x y.node (h y refl))
+      import_same p (Some y) (Some o) h i = i ∙ sym (imported_own w.vat g.own e x y.node (h y refl))
 
       point_same : (y : Option Export) → ((z : Export) → y ≡ Some z → is_wire z.node ≡ false) → point w.vat f (export_node y) ≡ point w.vat g.own (export_node y)
       point_same None h = refl
-      point_same (Some y) h = own_point w.vat g.own e x y.node (h y refl)
+      point_same (Some y) h = imported_own w.vat g.own e x y.node (h y refl)
+
+      same : SamePoints w.vat g.own f s.exports
+      same j = point_same (map.get s.exports j) (own j)
 
   -- One that is there stands for what it stood for.
-  old_import : (z : Import) → map.get s.imports e ≡ Some z → Tied w (with_state d (import_one s k e)) g m
+  old_import : (z : Import) → map.get s.imports e ≡ Some z → TiedBy w coming (import_one s k e) d.effects.sends d.effects.deliveries g m
   old_import z there =
       let side = t.own in
       let view = t.view in
@@ -175,13 +182,17 @@ module _ (w : Around) (d : Progress) (g : Ghosts) (m : routing.State routes) (t 
         told = t.told;
         unborn = t.unborn;
         unborn_back = t.unborn_back;
+        known = λ l. known_as_received w.vat s g.own (bare m.net) k e (t.known l);
+        known_there = t.known_there;
+        goes = t.goes;
+        comes = still_comes;
       }
 
-  one_import : ExportsAreOwn s → MayTake s w.other e → (h : Ghosts) × Tied w (with_state d (import_one s k e)) h m × SameButImports g h
+  one_import : ExportsAreOwn s → MayTake s w.other e → (h : Ghosts) × TiedBy w coming (import_one s k e) d.effects.sends d.effects.deliveries h m × SameButImports g h
   one_import own may = by (map.get s.imports e) refl
     where
-      by : (o : Option Import) → map.get s.imports e ≡ o → (h : Ghosts) × Tied w (with_state d (import_one s k e)) h m × SameButImports g h
-      by None i = (record g { own = f }, new_import own may.there (may.unnamed i), (refl, refl, refl, refl, refl))
+      by : (o : Option Import) → map.get s.imports e ≡ o → (h : Ghosts) × TiedBy w coming (import_one s k e) d.effects.sends d.effects.deliveries h m × SameButImports g h
+      by None i = (record g { own = f }, new_import own may.there i (may.unnamed i) (may.unsaid i), (refl, refl, refl, refl, refl))
       by (Some z) i = (g, old_import z i, (refl, refl, refl, refl, refl))
 
 -- ---- One after the other
@@ -190,35 +201,39 @@ still_may : (s other : State) (k : SenderKind) (e : ℕ) (es : List ℕ) → Eac
 still_may s other k e [] h = tt
 still_may s other k e (j ∷ es) h =
     let a = h.0 in (
-      record { there = a.there; unnamed = λ i. let un = a.unnamed (before j i) in record { links = un.links; heads = un.heads; embargoes = un.embargoes } },
+      record { there = a.there; unnamed = λ i. let un = a.unnamed (before j i) in record { links = un.links; heads = un.heads; embargoes = un.embargoes }; unsaid = λ i. none_received s k e (is_import j) (a.unsaid (before j i)) },
       still_may s other k e es h.1,
     )
   where
     before : (j : ℕ) → map.get (map.insert s.imports e (received k (map.get s.imports e))) j ≡ None → map.get s.imports j ≡ None
     before = at_put (λ j o. o ≡ None → map.get s.imports j ≡ None) s.imports e (received k (map.get s.imports e)) (λ i. cc) (λ j n i. i)
 
+first : (e : ℕ) (es : List ℕ) → is_among e (e ∷ es) ≡ true
+first e es = let a : nat_eq e e ≡ true = grind (arith) in subst (λ (b : Bool). (b || is_among e es) ≡ true) (sym a) refl
+
 same_then : (g f h : Ghosts) → SameButImports g f → SameButImports f h → SameButImports g h
 same_then g f h a b = (b.0 ∙ a.0, b.1 ∙ a.1, b.2 ∙ a.2, b.3 ∙ a.3, b.4 ∙ a.4)
 
-each : (w : Around) (d : Progress) (g : Ghosts) (m : routing.State routes) (ds : List Descriptor) → Tied w d g m → ExportsAreOwn d.state → EachMayTake d.state w.other (given ds)
-    → (f : Ghosts) × Tied w (with_state d (take_each d.state ds)) f m × SameButImports g f
-each w d g m [] t own may = (g, t, (refl, refl, refl, refl, refl))
-each w d g m (descriptor.None ∷ ds) t own may = each w d g m ds t own may
-each w d g m (descriptor.SenderHosted e ∷ ds) t own may =
-    let a = one_import w d g m t e.0 kind.Hosted own may.0 in
-    let b = each w (with_state d (import_one d.state kind.Hosted e.0)) a.0 m ds a.1 own (still_may d.state w.other kind.Hosted e.0 (given ds) may.1) in
+each : (w : Around) (coming : List ℕ) (d : Progress) (g : Ghosts) (m : routing.State routes) (ds : List Descriptor) → ((e : ℕ) → is_among e (given ds) ≡ true → is_among e coming ≡ true)
+    → TiedBy w coming d.state d.effects.sends d.effects.deliveries g m → ExportsAreOwn d.state → EachMayTake d.state w.other (given ds)
+    → (f : Ghosts) × TiedBy w coming (take_each d.state ds) d.effects.sends d.effects.deliveries f m × SameButImports g f
+each w coming d g m [] among t own may = (g, t, (refl, refl, refl, refl, refl))
+each w coming d g m (descriptor.None ∷ ds) among t own may = each w coming d g m ds among t own may
+each w coming d g m (descriptor.SenderHosted e ∷ ds) among t own may =
+    let a = one_import w coming d g m t e.0 kind.Hosted (among e.0 (first e.0 (given ds))) own may.0 in
+    let b = each w coming (with_state d (import_one d.state kind.Hosted e.0)) a.0 m ds (λ j i. among j (or_right (nat_eq j e.0) (is_among j (given ds)) i)) a.1 own (still_may d.state w.other kind.Hosted e.0 (given ds) may.1) in
     (b.0, b.1, same_then g a.0 b.0 a.2 b.2)
-each w d g m (descriptor.SenderPromise e ∷ ds) t own may =
-    let a = one_import w d g m t e.0 kind.Promise own may.0 in
-    let b = each w (with_state d (import_one d.state kind.Promise e.0)) a.0 m ds a.1 own (still_may d.state w.other kind.Promise e.0 (given ds) may.1) in
+each w coming d g m (descriptor.SenderPromise e ∷ ds) among t own may =
+    let a = one_import w coming d g m t e.0 kind.Promise (among e.0 (first e.0 (given ds))) own may.0 in
+    let b = each w coming (with_state d (import_one d.state kind.Promise e.0)) a.0 m ds (λ j i. among j (or_right (nat_eq j e.0) (is_among j (given ds)) i)) a.1 own (still_may d.state w.other kind.Promise e.0 (given ds) may.1) in
     (b.0, b.1, same_then g a.0 b.0 a.2 b.2)
-each w d g m (descriptor.ReceiverHosted e ∷ ds) t own may = each w d g m ds t own may
-each w d g m (descriptor.ReceiverAnswer q path ∷ ds) t own may = each w d g m ds t own may
+each w coming d g m (descriptor.ReceiverHosted e ∷ ds) among t own may = each w coming d g m ds among t own may
+each w coming d g m (descriptor.ReceiverAnswer q path ∷ ds) among t own may = each w coming d g m ds among t own may
 
-pub descriptors_taken : (w : Around) (d : Progress) (g : Ghosts) (m : routing.State routes) (ds : List Descriptor) → Tied w d g m → ExportsAreOwn d.state → EachMayTake d.state w.other (given ds)
+pub descriptors_taken : (w : Around) (d : Progress) (g : Ghosts) (m : routing.State routes) (ds : List Descriptor) → TiedBy w (given ds) d.state d.effects.sends d.effects.deliveries g m → ExportsAreOwn d.state → EachMayTake d.state w.other (given ds)
     → (f : Ghosts) × Tied w (with_state d (take_at (d.state).level d.state ds)) f m × SameButImports g f
 descriptors_taken w d g m ds t own may = by (d.state).level
   where
     by : (l : Level) → (f : Ghosts) × Tied w (with_state d (take_at l d.state ds)) f m × SameButImports g f
-    by Zero = (g, t, (refl, refl, refl, refl, refl))
-    by One = each w d g m ds t own may
+    by Zero = (g, none_coming w (given ds) d.state d.effects.sends d.effects.deliveries g m t, (refl, refl, refl, refl, refl))
+    by One = let a = each w (given ds) d g m ds (λ e i. i) t own may in (a.0, none_coming w (given ds) (take_each d.state ds) d.effects.sends d.effects.deliveries a.0 m a.1, a.2)

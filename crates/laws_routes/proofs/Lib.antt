@@ -1,4 +1,5 @@
 pub mod Differing
+pub mod NewPoints
 pub mod NewReferences
 pub mod WhereNodesEnd
 pub mod CallDelivered
@@ -36,6 +37,7 @@ pub mod DescriptorsSaySo
 pub mod ReturnSent
 pub mod StepEnds
 pub mod ExportsLowered
+pub mod AlikeSessions
 pub mod AnswerCloses
 pub mod OutcomeSettled
 pub mod BootstrapTaken
@@ -47,6 +49,15 @@ pub mod CallThrough
 pub mod OtherCommands
 pub mod StepMoves
 pub mod ReturnsSaySo
+pub mod FromMidway
+pub mod MidwayKept
+pub mod MidwayRouted
+pub mod MidwaySaid
+pub mod MidwayFixed
+pub mod MidwaySettled
+pub mod Unplaced
+pub mod MidwayGone
+pub mod ActsFollow
 pub mod PairsTied
 pub mod StepsTied
 pub mod KnownKept

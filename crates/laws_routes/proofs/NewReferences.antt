@@ -141,6 +141,10 @@ new_ref_begins w d g m unrouted n h =
         told = begins_told w.made _ m.refs r (point v g.own n) e h.told;
         unborn = h.unborn;
         unborn_back = h.unborn_back;
+        known = h.known;
+        known_there = h.known_there;
+        goes = h.goes;
+        comes = h.comes;
       },
       (refl, refl, refl, refl),
     )

@@ -36,6 +36,10 @@ use Rattle.laws_routes.proofs.LinkShapes.{cap_map, open_map, past_more, past_sam
 use Rattle.laws_routes.proofs.NewReferences.{new_ref_begins}
 use Rattle.laws_routes.proofs.PromiseOpened.{promise_opens}
 use Rattle.laws_routes.proofs.UnbornKept.{unborn_asked, unborn_later}
+use Rattle.laws_routes.specs.Sayings.{AllSaid, Has, bare, has_of}
+use Rattle.laws_routes.proofs.KnownKept.{known_as_asked}
+use Rattle.laws_routes.proofs.CallSent.{said_asked, said_back_asked, said_to_asker}
+use Rattle.laws_routes.proofs.SayingsCarried.{said_is_sent}
 
 -- ---- A reference is dropped
 
@@ -65,6 +69,10 @@ ref_dropped w d g m r granted new t h = by (map.get d.state.refs r) refl h
           told = t.told;
           unborn = t.unborn;
           unborn_back = t.unborn_back;
+          known = t.known;
+          known_there = t.known_there;
+          goes = t.goes;
+          comes = t.comes;
         })
 
 -- ---- A call is finished
@@ -94,7 +102,7 @@ promise_made w d g m granted new t may h =
 
 -- ---- A bootstrap object is asked for
 
-module _ (w : Around) (s : State) (sends : List rpc.Message) (ds : _) (g : Ghosts) (m : routing.State routes) (q : ℕ) (x : Question) (t : TiedBy w s sends ds g m) (may : MayAsk s (w.out ++ sends) w.back q) where
+module _ (w : Around) (s : State) (sends : List rpc.Message) (ds : _) (g : Ghosts) (m : routing.State routes) (q : ℕ) (x : Question) (t : TiedBy w [] s sends ds g m) (free : map.get s.questions q ≡ None) (unanswered : x.returned ≡ None) (may : MayAsk s (w.out ++ sends) w.back q) where
   abbrev now : ℕ → ℕ
   now = sessions_at g.theirs.outcome (w.other).answers
 
@@ -122,7 +130,7 @@ module _ (w : Around) (s : State) (sends : List rpc.Message) (ds : _) (g : Ghost
   known : past then now (w.out ++ (sends ++ said ∷ [])) ≡ with_at (past g.own now out) q (then.session q)
   known = ap (past then now) assoc ∙ (past_more then now out said ∙ ap (λ z. with_at z q (then.session q)) (past_same g.own then now out none))
 
-  pub asked_tied : TiedBy w after (sends ++ said ∷ []) ds (record { own = then; theirs = g.theirs; next = g.next + 1 }) m
+  pub asked_tied : TiedBy w [] after (sends ++ said ∷ []) ds (record { own = then; theirs = g.theirs; next = g.next + 1 }) m
   asked_tied =
       let view = t.view in
       let back = t.back in
@@ -151,8 +159,17 @@ module _ (w : Around) (s : State) (sends : List rpc.Message) (ds : _) (g : Ghost
         told = t.told;
         unborn = unborn_asked g.own.session q w.out sends said u w.other g.theirs g.next m may.not_open refl t.theirs t.unborn;
         unborn_back = unborn_later t.unborn_back;
+        known = λ l. known_as_asked w.vat s g.own (bare m.net) q g.next s.exports x free unanswered may.unsaid (t.known l);
+        known_there = t.known_there;
+        goes = subst (AllSaid (bare m.net) w.vat s.exports then u (w.other).exports g.theirs has now) (append_assoc w.out sends (said ∷ []))
+            (said_is_sent (bare m.net) w.vat s.exports then u (w.other).exports g.theirs has now out (plain.Bootstrap (record { 0 = q })) (said_asked w.vat u s w.other g.own g.theirs (bare m.net) q g.next may.own has now out may.not_open t.goes) tt);
+        comes = said_to_asker (bare m.net) u (w.other).exports g.theirs w.vat s.exports then s.imports s.questions q x (sessions_at g.own.outcome s.answers) w.back may.not_returned
+            (said_back_asked w.vat u s w.other g.own g.theirs (bare m.net) q g.next may.own (has_of [] s.imports s.questions) (sessions_at g.own.outcome s.answers) w.back may.not_returned t.comes);
       }
     where
+      has : Has
+      has = has_of [] (w.other).imports (w.other).questions
+
       grown : Grown s.exports s.exports
       grown = none_grown s.exports
 
@@ -165,5 +182,5 @@ bootstrap_asked w d g m granted new t may h =
     let sends = d.effects.sends ++ message.Plain (plain.Bootstrap (record { 0 = q })) ∷ [] in
     let f : Ghosts = record { own = asked g.own q g.next; theirs = g.theirs; next = g.next + 1 } in
     let u : State = record s { questions = map.insert s.questions q x } in
-    let a = asked_tied w s d.effects.sends d.effects.deliveries g m q x t (may q h.1) in
+    let a = asked_tied w s d.effects.sends d.effects.deliveries g m q x t h.1 refl (may q h.1) in
     (f, m, Done, rw h.3 (set_rest w u sends d.effects.deliveries f m (map.insert s.calls s.next_call (own_call.Direct (record { 0 = q }))) u.tasks u.unsettled (s.next_call + 1) u.next_task u.next_promise a))

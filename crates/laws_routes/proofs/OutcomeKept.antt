@@ -1,7 +1,7 @@
 -- A new outcome.
 use mathlib.Core.Path.{fun_ext}
 use Rattle.std.specs.FinMap as map
-use Rattle.std.proofs.Common.{◌≡◌, ◌⊎◌, inl, inr, ℕ, ◌+◌, ◌≤◌, ◌<◌, Bool, nat_eq, true, false, List, [], ◌∷◌, Option, None, Some, IsSome, refl, sym, ap, subst, ◌∙◌, arith}
+use Rattle.std.proofs.Common.{◌≡◌, ◌⊎◌, inl, inr, ℕ, ◌+◌, ◌≤◌, ◌<◌, Bool, nat_eq, true, false, List, [], ◌∷◌, Option, None, Some, IsSome, refl, sym, ap, subst, ◌∙◌, arith, ◌++◌}
 use Rattle.capn_wire.specs.declared.path.Op.{Op}
 use Rattle.finite_maps.proofs.Tested.{at_put, equal}
 use Rattle.rpc_msg.specs.declared.ids.Vat.{Vat}
@@ -36,7 +36,12 @@ use Rattle.laws_routes.specs.Premises.{Unnamed, MayKeep, OfCap, TargetCap, EachT
 use Rattle.laws_routes.proofs.Differing.{with_here, with_other}
 use Rattle.laws_routes.proofs.LinkShapes.{shapes_exports}
 use Rattle.laws_routes.proofs.CallSent.{linked_side}
+use Rattle.laws_routes.proofs.NewPoints.{keeping_point}
 use Rattle.laws_routes.proofs.UnbornKept.{next_unused, unborn_later, unborn_put, still_below}
+use Rattle.laws_routes.specs.Sayings.{AllSaid, bare, has_of}
+use Rattle.laws_routes.proofs.KnownKept.{known_as_kept}
+use Rattle.laws_routes.proofs.LinkShapes.{all_opens}
+use Rattle.laws_routes.proofs.SayingsCarried.{each_return, said_as_given}
 
 pub all_caps : (P : ℕ → Type 0) (ms : List rpc.Message) → ((e : ℕ) → P e) → EachTargetCap P ms
 all_caps P [] f = tt
@@ -57,14 +62,6 @@ all_caps P (m ∷ ms) f = (one m, all_caps P ms f)
     one (message.Plain (plain.Disembargo x)) = cap x.target
     one (message.Plain (plain.Other n)) = tt
     one (message.Unimplemented m) = tt
-
-pub keeping_point : (v : Vat) (g : Ghost) (o i : ℕ) (n : Node) → is_field o n ≡ false → point v (keeping g o i) n ≡ point v g n
-keeping_point v g o i (node.Object x) h = refl
-keeping_point v g o i (node.Promise p) h = refl
-keeping_point v g o i (node.Field k path) h = ap (λ (z : ℕ). AField v z path) (with_other g.outcome o i k h)
-keeping_point v g o i (node.Import e) h = refl
-keeping_point v g o i (node.Pipe q path) h = refl
-keeping_point v g o i (node.Broken reason) h = refl
 
 keeping_far : (v : Vat) (g : Ghost) (o i : ℕ) (n : Node) → far v (keeping g o i) n ≡ far v g n
 keeping_far v g o i (node.Object x) = refl
@@ -181,6 +178,13 @@ keeps w d g m o who t free may =
       told = t.told;
       unborn = unborn_later t.unborn;
       unborn_back = unborn_later (unborn_put t.unborn_back o g.next _ (λ k. (let a = still_below t.unborn_back g.next k in absurd (omega (arith, a)))));
+      known = λ l. known_as_kept v s g.own (bare m.net) o g.next may.unsaid (t.known l);
+      known_there = t.known_there;
+      goes = said_as_given (bare m.net) v s.exports g.own f (other_vat v) (w.other).exports g.theirs g.theirs (has_of [] (w.other).imports (w.other).questions) (sessions_at g.theirs.outcome (w.other).answers) (w.out ++ d.effects.sends)
+          (λ e. point_same (map.get s.exports e) (may.exports e)) (λ e. refl) (all_opens _ (w.out ++ d.effects.sends) (λ k. refl)) (each_return _ (w.out ++ d.effects.sends) (λ k. refl)) t.goes;
+      comes = subst (λ (z : ℕ → ℕ). AllSaid (bare m.net) (other_vat v) (w.other).exports g.theirs v s.exports f (has_of [] s.imports s.questions) z w.back) (sym same)
+          (said_as_given (bare m.net) (other_vat v) (w.other).exports g.theirs g.theirs v s.exports g.own f (has_of [] s.imports s.questions) (sessions_at g.own.outcome s.answers) w.back
+          (λ e. refl) (λ e. point_same (map.get s.exports e) (may.exports e)) (all_opens _ w.back (λ k. refl)) (each_return _ w.back (λ k. refl)) t.comes);
     }
   where
     f : Ghost

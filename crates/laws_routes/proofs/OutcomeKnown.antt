@@ -1,6 +1,6 @@
 -- An outcome becomes known: its group settles. The lists, the identities and the other vat; the stops are in FieldStops.
 use Rattle.std.specs.FinMap as map
-use Rattle.std.proofs.Common.{◌≡◌, ◌⊎◌, inl, inr, ℕ, nat_eq, false, List, [], ◌∷◌, Option, None, Some, IsSome, refl, sym, ap, subst, ◌∙◌, arith}
+use Rattle.std.proofs.Common.{◌≡◌, ◌⊎◌, inl, inr, ℕ, nat_eq, false, List, [], ◌∷◌, Option, None, Some, IsSome, refl, sym, ap, subst, ◌∙◌, arith, ◌++◌}
 use Rattle.capn_wire.specs.declared.path.Op.{Op}
 use Rattle.finite_maps.specs.Tally.{Map}
 use Rattle.finite_maps.proofs.Tested.{apart, at_put}
@@ -33,6 +33,9 @@ use Rattle.laws_routes.proofs.CallWaits.{lists_same}
 use Rattle.laws_routes.proofs.FieldStops.{known_stops}
 use Rattle.laws_routes.proofs.GroupSettles.{ids_after, linked_after, outcome_after, promise_after}
 use Rattle.laws_routes.proofs.UnbornKept.{unborn_fewer, unborn_settled, unborn_elsewhere}
+use Rattle.laws_routes.specs.Sayings.{bare, has_of}
+use Rattle.laws_routes.proofs.SayingsKept.{all_said, known_stays}
+use Rattle.laws_routes.specs.Views.{sessions_at}
 
 abbrev IsOf : Group → Type 0
 IsOf Apart = ⊥
@@ -228,6 +231,10 @@ outcome_known w d g m o x fit t e unknown rest =
         unborn_back =
             unborn_fewer (unborn_settled m.net group fate t.unborn_back (unborn_elsewhere t.unborn_back o (there v s g.own g.next m o x fit t.own e unknown rest))) _
             (before v s g.own g.next m o x fit t.own e unknown rest);
+        known = λ l. known_stays (bare m.net) group fate v s g.own (t.known l);
+        known_there = λ l. known_stays (bare m.net) group fate (other_vat v) w.other g.theirs (t.known_there l);
+        goes = all_said (bare m.net) group fate v s.exports g.own (other_vat v) (w.other).exports g.theirs (has_of [] (w.other).imports (w.other).questions) (sessions_at g.theirs.outcome (w.other).answers) (w.out ++ d.effects.sends) t.goes;
+        comes = all_said (bare m.net) group fate (other_vat v) (w.other).exports g.theirs v s.exports g.own (has_of [] s.imports s.questions) (sessions_at g.own.outcome s.answers) w.back t.comes;
       },
       learnt_to_go v s g.own g.next m o x fit t.own e unknown rest,
     )
@@ -298,4 +305,8 @@ emptied w d g m o x from waiting fit t e is =
       told = t.told;
       unborn = t.unborn;
       unborn_back = unborn_fewer t.unborn_back _ (before' w.vat d.state g.own g.next m o x from waiting fit t.own e is);
+      known = t.known;
+      known_there = t.known_there;
+      goes = t.goes;
+      comes = t.comes;
     }

@@ -11,7 +11,7 @@ use Rattle.vat_machine.specs.declared.calls.KeptOutcome.{KeptOutcome}
 use Rattle.vat_machine.specs.declared.calls.Promise.{Promise}
 use Rattle.vat_machine.specs.declared.calls.Promise.TheVariants as promise
 use Rattle.vat_machine.specs.declared.calls.Value.{Value}
-use Rattle.vat_machine.specs.Nodes.{is_field, is_promise}
+use Rattle.vat_machine.specs.Nodes.{is_field, is_promise, value_of}
 use Rattle.vat_machine.specs.Progress.{Progress, with_state}
 use Rattle.vat_machine.specs.Settling.{exports_where, Tells, SettlesOpen, SettlesFrom, SettlesOutcome, FixesFrom, FixesPromise, Drains, NoneLeft, OneMore, Returns, TellsPeer}
 use Rattle.call_order.specs.Machine as routing
@@ -32,25 +32,27 @@ use Rattle.laws_routes.proofs.AnswerKept.{peer_alone}
 use Rattle.laws_routes.proofs.ResolvesSent.{resolves_sent}
 use Rattle.laws_routes.proofs.ReturnSent.{return_sent}
 use Rattle.laws_routes.proofs.AnswerCloses.{return_closes}
+use Rattle.laws_routes.specs.Premises.{IsAnswerOf}
+use Rattle.laws_routes.specs.SayingLaws.{MaySayBack}
 
 abbrev known_as : KeptOutcome → Value → KeptOutcome
 known_as x fit = record { caller = x.caller; value = Some fit; waiting = x.waiting }
 
 -- Whoever is told.
-caller_told : (w : Around) (d : Progress) (o : ℕ) (from : Caller) (v : Value) (told : Progress) → Tells d from v told → PeerIsTold w d o from → IsFollowed w d told
-caller_told w d o (who.Application c) v told h may = λ g m us t i. application_told w d g m us c.0 v told t h
-caller_told w d o (who.Peer q) v told h may = by (map.get d.state.answers q.0) refl h may.0
+caller_told : (w : Around) (d : Progress) (o : ℕ) (from : Caller) (v : Value) (told : Progress) → value_of (map.get d.state.outcomes o) ≡ Some v → (h : Tells d from v told) → PeerIsTold w d o from v told h → IsFollowed w d told
+caller_told w d o (who.Application c) v told is h may = λ g m us t i. application_told w d g m us c.0 v told t h
+caller_told w d o (who.Peer q) v told is h may = by (map.get d.state.answers q.0) refl h may.0 may.1
   where
-    by_finish : (a : AnswerEntry) (b : Bool) → map.get d.state.answers q.0 ≡ Some a → a.finished ≡ b → Returns d q a v told → ReturnGoesAs w q.0 b → IsFollowed w d told
-    by_finish a true e f h close = return_closes w d q a v told e f may.2 close h
-    by_finish a false e f h close = return_sent w d q a v told e f may.2 h
+    by_finish : (a : AnswerEntry) (b : Bool) → map.get d.state.answers q.0 ≡ Some a → a.finished ≡ b → a.outcome ≡ o → (h : Returns d q a v told) → ReturnGoesAs w q.0 b → MaySayBack w d q a v told h → IsFollowed w d told
+    by_finish a true e f of h close say = return_closes w d q a v told e f close h say
+    by_finish a false e f of h close say = return_sent w d q a v told e f (ap (λ (z : ℕ). value_of (map.get d.state.outcomes z)) of ∙ is) h say
 
-    by : (o : Option AnswerEntry) → map.get d.state.answers q.0 ≡ o → TellsPeer d q v o told → ReturnMayGo w q.0 o → IsFollowed w d told
-    by None e h close = absurd close
-    by (Some a) e h close = by_finish a a.finished e refl h close
+    by : (z : Option AnswerEntry) → map.get d.state.answers q.0 ≡ z → (h : TellsPeer d q v z told) → ReturnMayGo w d q v z told h → IsAnswerOf o z → IsFollowed w d told
+    by None e h close of = absurd close
+    by (Some a) e h close of = by_finish a a.finished e refl of h close.0 close.1
 
 -- The outcome is still there.
-caller_alone : (w : Around) (d : Progress) (o : ℕ) (x : KeptOutcome) (from : Caller) (v : Value) (told : Progress) → x.caller ≡ from → map.get d.state.outcomes o ≡ Some x → Tells d from v told → PeerIsTold w d o from
+caller_alone : (w : Around) (d : Progress) (o : ℕ) (x : KeptOutcome) (from : Caller) (v : Value) (told : Progress) → x.caller ≡ from → map.get d.state.outcomes o ≡ Some x → (h : Tells d from v told) → PeerIsTold w d o from v told h
     → map.get told.state.outcomes o ≡ Some x
 caller_alone w d o x (who.Application c) v told of e h may = ap (λ z. map.get z o) (call_alone d c.0 v (map.get d.state.calls c.0) told h) ∙ e
 caller_alone w d o x (who.Peer q) v told of e h may = peer_alone o x q of d v (map.get d.state.answers q.0) told e may.1 h
@@ -71,7 +73,7 @@ settles_open w d g m o v x None new t i e is h may =
     let knows = outcome_known w (with_state d mid) f m o x fit fits.1 there is may.rest in
     let n = knows.0 in
     let at_known = moves_keep n ms m [] knows.1 i in
-    let says = caller_told w here o x.caller fit told h.3.1 may.tells f n ms knows.2 at_known in
+    let says = caller_told w here o x.caller fit told (ap value_of (get-insert_same mid.outcomes o (known_as x fit))) h.3.1 may.tells f n ms knows.2 at_known in
     let f' = says.0 in
     let n' = says.1 in
     let steady = says.4 in
@@ -81,7 +83,7 @@ settles_open w d g m o v x None new t i e is h may =
     let to_go = still_held n.net n'.net w.vat (f.own.outcome o) (f'.own.outcome o) x.waiting ms steady.0 (ap (λ q. q o) steady.3) knows.3 in
     let goes = held_routed w (with_known told told.state o x [] fit) f' n' o x.waiting ms routed out at_told to_go h.3.2.1 may.goes in
     let k = goes.1 in
-    let last = resolves_sent w routed None (exports_where (is_field o) (map.entries routed.state.exports)) new may.resolves h.3.2.2 goes.0 k [] goes.3 (moves_keep k [] n' ms goes.2 at_told) in
+    let last = resolves_sent w routed None (exports_where (is_field o) (map.entries routed.state.exports)) new h.3.2.2 may.resolves goes.0 k [] goes.3 (moves_keep k [] n' ms goes.2 at_told) in
     (last.0, last.1, moves_on last.1 [] k [] m [] last.2 (moves_on k [] n' ms m [] goes.2 (moves_on n' ms n ms m [] says.2 knows.1)), last.3)
 
 settles_from : (w : Around) (d : Progress) (g : Ghosts) (m : routing.State routes) (o : ℕ) (v : Value) (z : Option KeptOutcome) (new : Progress) → Tied w d g m → InvariantWith m [] → map.get d.state.outcomes o ≡ z
@@ -109,7 +111,7 @@ fixes_from w d g m p to reason None new t i e h may = absurd h
 fixes_from w d g m p to reason (Some (promise.Fixed before)) new t i e h may = absurd h
 fixes_from w d g m p to reason (Some (promise.Open calls)) new t i e h may =
     let a = promise_fixed w d g m p calls to h.0 t i e may.0 h.1 may.1 in
-    let b = resolves_sent w h.0 reason (exports_where (is_promise p) (map.entries h.0.state.exports)) new may.2 h.2 a.0 a.1 [] a.3 (moves_keep a.1 [] m [] a.2 i) in
+    let b = resolves_sent w h.0 reason (exports_where (is_promise p) (map.entries h.0.state.exports)) new h.2 may.2 a.0 a.1 [] a.3 (moves_keep a.1 [] m [] a.2 i) in
     (b.0, b.1, moves_on b.1 [] a.1 [] m [] b.2 a.2, b.3)
 
 pub promise_settles : (w : Around) (d : Progress) (g : Ghosts) (m : routing.State routes) (p : ℕ) (to : Node) (reason : Option Exception) (new : Progress) → Tied w d g m → InvariantWith m []

@@ -32,6 +32,8 @@ use Rattle.laws_routes.specs.Views.{IsImportOf, IsSession, View, past, sessions_
 use Rattle.laws_routes.specs.Ties.{Around, Ghosts, Told, TiedBy, all_at, deliveries_of}
 use Rattle.laws_routes.specs.StepLaws.{TiedAt}
 use Rattle.laws_routes.specs.PairLaws.{beginning, behind, turned}
+use Rattle.laws_routes.specs.Sayings.{IsKnown, KnownAt, KnownIsSo, SaidOn, bare}
+use Rattle.vat_machine.specs.Advancing.{known_by_resolve, known_by_return, resolution_of, returned_of}
 
 -- ---- The start
 
@@ -93,6 +95,12 @@ first_view v u l k o p = record {
 none_opens : (v : Vat) (s : State) → Unborn v s.outcomes (no_ghost v).outcome first.net.stop first.net.kind first.net.waiting 0 []
 none_opens v s = record { each = λ i a. absurd a; differ = tt }
 
+first_known : (v : Vat) (l : Level) (o : Option ObjectId) → KnownIsSo v (start v l o) (no_ghost v) (bare first.net)
+first_known v l o = (
+  λ e. subst (λ (z : Option Import). IsKnown v (no_ghost v) (bare first.net) (Nowhere v) (known_by_resolve (resolution_of z))) (sym (none_yet e)) tt,
+  λ q path. subst (λ (z : Option Question). IsKnown v (no_ghost v) (bare first.net) (AField (other_vat v) 0 path) (known_by_return path (returned_of z))) (sym (none_yet q)) tt,
+)
+
 pub start_tied : (v : Vat) (own theirs : Level) (object other : Option ObjectId) → (g : Ghosts) × (m : routing.State routes) × TiedAt (beginning v theirs other) (start v own object) g m × InvariantWith m []
 start_tied v own theirs object other = (
   record { own = no_ghost v; theirs = no_ghost (other_vat v); next = 0 },
@@ -105,6 +113,10 @@ start_tied v own theirs object other = (
     told = record { made_is = λ r. refl; delivered_is = λ r. refl };
     unborn = none_opens (other_vat v) (start (other_vat v) theirs other);
     unborn_back = none_opens v (start v own object);
+    known = λ l. first_known v own object;
+    known_there = λ l. first_known (other_vat v) theirs other;
+    goes = tt;
+    comes = tt;
   },
   start_holds first_kind (λ r. Nowhere r.vat),
 )
@@ -132,10 +144,14 @@ turns w s g m t =
       unborn = subst (λ (z : Vat). Unborn z s.outcomes g.own.outcome m.net.stop m.net.kind m.net.waiting g.next (unborn_ids g.theirs.session (w.back ++ []))) (other_twice v)
           (subst (λ (ms : List Message). Unborn v s.outcomes g.own.outcome m.net.stop m.net.kind m.net.waiting g.next (unborn_ids g.theirs.session ms)) (nothing_more w.back) t.unborn_back);
       unborn_back = subst (λ (ms : List Message). Unborn u (w.other).outcomes g.theirs.outcome m.net.stop m.net.kind m.net.waiting g.next (unborn_ids g.own.session ms)) (append-nil w.out) t.unborn;
+      known = t.known_there;
+      known_there = subst (λ (z : Vat). KnownAt z s g.own m.net) (other_twice v) t.known;
+      goes = subst (λ (z : Vat). SaidOn m.net u w.other g.theirs z s g.own [] (w.back ++ [])) (other_twice v) (subst (λ (ms : List Message). SaidOn m.net u w.other g.theirs v s g.own [] ms) (nothing_more w.back) t.comes);
+      comes = subst (λ (z : Vat). SaidOn m.net z s g.own u w.other g.theirs [] w.out) (other_twice v) (subst (λ (ms : List Message). SaidOn m.net v s g.own u w.other g.theirs [] ms) (append-nil w.out) t.goes);
     }
 
 -- Behind a step nothing is sent yet.
-pub settles_down : (w : Around) (new : State) (effects : Effects) (g : Ghosts) (m : routing.State routes) → TiedBy w new effects.sends effects.deliveries g m → TiedAt (behind w effects) new g m
+pub settles_down : (w : Around) (new : State) (effects : Effects) (g : Ghosts) (m : routing.State routes) → TiedBy w [] new effects.sends effects.deliveries g m → TiedAt (behind w effects) new g m
 settles_down w new effects g m t = record {
   own = t.own;
   theirs = t.theirs;
@@ -144,6 +160,10 @@ settles_down w new effects g m t = record {
   told = subst (λ ds. Told w.made ds m.refs) (sym (append-nil (w.delivered ++ all_at w.vat effects.deliveries))) t.told;
   unborn = subst (λ (ms : List Message). Unborn (other_vat w.vat) (w.other).outcomes g.theirs.outcome m.net.stop m.net.kind m.net.waiting g.next (unborn_ids g.own.session ms)) (nothing_more (w.out ++ effects.sends)) t.unborn;
   unborn_back = t.unborn_back;
+  known = t.known;
+  known_there = t.known_there;
+  goes = subst (λ (ms : List Message). SaidOn m.net w.vat new g.own (other_vat w.vat) w.other g.theirs [] ms) (nothing_more (w.out ++ effects.sends)) t.goes;
+  comes = t.comes;
 }
 
 pub tied_in_order : (w : Around) (s : State) (g : Ghosts) (m : routing.State routes) → TiedAt w s g m → InvariantWith m []

@@ -1,6 +1,6 @@
 -- A promise is fixed: its group settles, and its list is routed.
 use Rattle.std.specs.FinMap as map
-use Rattle.std.proofs.Common.{◌≡◌, ◌⊎◌, inl, inr, ℕ, nat_eq, false, List, [], ◌∷◌, Option, None, Some, IsSome, refl, sym, ap, subst, ◌∙◌, arith}
+use Rattle.std.proofs.Common.{◌≡◌, ◌⊎◌, inl, inr, ℕ, nat_eq, false, List, [], ◌∷◌, Option, None, Some, IsSome, refl, sym, ap, subst, ◌∙◌, arith, ◌++◌}
 use Rattle.finite_maps.specs.Tally.{Map}
 use Rattle.finite_maps.proofs.Tested.{apart, at_put}
 use Rattle.rpc_msg.specs.declared.ids.Vat.{Vat}
@@ -35,6 +35,9 @@ use Rattle.laws_routes.proofs.CallsRouted.{law, list_routed}
 use Rattle.laws_routes.proofs.CallRouted.{own_vat}
 use Rattle.laws_routes.proofs.GroupSettles.{ids_after, keeps_at, linked_after, outcome_after, promise_after}
 use Rattle.laws_routes.proofs.UnbornKept.{unborn_settled}
+use Rattle.laws_routes.specs.Sayings.{bare, has_of}
+use Rattle.laws_routes.proofs.SayingsKept.{all_said, known_stays}
+use Rattle.laws_routes.specs.Views.{sessions_at}
 
 abbrev IsOf : Group → Type 0
 IsOf Apart = ⊥
@@ -262,6 +265,10 @@ promise_fixed w d g m p calls to new t i e may h go =
       told = t.told;
       unborn = unborn_settled m.net group fate t.unborn (λ j z. not_promise (other_vat v) v j (g.own.promise p));
       unborn_back = unborn_settled m.net group fate t.unborn_back (λ j z. not_promise v v j (g.own.promise p));
+      known = λ l. known_stays (bare m.net) group fate v s g.own (t.known l);
+      known_there = λ l. known_stays (bare m.net) group fate (other_vat v) w.other g.theirs (t.known_there l);
+      goes = all_said (bare m.net) group fate v s.exports g.own (other_vat v) (w.other).exports g.theirs (has_of [] (w.other).imports (w.other).questions) (sessions_at g.theirs.outcome (w.other).answers) (w.out ++ d.effects.sends) t.goes;
+      comes = all_said (bare m.net) group fate (other_vat v) (w.other).exports g.theirs v s.exports g.own (has_of [] s.imports s.questions) (sessions_at g.own.outcome s.answers) w.back t.comes;
     } in
     let first : Moves n ms m [] = Next (Settles group fate (fixed_allowed v s g.own g.next m p calls to t.own e may i.in_place) refl refl refl) Done in
     let r = list_routed w mid g n calls ms (node.Promise p) new tied (moves_keep n ms m [] first i) refl (fixed_to_go v s g.own g.next m p calls to t.own e may) h go in

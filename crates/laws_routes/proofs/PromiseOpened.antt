@@ -1,6 +1,6 @@
 -- A new promise.
 use Rattle.std.specs.FinMap as map
-use Rattle.std.proofs.Common.{◌≡◌, ◌⊎◌, inl, inr, ℕ, ◌+◌, ◌<◌, Bool, nat_eq, true, false, [], Option, None, Some, IsSome, refl, sym, ap, subst, ◌∙◌, arith}
+use Rattle.std.proofs.Common.{◌≡◌, ◌⊎◌, inl, inr, ℕ, ◌+◌, ◌<◌, Bool, nat_eq, true, false, [], Option, None, Some, IsSome, refl, sym, ap, subst, ◌∙◌, arith, ◌++◌}
 use Rattle.finite_maps.proofs.Tested.{at_put, equal}
 use Rattle.rpc_msg.specs.declared.ids.Vat.{Vat}
 use Rattle.rpc_msg.specs.Vats.{other_vat}
@@ -18,7 +18,7 @@ use Rattle.vat_machine.specs.Progress.{Progress, with_state}
 use Rattle.vat_machine.specs.Descriptors.{export_node}
 use Rattle.call_order.specs.Machine as routing
 use Rattle.laws_routes.specs.Premises.{MayOpen}
-use Rattle.laws_routes.specs.Points.{Point, APromise, OfPromise, routes}
+use Rattle.laws_routes.specs.Points.{Point, OfPromise, routes}
 use Rattle.laws_routes.specs.Ghosts.{Ghost, point, far, ref_at, holding}
 use Rattle.laws_routes.specs.Sides.{Side, Stops, IsLinked, HasHead, IsRef, HasEmbargo, PromiseWaits, IsOpenPromise, Lists, Ids}
 use Rattle.laws_routes.specs.Views.{reader, IsExportAs, IsImportOf, sessions_at}
@@ -28,15 +28,12 @@ use Rattle.laws_routes.proofs.Differing.{with_here, with_other}
 use Rattle.laws_routes.proofs.OutcomeKept.{all_caps}
 use Rattle.laws_routes.proofs.LinkShapes.{shapes_exports}
 use Rattle.laws_routes.proofs.CallSent.{linked_side}
+use Rattle.laws_routes.proofs.NewPoints.{holding_point}
 use Rattle.laws_routes.proofs.UnbornKept.{unborn_later}
-
-pub holding_point : (v : Vat) (g : Ghost) (p i : ℕ) (n : Node) → is_promise p n ≡ false → point v (holding g p i) n ≡ point v g n
-holding_point v g p i (node.Object x) h = refl
-holding_point v g p i (node.Promise k) h = ap (λ (z : ℕ). APromise v z) (with_other g.promise p i k h)
-holding_point v g p i (node.Field k path) h = refl
-holding_point v g p i (node.Import e) h = refl
-holding_point v g p i (node.Pipe q path) h = refl
-holding_point v g p i (node.Broken reason) h = refl
+use Rattle.laws_routes.specs.Sayings.{bare, has_of}
+use Rattle.laws_routes.proofs.KnownKept.{known_as_held}
+use Rattle.laws_routes.proofs.LinkShapes.{all_opens}
+use Rattle.laws_routes.proofs.SayingsCarried.{each_return, said_as_given}
 
 holding_far : (v : Vat) (g : Ghost) (p i : ℕ) (n : Node) → far v (holding g p i) n ≡ far v g n
 holding_far v g p i (node.Object x) = refl
@@ -161,6 +158,12 @@ promise_opens w d g m p t free may =
       told = t.told;
       unborn = unborn_later t.unborn;
       unborn_back = unborn_later t.unborn_back;
+      known = λ l. known_as_held v s g.own (bare m.net) p g.next may.unsaid (t.known l);
+      known_there = t.known_there;
+      goes = said_as_given (bare m.net) v s.exports g.own f (other_vat v) (w.other).exports g.theirs g.theirs (has_of [] (w.other).imports (w.other).questions) (sessions_at g.theirs.outcome (w.other).answers) (w.out ++ d.effects.sends)
+          (λ e. point_same (map.get s.exports e) (may.exports e)) (λ e. refl) (all_opens _ (w.out ++ d.effects.sends) (λ k. refl)) (each_return _ (w.out ++ d.effects.sends) (λ k. refl)) t.goes;
+      comes = said_as_given (bare m.net) (other_vat v) (w.other).exports g.theirs g.theirs v s.exports g.own f (has_of [] s.imports s.questions) (sessions_at g.own.outcome s.answers) w.back
+          (λ e. refl) (λ e. point_same (map.get s.exports e) (may.exports e)) (all_opens _ w.back (λ k. refl)) (each_return _ w.back (λ k. refl)) t.comes;
     }
   where
     f : Ghost

@@ -29,12 +29,13 @@ use Rattle.laws_routes.specs.Ghosts.{point}
 use Rattle.laws_routes.specs.Sides.{EndsAs}
 use Rattle.laws_routes.specs.Ties.{Around, Ghosts, Tied}
 use Rattle.laws_routes.specs.Premises.{LinksRest, TargetsAreMet}
-use Rattle.laws_routes.specs.Sayings.{IsSaid, SaidAt, SaidOfAnswer, SaidOfCap}
+use Rattle.laws_routes.specs.Sayings.{bare, IsSaid, SaidAt, SaidOfAnswer, SaidOfCap}
 use Rattle.laws_routes.specs.SayingLaws.{AllMaySay, will_read}
 use Rattle.laws_routes.proofs.CallsRouted.{law}
 use Rattle.laws_routes.proofs.DescriptorsSaySo.{says_so}
 use Rattle.laws_routes.proofs.ExportsGrown.{Exports, described, described_all, grown_tied, point_still}
 use Rattle.laws_routes.proofs.WhereNodesEnd.{ends, settles_here}
+use Rattle.laws_routes.specs.Named.{LinksMet}
 
 -- ---- Where a field ends
 
@@ -69,7 +70,7 @@ broken_ends w d g m o path reason t rest h =
 
 -- ---- A descriptor is read as before, once exports have grown
 
-there_as : (s : State) (n : Node) (e : ℕ) (o : Option Export) (new : State) → ExportedAs s n e o new → IsSome (map.get new.exports e)
+pub there_as : (s : State) (n : Node) (e : ℕ) (o : Option Export) (new : State) → ExportedAs s n e o new → IsSome (map.get new.exports e)
 there_as s n e None new h =
     subst (λ (z : Option Export). IsSome z) (sym (ap (λ (z : State). map.get z.exports e) h.1 ∙ get-insert_same s.exports e (record { node = n; count = 1 }))) refl
 there_as s n e (Some x) new h =
@@ -94,20 +95,20 @@ module _ (w : Around) (g : Ghosts) (m : routing.State routes) (o : ℕ) (path : 
   abbrev x : Point
   x = AField w.vat (g.own.outcome o) path
 
-  said_at : (ns : List Node) (d : Progress) (ds : List Descriptor) (new : State) (i : ℕ) → Tied w d g m → TargetsAreMet d.state w.back → (h : DescribesAll d.state ns ds new) → AllMaySay w d.state ns ds new h
-      → link d.state (node.Field o path) ≡ Some (node_of_cap ns (Cap i)) → SaidAt m.net x (will_read w new (w.out ++ d.effects.sends) g) ds i
-  said_at [] d [] new i t met h may e = broken_ends w d g m o path NotACapability t may e
-  said_at [] d (c ∷ ds) new i t met h may e = absurd h
-  said_at (n ∷ ns) d [] new i t met h may e = absurd h
-  said_at (n ∷ ns) d (c ∷ ds) new zero t met h may e =
+  said_at : (ns : List Node) (d : Progress) (ds : List Descriptor) (new : State) (i : ℕ) → Tied w d g m → TargetsAreMet d.state w.back → LinksMet d.state w.other (w.out ++ d.effects.sends) w.back → (h : DescribesAll d.state ns ds new) → AllMaySay w d.state ns ds new h
+      → link d.state (node.Field o path) ≡ Some (node_of_cap ns (Cap i)) → SaidAt (bare m.net) x (will_read w new (w.out ++ d.effects.sends) g) ds i
+  said_at [] d [] new i t met links h may e = broken_ends w d g m o path NotACapability t may e
+  said_at [] d (c ∷ ds) new i t met links h may e = absurd h
+  said_at (n ∷ ns) d [] new i t met links h may e = absurd h
+  said_at (n ∷ ns) d (c ∷ ds) new zero t met links h may e =
       let out = w.out ++ d.effects.sends in
       let k = settle d.state n in
       let said = says_so w d g m x k c h.0 t refl (field_ends w d g m o path n t may.0 e) may.1 h.1 in
-      subst (λ (z : Point). IsSaid m.net x c z) (sym (reads_still w g out d.state h.0 new (described_all h.0 ns ds new h.2) k c h.1)) said
-  said_at (n ∷ ns) d (c ∷ ds) new (suc i) t met h may e =
+      subst (λ (z : Point). IsSaid (bare m.net) x c z) (sym (reads_still w g out d.state h.0 new (described_all h.0 ns ds new h.2) k c h.1)) said
+  said_at (n ∷ ns) d (c ∷ ds) new (suc i) t met links h may e =
       let grown = described d.state (settle d.state n) c h.0 h.1 in
-      let a = grown_tied w d g m h.0 t met grown in
-      said_at ns (with_state d h.0) ds new i a.0 a.1 h.2 may.2 (ap (λ (z : State). field_link path (value_of (map.get z.outcomes o))) grown.1 ∙ e)
+      let a = grown_tied w d g m h.0 t met links grown in
+      said_at ns (with_state d h.0) ds new i a.0 a.1 a.2 h.2 may.2 (ap (λ (z : State). field_link path (value_of (map.get z.outcomes o))) grown.1 ∙ e)
 
 -- ---- All
 
@@ -117,16 +118,16 @@ first_rest w s [] (d ∷ ds) new h may = absurd h
 first_rest w s (n ∷ ns) [] new h may = absurd h
 first_rest w s (n ∷ ns) (d ∷ ds) new h may = may.0
 
-pub results_say : (w : Around) (d : Progress) (g : Ghosts) (m : routing.State routes) (o : ℕ) (payload : Payload) (caps : List Node) (ds : List Descriptor) (new : State) → Tied w d g m → TargetsAreMet d.state w.back
+pub results_say : (w : Around) (d : Progress) (g : Ghosts) (m : routing.State routes) (o : ℕ) (payload : Payload) (caps : List Node) (ds : List Descriptor) (new : State) → Tied w d g m → TargetsAreMet d.state w.back → LinksMet d.state w.other (w.out ++ d.effects.sends) w.back
     → value_of (map.get d.state.outcomes o) ≡ Some (value.Results payload caps) → (h : DescribesAll d.state caps ds new) → AllMaySay w d.state caps ds new h
-    → SaidOfAnswer m.net w.vat (g.own.outcome o) (will_read w new (w.out ++ d.effects.sends) g) (body.Results payload ds)
-results_say w d g m o payload caps ds new t met e h may = λ path. by path (cap_at payload path) (ap (field_link path) e)
+    → SaidOfAnswer (bare m.net) w.vat (g.own.outcome o) (will_read w new (w.out ++ d.effects.sends) g) (body.Results payload ds)
+results_say w d g m o payload caps ds new t met links e h may = λ path. by path (cap_at payload path) (ap (field_link path) e)
   where
-    by : (path : List Op) (c : CapAt) → link d.state (node.Field o path) ≡ Some (node_of_cap caps c) → SaidOfCap m.net (AField w.vat (g.own.outcome o) path) (will_read w new (w.out ++ d.effects.sends) g) ds c
-    by path (Cap i) f = said_at w g m o path caps d ds new i t met h may f
+    by : (path : List Op) (c : CapAt) → link d.state (node.Field o path) ≡ Some (node_of_cap caps c) → SaidOfCap (bare m.net) (AField w.vat (g.own.outcome o) path) (will_read w new (w.out ++ d.effects.sends) g) ds c
+    by path (Cap i) f = said_at w g m o path caps d ds new i t met links h may f
     by path Null f = broken_ends w d g m o path NullCapability t (first_rest w d.state caps ds new h may) f
     by path NotCap f = broken_ends w d g m o path NotACapability t (first_rest w d.state caps ds new h may) f
 
 pub exception_says : (w : Around) (d : Progress) (g : Ghosts) (m : routing.State routes) (o : ℕ) (exception : Exception) (read : Descriptor → Point) → Tied w d g m
-    → value_of (map.get d.state.outcomes o) ≡ Some (value.Exception exception) → LinksRest d.state → SaidOfAnswer m.net w.vat (g.own.outcome o) read (body.Exception exception)
+    → value_of (map.get d.state.outcomes o) ≡ Some (value.Exception exception) → LinksRest d.state → SaidOfAnswer (bare m.net) w.vat (g.own.outcome o) read (body.Exception exception)
 exception_says w d g m o exception read t e rest = λ path. broken_ends w d g m o path BrokenPromise t rest (ap (field_link path) e)

@@ -1,7 +1,7 @@
 -- What is said on the way stays so as messages are sent, as imports go, and as exports are added.
 use mathlib.Core.Path.{fun_ext}
 use Rattle.std.specs.FinMap as map
-use Rattle.std.proofs.Common.{◌≡◌, ℕ, nat_eq, zero, suc, Bool, true, false, ◌||◌, List, [], ◌∷◌, ◌++◌, Option, None, Some, IsSome, refl, sym, subst, ap}
+use Rattle.std.proofs.Common.{◌≡◌, ℕ, nat_eq, zero, suc, Bool, true, false, ◌||◌, List, [], ◌∷◌, ◌++◌, Option, None, Some, IsSome, refl, sym, subst, ap, ◌∙◌}
 use Rattle.capn_wire.specs.declared.path.CapAt.{CapAt}
 use Rattle.capn_wire.specs.declared.path.CapAt.TheVariants.{Cap, Null, NotCap}
 use Rattle.finite_maps.specs.Tally.{Map}
@@ -26,21 +26,30 @@ use Rattle.call_order.specs.Machine as routing
 use Rattle.laws_routes.specs.Points.{Point, AField, routes}
 use Rattle.laws_routes.specs.Ghosts.{Ghost, point}
 use Rattle.laws_routes.specs.Views.{past, past_one}
-use Rattle.laws_routes.specs.Sayings.{AllSaid, IsSaid, SaidAt, SaidBy, SaidIfThere, SaidOfAnswer, SaidOfCap, SaidOfExport, descriptor_point, has_behind, is_among}
+use Rattle.laws_routes.specs.Sayings.{AllSaid, Has, IsSaid, IsSilentPlain, SaidAt, SaidBy, SaidIfThere, SaidOfAnswer, SaidOfCap, SaidOfExport, descriptor_point, has_behind, is_among}
 use Rattle.laws_routes.specs.Premises.{EachOpen}
-use Rattle.laws_routes.proofs.ExportsGrown.{point_still}
-use Rattle.laws_routes.specs.QuietLaws.{Unless, opens}
-use Rattle.laws_routes.proofs.AnswerCloses.{past_alike, past_opened}
+use Rattle.laws_routes.specs.QuietLaws.{EachOff, IsOffDescriptor, NoneNames, Unless, opens}
+use Rattle.laws_routes.proofs.AlikeSessions.{past_alike, past_opened}
 use Rattle.laws_routes.proofs.LinkShapes.{past_one_same}
-use Rattle.laws_routes.specs.KnownLaws.{AllMet, AllNamed, EachMet, EachOff, EachReturn, IsOffDescriptor, NamesMet, NoneNames, ResolveMet, ReturnOf, SamePoints, StillThere, has_past}
+use Rattle.laws_routes.specs.KnownLaws.{SamePoints, StillThere, has_past}
+use Rattle.laws_routes.specs.Named.{AllMet, AllNamed, EachMet, EachReturn, NamesMet, ResolveMet, ReturnOf}
 
 -- ---- One more message
 
+pub if_said : (P Q : Type 0) (b : Bool) → (P → Q) → SaidIfThere b P → SaidIfThere b Q
+if_said P Q true f h = f h
+if_said P Q false f h = tt
+
 module _ (n : Net routes) (v : Vat) (E : Map Export) (g : Ghost) (u : Vat) (F : Map Export) (f : Ghost) where
-  sent : (has : ℕ → Bool) (now : ℕ → ℕ) (ms : List Message) (m : PlainMessage) → AllSaid n v E g u F f has now ms → SaidBy n v E g u F f (has_past has ms) (past g now ms) m → AllSaid n v E g u F f has now (ms ++ message.Plain m ∷ [])
+  sent : (has : Has) (now : ℕ → ℕ) (ms : List Message) (m : PlainMessage) → AllSaid n v E g u F f has now ms → SaidBy n v E g u F f (has_past has ms) (past g now ms) m → AllSaid n v E g u F f has now (ms ++ message.Plain m ∷ [])
   sent has now [] m h k = (k, tt)
   sent has now (message.Plain x ∷ ms) m h k = (h.0, sent (has_behind has (descriptors_of (message.Plain x))) (past_one g now (message.Plain x)) ms m h.1 k)
-  sent has now (message.Unimplemented x ∷ ms) m h k = sent has now ms m h k
+  sent has now (message.Unimplemented x ∷ ms) m h k = (h.0, sent has now ms m h.1 k)
+
+  sent_back : (has : Has) (now : ℕ → ℕ) (ms : List Message) (m : PlainMessage) → AllSaid n v E g u F f has now ms → IsSilentPlain m → AllSaid n v E g u F f has now (ms ++ message.Unimplemented m ∷ [])
+  sent_back has now [] m h k = (k, tt)
+  sent_back has now (message.Plain x ∷ ms) m h k = (h.0, sent_back (has_behind has (descriptors_of (message.Plain x))) (past_one g now (message.Plain x)) ms m h.1 k)
+  sent_back has now (message.Unimplemented x ∷ ms) m h k = (h.0, sent_back has now ms m h.1 k)
 
   -- ---- Fewer imports
 
@@ -53,40 +62,82 @@ module _ (n : Net routes) (v : Vat) (E : Map Export) (g : Ghost) (u : Vat) (F : 
   or_fewer true b c f e = refl
   or_fewer false b c f e = f e
 
-  one_fewer : (has left : ℕ → Bool) (now : ℕ → ℕ) (m : PlainMessage) → ((e : ℕ) → left e ≡ true → has e ≡ true) → SaidBy n v E g u F f has now m → SaidBy n v E g u F f left now m
-  one_fewer has left now (plain.Abort exception) a h = tt
-  one_fewer has left now (plain.Bootstrap q) a h = tt
-  one_fewer has left now (plain.Call c) a h = tt
-  one_fewer has left now (plain.Return r) a h = h
-  one_fewer has left now (plain.Finish x) a h = tt
-  one_fewer has left now (plain.Resolve r) a h = if_fewer _ (has r.promise.0) (left r.promise.0) (a r.promise.0) h
-  one_fewer has left now (plain.Release r) a h = tt
-  one_fewer has left now (plain.Disembargo x) a h = tt
-  one_fewer has left now (plain.Other k) a h = tt
+  one_fewer : (has left : Has) (now : ℕ → ℕ) (m : PlainMessage) → ((e : ℕ) → left.import e ≡ true → has.import e ≡ true) → ReturnOf (λ q. left.question q ≡ true → has.question q ≡ true) m → SaidBy n v E g u F f has now m → SaidBy n v E g u F f left now m
+  one_fewer has left now (plain.Abort exception) a r h = tt
+  one_fewer has left now (plain.Bootstrap q) a r h = tt
+  one_fewer has left now (plain.Call c) a r h = tt
+  one_fewer has left now (plain.Return x) a r h = if_fewer _ (has.question x.answer.0) (left.question x.answer.0) r h
+  one_fewer has left now (plain.Finish x) a r h = tt
+  one_fewer has left now (plain.Resolve x) a r h = if_fewer _ (has.import x.promise.0) (left.import x.promise.0) (a x.promise.0) h
+  one_fewer has left now (plain.Release x) a r h = tt
+  one_fewer has left now (plain.Disembargo x) a r h = tt
+  one_fewer has left now (plain.Other k) a r h = tt
 
-  fewer : (has left : ℕ → Bool) (now : ℕ → ℕ) (ms : List Message) → ((e : ℕ) → left e ≡ true → has e ≡ true) → AllSaid n v E g u F f has now ms → AllSaid n v E g u F f left now ms
-  fewer has left now [] a h = tt
-  fewer has left now (message.Plain m ∷ ms) a h =
+  fewer : (has left : Has) (now : ℕ → ℕ) (ms : List Message) → ((e : ℕ) → left.import e ≡ true → has.import e ≡ true) → EachReturn (λ q. left.question q ≡ true → has.question q ≡ true) ms → AllSaid n v E g u F f has now ms
+      → AllSaid n v E g u F f left now ms
+  fewer has left now [] a r h = tt
+  fewer has left now (message.Plain m ∷ ms) a r h =
       let ds = descriptors_of (message.Plain m) in
-      (one_fewer has left now m a h.0, fewer (has_behind has ds) (has_behind left ds) (past_one g now (message.Plain m)) ms (λ e. or_fewer (is_among e (given ds)) (has e) (left e) (a e)) h.1)
-  fewer has left now (message.Unimplemented m ∷ ms) a h = fewer has left now ms a h
+      (one_fewer has left now m a r.0 h.0, fewer (has_behind has ds) (has_behind left ds) (past_one g now (message.Plain m)) ms (λ e. or_fewer (is_among e (given ds)) (has.import e) (left.import e) (a e)) r.1 h.1)
+  fewer has left now (message.Unimplemented m ∷ ms) a r h = (h.0, fewer has left now ms a r h.1)
 
-pub said_is_sent : (n : Net routes) (v : Vat) (E : Map Export) (g : Ghost) (u : Vat) (F : Map Export) (f : Ghost) (has : ℕ → Bool) (now : ℕ → ℕ) (ms : List Message) (m : PlainMessage) → AllSaid n v E g u F f has now ms
+pub said_is_sent : (n : Net routes) (v : Vat) (E : Map Export) (g : Ghost) (u : Vat) (F : Map Export) (f : Ghost) (has : Has) (now : ℕ → ℕ) (ms : List Message) (m : PlainMessage) → AllSaid n v E g u F f has now ms
     → SaidBy n v E g u F f (has_past has ms) (past g now ms) m → AllSaid n v E g u F f has now (ms ++ message.Plain m ∷ [])
 said_is_sent n v E g u F f has now ms m h k = sent n v E g u F f has now ms m h k
 
-pub said_of_fewer : (n : Net routes) (v : Vat) (E : Map Export) (g : Ghost) (u : Vat) (F : Map Export) (f : Ghost) (has left : ℕ → Bool) (now : ℕ → ℕ) (ms : List Message) → ((e : ℕ) → left e ≡ true → has e ≡ true)
-    → AllSaid n v E g u F f has now ms → AllSaid n v E g u F f left now ms
-said_of_fewer n v E g u F f has left now ms a h = fewer n v E g u F f has left now ms a h
+pub said_sent_back : (n : Net routes) (v : Vat) (E : Map Export) (g : Ghost) (u : Vat) (F : Map Export) (f : Ghost) (has : Has) (now : ℕ → ℕ) (ms : List Message) (m : PlainMessage) → AllSaid n v E g u F f has now ms → IsSilentPlain m
+    → AllSaid n v E g u F f has now (ms ++ message.Unimplemented m ∷ [])
+said_sent_back n v E g u F f has now ms m h k = sent_back n v E g u F f has now ms m h k
+
+pub or_right : (b c : Bool) → c ≡ true → (b || c) ≡ true
+or_right true c e = refl
+or_right false c e = e
+
+pub said_of_fewer : (n : Net routes) (v : Vat) (E : Map Export) (g : Ghost) (u : Vat) (F : Map Export) (f : Ghost) (has left : Has) (now : ℕ → ℕ) (ms : List Message) → ((e : ℕ) → left.import e ≡ true → has.import e ≡ true)
+    → EachReturn (λ q. left.question q ≡ true → has.question q ≡ true) ms → AllSaid n v E g u F f has now ms → AllSaid n v E g u F f left now ms
+said_of_fewer n v E g u F f has left now ms a r h = fewer n v E g u F f has left now ms a r h
+
+pub each_return : (P : ℕ → Type 0) (ms : List Message) → ((q : ℕ) → P q) → EachReturn P ms
+each_return P [] f = tt
+each_return P (message.Plain (plain.Abort exception) ∷ ms) f = (tt, each_return P ms f)
+each_return P (message.Plain (plain.Bootstrap q) ∷ ms) f = (tt, each_return P ms f)
+each_return P (message.Plain (plain.Call c) ∷ ms) f = (tt, each_return P ms f)
+each_return P (message.Plain (plain.Return x) ∷ ms) f = (f x.answer.0, each_return P ms f)
+each_return P (message.Plain (plain.Finish x) ∷ ms) f = (tt, each_return P ms f)
+each_return P (message.Plain (plain.Resolve x) ∷ ms) f = (tt, each_return P ms f)
+each_return P (message.Plain (plain.Release x) ∷ ms) f = (tt, each_return P ms f)
+each_return P (message.Plain (plain.Disembargo x) ∷ ms) f = (tt, each_return P ms f)
+each_return P (message.Plain (plain.Other k) ∷ ms) f = (tt, each_return P ms f)
+each_return P (message.Unimplemented m ∷ ms) f = each_return P ms f
+
+pub return_map : (P Q : ℕ → Type 0) (ms : List Message) → ((q : ℕ) → P q → Q q) → EachReturn P ms → EachReturn Q ms
+return_map P Q [] f h = tt
+return_map P Q (message.Plain (plain.Abort exception) ∷ ms) f h = (tt, return_map P Q ms f h.1)
+return_map P Q (message.Plain (plain.Bootstrap q) ∷ ms) f h = (tt, return_map P Q ms f h.1)
+return_map P Q (message.Plain (plain.Call c) ∷ ms) f h = (tt, return_map P Q ms f h.1)
+return_map P Q (message.Plain (plain.Return x) ∷ ms) f h = (f x.answer.0 h.0, return_map P Q ms f h.1)
+return_map P Q (message.Plain (plain.Finish x) ∷ ms) f h = (tt, return_map P Q ms f h.1)
+return_map P Q (message.Plain (plain.Resolve x) ∷ ms) f h = (tt, return_map P Q ms f h.1)
+return_map P Q (message.Plain (plain.Release x) ∷ ms) f h = (tt, return_map P Q ms f h.1)
+return_map P Q (message.Plain (plain.Disembargo x) ∷ ms) f h = (tt, return_map P Q ms f h.1)
+return_map P Q (message.Plain (plain.Other k) ∷ ms) f h = (tt, return_map P Q ms f h.1)
+return_map P Q (message.Unimplemented m ∷ ms) f h = return_map P Q ms f h
 
 -- ---- More exports
+
+still_read : (v : Vat) (g : Ghost) (E F : Map Export) → StillThere E F → (e : ℕ) → IsSome (map.get E e) → point v g (export_node (map.get F e)) ≡ point v g (export_node (map.get E e))
+still_read v g E F still e i = by (map.get E e) refl i
+  where
+    by : (o : Option Export) → map.get E e ≡ o → IsSome o → point v g (export_node (map.get F e)) ≡ point v g (export_node o)
+    by None f k = cc
+    by (Some y) f k = let z = still e y f in ap (λ o. point v g (export_node o)) z.1 ∙ ap (point v g) z.2
 
 module _ (n : Net routes) (v : Vat) (E E' : Map Export) (g : Ghost) (u : Vat) (F F' : Map Export) (f : Ghost) (own : StillThere E E') (theirs : StillThere F F') where
   reads : (now : ℕ → ℕ) (d : Descriptor) → NamesMet E F d → descriptor_point v E' g u F' f now d ≡ descriptor_point v E g u F f now d
   reads now descriptor.None h = refl
-  reads now (descriptor.SenderHosted e) h = point_still v g E E' (record { still = own }) e.0 h
-  reads now (descriptor.SenderPromise e) h = point_still v g E E' (record { still = own }) e.0 h
-  reads now (descriptor.ReceiverHosted e) h = point_still u f F F' (record { still = theirs }) e.0 h
+  reads now (descriptor.SenderHosted e) h = still_read v g E E' own e.0 h
+  reads now (descriptor.SenderPromise e) h = still_read v g E E' own e.0 h
+  reads now (descriptor.ReceiverHosted e) h = still_read u f F F' theirs e.0 h
   reads now (descriptor.ReceiverAnswer q path) h = refl
 
   one_said : (now : ℕ → ℕ) (w : Point) (d : Descriptor) → NamesMet E F d → IsSaid n w d (descriptor_point v E g u F f now d) → IsSaid n w d (descriptor_point v E' g u F' f now d)
@@ -125,32 +176,67 @@ module _ (n : Net routes) (v : Vat) (E E' : Map Export) (g : Ghost) (u : Vat) (F
   resolve_said true now e to met there h = export_said now e to met (there refl) h
   resolve_said false now e to met there h = tt
 
-  by_message : (has : ℕ → Bool) (now : ℕ → ℕ) (m : PlainMessage) → EachMet E F (descriptors_of (message.Plain m)) → ResolveMet E has m → SaidBy n v E g u F f has now m → SaidBy n v E' g u F' f has now m
+  by_message : (has : Has) (now : ℕ → ℕ) (m : PlainMessage) → EachMet E F (descriptors_of (message.Plain m)) → ResolveMet E has m → SaidBy n v E g u F f has now m → SaidBy n v E' g u F' f has now m
   by_message has now (plain.Abort exception) met r h = tt
   by_message has now (plain.Bootstrap q) met r h = tt
   by_message has now (plain.Call c) met r h = tt
-  by_message has now (plain.Return x) met r h = answer_said now (f.session x.answer.0) x.body met h
+  by_message has now (plain.Return x) met r h = if_said _ _ (has.question x.answer.0) (answer_said now (f.session x.answer.0) x.body met) h
   by_message has now (plain.Finish x) met r h = tt
-  by_message has now (plain.Resolve x) met r h = resolve_said (has x.promise.0) now x.promise.0 x.to met r h
+  by_message has now (plain.Resolve x) met r h = resolve_said (has.import x.promise.0) now x.promise.0 x.to met r h
   by_message has now (plain.Release x) met r h = tt
   by_message has now (plain.Disembargo x) met r h = tt
   by_message has now (plain.Other k) met r h = tt
 
-  all_exported : (has : ℕ → Bool) (now : ℕ → ℕ) (ms : List Message) → AllMet E F has ms → AllSaid n v E g u F f has now ms → AllSaid n v E' g u F' f has now ms
+  all_exported : (has : Has) (now : ℕ → ℕ) (ms : List Message) → AllMet E F has ms → AllSaid n v E g u F f has now ms → AllSaid n v E' g u F' f has now ms
   all_exported has now [] met h = tt
   all_exported has now (message.Plain m ∷ ms) met h =
       (by_message has now m met.0 met.1 h.0, all_exported (has_behind has (descriptors_of (message.Plain m))) (past_one g now (message.Plain m)) ms met.2 h.1)
-  all_exported has now (message.Unimplemented m ∷ ms) met h = all_exported has now ms met h
+  all_exported has now (message.Unimplemented m ∷ ms) met h = (h.0, all_exported has now ms met h.1)
 
-pub said_as_exported : (n : Net routes) (v : Vat) (E E' : Map Export) (g : Ghost) (u : Vat) (F F' : Map Export) (f : Ghost) (has : ℕ → Bool) (now : ℕ → ℕ) (ms : List Message) → StillThere E E' → StillThere F F' → AllMet E F has ms
+pub said_as_exported : (n : Net routes) (v : Vat) (E E' : Map Export) (g : Ghost) (u : Vat) (F F' : Map Export) (f : Ghost) (has : Has) (now : ℕ → ℕ) (ms : List Message) → StillThere E E' → StillThere F F' → AllMet E F has ms
     → AllSaid n v E g u F f has now ms → AllSaid n v E' g u F' f has now ms
 said_as_exported n v E E' g u F F' f has now ms own theirs met h = all_exported n v E E' g u F F' f own theirs has now ms met h
 
--- ---- Other identities
+-- What was there still is.
+pub there_still : (E E' : Map Export) → StillThere E E' → (e : ℕ) → IsSome (map.get E e) → IsSome (map.get E' e)
+there_still E E' still e i = by (map.get E e) refl i
+  where
+    by : (o : Option Export) → map.get E e ≡ o → IsSome o → IsSome (map.get E' e)
+    by None f k = cc
+    by (Some y) f k = let z = still e y f in subst (λ (o : Option Export). IsSome o) (sym z.1) refl
 
-if_said : (P Q : Type 0) (b : Bool) → (P → Q) → SaidIfThere b P → SaidIfThere b Q
-if_said P Q true f h = f h
-if_said P Q false f h = tt
+pub all_there : (E : Map Export) → StillThere E E
+all_there E = λ e x f. (x, f, refl)
+
+module _ (E E' F F' : Map Export) (own : StillThere E E') (theirs : StillThere F F') where
+  pub name_met : (d : Descriptor) → NamesMet E F d → NamesMet E' F' d
+  name_met descriptor.None h = tt
+  name_met (descriptor.SenderHosted e) h = there_still E E' own e.0 h
+  name_met (descriptor.SenderPromise e) h = there_still E E' own e.0 h
+  name_met (descriptor.ReceiverHosted e) h = there_still F F' theirs e.0 h
+  name_met (descriptor.ReceiverAnswer q path) h = tt
+
+  each_met : (ds : List Descriptor) → EachMet E F ds → EachMet E' F' ds
+  each_met [] h = tt
+  each_met (d ∷ ds) h = (name_met d h.0, each_met ds h.1)
+
+  resolve_met : (has : Has) (m : PlainMessage) → ResolveMet E has m → ResolveMet E' has m
+  resolve_met has (plain.Abort exception) h = tt
+  resolve_met has (plain.Bootstrap q) h = tt
+  resolve_met has (plain.Call c) h = tt
+  resolve_met has (plain.Return x) h = tt
+  resolve_met has (plain.Finish x) h = tt
+  resolve_met has (plain.Resolve x) h = λ e. there_still E E' own x.promise.0 (h e)
+  resolve_met has (plain.Release x) h = tt
+  resolve_met has (plain.Disembargo x) h = tt
+  resolve_met has (plain.Other k) h = tt
+
+  pub all_met : (has : Has) (ms : List Message) → AllMet E F has ms → AllMet E' F' has ms
+  all_met has [] h = tt
+  all_met has (message.Plain m ∷ ms) h = (each_met (descriptors_of (message.Plain m)) h.0, resolve_met has m h.1, all_met (has_behind has (descriptors_of (message.Plain m))) ms h.2)
+  all_met has (message.Unimplemented m ∷ ms) h = all_met has ms h
+
+-- ---- Other identities
 
 module _ (n : Net routes) (v : Vat) (E : Map Export) (g g' : Ghost) (u : Vat) (F : Map Export) (f f' : Ghost) (own : SamePoints v g g' E) (theirs : SamePoints u f f' F) where
   reads_alike : (now : ℕ → ℕ) (d : Descriptor) → descriptor_point v E g' u F f' now d ≡ descriptor_point v E g u F f now d
@@ -168,30 +254,31 @@ module _ (n : Net routes) (v : Vat) (E : Map Export) (g g' : Ghost) (u : Vat) (F
   of_export (Some x) read (resolved.Cap d) e h = subst (λ (p : Point). IsSaid n p d (read d)) (sym e) h
   of_export (Some x) read (resolved.Exception exception) e h = subst (λ (p : Point). n.kind (n.stop p) ≡ routing.Broken) (sym e) h
 
-  given_one : (has : ℕ → Bool) (now : ℕ → ℕ) (m : PlainMessage) → ReturnOf (λ k. f'.session k ≡ f.session k) m → SaidBy n v E g u F f has now m → SaidBy n v E g' u F f' has now m
+  given_one : (has : Has) (now : ℕ → ℕ) (m : PlainMessage) → ReturnOf (λ k. f'.session k ≡ f.session k) m → SaidBy n v E g u F f has now m → SaidBy n v E g' u F f' has now m
   given_one has now (plain.Abort exception) e h = tt
   given_one has now (plain.Bootstrap q) e h = tt
   given_one has now (plain.Call c) e h = tt
   given_one has now (plain.Return x) e h =
-      subst (λ (i : ℕ). SaidOfAnswer n v i (descriptor_point v E g' u F f' now) x.body) (sym e) (subst (λ (read : Descriptor → Point). SaidOfAnswer n v (f.session x.answer.0) read x.body) (read_same now) h)
+      if_said _ _ (has.question x.answer.0)
+      (λ k. subst (λ (i : ℕ). SaidOfAnswer n v i (descriptor_point v E g' u F f' now) x.body) (sym e) (subst (λ (read : Descriptor → Point). SaidOfAnswer n v (f.session x.answer.0) read x.body) (read_same now) k)) h
   given_one has now (plain.Finish x) e h = tt
   given_one has now (plain.Resolve x) e h =
-      if_said _ _ (has x.promise.0)
+      if_said _ _ (has.import x.promise.0)
       (λ k. of_export (map.get E x.promise.0) (descriptor_point v E g' u F f' now) x.to (own x.promise.0) (subst (λ (read : Descriptor → Point). SaidOfExport n v g (map.get E x.promise.0) read x.to) (read_same now) k)) h
   given_one has now (plain.Release x) e h = tt
   given_one has now (plain.Disembargo x) e h = tt
   given_one has now (plain.Other k) e h = tt
 
-  all_given : (has : ℕ → Bool) (now : ℕ → ℕ) (ms : List Message) → EachOpen (λ k. g'.session k ≡ g.session k) ms → EachReturn (λ k. f'.session k ≡ f.session k) ms → AllSaid n v E g u F f has now ms → AllSaid n v E g' u F f' has now ms
+  all_given : (has : Has) (now : ℕ → ℕ) (ms : List Message) → EachOpen (λ k. g'.session k ≡ g.session k) ms → EachReturn (λ k. f'.session k ≡ f.session k) ms → AllSaid n v E g u F f has now ms → AllSaid n v E g' u F f' has now ms
   all_given has now [] o r h = tt
   all_given has now (message.Plain m ∷ ms) o r h = (
     given_one has now m r.0 h.0,
     subst (λ (z : ℕ → ℕ). AllSaid n v E g' u F f' (has_behind has (descriptors_of (message.Plain m))) z ms) (sym (past_one_same g g' now (message.Plain m) o.0))
         (all_given (has_behind has (descriptors_of (message.Plain m))) (past_one g now (message.Plain m)) ms o.1 r.1 h.1),
   )
-  all_given has now (message.Unimplemented m ∷ ms) o r h = all_given has now ms o.1 r h
+  all_given has now (message.Unimplemented m ∷ ms) o r h = (h.0, all_given has now ms o.1 r h.1)
 
-pub said_as_given : (n : Net routes) (v : Vat) (E : Map Export) (g g' : Ghost) (u : Vat) (F : Map Export) (f f' : Ghost) (has : ℕ → Bool) (now : ℕ → ℕ) (ms : List Message) → SamePoints v g g' E → SamePoints u f f' F
+pub said_as_given : (n : Net routes) (v : Vat) (E : Map Export) (g g' : Ghost) (u : Vat) (F : Map Export) (f f' : Ghost) (has : Has) (now : ℕ → ℕ) (ms : List Message) → SamePoints v g g' E → SamePoints u f f' F
     → EachOpen (λ k. g'.session k ≡ g.session k) ms → EachReturn (λ k. f'.session k ≡ f.session k) ms → AllSaid n v E g u F f has now ms → AllSaid n v E g' u F f' has now ms
 said_as_given n v E g g' u F f f' has now ms own theirs o r h = all_given n v E g g' u F f f' own theirs has now ms o r h
 
@@ -233,24 +320,24 @@ module _ (n : Net routes) (v : Vat) (E E' : Map Export) (g : Ghost) (u : Vat) (F
   left_resolved now (Some x) (resolved.Cap d) met h = subst (λ (p : Point). IsSaid n (point v g x.node) d p) (left_reads now d met.0) h
   left_resolved now (Some x) (resolved.Exception exception) met h = h
 
-  left_message : (has : ℕ → Bool) (now : ℕ → ℕ) (m : PlainMessage) → EachMet E' F' (descriptors_of (message.Plain m)) → SaidBy n v E g u F f has now m → SaidBy n v E' g u F' f has now m
+  left_message : (has : Has) (now : ℕ → ℕ) (m : PlainMessage) → EachMet E' F' (descriptors_of (message.Plain m)) → SaidBy n v E g u F f has now m → SaidBy n v E' g u F' f has now m
   left_message has now (plain.Abort exception) met h = tt
   left_message has now (plain.Bootstrap q) met h = tt
   left_message has now (plain.Call c) met h = tt
-  left_message has now (plain.Return x) met h = left_answer now (f.session x.answer.0) x.body met h
+  left_message has now (plain.Return x) met h = if_said _ _ (has.question x.answer.0) (left_answer now (f.session x.answer.0) x.body met) h
   left_message has now (plain.Finish x) met h = tt
   left_message has now (plain.Resolve x) met h =
-      if_said _ _ (has x.promise.0) (λ k. of_left (descriptor_point v E' g u F' f now) x.promise.0 x.to (left_resolved now (map.get E x.promise.0) x.to met k)) h
+      if_said _ _ (has.import x.promise.0) (λ k. of_left (descriptor_point v E' g u F' f now) x.promise.0 x.to (left_resolved now (map.get E x.promise.0) x.to met k)) h
   left_message has now (plain.Release x) met h = tt
   left_message has now (plain.Disembargo x) met h = tt
   left_message has now (plain.Other k) met h = tt
 
-  all_left : (has : ℕ → Bool) (now : ℕ → ℕ) (ms : List Message) → AllNamed E' F' ms → AllSaid n v E g u F f has now ms → AllSaid n v E' g u F' f has now ms
+  all_left : (has : Has) (now : ℕ → ℕ) (ms : List Message) → AllNamed E' F' ms → AllSaid n v E g u F f has now ms → AllSaid n v E' g u F' f has now ms
   all_left has now [] met h = tt
   all_left has now (message.Plain m ∷ ms) met h = (left_message has now m met.0 h.0, all_left (has_behind has (descriptors_of (message.Plain m))) (past_one g now (message.Plain m)) ms met.1 h.1)
-  all_left has now (message.Unimplemented m ∷ ms) met h = all_left has now ms met h
+  all_left has now (message.Unimplemented m ∷ ms) met h = (h.0, all_left has now ms met h.1)
 
-pub said_as_lowered : (n : Net routes) (v : Vat) (E E' : Map Export) (g : Ghost) (u : Vat) (F F' : Map Export) (f : Ghost) (has : ℕ → Bool) (now : ℕ → ℕ) (ms : List Message) → StillThere E' E → StillThere F' F → AllNamed E' F' ms
+pub said_as_lowered : (n : Net routes) (v : Vat) (E E' : Map Export) (g : Ghost) (u : Vat) (F F' : Map Export) (f : Ghost) (has : Has) (now : ℕ → ℕ) (ms : List Message) → StillThere E' E → StillThere F' F → AllNamed E' F' ms
     → AllSaid n v E g u F f has now ms → AllSaid n v E' g u F' f has now ms
 said_as_lowered n v E E' g u F F' f has now ms own theirs met h = all_left n v E E' g u F F' f own theirs has now ms met h
 
@@ -285,13 +372,13 @@ module _ (n : Net routes) (v : Vat) (E : Map Export) (g : Ghost) (u : Vat) (F : 
     off_resolved (Some x) (resolved.Cap d) off h = subst (λ (p : Point). IsSaid n (point v g x.node) d p) (off_reads now then d same off.0) h
     off_resolved (Some x) (resolved.Exception exception) off h = h
 
-    off_message : (has : ℕ → Bool) (m : PlainMessage) → EachOff q (descriptors_of (message.Plain m)) → SaidBy n v E g u F f has now m → SaidBy n v E g u F f has then m
+    off_message : (has : Has) (m : PlainMessage) → EachOff q (descriptors_of (message.Plain m)) → SaidBy n v E g u F f has now m → SaidBy n v E g u F f has then m
     off_message has (plain.Abort exception) off h = tt
     off_message has (plain.Bootstrap k) off h = tt
     off_message has (plain.Call c) off h = tt
-    off_message has (plain.Return x) off h = off_answer (f.session x.answer.0) x.body off h
+    off_message has (plain.Return x) off h = if_said _ _ (has.question x.answer.0) (off_answer (f.session x.answer.0) x.body off) h
     off_message has (plain.Finish x) off h = tt
-    off_message has (plain.Resolve x) off h = if_said _ _ (has x.promise.0) (λ k. off_resolved (map.get E x.promise.0) x.to off k) h
+    off_message has (plain.Resolve x) off h = if_said _ _ (has.import x.promise.0) (λ k. off_resolved (map.get E x.promise.0) x.to off k) h
     off_message has (plain.Release x) off h = tt
     off_message has (plain.Disembargo x) off h = tt
     off_message has (plain.Other k) off h = tt
@@ -300,7 +387,7 @@ module _ (n : Net routes) (v : Vat) (E : Map Export) (g : Ghost) (u : Vat) (F : 
   unless_open true k f h = f refl
   unless_open false k f h = h k
 
-  all_off : (has : ℕ → Bool) (now then : ℕ → ℕ) (ms : List Message) → ((k : ℕ) → nat_eq k q ≡ false → then k ≡ now k) → NoneNames q ms → AllSaid n v E g u F f has now ms → AllSaid n v E g u F f has then ms
+  all_off : (has : Has) (now then : ℕ → ℕ) (ms : List Message) → ((k : ℕ) → nat_eq k q ≡ false → then k ≡ now k) → NoneNames q ms → AllSaid n v E g u F f has now ms → AllSaid n v E g u F f has then ms
   all_off has now then [] same off h = tt
   all_off has now then (message.Plain m ∷ ms) same off h =
       let x = message.Plain m in (
@@ -308,8 +395,8 @@ module _ (n : Net routes) (v : Vat) (E : Map Export) (g : Ghost) (u : Vat) (F : 
         unless_open (opens q x) off.1 (λ e. subst (λ (z : ℕ → ℕ). AllSaid n v E g u F f (has_behind has (descriptors_of x)) z ms) (sym (past_opened q g now then x same e)) h.1)
             (λ k. all_off (has_behind has (descriptors_of x)) (past_one g now x) (past_one g then x) ms (past_alike q g now then x same) k h.1),
       )
-  all_off has now then (message.Unimplemented m ∷ ms) same off h = all_off has now then ms same off h
+  all_off has now then (message.Unimplemented m ∷ ms) same off h = (h.0, all_off has now then ms same off h.1)
 
-pub said_as_closed : (n : Net routes) (v : Vat) (E : Map Export) (g : Ghost) (u : Vat) (F : Map Export) (f : Ghost) (has : ℕ → Bool) (q : ℕ) (now then : ℕ → ℕ) (ms : List Message) → ((k : ℕ) → nat_eq k q ≡ false → then k ≡ now k) → NoneNames q ms
+pub said_as_closed : (n : Net routes) (v : Vat) (E : Map Export) (g : Ghost) (u : Vat) (F : Map Export) (f : Ghost) (has : Has) (q : ℕ) (now then : ℕ → ℕ) (ms : List Message) → ((k : ℕ) → nat_eq k q ≡ false → then k ≡ now k) → NoneNames q ms
     → AllSaid n v E g u F f has now ms → AllSaid n v E g u F f has then ms
 said_as_closed n v E g u F f has q now then ms same off h = all_off n v E g u F f q has now then ms same off h

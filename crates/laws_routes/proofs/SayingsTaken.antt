@@ -19,15 +19,15 @@ use Rattle.vat_machine.specs.Descriptors.{import_one, received, take_all, take_a
 use Rattle.call_order.specs.Machine.{Net}
 use Rattle.laws_routes.specs.Points.{routes}
 use Rattle.laws_routes.specs.Ghosts.{Ghost}
-use Rattle.laws_routes.specs.Sayings.{AllSaid, has_behind, has_import, is_among}
-use Rattle.laws_routes.proofs.SayingsCarried.{said_of_fewer}
+use Rattle.laws_routes.specs.Sayings.{AllSaid, has_behind, has_of, is_among}
+use Rattle.laws_routes.proofs.SayingsCarried.{each_return, said_of_fewer}
 
-one_taken : (s : State) (k : SenderKind) (i : ℕ) (es : List ℕ) (e : ℕ) → (is_among e es || has_import (import_one s k i).imports e) ≡ true → (is_among e (i ∷ es) || has_import s.imports e) ≡ true
-one_taken s k i es = at_put (λ j o. (is_among j es || is_some o) ≡ true → ((nat_eq j i || is_among j es) || has_import s.imports j) ≡ true) s.imports i (received k (map.get s.imports i))
-    (λ h. (let e : nat_eq i i ≡ true = grind (arith) in subst (λ (b : Bool). ((b || is_among i es) || has_import s.imports i) ≡ true) (sym e) refl))
-    (λ j n h. subst (λ (b : Bool). ((b || is_among j es) || has_import s.imports j) ≡ true) (sym n) h)
+one_taken : (s : State) (k : SenderKind) (i : ℕ) (es : List ℕ) (e : ℕ) → (is_among e es || is_some (map.get (import_one s k i).imports e)) ≡ true → (is_among e (i ∷ es) || is_some (map.get s.imports e)) ≡ true
+one_taken s k i es = at_put (λ j o. (is_among j es || is_some o) ≡ true → ((nat_eq j i || is_among j es) || is_some (map.get s.imports j)) ≡ true) s.imports i (received k (map.get s.imports i))
+    (λ h. (let e : nat_eq i i ≡ true = grind (arith) in subst (λ (b : Bool). ((b || is_among i es) || is_some (map.get s.imports i)) ≡ true) (sym e) refl))
+    (λ j n h. subst (λ (b : Bool). ((b || is_among j es) || is_some (map.get s.imports j)) ≡ true) (sym n) h)
 
-each_taken : (s : State) (ds : List Descriptor) (e : ℕ) → has_import (take_each s ds).imports e ≡ true → has_behind (has_import s.imports) ds e ≡ true
+each_taken : (s : State) (ds : List Descriptor) (e : ℕ) → is_some (map.get (take_each s ds).imports e) ≡ true → (is_among e (given ds) || is_some (map.get s.imports e)) ≡ true
 each_taken s [] e h = h
 each_taken s (descriptor.None ∷ ds) e h = each_taken s ds e h
 each_taken s (descriptor.SenderHosted i ∷ ds) e h = one_taken s kind.Hosted i.0 (given ds) e (each_taken (import_one s kind.Hosted i.0) ds e h)
@@ -36,14 +36,14 @@ each_taken s (descriptor.ReceiverHosted i ∷ ds) e h = each_taken s ds e h
 each_taken s (descriptor.ReceiverAnswer q path ∷ ds) e h = each_taken s ds e h
 
 -- A level 0 vat keeps no more imports than it has.
-all_taken : (l : Level) (s : State) (ds : List Descriptor) (e : ℕ) → has_import (take_at l s ds).imports e ≡ true → has_behind (has_import s.imports) ds e ≡ true
+all_taken : (l : Level) (s : State) (ds : List Descriptor) (e : ℕ) → is_some (map.get (take_at l s ds).imports e) ≡ true → (is_among e (given ds) || is_some (map.get s.imports e)) ≡ true
 all_taken Zero s ds e h = had (is_among e (given ds)) h
   where
-    had : (b : Bool) → has_import s.imports e ≡ true → (b || has_import s.imports e) ≡ true
+    had : (b : Bool) → is_some (map.get s.imports e) ≡ true → (b || is_some (map.get s.imports e)) ≡ true
     had true h = refl
     had false h = h
 all_taken One s ds e h = each_taken s ds e h
 
-pub said_as_taken : (n : Net routes) (v : Vat) (E : Map Export) (g : Ghost) (u : Vat) (F : Map Export) (f : Ghost) (s : State) (ds : List Descriptor) (now : ℕ → ℕ) (ms : List Message) → AllSaid n v E g u F f (has_behind (has_import s.imports) ds) now ms
-    → AllSaid n v E g u F f (has_import (take_all s ds).imports) now ms
-said_as_taken n v E g u F f s ds now ms h = said_of_fewer n v E g u F f (has_behind (has_import s.imports) ds) (has_import (take_all s ds).imports) now ms (all_taken s.level s ds) h
+pub said_as_taken : (n : Net routes) (v : Vat) (E : Map Export) (g : Ghost) (u : Vat) (F : Map Export) (f : Ghost) (s : State) (ds : List Descriptor) (now : ℕ → ℕ) (ms : List Message) → AllSaid n v E g u F f (has_behind (has_of [] s.imports s.questions) ds) now ms
+    → AllSaid n v E g u F f (has_of [] (take_all s ds).imports s.questions) now ms
+said_as_taken n v E g u F f s ds now ms h = said_of_fewer n v E g u F f (has_behind (has_of [] s.imports s.questions) ds) (has_of [] (take_all s ds).imports s.questions) now ms (all_taken s.level s ds) (each_return _ ms (λ q e. e)) h

@@ -1,6 +1,6 @@
 -- The end of a step: what no place names goes, questions are finished, and imports are released.
 use Rattle.std.specs.FinMap as map
-use Rattle.std.proofs.Common.{ℕ, List, [], ◌∷◌, ◌++◌, Option, None, Some, sym, subst}
+use Rattle.std.proofs.Common.{ℕ, List, [], ◌∷◌, ◌++◌, Option, None, Some, sym, subst, ◌≡◌, true, refl, inl, inr}
 use Rattle.finite_maps.specs.Tally.{Map}
 use Rattle.finite_maps.proofs.Tested.{at_cut, at_put}
 use Rattle.rpc_msg.specs.declared.message.PlainMessage.TheVariants as plain
@@ -18,11 +18,17 @@ use Rattle.laws_routes.specs.Views.{IsSession, past, sessions_at}
 use Rattle.laws_routes.specs.Ties.{Around, Ghosts, Tied}
 use Rattle.laws_routes.proofs.ReturnSent.{collected, given_tied}
 use Rattle.laws_routes.proofs.SilentMessages.{silent_goes}
+use Rattle.laws_routes.specs.Sayings.{KnownAt, bare, has_of, is_waiting, not_sent}
+use Rattle.laws_routes.proofs.KnownKept.{Less, close, less}
+use Rattle.laws_routes.proofs.SayingsCarried.{each_return, said_of_fewer}
+use Rattle.vat_machine.specs.Advancing.{returned_of}
+use Rattle.rpc_msg.specs.Vats.{other_vat}
 
 -- Other questions, each of the same session where its Finish was not sent.
 pub questions_tied : (w : Around) (d : Progress) (g : Ghosts) (m : routing.State routes) → Tied w d g m → (Q : Map Question)
-    → ((q : ℕ) → IsSession (g.own.session q) (past g.own (sessions_at g.theirs.outcome (w.other).answers) (w.out ++ d.effects.sends) q) (map.get Q q)) → Tied w (with_state d (record (d.state) { questions = Q })) g m
-questions_tied w d g m t Q h =
+    → ((q : ℕ) → IsSession (g.own.session q) (past g.own (sessions_at g.theirs.outcome (w.other).answers) (w.out ++ d.effects.sends) q) (map.get Q q))
+    → ((q : ℕ) → is_waiting (map.get Q q) ≡ true → is_waiting (map.get d.state.questions q) ≡ true) → KnownAt w.vat (record (d.state) { questions = Q }) g.own m.net → Tied w (with_state d (record (d.state) { questions = Q })) g m
+questions_tied w d g m t Q h waits known =
     let side = t.own in
     let view = t.view in
     let back = t.back in
@@ -34,36 +40,47 @@ questions_tied w d g m t Q h =
       told = t.told;
       unborn = t.unborn;
       unborn_back = t.unborn_back;
+      known = known;
+      known_there = t.known_there;
+      goes = t.goes;
+      comes = said_of_fewer (bare m.net) (other_vat w.vat) (w.other).exports g.theirs w.vat (d.state).exports g.own (has_of [] (d.state).imports (d.state).questions) (has_of [] (d.state).imports Q) (sessions_at g.own.outcome (d.state).answers) w.back
+          (λ e i. i) (each_return _ w.back waits) t.comes;
     }
 
 -- A question goes.
 pub question_gone : (w : Around) (d : Progress) (g : Ghosts) (m : routing.State routes) → Tied w d g m → (q : ℕ) → Tied w (with_state d (record (d.state) { questions = map.remove d.state.questions q })) g m
 question_gone w d g m t q =
     let view = t.view in
-    questions_tied w d g m t (map.remove (d.state).questions q)
-    (at_cut (λ k o. IsSession (g.own.session k) (past g.own (sessions_at g.theirs.outcome (w.other).answers) (w.out ++ d.effects.sends) k) o) (d.state).questions q tt (λ k n. view.sessions k))
+    let Q = (d.state).questions in
+    questions_tied w d g m t (map.remove Q q)
+    (at_cut (λ k o. IsSession (g.own.session k) (past g.own (sessions_at g.theirs.outcome (w.other).answers) (w.out ++ d.effects.sends) k) o) Q q tt (λ k n. view.sessions k))
+    (at_cut (λ k o. is_waiting o ≡ true → is_waiting (map.get Q k) ≡ true) Q q (λ i. cc) (λ k n i. i))
+    (λ l. less w.vat g.own (bare m.net) d.state (record (d.state) { questions = map.remove Q q }) (λ k. inr refl) (at_cut (λ k o. Less (returned_of (map.get Q k)) (returned_of o)) Q q (inl refl) (λ k n. inr refl)) (t.known l))
 
 -- It changes: if its Finish is not sent behind, it was not before.
 pub question_put : (w : Around) (d : Progress) (g : Ghosts) (m : routing.State routes) → Tied w d g m → (q : ℕ) (x : Question)
-    → IsSession (g.own.session q) (past g.own (sessions_at g.theirs.outcome (w.other).answers) (w.out ++ d.effects.sends) q) (Some x) → Tied w (with_state d (record (d.state) { questions = map.insert d.state.questions q x })) g m
-question_put w d g m t q x h =
+    → IsSession (g.own.session q) (past g.own (sessions_at g.theirs.outcome (w.other).answers) (w.out ++ d.effects.sends) q) (Some x) → (not_sent x.finish ≡ true → is_waiting (map.get d.state.questions q) ≡ true)
+    → KnownAt w.vat (record (d.state) { questions = map.insert d.state.questions q x }) g.own m.net → Tied w (with_state d (record (d.state) { questions = map.insert d.state.questions q x })) g m
+question_put w d g m t q x h waits known =
     let view = t.view in
-    questions_tied w d g m t (map.insert (d.state).questions q x)
-    (at_put (λ k o. IsSession (g.own.session k) (past g.own (sessions_at g.theirs.outcome (w.other).answers) (w.out ++ d.effects.sends) k) o) (d.state).questions q x h (λ k n. view.sessions k))
+    let Q = (d.state).questions in
+    questions_tied w d g m t (map.insert Q q x)
+    (at_put (λ k o. IsSession (g.own.session k) (past g.own (sessions_at g.theirs.outcome (w.other).answers) (w.out ++ d.effects.sends) k) o) Q q x h (λ k n. view.sessions k))
+    (at_put (λ k o. is_waiting o ≡ true → is_waiting (map.get Q k) ≡ true) Q q x waits (λ k n i. i)) known
 
 closed_tied : (w : Around) (d : Progress) (g : Ghosts) (m : routing.State routes) → Tied w d g m → (q : ℕ) (x : Question) → Tied w (with_state d (closed d.state q x)) g m
-closed_tied w d g m t q x = by x.returned
+closed_tied w d g m t q x = by x.returned (λ l. close w.vat g.own (bare m.net) d.state q x (t.known l))
   where
-    by : (o : Option Returned) → Tied w (with_state d (record (d.state) { questions = closed_map d.state.questions q x o })) g m
-    by None = question_put w d g m t q (record x { finish = finishing.Sent }) (λ h. absurd h)
-    by (Some said) = question_gone w d g m t q
+    by : (o : Option Returned) → KnownAt w.vat (record (d.state) { questions = closed_map d.state.questions q x o }) g.own m.net → Tied w (with_state d (record (d.state) { questions = closed_map d.state.questions q x o })) g m
+    by None k = question_put w d g m t q (record x { finish = finishing.Sent }) (λ h. absurd h) (λ i. cc) k
+    by (Some said) k = question_gone w d g m t q
 
 finished_tied : (w : Around) (d : Progress) (g : Ghosts) (m : routing.State routes) → Tied w d g m → (q : ℕ) (x : Question) (f : Finishing) → Tied w (finished_by d q x f) g m
 finished_tied w d g m t q x finishing.Owed =
     let flag = flag_for d.state (got_of x.returned) in
     let left = give_back d.state (got_of x.returned) in
     silent_goes w (with_state d (closed left q x)) g m (message.Plain (plain.Finish (record { question = record { 0 = q }; release_result_caps = flag })))
-    (closed_tied w (with_state d left) g m (given_tied w d g m t flag (got_of x.returned)) q x) tt
+    (closed_tied w (with_state d left) g m (given_tied w d g m t flag (got_of x.returned)) q x) tt tt
 finished_tied w d g m t q x finishing.Sent = t
 finished_tied w d g m t q x finishing.Waived = closed_tied w d g m t q x
 
@@ -77,7 +94,7 @@ each_released : (w : Around) (d : Progress) (g : Ghosts) (m : routing.State rout
 each_released w d g m [] t = t
 each_released w d g m (x ∷ xs) t =
     let said = plain.Release (record { export = export_id x.0; count = x.1 }) in
-    each_released w (send d said) g m xs (silent_goes w d g m (message.Plain said) t tt)
+    each_released w (send d said) g m xs (silent_goes w d g m (message.Plain said) t tt tt)
 
 pub swept : (w : Around) (d : Progress) (g : Ghosts) (m : routing.State routes) (new : Progress) → Tied w d g m → Sweeps d new → Tied w new g m
 swept w d g m new t h =

@@ -35,7 +35,7 @@ use Rattle.vat_machine.specs.Progress.{Progress, begin}
 use Rattle.vat_machine.specs.Advancing.{wire_target}
 use Rattle.vat_machine.specs.Commands.{Acts, AnswersTask, ClonesRef, MakesCall, NamesField, NewRef, RejectsPromise, ResolvesPromise, answered, heads, settled_now}
 use Rattle.vat_machine.specs.Faults.{given_by, is_foreign, target_node}
-use Rattle.vat_machine.specs.Messages.{Bounces, Lifts, Takes, TakesDisembargo, TakesEchoed, TakesFinish, TakesPlain, TakesReturn, TakesUnimplemented, TakesUnless}
+use Rattle.vat_machine.specs.Messages.{Bounces, Lifts, Takes, TakesDisembargo, TakesFinish, TakesPlain, TakesReturn, TakesUnimplemented, TakesUnless}
 use Rattle.vat_machine.specs.Steps.{Does, Ends, Handles}
 use Rattle.call_order.specs.Machine as routing
 use Rattle.call_order.specs.Invariant.{InvariantWith}
@@ -50,8 +50,7 @@ use Rattle.laws_routes.specs.Premises.{ExportsAreOwn, IsWireThere}
 use Rattle.laws_routes.specs.Laws.{Comes, with_back}
 use Rattle.laws_routes.specs.OutcomeLaws.{AllMaySettle}
 use Rattle.laws_routes.specs.TakingLaws.{MayBounce}
-use Rattle.laws_routes.specs.Sayings.{KnownIsSo}
-use Rattle.laws_routes.specs.StepLaws.{IfAdvances, MayAct, MayAnswer, MayCallFrom, MayDisembargo, MayEchoed, MayFinish, MayHandle, MayLift, MayReject, MayResolve, MayReturn, MayTakePlain, MayTakeUnimplemented, MayTakeUnless, StepComes, TiedAt, made_by}
+use Rattle.laws_routes.specs.StepLaws.{MayAct, MayAnswer, MayCallFrom, MayDisembargo, MayFinish, MayHandle, MayLift, MayReject, MayResolve, MayReturn, MayTakePlain, MayTakeUnimplemented, MayTakeUnless, StepComes, TiedAt, made_by}
 use Rattle.laws_routes.proofs.AnswerCloses.{finish_taken}
 use Rattle.laws_routes.proofs.BootstrapTaken.{bootstrap_taken}
 use Rattle.laws_routes.proofs.CallAnswered.{call_taken, target_is, target_own}
@@ -66,7 +65,7 @@ use Rattle.laws_routes.proofs.HeadAdvances.{advances}
 use Rattle.laws_routes.proofs.NewReferences.{moves_on, new_ref_begins}
 use Rattle.laws_routes.proofs.OtherCommands.{bootstrap_asked, call_finished, promise_made, ref_dropped}
 use Rattle.laws_routes.proofs.OutcomeSettled.{outcome_settles, outcomes_drain, promise_settles}
-use Rattle.laws_routes.proofs.ReturnTaken.{echoed_taken, resolve_taken, return_taken}
+use Rattle.laws_routes.proofs.ReturnTaken.{resolve_taken, return_taken}
 use Rattle.laws_routes.proofs.SilentMessages.{silent_comes, silent_goes}
 use Rattle.laws_routes.proofs.StepEnds.{swept}
 use Rattle.laws_routes.proofs.WhereNodesEnd.{ends}
@@ -108,25 +107,25 @@ module _ (w : Around) (d : Progress) (g : Ghosts) (m : routing.State routes) (gr
   answers k v None h may = absurd h
   answers k v (Some o) h may = outcome_settles w (answered d k) g m o v new (answering k) i h.1 may
 
-  pub acts : (c : Command) (h : Acts d c granted new) → MayAct w d c granted new h → IfAdvances (KnownIsSo w.vat d.state g.own m.net) c → Comes (made_by w c) new m [] []
-  acts (command.Host o) h may so = begins (node.Object o) h
-  acts (command.CloneRef r) h may so = clones (map.get d.state.refs r.0) h
-  acts (command.DropRef r) h may so = (g, m, Done, ref_dropped w d g m r.0 granted new t h)
-  acts command.Bootstrap h may so = bootstrap_asked w d g m granted new t may h
-  acts (command.Call c) h may so = calls c (map.get d.state.refs c.reference.0) refl may h
-  acts (command.Field c path) h may so = names path (map.get d.state.calls c.0) h
-  acts command.Promise h may so = promise_made w d g m granted new t may h
-  acts (command.Resolve p r) h may so = resolves p.0 (map.get d.state.unsettled p.0) (map.get d.state.refs r.0) h may
-  acts (command.Reject p exception) h may so = rejects p.0 exception (map.get d.state.unsettled p.0) h may
-  acts (command.Answer k payload refs) h may so = answers k.0 (value.Results payload (heads d.state refs)) (map.get d.state.tasks k.0) h may
-  acts (command.Fail k exception) h may so = answers k.0 (value.Exception exception) (map.get d.state.tasks k.0) h may
-  acts (command.Finish c) h may so = (g, m, Done, call_finished w d g m c.0 granted new t h)
-  acts (command.Advance r) h may so = advances w d g m r.0 granted new t so may h
-  acts (command.Shut n) h may so = absurd h
+  pub acts : (c : Command) (h : Acts d c granted new) → MayAct w d c granted new h → Comes (made_by w c) new m [] []
+  acts (command.Host o) h may = begins (node.Object o) h
+  acts (command.CloneRef r) h may = clones (map.get d.state.refs r.0) h
+  acts (command.DropRef r) h may = (g, m, Done, ref_dropped w d g m r.0 granted new t h)
+  acts command.Bootstrap h may = bootstrap_asked w d g m granted new t may h
+  acts (command.Call c) h may = calls c (map.get d.state.refs c.reference.0) refl may h
+  acts (command.Field c path) h may = names path (map.get d.state.calls c.0) h
+  acts command.Promise h may = promise_made w d g m granted new t may h
+  acts (command.Resolve p r) h may = resolves p.0 (map.get d.state.unsettled p.0) (map.get d.state.refs r.0) h may
+  acts (command.Reject p exception) h may = rejects p.0 exception (map.get d.state.unsettled p.0) h may
+  acts (command.Answer k payload refs) h may = answers k.0 (value.Results payload (heads d.state refs)) (map.get d.state.tasks k.0) h may
+  acts (command.Fail k exception) h may = answers k.0 (value.Exception exception) (map.get d.state.tasks k.0) h may
+  acts (command.Finish c) h may = (g, m, Done, call_finished w d g m c.0 granted new t h)
+  acts (command.Advance r) h may = advances w d g m r.0 granted new t may h
+  acts (command.Shut n) h may = absurd h
 
 pub acts_are_moves : (w : Around) (d : Progress) (g : Ghosts) (m : routing.State routes) (c : Command) (granted : Granted) (new : Progress) → Tied w d g m → InvariantWith m []
-    → (h : Acts d c granted new) → MayAct w d c granted new h → IfAdvances (KnownIsSo w.vat d.state g.own m.net) c → Comes (made_by w c) new m [] []
-acts_are_moves w d g m c granted new t i h may so = acts w d g m granted new t i c h may so
+    → (h : Acts d c granted new) → MayAct w d c granted new h → Comes (made_by w c) new m [] []
+acts_are_moves w d g m c granted new t i h may = acts w d g m granted new t i c h may
 
 -- ---- Messages
 
@@ -138,7 +137,7 @@ module _ (w : Around) (d : Progress) (g : Ghosts) (m : routing.State routes) (re
   returns r None e t may h = absurd h
   returns r (Some x) e t may h = return_taken w d g m r x rest new t e may h
 
-  finishes : (x : Finish) (o : Option AnswerEntry) → map.get d.state.answers x.question.0 ≡ o → Tied (with_back w (message.Plain (plain.Finish x) ∷ rest)) d g m → MayFinish w' new.state x.question.0 o
+  finishes : (x : Finish) (o : Option AnswerEntry) → map.get d.state.answers x.question.0 ≡ o → Tied (with_back w (message.Plain (plain.Finish x) ∷ rest)) d g m → MayFinish w' d new x.question.0 o
       → TakesFinish d x.question.0 x.release_result_caps o new → Comes w' new m [] []
   finishes x None e t may h = absurd h
   finishes x (Some a) e t may h = (g, m, Done, finish_taken w d g m x a rest new t e may.0 may.1 h)
@@ -174,19 +173,15 @@ module _ (w : Around) (d : Progress) (g : Ghosts) (m : routing.State routes) (re
   understood (plain.Call c) t i h may = call_taken w d g m c rest new t i h may
   understood (plain.Return r) t i h may = returns r (map.get d.state.questions r.answer.0) refl t may h
   understood (plain.Finish x) t i h may = finishes x (map.get d.state.answers x.question.0) refl t may h
-  understood (plain.Resolve r) t i h may = let a = resolve_taken w d g m r rest t may.0 may.1 in (a.0, m, Done, rw h a.1)
+  understood (plain.Resolve r) t i h may = let a = resolve_taken w d g m r rest t may.0 may.1 may.2 in (a.0, m, Done, rw h a.1)
   understood (plain.Release x) t i h may = (g, m, Done, rw h (release_taken w d g m x rest t may))
   understood (plain.Disembargo x) t i h may = disembargoes x.target x.context t i h may
-  understood (plain.Other n) t i h may = (g, m, Done, rw h (silent_goes w' d g m (message.Unimplemented (plain.Other n)) (silent_comes w d g m (message.Plain (plain.Other n)) rest t tt) tt))
-
-  came_back : (x : PlainMessage) (q : ℕ) (o : Option Question) → map.get d.state.questions q ≡ o → Tied (with_back w (message.Unimplemented x ∷ rest)) d g m → MayEchoed w' d o → TakesEchoed d q o new → Comes w' new m [] []
-  came_back x q None e t may h = absurd h
-  came_back x q (Some y) e t may h = echoed_taken w d g m x q y rest new t e may h
+  understood (plain.Other n) t i h may = (g, m, Done, rw h (silent_goes w' d g m (message.Unimplemented (plain.Other n)) (silent_comes w d g m (message.Plain (plain.Other n)) rest t tt) tt tt))
 
   echoes : (x : PlainMessage) → Tied (with_back w (message.Unimplemented x ∷ rest)) d g m → TakesUnimplemented d x new → MayTakeUnimplemented w' d x → Comes w' new m [] []
   echoes (plain.Abort exception) t h may = absurd h
-  echoes (plain.Bootstrap q) t h may = came_back (plain.Bootstrap q) q.0 (map.get d.state.questions q.0) refl t may h
-  echoes (plain.Call c) t h may = came_back (plain.Call c) c.question.0 (map.get d.state.questions c.question.0) refl t may h
+  echoes (plain.Bootstrap q) t h may = absurd t.comes.0
+  echoes (plain.Call c) t h may = absurd t.comes.0
   echoes (plain.Return r) t h may = absurd h
   echoes (plain.Finish x) t h may = absurd h
   echoes (plain.Resolve r) t h may = (g, m, Done, rw h (obeyed w' d g m true (given_by r.to) (silent_comes w d g m (message.Unimplemented (plain.Resolve r)) rest t tt) may))
@@ -195,7 +190,7 @@ module _ (w : Around) (d : Progress) (g : Ghosts) (m : routing.State routes) (re
   echoes (plain.Other n) t h may = absurd h
 
   unless_foreign : (x : PlainMessage) (b : Bool) → Tied (with_back w (message.Plain x ∷ rest)) d g m → InvariantWith m [] → (h : TakesUnless b d x new) → MayTakeUnless w' d x b new h → Comes w' new m [] []
-  unless_foreign x true t i h may = (g, m, Done, rw h (silent_goes w' d g m (message.Unimplemented x) (silent_comes w d g m (message.Plain x) rest t may) tt))
+  unless_foreign x true t i h may = (g, m, Done, rw h (silent_goes w' d g m (message.Unimplemented x) (silent_comes w d g m (message.Plain x) rest t may) may tt))
   unless_foreign x false t i h may = understood x t i h may
 
   handled : (x : rpc.Message) → Tied (with_back w (x ∷ rest)) d g m → InvariantWith m [] → (h : Takes d x new) → MayHandle w' d x new h → Comes w' new m [] []
@@ -218,12 +213,12 @@ ended w acted m effects new i a h may =
     let last : Progress = h.swept in
     let b = outcomes_drain w acted a.0 a.1 drained a.3 (moves_keep a.1 [] m [] a.2 i) h.drains may in
     let c : Tied w last b.0 b.1 = swept w drained b.0 b.1 last b.3 h.sweeps in
-    (b.0, b.1, moves_on b.1 [] a.1 [] m [] b.2 a.2, subst (λ (z : State). TiedBy w z effects.sends effects.deliveries b.0 b.1) (sym h.new_is) (subst (λ (z : Effects). TiedBy w last.state z.sends z.deliveries b.0 b.1) (sym h.effects_are) c))
+    (b.0, b.1, moves_on b.1 [] a.1 [] m [] b.2 a.2, subst (λ (z : State). TiedBy w [] z effects.sends effects.deliveries b.0 b.1) (sym h.new_is) (subst (λ (z : Effects). TiedBy w [] last.state z.sends z.deliveries b.0 b.1) (sym h.effects_are) c))
 
 pub commands_are_moves : (w : Around) (s : State) (g : Ghosts) (m : routing.State routes) (c : Command) (granted : Granted) (effects : Effects) (new : State) → TiedAt w s g m → InvariantWith m []
-    → (h : Does s c granted effects new) → MayAct w (begin s) c granted h.acted h.acts → IfAdvances (KnownIsSo w.vat s g.own m.net) c → AllMaySettle (made_by w c) h.ends.drained h.acted h.ends.drains → StepComes (made_by w c) new effects m
-commands_are_moves w s g m c granted effects new t i h act so settle =
-    ended (made_by w c) h.acted m effects new i (acts_are_moves w (begin s) g m c granted h.acted t i h.acts act so) h.ends settle
+    → (h : Does s c granted effects new) → MayAct w (begin s) c granted h.acted h.acts → AllMaySettle (made_by w c) h.ends.drained h.acted h.ends.drains → StepComes (made_by w c) new effects m
+commands_are_moves w s g m c granted effects new t i h act settle =
+    ended (made_by w c) h.acted m effects new i (acts_are_moves w (begin s) g m c granted h.acted t i h.acts act) h.ends settle
 
 pub messages_are_moves : (w : Around) (s : State) (g : Ghosts) (m : routing.State routes) (x : rpc.Message) (rest : List rpc.Message) (effects : Effects) (new : State) → TiedAt (with_back w (x ∷ rest)) s g m → InvariantWith m []
     → (h : Handles s x effects new) → MayHandle (with_back w rest) (begin s) x h.taken h.takes → AllMaySettle (with_back w rest) h.ends.drained h.taken h.ends.drains → StepComes (with_back w rest) new effects m

@@ -4,8 +4,6 @@ use Rattle.rpc_msg.specs.declared.ids.Vat.{Vat}
 use Rattle.rpc_msg.specs.declared.ids.ObjectId.{ObjectId}
 use Rattle.rpc_msg.specs.declared.message.Message.{Message}
 use Rattle.vat_journal.specs.History.{Ref}
-use Rattle.vat_machine.specs.declared.command.Command.{Command}
-use Rattle.vat_machine.specs.declared.command.Command.TheVariants as command
 use Rattle.vat_machine.specs.declared.command.Effects.{Effects}
 use Rattle.vat_machine.specs.declared.command.Level.{Level}
 use Rattle.vat_machine.specs.State.{State, start}
@@ -18,28 +16,12 @@ use Rattle.call_order.proofs.Moves.{moves_keep}
 use Rattle.laws_routes.specs.Points.{routes}
 use Rattle.laws_routes.specs.Ties.{Around, Ghosts, deliveries_of}
 use Rattle.laws_routes.specs.Laws.{with_back}
-use Rattle.laws_routes.specs.StepLaws.{IfAdvances, StepComes, TiedAt, made_by}
+use Rattle.laws_routes.specs.StepLaws.{StepComes, TiedAt, made_by}
 use Rattle.laws_routes.specs.PairLaws.{beginning, behind, turned}
 use Rattle.laws_routes.specs.ChainLaws.{Commanded, Done, Next, Received, Step, Steps, Turns}
 use Rattle.laws_routes.proofs.NewReferences.{moves_on}
 use Rattle.laws_routes.proofs.StepMoves.{commands_are_moves, messages_are_moves}
 use Rattle.laws_routes.proofs.PairsTied.{settles_down, start_tied, tied_in_order, turns}
-
-never : (P : Type 0) (c : Command) → IfAdvances ⊥ c → IfAdvances P c
-never P (command.Host o) h = tt
-never P (command.CloneRef r) h = tt
-never P (command.DropRef r) h = tt
-never P command.Bootstrap h = tt
-never P (command.Call c) h = tt
-never P (command.Field c path) h = tt
-never P command.Promise h = tt
-never P (command.Resolve p r) h = tt
-never P (command.Reject p exception) h = tt
-never P (command.Answer t payload refs) h = tt
-never P (command.Fail t exception) h = tt
-never P (command.Finish c) h = tt
-never P (command.Advance r) h = absurd h
-never P (command.Shut n) h = tt
 
 abbrev Stays : Around → State → routing.State routes → Type 0
 Stays after new m = (f : Ghosts) × (n : routing.State routes) × Moves n [] m [] × TiedAt after new f n
@@ -48,8 +30,8 @@ stepped : (w : Around) (new : State) (effects : Effects) (m : routing.State rout
 stepped w new effects m a = (a.0, a.1, a.2, settles_down w new effects a.0 a.1 a.3)
 
 one_step : (w after : Around) (s new : State) (g : Ghosts) (m : routing.State routes) → TiedAt w s g m → InvariantWith m [] → Step w s after new → Stays after new m
-one_step w after s new g m t i (Commanded c granted effects h still may settle e) =
-    subst (λ (z : Around). Stays z new m) (sym e) (stepped (made_by w c) new effects m (commands_are_moves w s g m c granted effects new t i h may (never _ c still) settle))
+one_step w after s new g m t i (Commanded c granted effects h may settle e) =
+    subst (λ (z : Around). Stays z new m) (sym e) (stepped (made_by w c) new effects m (commands_are_moves w s g m c granted effects new t i h may settle))
 one_step w after s new g m t i (Received x rest effects e h may settle f) =
     let t' : TiedAt (with_back w (x ∷ rest)) s g m = subst (λ (ms : List Message). TiedAt (with_back w ms) s g m) e t in
     subst (λ (z : Around). Stays z new m) (sym f) (stepped (with_back w rest) new effects m (messages_are_moves w s g m x rest effects new t' i h may settle))

@@ -28,7 +28,7 @@ still_open : (s : State) (p : ℕ) → EachMayOpen s → EachMayOpen (opening s 
 still_open s p h k free =
     let a = h k was_free in
     let u = a.unnamed in
-    record { unnamed = record { links = links; heads = u.heads; embargoes = u.embargoes }; exports = a.exports }
+    record { unnamed = record { links = links; heads = u.heads; embargoes = u.embargoes }; unsaid = a.unsaid; exports = a.exports }
   where
     was_free : map.get s.promises k ≡ None
     was_free = at_put (λ j z. z ≡ None → map.get s.promises j ≡ None) s.promises p (promise.Open []) (λ e. cc) (λ j n e. e) k free

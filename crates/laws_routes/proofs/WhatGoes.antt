@@ -1,6 +1,6 @@
 -- What no place names goes.
 use Rattle.std.specs.FinMap as map
-use Rattle.std.proofs.Common.{◌≡◌, ◌⊎◌, inl, inr, ℕ, [], Option, None, Some, IsSome, refl}
+use Rattle.std.proofs.Common.{◌≡◌, ◌⊎◌, inl, inr, ℕ, [], true, Option, None, Some, IsSome, refl}
 use Rattle.finite_maps.proofs.Tested.{at_cut}
 use Rattle.rpc_msg.specs.declared.ids.Vat.{Vat}
 use Rattle.rpc_msg.specs.Vats.{other_vat}
@@ -17,9 +17,14 @@ use Rattle.call_order.specs.Machine as routing
 use Rattle.laws_routes.specs.Points.{OfPromise, OfOutcome, routes}
 use Rattle.laws_routes.specs.Ghosts.{Ghost}
 use Rattle.laws_routes.specs.Sides.{Side, Stops, IsLinked, PromiseWaits, OutcomeHolds, IsOpenPromise, IsOpenOutcome}
-use Rattle.laws_routes.specs.Views.{IsImportOf}
+use Rattle.laws_routes.specs.Views.{IsImportOf, sessions_at}
 use Rattle.laws_routes.specs.Ties.{Around, Ghosts, Tied}
 use Rattle.laws_routes.proofs.UnbornKept.{unborn_fewer}
+use Rattle.laws_routes.proofs.KnownKept.{Less, less}
+use Rattle.laws_routes.proofs.SayingsCarried.{each_return, said_of_fewer}
+use Rattle.laws_routes.specs.Sayings.{bare, has_of}
+use Rattle.vat_machine.specs.Advancing.{resolution_of}
+use Rattle.std.specs.Prelude.{is_some}
 
 pub none_there : (X : Type 0) {A : Type 0} → IsSome {T = X} None → A
 none_there X h = cc
@@ -124,6 +129,10 @@ gone w d g m new t (PromiseGoes p loose e) =
       told = t.told;
       unborn = t.unborn;
       unborn_back = t.unborn_back;
+      known = t.known;
+      known_there = t.known_there;
+      goes = t.goes;
+      comes = t.comes;
     })
 gone w d g m new t (OutcomeGoes o loose e) =
     let view = t.view in
@@ -136,6 +145,10 @@ gone w d g m new t (OutcomeGoes o loose e) =
       told = t.told;
       unborn = t.unborn;
       unborn_back = unborn_fewer t.unborn_back _ (at_cut (λ q z. IsSome z → IsSome (map.get d.state.outcomes q)) d.state.outcomes o (λ i. none_there KeptOutcome i) (λ q n i. i));
+      known = t.known;
+      known_there = t.known_there;
+      goes = t.goes;
+      comes = t.comes;
     })
 gone w d g m new t (ImportGoes i loose e) =
     let own = t.own in
@@ -153,4 +166,10 @@ gone w d g m new t (ImportGoes i loose e) =
       told = t.told;
       unborn = t.unborn;
       unborn_back = t.unborn_back;
+      known = λ l. less w.vat g.own (bare m.net) d.state (record (d.state) { imports = map.remove d.state.imports i })
+          (at_cut (λ k o. Less (resolution_of (map.get d.state.imports k)) (resolution_of o)) d.state.imports i (inl refl) (λ k f. inr refl)) (λ k. inr refl) (t.known l);
+      known_there = t.known_there;
+      goes = t.goes;
+      comes = said_of_fewer (bare m.net) (other_vat w.vat) (w.other).exports g.theirs w.vat d.state.exports g.own (has_of [] d.state.imports d.state.questions) (has_of [] (map.remove d.state.imports i) d.state.questions)
+          (sessions_at g.own.outcome d.state.answers) w.back (at_cut (λ k o. is_some o ≡ true → is_some (map.get d.state.imports k) ≡ true) d.state.imports i (λ h. cc) (λ k f h. h)) (each_return _ w.back (λ q h. h)) t.comes;
     })

@@ -1,12 +1,13 @@
 -- A call that is routed to a point goes where its node settles.
-use Rattle.std.proofs.Common.{◌≡◌, inl, inr, ℕ, zero, suc, false, None, unwrap_or, refl, sym, ap, subst, ◌∙◌}
+use Rattle.std.proofs.Common.{◌≡◌, inl, inr, ℕ, zero, suc, false, None, refl, sym, ap, subst, ◌∙◌}
 use Rattle.rpc_msg.specs.declared.ids.Vat.{Vat}
 use Rattle.vat_machine.specs.declared.node.Node.{Node}
 use Rattle.vat_machine.specs.declared.node.Node.TheVariants as node
 use Rattle.vat_machine.specs.State.{State}
-use Rattle.vat_machine.specs.Nodes.{link, links, follow, settle, is_wire}
+use Rattle.vat_machine.specs.Nodes.{link, settle, is_wire}
 use Rattle.vat_machine.specs.Laws as machine
 use Rattle.vat_machine.specs.Laws.{SettlesWhereItLeads}
+pub use Rattle.vat_machine.proofs.Settles.{settles_here}
 use Rattle.laws_steps.specs.Settled.{IsThere}
 use Rattle.call_order.specs.Machine.{Kind, Net}
 use Rattle.call_order.specs.Machine as routing
@@ -14,13 +15,6 @@ use Rattle.laws_routes.specs.Points.{Point, routes}
 use Rattle.laws_routes.specs.Ghosts.{Ghost, point, far}
 use Rattle.laws_routes.specs.Sides.{IsFinal, SameEnd, IsLinked, LinkedTo, Stops, EndsAs}
 use Rattle.laws_routes.specs.Premises.{LinksRest}
-
-stays : (s : State) (k : ℕ) (n : Node) → link s n ≡ None → follow s k n ≡ n
-stays s zero n h = refl
-stays s (suc k) n h = ap (λ o. follow s k (unwrap_or o n)) h ∙ stays s k n h
-
-pub settles_here : (s : State) (n : Node) → link s n ≡ None → settle s n ≡ n
-settles_here s n h = stays s (links s) n h
 
 -- Where one point's calls go, those of a point with the same stop do.
 pub moved : (v : Vat) (g : Ghost) (n : Net routes) (x y : Point) (z : Node) → n.stop x ≡ n.stop y → EndsAs v g n y z → EndsAs v g n x z

@@ -1,4 +1,4 @@
--- What is proved of two vats over many steps in which no reference advances: they stay tied, and calls are delivered in order.
+-- What is proved of two vats over many steps: they stay tied, and calls are delivered in order.
 use Rattle.std.specs.Prelude.{◌≡◌, Option, List, [], ◌∷◌}
 use Rattle.rpc_msg.specs.declared.ids.Vat.{Vat}
 use Rattle.rpc_msg.specs.declared.ids.ObjectId.{ObjectId}
@@ -19,13 +19,12 @@ use Rattle.laws_routes.specs.Points.{routes}
 use Rattle.laws_routes.specs.Ties.{Around, Ghosts, deliveries_of}
 use Rattle.laws_routes.specs.Laws.{with_back}
 use Rattle.laws_routes.specs.OutcomeLaws.{AllMaySettle}
-use Rattle.laws_routes.specs.StepLaws.{IfAdvances, MayAct, MayHandle, TiedAt, made_by}
+use Rattle.laws_routes.specs.StepLaws.{MayAct, MayHandle, TiedAt, made_by}
 use Rattle.laws_routes.specs.PairLaws.{beginning, behind, turned}
 
--- One of the vats takes a step, in which what is taken as known is so; or the other one is looked at. No command advances a
--- reference.
+-- One of the vats takes a step, in which what is taken as known is so; or the other one is looked at.
 pub data Step (w : Around) (s : State) (after : Around) (new : State) : Type 0 where
-  Commanded : (c : Command) (granted : Granted) (effects : Effects) (h : Does s c granted effects new) → IfAdvances ⊥ c → MayAct w (begin s) c granted h.acted h.acts
+  Commanded : (c : Command) (granted : Granted) (effects : Effects) (h : Does s c granted effects new) → MayAct w (begin s) c granted h.acted h.acts
       → AllMaySettle (made_by w c) h.ends.drained h.acted h.ends.drains → after ≡ behind (made_by w c) effects → Step w s after new
   Received : (x : Message) (rest : List Message) (effects : Effects) → w.back ≡ x ∷ rest → (h : Handles s x effects new) → MayHandle (with_back w rest) (begin s) x h.taken h.takes
       → AllMaySettle (with_back w rest) h.ends.drained h.taken h.ends.drains → after ≡ behind (with_back w rest) effects → Step w s after new

@@ -4,6 +4,7 @@ pub mod Sides
 pub mod Views
 pub mod Ties
 pub mod Sayings
+pub mod Named
 pub mod Premises
 pub mod Laws
 pub mod MessageLaws
@@ -16,3 +17,4 @@ pub mod StepLaws
 pub mod PairLaws
 pub mod KnownLaws
 pub mod ChainLaws
+pub mod Midway

@@ -18,17 +18,19 @@ use Rattle.vat_machine.specs.declared.entries.AnswerEntry.{AnswerEntry}
 use Rattle.vat_machine.specs.State.{State}
 use Rattle.vat_machine.specs.Progress.{Progress, with_state}
 use Rattle.vat_machine.specs.Routing.{RoutesHeld}
-use Rattle.vat_machine.specs.Nodes.{is_field}
-use Rattle.vat_machine.specs.Settling.{known, Fits, Tells, SendsResolves, SettlesOpen, SettlesFrom, SettlesOutcome, FixesFrom, FixesPromise, Drains, NoneLeft, OneMore}
+use Rattle.vat_machine.specs.Nodes.{is_field, is_promise}
+use Rattle.vat_machine.specs.Settling.{known, exports_where, Fits, Tells, TellsPeer, SendsResolves, SettlesOpen, SettlesFrom, SettlesOutcome, FixesFrom, FixesPromise, Drains, NoneLeft, OneMore}
 use Rattle.call_order.specs.Machine.{Message as Routed, Net, Call}
 use Rattle.call_order.specs.Machine as routing
 use Rattle.call_order.specs.Moves.{Moves}
 use Rattle.call_order.specs.Invariant.{InvariantWith}
 use Rattle.laws_routes.specs.Points.{AField, OfOutcome, routes}
-use Rattle.laws_routes.specs.Premises.{LinksRest, TargetsAreMet, MayGoTo, MayOpen, EachMayOpen, IsAnswerOf}
+use Rattle.laws_routes.specs.Premises.{LinksRest, MayGoTo, MayOpen, EachMayOpen, IsAnswerOf}
 use Rattle.laws_routes.specs.Ties.{Around, Ghosts, Tied}
 use Rattle.laws_routes.specs.Laws.{Follows, Comes, AllMayGo, MayFix, fixing}
 use Rattle.laws_routes.specs.QuietLaws.{MayClose}
+use Rattle.laws_routes.specs.SayingLaws.{AllMaySend, MaySayBack}
+use Rattle.rpc_msg.specs.declared.ids.QuestionId.{QuestionId}
 use Rattle.laws_routes.specs.Ghosts.{holding}
 
 -- ---- A promise with no calls
@@ -94,14 +96,14 @@ abbrev pub ReturnGoesAs : Around → ℕ → (finished : Bool) → Type 0
 ReturnGoesAs w q true = MayClose w.other w.back q
 ReturnGoesAs w q false = Unit {0}
 
-abbrev pub ReturnMayGo : Around → ℕ → Option AnswerEntry → Type 0
-ReturnMayGo w q None = ⊥
-ReturnMayGo w q (Some a) = ReturnGoesAs w q a.finished
+abbrev pub ReturnMayGo : Around → (d : Progress) (q : QuestionId) (v : Value) (z : Option AnswerEntry) (told : Progress) → TellsPeer d q v z told → Type 0
+ReturnMayGo w d q v None told h = ⊥
+ReturnMayGo w d q v (Some a) told h = ReturnGoesAs w q.0 a.finished × MaySayBack w d q a v told h
 
 -- The other vat is told by a Return. Of the application nothing is asked.
-abbrev pub PeerIsTold : Around → Progress → ℕ → Caller → Type 0
-PeerIsTold w d o (who.Application c) = Unit {0}
-PeerIsTold w d o (who.Peer q) = ReturnMayGo w q.0 (map.get d.state.answers q.0) × IsAnswerOf o (map.get d.state.answers q.0) × TargetsAreMet d.state w.back
+abbrev pub PeerIsTold : Around → (d : Progress) (o : ℕ) (from : Caller) (v : Value) (told : Progress) → Tells d from v told → Type 0
+PeerIsTold w d o (who.Application c) v told h = Unit {0}
+PeerIsTold w d o (who.Peer q) v told h = ReturnMayGo w d q v (map.get d.state.answers q.0) told h × IsAnswerOf o (map.get d.state.answers q.0)
 
 abbrev pub with_known : Progress → State → ℕ → KeptOutcome → List HeldCall → Value → Progress
 with_known d s o x waiting fit = with_state d (known s o x.caller waiting fit)
@@ -115,18 +117,19 @@ pub record MaySettle
     (fit : Value)
     (mid : State)
     (told routed new : Progress)
+    (informs : Tells (with_known d mid o x x.waiting fit) x.caller fit told)
     (held : RoutesHeld (with_known told told.state o x [] fit) o x.waiting routed)
     (says : SendsResolves routed None (is_field o) new)
     : Type 0 where
   pub opens : EachMayOpen d.state
   pub rest : LinksRest (known mid o x.caller x.waiting fit)
-  pub tells : PeerIsTold w (with_known d mid o x x.waiting fit) o x.caller
+  pub tells : PeerIsTold w (with_known d mid o x x.waiting fit) o x.caller fit told informs
   pub goes : AllHeldMayGo w (with_known told told.state o x [] fit) o x.waiting routed held
-  pub resolves : TargetsAreMet routed.state w.back
+  pub resolves : AllMaySend w routed None (exports_where (is_field o) (map.entries routed.state.exports)) new says
 
 abbrev pub MaySettleOpen : Around → (d : Progress) (o : ℕ) (v : Value) (x : KeptOutcome) (z : Option Value) (new : Progress) → SettlesOpen d o v x z new → Type 0
 MaySettleOpen w d o v x (Some before) new h = Unit {0}
-MaySettleOpen w d o v x None new h = MaySettle w d o x h.0 h.1 h.3.0 h.3.2.0 new h.3.2.1 h.3.2.2
+MaySettleOpen w d o v x None new h = MaySettle w d o x h.0 h.1 h.3.0 h.3.2.0 new h.3.1 h.3.2.1 h.3.2.2
 
 abbrev pub MaySettleFrom : Around → (d : Progress) (o : ℕ) (v : Value) (z : Option KeptOutcome) (new : Progress) → SettlesFrom d o v z new → Type 0
 MaySettleFrom w d o v None new h = Unit {0}
@@ -154,7 +157,7 @@ abbrev pub MayFixFrom : Around → (d : Progress) (p : ℕ) (to : Node) (reason 
 MayFixFrom w d p to reason None new h = Unit {0}
 MayFixFrom w d p to reason (Some (promise.Fixed before)) new h = Unit {0}
 MayFixFrom w d p to reason (Some (promise.Open calls)) new h =
-    MayFix d.state p to × AllMayGo w (fixing d p to) calls (node.Promise p) h.0 h.1 × TargetsAreMet h.0.state w.back
+    MayFix d.state p to × AllMayGo w (fixing d p to) calls (node.Promise p) h.0 h.1 × AllMaySend w h.0 reason (exports_where (is_promise p) (map.entries h.0.state.exports)) new h.2
 
 -- A promise settles, with its Resolves.
 abbrev pub PromiseSettles : Type 0

@@ -35,7 +35,7 @@ StartIsTied =
 -- What a step leaves is tied, and from then on is before the next step.
 abbrev pub StepIsBehind : Type 0
 StepIsBehind =
-    (w : Around) (new : State) (effects : Effects) (g : Ghosts) (m : routing.State routes) → TiedBy w new effects.sends effects.deliveries g m → TiedAt (behind w effects) new g m
+    (w : Around) (new : State) (effects : Effects) (g : Ghosts) (m : routing.State routes) → TiedBy w [] new effects.sends effects.deliveries g m → TiedAt (behind w effects) new g m
 
 -- Two vats are tied from whichever they are seen.
 abbrev pub TurnIsTied : Type 0

@@ -22,6 +22,7 @@ use Rattle.vat_machine.specs.State.{State}
 use Rattle.vat_machine.specs.Nodes.{link, settle, is_wire, is_pipe, is_field, is_import, is_promise}
 use Rattle.vat_machine.specs.Laws as machine
 use Rattle.laws_steps.specs.Settled.{IsThere}
+use Rattle.laws_routes.specs.Named.{EachReturn, LinksMet, NoneLeads}
 
 -- Links lead to what is there, and none goes round.
 pub record LinksRest (s : State) : Type 0 where
@@ -69,10 +70,13 @@ ExportsAreOwn s = (e : ℕ) (x : Export) → map.get s.exports e ≡ Some x → 
 
 -- A question with the free id q may be asked, with `out` on the way to the other vat and `back` on the way from it.
 pub record MayAsk (s : State) (out back : List Message) (q : ℕ) : Type 0 where
-  -- places name a Pipe only of a question that is there
+  -- places name a Pipe only of a question that is there, and so does what is known
   pub unnamed : Unnamed s (is_pipe q)
+  pub unsaid : NoneLeads s (is_pipe q)
   -- no Call or Bootstrap of a free question id is under way
   pub not_open : EachOpen (λ k. nat_eq k q ≡ false) out
+  -- nor a Return
+  pub not_returned : EachReturn (λ k. nat_eq k q ≡ false) back
   -- targets name exports that are there
   pub met : TargetsAreMet s back
   -- exports are own nodes
@@ -98,6 +102,8 @@ pub record MayRoute (s : State) (other : State) (out back : List Message) (n : N
   pub stops : link s n ≡ None
   pub wire : IsWireThere s n
   pub theirs : ExportsAreOwn other
+  -- exports that are named on the way are there
+  pub links : LinksMet s other out back
   pub asks : (q : ℕ) → map.get s.questions q ≡ None → MayAsk s out back q
 
 -- The own node n is there, and a call may be routed to it.
@@ -106,15 +112,17 @@ pub record MayGoTo (s : State) (other : State) (out back : List Message) (n : No
   pub there : IsThere s n
   pub may : MayRoute s other out back (settle s n)
 
--- A new outcome may have the free key o: no place names it, and no answer has it.
+-- A new outcome may have the free key o: no place names it, nor does what is known, and no answer has it.
 pub record MayKeep (s : State) (o : ℕ) : Type 0 where
   pub unnamed : Unnamed s (is_field o)
+  pub unsaid : NoneLeads s (is_field o)
   pub exports : (e : ℕ) (x : Export) → map.get s.exports e ≡ Some x → is_field o x.node ≡ false
   pub answers : (q : ℕ) (a : AnswerEntry) → map.get s.answers q ≡ Some a → nat_eq a.outcome o ≡ false
 
--- A new promise may have the free key p: no place names it.
+-- A new promise may have the free key p: no place names it, nor does what is known.
 pub record MayOpen (s : State) (p : ℕ) : Type 0 where
   pub unnamed : Unnamed s (is_promise p)
+  pub unsaid : NoneLeads s (is_promise p)
   pub exports : (e : ℕ) (x : Export) → map.get s.exports e ≡ Some x → is_promise p x.node ≡ false
 
 -- So may one with any free key.
@@ -127,10 +135,11 @@ IsAnswerOf o None = ⊥
 IsAnswerOf o (Some a) = a.outcome ≡ o
 
 -- A descriptor of the export e of the other vat may be taken: the export is there, and where there is no import of it yet no
--- place names one.
+-- place names one, nor does what is known.
 pub record MayTake (s other : State) (e : ℕ) : Type 0 where
   pub there : IsSome (map.get other.exports e)
   pub unnamed : map.get s.imports e ≡ None → Unnamed s (is_import e)
+  pub unsaid : map.get s.imports e ≡ None → NoneLeads s (is_import e)
 
 abbrev pub EachMayTake : (s other : State) → List ℕ → Type 0
 EachMayTake s other [] = Unit {0}

@@ -19,14 +19,17 @@ use Rattle.rpc_msg.specs.declared.message.Message.{Message}
 use Rattle.rpc_msg.specs.declared.message.Message.TheVariants as message
 use Rattle.rpc_msg.specs.Messages.{given, descriptors_of}
 use Rattle.rpc_msg.specs.Paths.{fields}
+use Rattle.rpc_msg.specs.Vats.{other_vat}
 use Rattle.vat_machine.specs.Payloads.{cap_at}
-use Rattle.vat_machine.specs.declared.node.Node.{Node}
 use Rattle.vat_machine.specs.declared.entries.Export.{Export}
+use Rattle.vat_machine.specs.declared.entries.Finishing.{Finishing}
+use Rattle.vat_machine.specs.declared.entries.Finishing.TheVariants as finishing
 use Rattle.vat_machine.specs.declared.entries.Import.{Import}
+use Rattle.vat_machine.specs.declared.entries.Question.{Question}
+use Rattle.vat_machine.specs.declared.command.Level.TheVariants.{One}
 use Rattle.vat_machine.specs.State.{State}
-use Rattle.vat_machine.specs.Nodes.{is_wire}
 use Rattle.vat_machine.specs.Descriptors.{export_node}
-use Rattle.vat_machine.specs.Advancing.{Known, NothingYet, IsBroken, Leads, known_of_wire}
+use Rattle.vat_machine.specs.Advancing.{Known, NothingYet, IsBroken, Leads, known_by_resolve, known_by_return, resolution_of, returned_of}
 use Rattle.call_order.specs.Machine.{Net}
 use Rattle.call_order.specs.Machine as routing
 use Rattle.laws_routes.specs.Points.{Point, AField, vat_of, routes}
@@ -51,7 +54,17 @@ IsKnown v g n w (Leads said to) = IsSaid n w said (point v g to)
 
 -- Of what is kept with an import, and with a returned question.
 abbrev pub KnownIsSo : Vat → State → Ghost → Net routes → Type 0
-KnownIsSo v s g n = (k : Node) → is_wire k ≡ true → IsKnown v g n (point v g k) (known_of_wire s k)
+KnownIsSo v s g n =
+    ((e : ℕ) → IsKnown v g n (g.import e) (known_by_resolve (resolution_of (map.get s.imports e))))
+    × ((q : ℕ) (path : List Op) → IsKnown v g n (AField (other_vat v) (g.session q) path) (known_by_return path (returned_of (map.get s.questions q))))
+
+-- Stops alone: what is said of wires reads no more of the machine of routes.
+abbrev pub bare : Net routes → Net routes
+bare n = record { stop = n.stop; kind = n.kind; waiting = λ g. []; links = λ b. [] }
+
+-- A level 0 vat reads each descriptor as none, and refuses to advance.
+abbrev pub KnownAt : Vat → State → Ghost → Net routes → Type 0
+KnownAt v s g n = s.level ≡ One → KnownIsSo v s g (bare n)
 
 -- ---- On the way from v to u, as u will read it
 
@@ -70,7 +83,7 @@ SaidOfExport n v g (Some x) read (resolved.Cap d) = IsSaid n (point v g x.node) 
 SaidOfExport n v g (Some x) read (resolved.Exception exception) = n.kind (n.stop (point v g x.node)) ≡ routing.Broken
 
 -- A Resolve says it of an import that the receiver has when the Resolve comes. Of another nothing is said: the sender may
--- have given the id to another node since.
+-- have given the id to another node since. A Return says it of a question whose Finish was not sent.
 abbrev pub SaidIfThere : Bool → Type 0 → Type 0
 SaidIfThere true said = said
 SaidIfThere false said = Unit {0}
@@ -91,34 +104,56 @@ SaidOfAnswer n v i read (body.Results payload ds) = (path : List Op) → SaidOfC
 SaidOfAnswer n v i read (body.Exception exception) = (path : List Op) → n.kind (n.stop (AField v i path)) ≡ routing.Broken
 SaidOfAnswer n v i read body.Canceled = Unit {0}
 
--- Of which export ids of the sender the receiver has an import; and of which behind a message that it takes.
-abbrev pub has_import : Map Import → ℕ → Bool
-has_import imports e = is_some (map.get imports e)
+-- Of which export ids of the sender the receiver has an import, and which of its questions are not finished.
+pub record Has : Type 0 where
+  pub import : ℕ → Bool
+  pub question : ℕ → Bool
+
+abbrev pub not_sent : Finishing → Bool
+not_sent finishing.Owed = true
+not_sent finishing.Sent = false
+not_sent finishing.Waived = true
+
+abbrev pub is_waiting : Option Question → Bool
+is_waiting None = false
+is_waiting (Some x) = not_sent x.finish
 
 abbrev pub is_among : ℕ → List ℕ → Bool
 is_among e [] = false
 is_among e (i ∷ is) = nat_eq e i || is_among e is
 
-abbrev pub has_behind : (ℕ → Bool) → List Descriptor → ℕ → Bool
-has_behind has ds e = is_among e (given ds) || has e
+-- While it takes descriptors, those ids count that are still coming.
+abbrev pub has_of : List ℕ → Map Import → Map Question → Has
+has_of coming imports questions = record { import = λ e. is_among e coming || is_some (map.get imports e); question = λ q. is_waiting (map.get questions q) }
 
-abbrev pub SaidBy : Net routes → (v : Vat) → Map Export → Ghost → (u : Vat) → Map Export → Ghost → (ℕ → Bool) → (ℕ → ℕ) → PlainMessage → Type 0
-SaidBy n v E g u F f has now (plain.Resolve r) = SaidIfThere (has r.promise.0) (SaidOfExport n v g (map.get E r.promise.0) (descriptor_point v E g u F f now) r.to)
-SaidBy n v E g u F f has now (plain.Return r) = SaidOfAnswer n v (f.session r.answer.0) (descriptor_point v E g u F f now) r.body
+-- What it has behind a message that it takes.
+abbrev pub has_behind : Has → List Descriptor → Has
+has_behind has ds = record { import = λ e. is_among e (given ds) || has.import e; question = has.question }
+
+abbrev pub SaidBy : Net routes → (v : Vat) → Map Export → Ghost → (u : Vat) → Map Export → Ghost → Has → (ℕ → ℕ) → PlainMessage → Type 0
+SaidBy n v E g u F f has now (plain.Resolve r) = SaidIfThere (has.import r.promise.0) (SaidOfExport n v g (map.get E r.promise.0) (descriptor_point v E g u F f now) r.to)
+SaidBy n v E g u F f has now (plain.Return r) = SaidIfThere (has.question r.answer.0) (SaidOfAnswer n v (f.session r.answer.0) (descriptor_point v E g u F f now) r.body)
 SaidBy n v E g u F f has now m = Unit {0}
 
+-- All but a Call, a Bootstrap and a Disembargo. Of these none comes back Unimplemented.
+abbrev pub IsSilentPlain : PlainMessage → Type 0
+IsSilentPlain (plain.Abort exception) = Unit {0}
+IsSilentPlain (plain.Bootstrap q) = ⊥
+IsSilentPlain (plain.Call c) = ⊥
+IsSilentPlain (plain.Return r) = Unit {0}
+IsSilentPlain (plain.Finish x) = Unit {0}
+IsSilentPlain (plain.Resolve r) = Unit {0}
+IsSilentPlain (plain.Release r) = Unit {0}
+IsSilentPlain (plain.Disembargo x) = ⊥
+IsSilentPlain (plain.Other n) = Unit {0}
+
 -- All that is on the way from v to u.
-abbrev pub AllSaid : Net routes → (v : Vat) → Map Export → Ghost → (u : Vat) → Map Export → Ghost → (ℕ → Bool) → (ℕ → ℕ) → List Message → Type 0
+abbrev pub AllSaid : Net routes → (v : Vat) → Map Export → Ghost → (u : Vat) → Map Export → Ghost → Has → (ℕ → ℕ) → List Message → Type 0
 AllSaid n v E g u F f has now [] = Unit {0}
 AllSaid n v E g u F f has now (message.Plain m ∷ ms) =
     SaidBy n v E g u F f has now m × AllSaid n v E g u F f (has_behind has (descriptors_of (message.Plain m))) (past_one g now (message.Plain m)) ms
-AllSaid n v E g u F f has now (message.Unimplemented m ∷ ms) = AllSaid n v E g u F f has now ms
+AllSaid n v E g u F f has now (message.Unimplemented m ∷ ms) = IsSilentPlain m × AllSaid n v E g u F f has now ms
 
--- ---- All
-
--- Of two vats, with `out` on the way from v to u and `back` on the way from u to v.
-pub record Sayings (n : Net routes) (v u : Vat) (s : State) (g : Ghost) (t : State) (f : Ghost) (out back : List Message) : Type 0 where
-  pub own : KnownIsSo v s g n
-  pub theirs : KnownIsSo u t f n
-  pub goes : AllSaid n v s.exports g u t.exports f (has_import t.imports) (sessions_at f.outcome t.answers) out
-  pub comes : AllSaid n u t.exports f v s.exports g (has_import s.imports) (sessions_at g.outcome s.answers) back
+-- Of the vats v and u as they are, with ms on the way from v to u, which is taking descriptors of those ids.
+abbrev pub SaidOn : Net routes → (v : Vat) → State → Ghost → (u : Vat) → State → Ghost → List ℕ → List Message → Type 0
+SaidOn n v s g u t f coming ms = AllSaid (bare n) v s.exports g u t.exports f (has_of coming t.imports t.questions) (sessions_at f.outcome t.answers) ms

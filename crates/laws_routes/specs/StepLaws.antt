@@ -26,7 +26,7 @@ use Rattle.vat_machine.specs.declared.node.Node.TheVariants as node
 use Rattle.vat_machine.specs.declared.node.Reason.TheVariants.{BrokenPromise}
 use Rattle.vat_machine.specs.State.{State}
 use Rattle.vat_machine.specs.Nodes.{is_wire, settle}
-use Rattle.vat_machine.specs.Progress.{Progress, begin, numbers}
+use Rattle.vat_machine.specs.Progress.{Progress, begin}
 use Rattle.vat_machine.specs.Commands.{Acts, AnswersTask, RejectsPromise, ResolvesPromise, answered, heads, settled_now}
 use Rattle.vat_machine.specs.Faults.{given_by, is_foreign, target_node}
 use Rattle.vat_machine.specs.Flags.{obey}
@@ -39,9 +39,11 @@ use Rattle.laws_routes.specs.Points.{routes}
 use Rattle.laws_routes.specs.Ghosts.{ref_at}
 use Rattle.laws_routes.specs.Ties.{Around, Ghosts, Tied, TiedBy}
 use Rattle.laws_routes.specs.Premises.{EachMayOpen, EachMayTake, ExportsAreOwn, IsLastLoop, IsOnlyEmbargo, IsWireThere, MayAsk}
-use Rattle.laws_routes.specs.Sayings.{KnownIsSo}
+use Rattle.laws_routes.specs.Sayings.{IsSilentPlain}
+use Rattle.laws_routes.specs.SayingLaws.{IsReadableIn}
+use Rattle.vat_machine.specs.declared.command.Level.TheVariants.{One}
+use Rattle.vat_machine.specs.Descriptors.{take_all}
 use Rattle.laws_routes.specs.Laws.{AllMayGo, Comes, lifted, one_made, with_back}
-use Rattle.laws_routes.specs.MessageLaws.{IsSilentPlain}
 use Rattle.laws_routes.specs.OutcomeLaws.{AllMaySettle, MayFixFrom, MaySettleFrom}
 use Rattle.laws_routes.specs.SayingLaws.{MayAdvanceFrom}
 use Rattle.laws_routes.specs.QuietLaws.{MayCloseIf, MayLower, lowering}
@@ -84,23 +86,6 @@ MayAct w d (command.Finish c) granted new h = Unit {0}
 MayAct w d (command.Advance r) granted new h = MayAdvanceFrom w d (map.get d.state.refs r.0)
 MayAct w d (command.Shut n) granted new h = Unit {0}
 
--- Where the command advances a reference.
-abbrev pub IfAdvances : Type 0 → Command → Type 0
-IfAdvances P (command.Host o) = Unit {0}
-IfAdvances P (command.CloneRef r) = Unit {0}
-IfAdvances P (command.DropRef r) = Unit {0}
-IfAdvances P command.Bootstrap = Unit {0}
-IfAdvances P (command.Call c) = Unit {0}
-IfAdvances P (command.Field c path) = Unit {0}
-IfAdvances P command.Promise = Unit {0}
-IfAdvances P (command.Resolve p r) = Unit {0}
-IfAdvances P (command.Reject p exception) = Unit {0}
-IfAdvances P (command.Answer t payload refs) = Unit {0}
-IfAdvances P (command.Fail t exception) = Unit {0}
-IfAdvances P (command.Finish c) = Unit {0}
-IfAdvances P (command.Advance r) = P
-IfAdvances P (command.Shut n) = Unit {0}
-
 -- What was made, once that command is done.
 abbrev pub made_by : Around → Command → Around
 made_by w (command.Host o) = w
@@ -122,7 +107,7 @@ made_by w (command.Shut n) = w
 abbrev pub ActsAreMoves : Type 0
 ActsAreMoves =
     (w : Around) (d : Progress) (g : Ghosts) (m : routing.State routes) (c : Command) (granted : Granted) (new : Progress) → Tied w d g m → InvariantWith m []
-    → (h : Acts d c granted new) → MayAct w d c granted new h → IfAdvances (KnownIsSo w.vat d.state g.own m.net) c → Comes (made_by w c) new m [] []
+    → (h : Acts d c granted new) → MayAct w d c granted new h → Comes (made_by w c) new m [] []
 
 -- ---- A message
 
@@ -130,9 +115,9 @@ abbrev pub MayReturn : Around → Progress → Return → Option Question → Ty
 MayReturn w d r None = Unit {0}
 MayReturn w d r (Some x) = MayTakeReturn w d r x
 
-abbrev pub MayFinish : Around → State → ℕ → Option AnswerEntry → Type 0
-MayFinish w new q None = Unit {0}
-MayFinish w new q (Some a) = MayLower new w.other w.back × MayCloseIf w.other w.back q a.returned
+abbrev pub MayFinish : Around → (d new : Progress) → ℕ → Option AnswerEntry → Type 0
+MayFinish w d new q None = Unit {0}
+MayFinish w d new q (Some a) = MayLower new.state w.other (w.out ++ d.effects.sends) w.back × MayCloseIf w.other w.back q a.returned
 
 abbrev pub MayLift : Around → (d : Progress) (e : ℕ) (o : Option Embargo) (new : Progress) → Lifts d e o new → Type 0
 MayLift w d e None new h = Unit {0}
@@ -148,23 +133,20 @@ MayTakePlain w d (plain.Abort exception) new h = Unit {0}
 MayTakePlain w d (plain.Bootstrap q) new h = MayTakeBootstrap w d q new h
 MayTakePlain w d (plain.Call c) new h = MayTakeCall w d c h.0
 MayTakePlain w d (plain.Return r) new h = MayReturn w d r (map.get d.state.questions r.answer.0)
-MayTakePlain w d (plain.Finish x) new h = MayFinish w new.state x.question.0 (map.get d.state.answers x.question.0)
-MayTakePlain w d (plain.Resolve r) new h = ExportsAreOwn d.state × EachMayTake d.state w.other (given (descriptors_of_resolved r.to))
-MayTakePlain w d (plain.Release x) new h = MayLower (lowering d.state x.export.0 x.count) w.other w.back
+MayTakePlain w d (plain.Finish x) new h = MayFinish w d new x.question.0 (map.get d.state.answers x.question.0)
+MayTakePlain w d (plain.Resolve r) new h =
+    ExportsAreOwn d.state × EachMayTake d.state w.other (given (descriptors_of_resolved r.to)) × (d.state.level ≡ One → IsReadableIn (take_all d.state (descriptors_of_resolved r.to)) r.to)
+MayTakePlain w d (plain.Release x) new h = MayLower (lowering d.state x.export.0 x.count) w.other (w.out ++ d.effects.sends) w.back
 MayTakePlain w d (plain.Disembargo x) new h = MayDisembargo w d x.target x.context new h
 MayTakePlain w d (plain.Other n) new h = Unit {0}
 
-abbrev pub MayEchoed : Around → Progress → Option Question → Type 0
-MayEchoed w d None = Unit {0}
-MayEchoed w d (Some x) = MayLower (obey d.state true (numbers x.given)) w.other w.back
-
 abbrev pub MayTakeUnimplemented : Around → Progress → PlainMessage → Type 0
 MayTakeUnimplemented w d (plain.Abort exception) = Unit {0}
-MayTakeUnimplemented w d (plain.Bootstrap q) = MayEchoed w d (map.get d.state.questions q.0)
-MayTakeUnimplemented w d (plain.Call c) = MayEchoed w d (map.get d.state.questions c.question.0)
+MayTakeUnimplemented w d (plain.Bootstrap q) = Unit {0}
+MayTakeUnimplemented w d (plain.Call c) = Unit {0}
 MayTakeUnimplemented w d (plain.Return r) = Unit {0}
 MayTakeUnimplemented w d (plain.Finish x) = Unit {0}
-MayTakeUnimplemented w d (plain.Resolve r) = MayLower (obey d.state true (given_by r.to)) w.other w.back
+MayTakeUnimplemented w d (plain.Resolve r) = MayLower (obey d.state true (given_by r.to)) w.other (w.out ++ d.effects.sends) w.back
 MayTakeUnimplemented w d (plain.Release x) = Unit {0}
 MayTakeUnimplemented w d (plain.Disembargo x) = Unit {0}
 MayTakeUnimplemented w d (plain.Other n) = Unit {0}
@@ -185,17 +167,17 @@ EchoesAreMoves =
 
 -- Between steps: nothing is sent or delivered yet.
 abbrev pub TiedAt : Around → State → Ghosts → routing.State routes → Type 0
-TiedAt w s g m = TiedBy w s [] [] g m
+TiedAt w s g m = TiedBy w [] s [] [] g m
 
 -- The step is moves, and leaves the vats tied, with what was sent and delivered.
 abbrev pub StepComes : Around → State → Effects → routing.State routes → Type 0
-StepComes w new effects m = (f : Ghosts) × (n : routing.State routes) × Moves n [] m [] × TiedBy w new effects.sends effects.deliveries f n
+StepComes w new effects m = (f : Ghosts) × (n : routing.State routes) × Moves n [] m [] × TiedBy w [] new effects.sends effects.deliveries f n
 
 -- A command that is done.
 abbrev pub CommandsAreMoves : Type 0
 CommandsAreMoves =
     (w : Around) (s : State) (g : Ghosts) (m : routing.State routes) (c : Command) (granted : Granted) (effects : Effects) (new : State) → TiedAt w s g m → InvariantWith m []
-    → (h : Does s c granted effects new) → MayAct w (begin s) c granted h.acted h.acts → IfAdvances (KnownIsSo w.vat s g.own m.net) c → AllMaySettle (made_by w c) h.ends.drained h.acted h.ends.drains → StepComes (made_by w c) new effects m
+    → (h : Does s c granted effects new) → MayAct w (begin s) c granted h.acted h.acts → AllMaySettle (made_by w c) h.ends.drained h.acted h.ends.drains → StepComes (made_by w c) new effects m
 
 -- A level 0 vat sends back what it does not understand. Of a Disembargo that is so sent back nothing is known.
 abbrev pub MayTakeUnless : Around → (d : Progress) (x : PlainMessage) (foreign : Bool) (new : Progress) → TakesUnless foreign d x new → Type 0

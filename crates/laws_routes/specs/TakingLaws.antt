@@ -9,7 +9,6 @@ use Rattle.rpc_msg.specs.declared.message.Call.{Call as Call_message}
 use Rattle.rpc_msg.specs.declared.message.Return.{Return}
 use Rattle.rpc_msg.specs.declared.message.Resolve.{Resolve}
 use Rattle.rpc_msg.specs.declared.message.DisembargoContext.TheVariants.{SenderLoopback}
-use Rattle.rpc_msg.specs.declared.message.PlainMessage.{PlainMessage}
 use Rattle.rpc_msg.specs.declared.message.PlainMessage.TheVariants as plain
 use Rattle.rpc_msg.specs.declared.message.Message.{Message}
 use Rattle.rpc_msg.specs.declared.message.Message.TheVariants as message
@@ -21,7 +20,7 @@ use Rattle.vat_machine.specs.Progress.{Progress, with_state, numbers}
 use Rattle.vat_machine.specs.Descriptors.{take_all, taken_of}
 use Rattle.vat_machine.specs.Faults.{target_node}
 use Rattle.vat_machine.specs.Flags.{obey}
-use Rattle.vat_machine.specs.Messages.{opened, bootstrap_value, TakesBootstrap, TakesCall, TakesReturn, TakesEchoed, take_resolve}
+use Rattle.vat_machine.specs.Messages.{opened, bootstrap_value, TakesBootstrap, TakesCall, TakesReturn, take_resolve}
 use Rattle.call_order.specs.Machine as routing
 use Rattle.call_order.specs.Invariant.{InvariantWith}
 use Rattle.laws_steps.specs.Settled.{IsThere}
@@ -33,6 +32,9 @@ use Rattle.laws_routes.specs.Laws.{Comes, with_back}
 use Rattle.laws_routes.specs.MessageLaws.{SameButImports}
 use Rattle.laws_routes.specs.OutcomeLaws.{MaySettleFrom}
 use Rattle.laws_routes.specs.QuietLaws.{MayLower}
+use Rattle.laws_routes.specs.SayingLaws.{EachReadable, IsNotCanceled, IsReadableIn}
+use Rattle.vat_machine.specs.declared.command.Level.TheVariants.{One}
+use Rattle.vat_machine.specs.Sweeping.{IsNotSent}
 
 -- What a target names is there, where it names an answer.
 abbrev pub IsAnswered : State → Target → Type 0
@@ -84,19 +86,16 @@ CallIsTaken =
 pub record MayTakeReturn (w : Around) (d : Progress) (r : Return) (x : Question) : Type 0 where
   pub own : ExportsAreOwn d.state
   pub takes : EachMayTake d.state w.other (given (descriptors_of_body r.body))
-  pub lowers : MayLower (obey (take_all d.state (descriptors_of_body r.body)) r.release_param_caps (numbers x.given)) w.other w.back
+  pub lowers : MayLower (obey (take_all d.state (descriptors_of_body r.body)) r.release_param_caps (numbers x.given)) w.other (w.out ++ d.effects.sends) w.back
+  -- what its descriptors name is there to be read, and a canceled Return comes only where the Finish was sent
+  pub readable : d.state.level ≡ One → EachReadable (take_all d.state (descriptors_of_body r.body)) (descriptors_of_body r.body)
+  pub whole : IsNotSent x.finish → IsNotCanceled r.body
 
 -- A Return is taken: its descriptors, its flag, and what comes of it.
 abbrev pub ReturnIsTaken : Type 0
 ReturnIsTaken =
     (w : Around) (d : Progress) (g : Ghosts) (m : routing.State routes) (r : Return) (x : Question) (rest : List Message) (new : Progress) → Tied (with_back w (message.Plain (plain.Return r) ∷ rest)) d g m
     → map.get d.state.questions r.answer.0 ≡ Some x → MayTakeReturn (with_back w rest) d r x → TakesReturn d r (Some x) new → Comes (with_back w rest) new m [] []
-
--- A question came back as not understood.
-abbrev pub EchoedIsTaken : Type 0
-EchoedIsTaken =
-    (w : Around) (d : Progress) (g : Ghosts) (m : routing.State routes) (y : PlainMessage) (q : ℕ) (x : Question) (rest : List Message) (new : Progress) → Tied (with_back w (message.Unimplemented y ∷ rest)) d g m
-    → map.get d.state.questions q ≡ Some x → MayLower (obey d.state true (numbers x.given)) w.other rest → TakesEchoed d q (Some x) new → Comes (with_back w rest) new m [] []
 
 -- ---- Resolve
 
@@ -105,7 +104,7 @@ abbrev pub ResolveIsTaken : Type 0
 ResolveIsTaken =
     (w : Around) (d : Progress) (g : Ghosts) (m : routing.State routes) (r : Resolve) (rest : List Message) → Tied (with_back w (message.Plain (plain.Resolve r) ∷ rest)) d g m
     → ExportsAreOwn d.state → EachMayTake d.state w.other (given (descriptors_of_resolved r.to))
-    → (f : Ghosts) × Tied (with_back w rest) (with_state d (take_resolve d.state r.promise.0 r.to)) f m × SameButImports g f
+    → (d.state.level ≡ One → IsReadableIn (take_all d.state (descriptors_of_resolved r.to)) r.to) → (f : Ghosts) × Tied (with_back w rest) (with_state d (take_resolve d.state r.promise.0 r.to)) f m × SameButImports g f
 
 -- ---- Disembargo
 

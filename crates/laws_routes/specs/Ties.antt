@@ -13,6 +13,7 @@ use Rattle.laws_routes.specs.Points.{AnObject, routes}
 use Rattle.laws_routes.specs.Ghosts.{Ghost}
 use Rattle.laws_routes.specs.Sides.{Side, Unborn}
 use Rattle.laws_routes.specs.Views.{View, unborn_ids}
+use Rattle.laws_routes.specs.Sayings.{KnownAt, SaidOn}
 
 -- ---- 6. What the history tells
 
@@ -51,8 +52,9 @@ pub record Ghosts : Type 0 where
   pub theirs : Ghost
   pub next : ℕ
 
--- Of the state of the vat, what it has sent in this step, and what it has delivered.
-pub record TiedBy (w : Around) (s : State) (sends : List Message) (deliveries : List Delivery) (g : Ghosts) (m : routing.State routes) : Type 0 where
+-- Of the state of the vat, what it has sent in this step, and what it has delivered. While it takes descriptors, coming are
+-- the ids that they name.
+pub record TiedBy (w : Around) (coming : List ℕ) (s : State) (sends : List Message) (deliveries : List Delivery) (g : Ghosts) (m : routing.State routes) : Type 0 where
   pub own : Side w.vat s g.own g.next m
   pub theirs : Side (other_vat w.vat) w.other g.theirs g.next m
   pub view : View w.vat (other_vat w.vat) s g.own w.other g.theirs (w.out ++ sends) m
@@ -61,6 +63,11 @@ pub record TiedBy (w : Around) (s : State) (sends : List Message) (deliveries : 
   -- what will be made of what is on the way there, and on the way back
   pub unborn : Unborn (other_vat w.vat) w.other.outcomes g.theirs.outcome m.net.stop m.net.kind m.net.waiting g.next (unborn_ids g.own.session (w.out ++ sends))
   pub unborn_back : Unborn w.vat s.outcomes g.own.outcome m.net.stop m.net.kind m.net.waiting g.next (unborn_ids g.theirs.session w.back)
+  -- what is known of wires is so, and so is what is said of them on the way there, and on the way back
+  pub known : KnownAt w.vat s g.own m.net
+  pub known_there : KnownAt (other_vat w.vat) w.other g.theirs m.net
+  pub goes : SaidOn m.net w.vat s g.own (other_vat w.vat) w.other g.theirs [] (w.out ++ sends)
+  pub comes : SaidOn m.net (other_vat w.vat) w.other g.theirs w.vat s g.own coming w.back
 
 abbrev pub Tied : Around → Progress → Ghosts → routing.State routes → Type 0
-Tied w d g m = TiedBy w d.state d.effects.sends d.effects.deliveries g m
+Tied w d g m = TiedBy w [] d.state d.effects.sends d.effects.deliveries g m

@@ -1,10 +1,12 @@
 //! The map from two vats to the machine of routes: what two vats and their links are in that machine, and that the pieces of
-//! a vat's step are moves of it (docs/order.md, "Two vats in that machine"). Of whole steps nothing is said yet.
+//! a vat's step are moves of it, and so are whole steps where what they take as known is so (docs/order.md, "Two vats in that
+//! machine").
 #![tactic(auto)]
 
 mod laws;
 mod making;
 mod messages;
+mod midway;
 mod outcomes;
 mod quiet;
 mod sayings;
@@ -21,6 +23,11 @@ pub use making::{
 pub use messages::{
     descriptors_are_made, descriptors_are_taken, resolves_are_sent, returns_are_sent,
     silent_is_no_move,
+};
+pub use midway::{
+    calls_may_go, collecting_keeps_it, commands_may_act, fixed_promises_keep_it,
+    free_ids_may_be_used, more_may_be_said, resolves_keep_it, routed_calls_keep_it,
+    settled_outcomes_keep_it,
 };
 pub use outcomes::{
     applications_are_told, held_calls_are_routed, outcomes_become_known, outcomes_settle,

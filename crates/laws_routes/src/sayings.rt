@@ -14,15 +14,16 @@ ghost use Rattle.laws_routes.specs.KnownLaws.{
   SaidIsSent,
   SaidOfFewer,
 };
-ghost use Rattle.laws_routes.specs.SayingLaws.{AdvanceIsFollowed, DescriptorSaysSo, ExceptionSaysSo, ResolveBecomesKnown, ResultsSaySo, ReturnBecomesKnown, SayingsStay};
+ghost use Rattle.laws_routes.specs.SayingLaws.{AdvanceIsFollowed, DescriptorSaysSo, ExceptionSaysSo, KnownStays, ResolveBecomesKnown, ResultsSaySo, ReturnBecomesKnown, SayingsStay};
 
-/// What was said of a wire stays so, whatever settles afterwards.
+/// What is known of a wire, and what is said of it on the way, stays so, whatever settles afterwards.
 pub fn sayings_stay()
-    ensures { SayingsStay }
+    ensures known { KnownStays }
+    ensures said { SayingsStay }
 {}
 
-/// A reference may rely on what is known of the wire to which its head settles: whichever way it advances by that, the
-/// machine of routes can follow.
+/// A reference may rely on what is known of the wire to which its head settles, which the vats that are tied keep so:
+/// whichever way it advances by that, the machine of routes can follow.
 pub fn advances_are_followed()
     ensures { AdvanceIsFollowed }
 {}
@@ -56,7 +57,7 @@ pub fn what_is_known_stays()
     ensures imported { KnownAsImported }
 {}
 
-/// What is said on the way stays so as one more message is sent, as its receiver lets imports go or takes
+/// What is said on the way stays so as one more message is sent, as its receiver lets imports and questions go or takes
 /// descriptors, as exports are added or go, as ids and identities are given, and as an answer closes.
 pub fn what_is_said_stays()
     ensures sent { SaidIsSent }

@@ -35,8 +35,7 @@ pub fn deliveries_are_in_order()
     ensures { TiedIsInOrder }
 {}
 
-/// Vats that are tied stay so over any steps in which no reference advances, and over such steps from the start calls are
-/// delivered in order.
+/// Vats that are tied stay so over any steps, and over such steps from the start calls are delivered in order.
 pub fn steps_keep_order()
     ensures stay { VatsStayTied }
     ensures order { DeliveredInOrder }

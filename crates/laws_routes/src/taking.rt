@@ -5,7 +5,6 @@ ghost use Rattle.laws_routes.specs.TakingLaws.{
   BootstrapIsTaken,
   CallIsTaken,
   DisembargoMeetsWire,
-  EchoedIsTaken,
   ResolveIsTaken,
   ReturnIsTaken,
 };
@@ -21,10 +20,9 @@ pub fn calls_are_taken()
     ensures { CallIsTaken }
 {}
 
-/// A Return is taken, or a question comes back as not understood: its flag is obeyed, and its caller is told.
+/// A Return is taken: its flag is obeyed, what it says is kept, and its caller is told.
 pub fn returns_are_taken()
-    ensures returned { ReturnIsTaken }
-    ensures echoed { EchoedIsTaken }
+    ensures { ReturnIsTaken }
 {}
 
 /// A Resolve is taken.

@@ -1,5 +1,5 @@
 -- Where what is settled says the same, and what places name is there, a node leads where it led.
-use Rattle.std.proofs.Common.{◌≡◌, ◌⊎◌, inl, inr, ℕ, zero, suc, false, IsSome, List, [], ◌∷◌, Option, None, Some, unwrap_or, refl, sym, ap, subst, ◌∙◌}
+use Rattle.std.proofs.Common.{◌≡◌, ◌⊎◌, inl, inr, ℕ, zero, suc, false, IsSome, List, [], ◌∷◌, Option, None, Some, refl, sym, ap, subst, ◌∙◌}
 use Rattle.std.specs.FinMap as map
 use Rattle.capn_wire.specs.declared.path.CapAt.{CapAt}
 use Rattle.capn_wire.specs.declared.path.CapAt.TheVariants.{Cap, Null, NotCap}
@@ -13,10 +13,11 @@ use Rattle.vat_machine.specs.declared.calls.Value.TheVariants as value
 use Rattle.vat_machine.specs.declared.calls.KeptOutcome.{KeptOutcome}
 use Rattle.vat_machine.specs.declared.command.Effects.{Effects}
 use Rattle.vat_machine.specs.State.{State}
-use Rattle.vat_machine.specs.Nodes.{node_of_cap, field_of, promise_link, value_of, field_link, link, follow, links, settle, is_open}
+use Rattle.vat_machine.specs.Nodes.{node_of_cap, field_of, promise_link, value_of, field_link, link, settle, is_open}
 use Rattle.vat_machine.specs.Places.{named_by_promise, named_by_value, named_by_held, named_by_outcome}
 use Rattle.vat_machine.specs.Laws.{Stops, SettlesWhereItLeads}
 use Rattle.vat_machine.proofs.Settles.{settles_here}
+use Rattle.vat_machine.proofs.Following.{stops_where_it_settles}
 use Rattle.laws_steps.specs.Settled.{SaysTheSame, IsThere, IsAmong, AreThere}
 use Rattle.laws_steps.proofs.Among.{among_left, named, in_promises, in_outcomes}
 
@@ -29,14 +30,6 @@ no_link s (node.Field o path) h = cc
 no_link s (node.Import e) h = refl
 no_link s (node.Pipe q path) h = refl
 no_link s (node.Broken reason) h = refl
-
-stops : (s : State) (k : ℕ) (n : Node) → link s (follow s k n) ≡ None → (d : ℕ) × Stops s d n
-stops s zero n h = (0, h)
-stops s (suc k) n h = by (λ m g. stops s k m g) (link s n) refl h
-  where
-    by : ((m : Node) → link s (follow s k m) ≡ None → (d : ℕ) × Stops s d m) → (o : Option Node) → link s n ≡ o → link s (follow s k (unwrap_or o n)) ≡ None → (d : ℕ) × Stops s d n
-    by further None e g = (0, e)
-    by further (Some m) e g = let r = further m g in (suc r.0, (m, e, r.1))
 
 -- ---- Where it leads
 
@@ -123,6 +116,6 @@ module _ (law : SettlesWhereItLeads) (s : State) (x : Effects) (t : State) (says
 
   pub stays_settled : (n : Node) → IsThere t n → is_open (settle s n) ≡ false → settle t n ≡ settle s n
   stays_settled n i h =
-      let a = stops s (links s) n (no_link s (settle s n) h) in
+      let a = stops_where_it_settles s n (no_link s (settle s n) h) in
       let b = no_link t (settle s n) h in
       leads_on n a.0 0 i a.1 b ∙ settles_here t (settle s n) b

@@ -1,8 +1,5 @@
 pub mod Among
 mod Naming
-pub mod Pieces
-pub mod Walking
-pub mod WholeSteps
 pub mod Exceptions
 pub mod UsedOnce
 pub mod SaysTheSame

@@ -59,9 +59,7 @@ use Rattle.vat_machine.specs.Faults.{gave, given_by, target_node, is_foreign, pl
 use Rattle.vat_machine.specs.Steps.{Ends, Does, Handles}
 use Rattle.finite_maps.proofs.Gets.{get-insert_same}
 use Rattle.finite_maps.proofs.Tested.{equal, get_other}
-use Rattle.laws_steps.proofs.Pieces.{IsException, AllExceptions}
-use Rattle.laws_steps.proofs.Exceptions.{walks, lets_go, act_arises, call_arises, first_arises, disembargo_arises, told_arises}
-use Rattle.laws_steps.proofs.Walking.{excepted}
+use Rattle.laws_steps.proofs.Exceptions.{IsException, AllExceptions, act_arises, call_arises, first_arises, disembargo_arises, told_arises}
 use Rattle.laws_steps.specs.Callers.{IsFor, peer, IsOpenFor, AnswersWith, HasOutcome}
 use Rattle.laws_steps.proofs.NamedNodes.{Asked, asker, asker_by, Here, AllIn, EachIn, all_none, all_one, at_put, at_cut, each_put, each_cut, each_at, Brought, Counted, positive_put, has_outcome, has_kept, renamed, HereIn, Fine, set_refs, set_embargoes, set_questions, set_imports, set_exports, set_answers, grows_outcome, grows_import}
 use Rattle.laws_steps.proofs.HeldQuestions.{tied_put, brought_put}
@@ -380,7 +378,7 @@ module _ {w : Asked} where
   drained new d a i (OneMore {mid = mid} o v rest e h more) =
       let b = subst (λ (xs : List (ℕ × Value)). AllExceptions xs) e a in
       let left : Progress = record d { arisen = rest } in
-      drained new mid (excepted walks lets_go left o v mid b.0 h b.1) (settles left o v mid i (no_caps (HereIn w d.state) v b.0) h) more
+      drained new mid (first_arises left o v mid h b.1) (settles left o v mid i (no_caps (HereIn w d.state) v b.0) h) more
 
   -- The only outcome that arose.
   drained_first : (new d : Progress) (o : ℕ) (v : Value) → d.arisen ≡ (o, v) ∷ [] → Fine w d.state → AllIn (HereIn w d.state) (caps_of v) → Drains new d → Fine w new.state
@@ -401,7 +399,7 @@ module _ {w : Asked} where
       by (inr a) = drained_first h.drained acted a.0 a.1 a.2 k.0 a.3 h.drains
 
 pub does : (s : State) (c : Command) (g : Granted) (x : Effects) (new : State) → Whole s → Does s c g x new → Whole new
-does s c g x new i h = ends h.acted x new (begun (begin s) h.acted refl (acts (begin s) c g h.acted i.fine h.acts) (act_arises (begin s) c g h.acted h.acts)) h.ends
+does s c g x new i h = ends h.acted x new (begun (begin s) h.acted refl (acts (begin s) c g h.acted i.fine h.acts) (λ i. act_arises s c g h.acted h.acts)) h.ends
 
 pub handles : (s : State) (m : Message) (x : Effects) (new : State) → Whole s → fault_of s m ≡ None → Handles s m x new → Whole new
 handles s m x new i f h = ends h.taken x new (takes (begin s) m h.taken refl i.fine f h.takes) h.ends

@@ -32,10 +32,11 @@ use Rattle.vat_machine.specs.declared.entries.Import.{Import}
 use Rattle.vat_machine.specs.declared.entries.Export.{Export}
 use Rattle.vat_machine.specs.State.{State}
 use Rattle.vat_machine.specs.Lists.{how_many, of_map}
-use Rattle.vat_machine.specs.Nodes.{node_of_cap, promise_link, value_of, field_link, next, follow, links, settle, is_promise, is_field, is_import}
+use Rattle.vat_machine.specs.Nodes.{node_of_cap, promise_link, value_of, field_link, next, settle, is_promise, is_field, is_import}
 use Rattle.vat_machine.specs.Places.{named_by_reference, named_by_embargo, named_by_promise, named_by_value, named_by_held, named_by_outcome, named_by_returned, named_by_question, named_by_import, named_by_export, named_by_answer, places, names}
 use Rattle.vat_machine.specs.Collecting.{AnswerIsOther, IsLoosePromise, IsLooseOutcome, IsLooseValue, IsLooseImport, CallerIsDone}
 use Rattle.vat_machine.specs.Sweeping.{got_of}
+use Rattle.vat_machine.proofs.Following.{holds_where_it_settles}
 use Rattle.laws_steps.specs.Settled.{IsAmong}
 use Rattle.laws_steps.specs.Callers.{IsFor, peer, HasOutcome, IsOpenFor, AnswersWith}
 use Rattle.finite_maps.proofs.Tested as tested
@@ -517,9 +518,5 @@ module _ {w : Asked} {T : Map Question → Type 0} (s : State) (h : Sound w T s)
   next_here (node.Pipe q path) k = k
   next_here (node.Broken reason) k = tt
 
-  follow_here : (k : ℕ) (n : Node) → HereIn w s n → HereIn w s (follow s k n)
-  follow_here zero n a = a
-  follow_here (suc k) n a = follow_here k (next s n) (next_here n a)
-
   pub settle_here : (n : Node) → HereIn w s n → HereIn w s (settle s n)
-  settle_here n a = follow_here (links s) n a
+  settle_here = holds_where_it_settles (HereIn w s) s next_here

@@ -1,5 +1,5 @@
 -- Exports find room for the nodes that go out exactly where no limit is passed by naming them.
-use Rattle.std.proofs.Common.{◌≡◌, ◌⊎◌, inl, inr, ℕ, zero, suc, ◌+◌, ◌≤◌, ◌<◌, Bool, true, false, ◌&&◌, ◌||◌, cond, nat_eq, nat_le, List, [], ◌∷◌, Option, None, Some, is_some, unwrap_or, refl, sym, ap, subst, ◌∙◌, arith, T}
+use Rattle.std.proofs.Common.{◌≡◌, ◌⊎◌, inl, inr, ℕ, ◌+◌, ◌≤◌, ◌<◌, Bool, true, false, ◌&&◌, ◌||◌, cond, nat_eq, nat_le, List, [], ◌∷◌, Option, None, Some, is_some, unwrap_or, refl, sym, ap, subst, ◌∙◌, arith, T}
 use Rattle.std.proofs.lemmas.Bool.Decides.{nat_tests}
 use Rattle.std.specs.Ordering.{nat_cmp, eq_by_cmp}
 use Rattle.std.specs.Cmp.{nat_cmp_total}
@@ -12,10 +12,11 @@ use Rattle.vat_machine.specs.declared.node.Node.{Node}
 use Rattle.vat_machine.specs.declared.node.Node.TheVariants as node
 use Rattle.vat_machine.specs.declared.entries.Export.{Export}
 use Rattle.vat_machine.specs.State.{State}
-use Rattle.vat_machine.specs.Nodes.{link, next, follow, links, settle, same_op, same_path, is_same_node}
+use Rattle.vat_machine.specs.Nodes.{link, settle, same_op, same_path, is_same_node}
 use Rattle.vat_machine.specs.Descriptors.{IsOther, ExportedAs, Exported, Described, DescribesAll}
 use Rattle.vat_machine.specs.Limits.{table_limit, count_limit, export_count}
 use Rattle.vat_machine.specs.Fullness.{is_exportable, going_out, count_among, count_of, name_lacks_room, size_then, one_more, counts_then, names_lack_room}
+use Rattle.vat_machine.proofs.Following.{settles_alike}
 use Rattle.laws_steps.specs.Room.{HasOneEach, ExportsFit, RoomIsExact}
 use Rattle.finite_maps.proofs.Tested.{equal, itself, get_put, get_other}
 use Rattle.finite_maps.proofs.Gets.{get-insert_same}
@@ -319,14 +320,10 @@ put_link s v e c (node.Import i) = refl
 put_link s v e c (node.Pipe q path) = refl
 put_link s v e c (node.Broken reason) = refl
 
-put_follow : (s : State) (v : Node) (e c : ℕ) (k : ℕ) (n : Node) → follow (put s e v c) k n ≡ follow s k n
-put_follow s v e c zero n = refl
-put_follow s v e c (suc k) n = ap (λ o. follow (put s e v c) k (unwrap_or o n)) (put_link s v e c n) ∙ put_follow s v e c k (next s n)
-
 put_going : (s : State) (v : Node) (e c : ℕ) (ns : List Node) → going_out (put s e v c) ns ≡ going_out s ns
 put_going s v e c [] = refl
 put_going s v e c (n ∷ ns) =
-    ap (λ (k : Node). cond (is_exportable k) (k ∷ going_out (put s e v c) ns) (going_out (put s e v c) ns)) (put_follow s v e c (links s) n)
+    ap (λ (k : Node). cond (is_exportable k) (k ∷ going_out (put s e v c) ns) (going_out (put s e v c) ns)) (settles_alike s (put s e v c) (put_link s v e c) refl n)
     ∙ ap (λ (ks : List Node). cond (is_exportable (settle s n)) (settle s n ∷ ks) ks) (put_going s v e c ns)
 
 neither : (a b : Bool) → (a || b) ≡ false → (a ≡ false) × (b ≡ false)

@@ -1,5 +1,5 @@
 -- A call whose path settles at a wire goes to that wire.
-use Rattle.std.proofs.Common.{◌≡◌, ℕ, zero, suc, ◌+◌, Bool, true, false, cond, nat_eq, List, [], ◌∷◌, ◌++◌, Option, None, Some, unwrap_or, refl, sym, ap, subst, ◌∙◌, arith}
+use Rattle.std.proofs.Common.{◌≡◌, ℕ, ◌+◌, Bool, true, false, cond, nat_eq, List, [], ◌∷◌, ◌++◌, Option, None, Some, refl, sym, ap, subst, ◌∙◌, arith}
 use Rattle.std.specs.declared.cmp.Ordering.{Ordering}
 use Rattle.std.specs.declared.cmp.Ordering.TheVariants.{Less, Equal, Greater}
 use Rattle.std.specs.Ordering.{nat_cmp, is_eq}
@@ -32,7 +32,7 @@ use Rattle.vat_machine.specs.declared.entries.Role.{Role}
 use Rattle.vat_machine.specs.declared.entries.Role.TheVariants as role
 use Rattle.vat_machine.specs.declared.entries.Reference.{Reference}
 use Rattle.vat_machine.specs.State.{State}
-use Rattle.vat_machine.specs.Nodes.{value_of, field_link, link, next, follow, links_of, all_links, links, settle}
+use Rattle.vat_machine.specs.Nodes.{value_of, field_link, link, links_of, all_links, links, settle}
 use Rattle.vat_machine.specs.Progress.{Progress, quiet, begin, with_state}
 use Rattle.vat_machine.specs.Descriptors.{taken_of, take_one, take_each, take_at, take_all}
 use Rattle.vat_machine.specs.Routing.{Asks, Relays, RoutedTo}
@@ -41,18 +41,12 @@ use Rattle.vat_machine.specs.Commands.{counted, request, CallsDirect, CallsBy, C
 use Rattle.vat_machine.specs.Messages.{opened, received_request, TakesCall, TakesUnless}
 use Rattle.vat_machine.specs.Faults.{target_node, is_foreign}
 use Rattle.vat_machine.specs.Steps.{Ends, Does, Handles}
+use Rattle.vat_machine.proofs.Following.{settles_alike}
 use Rattle.machine_examples.specs.SteadyPaths.{called, GoesOutTo}
 use Rattle.machine_examples.proofs.Keeping.{equal, get_put}
 use Rattle.machine_examples.proofs.EndOfStep.{AllLetGo, ends_quietly}
 
--- ---- Two states in which each node leads to the same place
-
-same_follow : (s t : State) → ((n : Node) → link t n ≡ link s n) → (k : ℕ) (n : Node) → follow t k n ≡ follow s k n
-same_follow s t h zero n = refl
-same_follow s t h (suc k) n = ap (λ o. follow t k (unwrap_or o n)) (h n) ∙ same_follow s t h k (next s n)
-
-same_settle : (s t : State) → ((n : Node) → link t n ≡ link s n) → links t ≡ links s → (n : Node) → settle t n ≡ settle s n
-same_settle s t h l n = ap (λ k. follow t k n) l ∙ same_follow s t h (links s) n
+-- ---- Links of two states
 
 -- A new outcome that is not known yet links nothing.
 front : (k : ℕ) (v : KeptOutcome) (e : ℕ × KeptOutcome) (es : List (ℕ × KeptOutcome)) (o : Ordering) → links_of v.value ≡ 0 → cond (is_eq o) (Some e.1) (find nat_cmp k es) ≡ None
@@ -114,7 +108,7 @@ module _ (s t : State) (o : ℕ) (x : KeptOutcome) (p : t.promises ≡ s.promise
       omega arith
 
   settles_same : (n : Node) → settle t n ≡ settle s n
-  settles_same n = same_settle s t link_same links_same n
+  settles_same n = settles_alike s t link_same links_same n
 
 -- ---- The call goes out
 
@@ -196,6 +190,6 @@ call_made s c g x new y t h there free e =
     let u : State = counted s c.reference.0 y in
     let d : Progress = with_state (begin s) u in
     let b : CallsBy d s.next_call (request s c y) y.head (settle u y.head) h.acted = subst (λ (o : Option EmbargoId). CallsThrough d s.next_call (request s c y) y.head o h.acted) free a.1 in
-    let f : settle u y.head ≡ settle s y.head = same_settle s u (counted_link s c.reference.0 y) refl y.head in
+    let f : settle u y.head ≡ settle s y.head = settles_alike s u (counted_link s c.reference.0 y) refl y.head in
     let r : CallsDirect d s.next_call (request s c y) t h.acted = directs d s.next_call (request s c y) y.head (settle u y.head) t h.acted (ap wire_target f ∙ e) b in
     goes_out (with_state d (record (d.state) { calls = map.insert d.state.calls s.next_call (own.Direct (record { 0 = r.0 })) })) r.0 (role.Direct (record { 0 = s.next_call })) t (request s c y) h.acted x new refl refl r.1 h.ends

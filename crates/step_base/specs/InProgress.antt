@@ -21,6 +21,14 @@ pub record IsReady (x : Step) : Type 0 where
   pub unfinished : x.outbox.finishes ≡ map.empty
   pub can_abort : x.outbox.can_abort ≡ true
 
+-- As far as what goes at the end of a step asks for it, when Finishes may be made already.
+pub record IsEnding (x : Step) : Type 0 where
+  pub sound : IsSound x.store
+  pub outbox : x.store.slack ≤ x.outbox.room
+  pub arisen : x.store.slack ≤ x.arisen.1
+  pub releases : map.len x.store.imports.entries + x.store.slack ≤ x.outbox.release_room
+  pub can_abort : x.outbox.can_abort ≡ true
+
 -- No step is in progress: nothing is said, and nothing waits to be settled.
 pub record IsIdle (x : Step) : Type 0 where
   pub sound : IsSound x.store

@@ -1,4 +1,4 @@
 pub mod Keeping
-pub mod Leading
 pub mod Making
 pub mod Wired
+pub mod Once

@@ -7,6 +7,7 @@ ghost use Rattle.vat_machine.specs.Commands.{Acts, CallsBy, CallsThrough};
 ghost use Rattle.vat_machine.specs.Limits.{number_limit, made_through};
 ghost use Rattle.vat_machine.specs.Nodes.{settle};
 ghost use Rattle.vat_store.specs.Holding.{state_of};
+ghost use Rattle.vat_store.specs.Noted.{noted_of};
 ghost use Rattle.step_base.specs.InProgress.{progress_of, IsReady};
 ghost use Rattle.step_routes.specs.Prepared.{IsPrepared};
 ghost use Rattle.step_calls.specs.Ways.{numbered};
@@ -43,6 +44,7 @@ fn number_through(step: &mut Step, reference: RefId) -> CallId
     ensures numbered { progress_of step.new ≡ numbered (progress_of step.old) reference.0 }
     ensures left { step.new.store.slack ≡ step.old.store.slack }
     ensures taken { step.new.store.waits.taken ≡ step.old.store.waits.taken }
+    ensures noted { noted_of step.new.store.names ≡ noted_of step.old.store.names }
     ensures ready { IsReady step.new }
 {
     count_made(&mut step.store, reference);
@@ -67,6 +69,7 @@ fn call_by(
     requires prepared { IsPrepared (length request.caps) lists }
     ensures called { OnOk result (CallsBy (progress_of step.old) id.0 request head (settle (state_of step.old.store) head) (progress_of step.new)) }
     ensures taken { OnOk result (step.new.store.waits.taken ≡ step.old.store.waits.taken) }
+    ensures noted { OnOk result (noted_of step.new.store.names ≡ noted_of step.old.store.names) }
     ensures ready { OnOk result (IsReady step.new) }
 {
     let from = head;
@@ -95,6 +98,7 @@ fn call_through(
     requires prepared { IsPrepared (length request.caps) lists }
     ensures called { OnOk result (CallsThrough (progress_of step.old) id.0 request head embargo (progress_of step.new)) }
     ensures taken { OnOk result (step.new.store.waits.taken ≡ step.old.store.waits.taken) }
+    ensures noted { OnOk result (noted_of step.new.store.names ≡ noted_of step.old.store.names) }
     ensures ready { OnOk result (IsReady step.new) }
 {
     match embargo {
@@ -124,6 +128,7 @@ pub fn call_kept(
     requires room { length call.refs ≤ vec_capacity nodes }
     ensures acts { IfOk result (λ c. Acts (progress_of step.old) (command.Call call) (granted.Call c) (progress_of step.new)) }
     ensures taken { OnOk result (step.new.store.waits.taken ≡ step.old.store.waits.taken) }
+    ensures noted { OnOk result (noted_of step.new.store.names ≡ noted_of step.old.store.names) }
     ensures ready { OnOk result (IsReady step.new) }
 {
     let id = call.reference;

@@ -2,6 +2,7 @@ ghost use Rattle.std.specs.Prelude.{◌≡◌, ◌-◌, ◌<◌, ◌≤◌, None
 ghost use Rattle.std.specs.FinMap as map;
 ghost use Rattle.vat_machine.specs.Commands.{kept};
 ghost use Rattle.vat_store.specs.Holding.{state_of};
+ghost use Rattle.vat_store.specs.Noted.{noted_of};
 ghost use Rattle.step_base.specs.InProgress.{progress_of, IsReady};
 
 use rpc_msg::CallId;
@@ -20,6 +21,7 @@ pub fn keep_outcome(step: &mut Step, call: CallId) -> u64
     ensures free { map.get (state_of step.old.store).outcomes result ≡ None }
     ensures kept { progress_of step.new ≡ kept (progress_of step.old) call.0 result }
     ensures taken { step.new.store.waits.taken ≡ step.old.store.waits.taken }
+    ensures noted { noted_of step.new.store.names ≡ noted_of step.old.store.names }
     ensures left { step.new.store.slack ≡ step.old.store.slack - 2 }
     ensures ready { IsReady step.new }
 {

@@ -2,11 +2,13 @@
 #![tactic(auto)]
 
 mod call;
+mod ended;
 mod kept;
 mod request;
 mod ways;
 
 pub use call::call_kept;
+pub use ended::settle_ended;
 pub use kept::keep_outcome;
-pub use request::{heads, request_of};
+pub use request::request_of;
 pub use ways::{call_here, call_over, call_under};

@@ -1,35 +1,11 @@
 ghost use Rattle.std.specs.Prelude.{◌≡◌, ◌≤◌, [], length, vec_capacity};
-ghost use Rattle.std.specs.FinMap as map;
-ghost use Rattle.vat_machine.specs.Commands.{head_of, heads, request};
+ghost use Rattle.vat_machine.specs.Commands.{request};
 ghost use Rattle.vat_store.specs.Holding.{state_of};
 
-use rpc_msg::{Items, RefId, Stamp};
-use vat_machine::{CallCommand, Node, Reason, Reference, Request};
+use rpc_msg::{Items, Stamp};
+use step_checks::heads;
+use vat_machine::{CallCommand, Node, Reference, Request};
 use vat_store::Store;
-
-// Where a reference leads; one that is not there, to nothing.
-fn head_of(store: &Store, id: RefId) -> Node
-    ensures { result ≡ head_of (map.get (state_of store.now).refs id.0) }
-{
-    match store.refs.get(id.0) {
-        Some(reference) => reference.head,
-        None => Node::Broken(Reason::NullCapability),
-    }
-}
-
-/// Where these references lead, put into a list, which is empty and has room for one of each. Takes no memory.
-pub fn heads(store: &Store, refs: &[RefId], nodes: &mut Vec<Node>)
-    requires empty { nodes.old.items ≡ [] }
-    requires room { length refs.now ≤ vec_capacity nodes.old }
-    ensures { nodes.new.items ≡ heads (state_of store.now) refs.now }
-{
-    for id in refs {
-        let node = head_of(store, *id);
-        let Ok(()) = nodes.push(node) else {
-            unreachable!()
-        };
-    }
-}
 
 /// What a command calls through that reference, with the heads of its references, put into the list, which is empty and has
 /// room for one of each. Takes no memory.

@@ -3,6 +3,7 @@ ghost use Rattle.std.specs.FinMap as map;
 ghost use Rattle.vat_machine.specs.Commands.{CallsHere, CallsDirect};
 ghost use Rattle.vat_machine.specs.Limits.{number_limit};
 ghost use Rattle.vat_store.specs.Holding.{state_of};
+ghost use Rattle.vat_store.specs.Noted.{noted_of};
 ghost use Rattle.step_base.specs.InProgress.{progress_of, IsReady};
 ghost use Rattle.step_routes.specs.Prepared.{IsPrepared};
 ghost use Rattle.step_calls.specs.Ways.{CallsUnder};
@@ -30,6 +31,7 @@ pub fn call_under(
     requires counted { id.0 < step.old.store.next_call }
     ensures called { OnOk result (CallsUnder (progress_of step.old) id.0 request embargo.0 (progress_of step.new)) }
     ensures taken { step.new.store.waits.taken ≡ step.old.store.waits.taken }
+    ensures noted { noted_of step.new.store.names ≡ noted_of step.old.store.names }
     ensures ready { IsReady step.new }
 {
     let outcome = keep_outcome(step, id);
@@ -55,6 +57,7 @@ pub fn call_here(
     requires prepared { IsPrepared (length request.caps) lists }
     ensures called { OnOk result (CallsHere (progress_of step.old) id.0 request head (progress_of step.new)) }
     ensures taken { OnOk result (step.new.store.waits.taken ≡ step.old.store.waits.taken) }
+    ensures noted { OnOk result (noted_of step.new.store.names ≡ noted_of step.old.store.names) }
     ensures ready { OnOk result (IsReady step.new) }
 {
     let outcome = keep_outcome(step, id);
@@ -78,6 +81,7 @@ pub fn call_over(
     requires prepared { IsPrepared (length request.caps) lists }
     ensures called { OnOk result (CallsDirect (progress_of step.old) id.0 request target (progress_of step.new)) }
     ensures taken { OnOk result (step.new.store.waits.taken ≡ step.old.store.waits.taken) }
+    ensures noted { OnOk result (noted_of step.new.store.names ≡ noted_of step.old.store.names) }
     ensures ready { OnOk result (IsReady step.new) }
 {
     let Lists {

@@ -1,5 +1,5 @@
 -- The fault of a message in its parts, and what of it stays where the descriptors were taken.
-use Rattle.std.proofs.Common.{◌≡◌, ℕ, zero, suc, Bool, true, false, not, nat_eq, Option, None, Some, is_some, unwrap_or, List, [], ◌∷◌, length, refl, sym, ap, subst, ◌∙◌}
+use Rattle.std.proofs.Common.{◌≡◌, ℕ, Bool, true, false, not, nat_eq, Option, None, Some, is_some, List, [], ◌∷◌, length, refl, sym, ap, subst}
 use Rattle.std.specs.FinMap as map
 use Rattle.finite_maps.specs.Tally.{Map}
 use Rattle.rpc_msg.specs.declared.parts.Descriptor.{Descriptor}
@@ -29,7 +29,8 @@ use Rattle.vat_machine.specs.State.{State}
 use Rattle.vat_machine.specs.Numbers.{question_in_use, bad_payload}
 use Rattle.vat_machine.specs.Payloads.{caps_in}
 use Rattle.vat_machine.specs.Lists.{earliest}
-use Rattle.vat_machine.specs.Nodes.{link, next, follow, links, settle}
+use Rattle.vat_machine.specs.Nodes.{link, settle}
+use Rattle.vat_machine.proofs.Following.{settles_alike}
 use Rattle.vat_machine.specs.Progress.{numbers}
 use Rattle.vat_machine.specs.Descriptors.{take_each, take_at, take_all, import_one}
 use Rattle.vat_machine.specs.Faults.{target_fault, target_node, faults_at, descriptors_fault, flag_fault, return_fault, finish_fault, echoed_fault, resolve_fault, held_fault, plain_fault, unimplemented_fault, is_foreign, unless_foreign, fault_of}
@@ -189,12 +190,8 @@ same_link s i (node.Import e) = refl
 same_link s i (node.Pipe q path) = refl
 same_link s i (node.Broken reason) = refl
 
-same_follow : (s : State) (i : Map Import) (k : ℕ) (n : Node) → follow (with s i) k n ≡ follow s k n
-same_follow s i zero n = refl
-same_follow s i (suc k) n = ap (λ x. follow (with s i) k (unwrap_or x n)) (same_link s i n) ∙ same_follow s i k (next s n)
-
 same_settle : (s : State) (i : Map Import) (n : Node) → settle (with s i) n ≡ settle s n
-same_settle s i n = same_follow s i (links s) n
+same_settle s i = settles_alike s (with s i) (same_link s i) refl
 
 same_held : (s : State) (i : Map Import) (target : Target) → held_fault (with s i) target ≡ held_fault s target
 same_held s i (ImportedCap e) = rw (same_settle s i (target_node s (ImportedCap e))) refl

@@ -1,4 +1,6 @@
 pub mod CallParts
 pub mod FaultParts
 pub mod InTurn
+pub mod OneMore
+pub mod Outgoing
 pub mod Wires

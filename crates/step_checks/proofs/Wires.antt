@@ -10,6 +10,7 @@ use Rattle.vat_machine.specs.declared.node.Reason.TheVariants.{BrokenPromise}
 use Rattle.vat_tables.specs.Exports.{node_eq}
 use Rattle.vat_tables.proofs.NodeKeys.{node_same, node_itself}
 use Rattle.vat_machine.specs.Nodes.{is_wire, is_same_node, same_op, same_path}
+use Rattle.vat_machine.specs.Fullness.{is_exportable}
 use Rattle.vat_machine.specs.Advancing.{known_at, known_by, IsBroken}
 
 pub known_found : (caps : List (Descriptor × Node)) (i : ℕ) (x : Descriptor × Node) → i < length caps → x ≡ get_or caps i x → known_at caps i ≡ known_by x.0 x.1
@@ -47,6 +48,15 @@ path_itself [] = refl
 path_itself (op.Noop ∷ p) = path_itself p
 path_itself (op.Field i ∷ p) = rw (itself i, path_itself p) refl
 
+-- Of a node of which an export is made.
+pub is_itself : (n : Node) → is_exportable n ≡ true → is_same_node n n ≡ true
+is_itself (node.Object o) h = itself o.0
+is_itself (node.Promise p) h = itself p
+is_itself (node.Field o path) h = rw (itself o, path_itself path) refl
+is_itself (node.Import e) h = cc
+is_itself (node.Pipe q path) h = cc
+is_itself (node.Broken r) h = cc
+
 is_wire_itself : (w : Node) → is_wire w ≡ true → is_same_node w w ≡ true
 is_wire_itself (node.Object o) h = cc
 is_wire_itself (node.Promise p) h = cc
@@ -55,25 +65,17 @@ is_wire_itself (node.Import e) h = itself e.0
 is_wire_itself (node.Pipe q path) h = rw (itself q.0, path_itself path) refl
 is_wire_itself (node.Broken r) h = cc
 
-same_wire : (n w : Node) → is_wire w ≡ true → is_same_node n w ≡ true → n ≡ w
-same_wire n (node.Object o) h same = cc
-same_wire n (node.Promise p) h same = cc
-same_wire n (node.Field o path) h same = cc
-same_wire n (node.Broken r) h same = cc
-same_wire (node.Import e) (node.Import x) h same = ap (λ (k : ℕ). node.Import (record { 0 = k })) (equal e.0 x.0 same)
-same_wire (node.Pipe q path) (node.Pipe x y) h same =
+pub same_node : (n m : Node) → is_same_node n m ≡ true → n ≡ m
+same_node (node.Object x) (node.Object y) same = ap (λ (k : ℕ). node.Object (record { 0 = k })) (equal x.0 y.0 same)
+same_node (node.Promise x) (node.Promise y) same = ap (λ k. node.Promise k) (equal x y same)
+same_node (node.Field o path) (node.Field x y) same =
+    let k = both (nat_eq o x) (same_path path y) same in
+    ap (λ i. node.Field i path) (equal o x k.0) ∙ ap (λ p. node.Field x p) (same_paths path y k.1)
+same_node (node.Import e) (node.Import x) same = ap (λ (k : ℕ). node.Import (record { 0 = k })) (equal e.0 x.0 same)
+same_node (node.Pipe q path) (node.Pipe x y) same =
     let k = both (nat_eq q.0 x.0) (same_path path y) same in
     ap (λ (i : ℕ). node.Pipe (record { 0 = i }) path) (equal q.0 x.0 k.0) ∙ ap (λ p. node.Pipe x p) (same_paths path y k.1)
-same_wire (node.Object o) (node.Import x) h same = cc
-same_wire (node.Promise p) (node.Import x) h same = cc
-same_wire (node.Field o path) (node.Import x) h same = cc
-same_wire (node.Pipe q path) (node.Import x) h same = cc
-same_wire (node.Broken r) (node.Import x) h same = cc
-same_wire (node.Object o) (node.Pipe x y) h same = cc
-same_wire (node.Promise p) (node.Pipe x y) h same = cc
-same_wire (node.Field o path) (node.Pipe x y) h same = cc
-same_wire (node.Import e) (node.Pipe x y) h same = cc
-same_wire (node.Broken r) (node.Pipe x y) h same = cc
+same_node n m same = let e : false ≡ true = same in cc
 
 -- What says whether the two are one is the machine's test.
 pub told_same : (b : Bool) (n w : Node) → is_wire w ≡ true → (b ≡ true → n ≡ w) → (n ≡ w → b ≡ true) → b ≡ is_same_node n w
@@ -82,7 +84,7 @@ told_same false n w wire so back = by (is_same_node n w) refl
   where
     by : (c : Bool) → is_same_node n w ≡ c → false ≡ c
     by false h = refl
-    by true h = back (same_wire n w wire h)
+    by true h = back (same_node n w h)
 
 pub told_by : (b : Bool) (n w : Node) → b ≡ node_eq n w → (b ≡ true → n ≡ w) × (n ≡ w → b ≡ true)
 told_by b n w h = ((λ e. node_same n w (sym h ∙ e)), (λ e. h ∙ subst (λ (m : Node). node_eq m w ≡ true) (sym e) (node_itself w)))

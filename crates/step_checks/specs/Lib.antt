@@ -1,4 +1,5 @@
 pub mod Laws
 pub mod Parts
 pub mod Rooms
+pub mod Sending
 pub mod Wires

@@ -1,11 +1,16 @@
 ghost use Rattle.std.specs.Prelude.{◌≡◌, ◌||◌, None, Some, [], true, false, nat_le, OnOk, IfErr};
 ghost use Rattle.std.specs.FinMap as map;
 ghost use Rattle.vat_machine.specs.declared.command.Refusal.TheVariants as refusal;
+ghost use Rattle.vat_machine.specs.declared.command.Command.TheVariants as command;
+ghost use Rattle.vat_machine.specs.Commands.{heads};
 ghost use Rattle.vat_machine.specs.Fullness.{is_spent};
 ghost use Rattle.vat_machine.specs.Limits.{held, held_limit};
+ghost use Rattle.vat_machine.specs.Refusals.{refused};
 ghost use Rattle.vat_store.specs.Holding.{state_of, IsSound};
-ghost use Rattle.step_checks.specs.Rooms.{lacks_at, lacks_through, call_lacks, refused_but_exports};
+ghost use Rattle.step_checks.specs.Rooms.{lacks_at, lacks_through, call_lacks, refused_but_exports, exports_lack_at, exports_lack_for};
 
+use crate::exports::check_call_exports;
+use crate::laws::calls_are_refused;
 use crate::refusals::{
     has_caps, has_level, has_number, has_question_room, has_ref, has_refs, is_up,
 };
@@ -91,7 +96,7 @@ fn has_call_room(store: &Store, caps: usize, id: RefId) -> Result<(), Refusal>
 }
 
 /// Whether `call` is refused, whatever room the exports have, and with what. Where it goes over a wire, the exports need
-/// room for the capabilities that go out: that is left to the caller, and comes last (`calls_are_refused`).
+/// room for the capabilities that go out: that comes last (`calls_are_refused`), and `check_call_whole` looks at it too.
 pub fn check_call(store: &Store, call: &CallCommand) -> Result<(), Refusal>
     requires sound { IsSound store.now }
     requires handed_out { store.now.waits.taken ≡ [] }
@@ -104,4 +109,47 @@ pub fn check_call(store: &Store, call: &CallCommand) -> Result<(), Refusal>
     has_refs(store, call.refs.as_slice())?;
     has_caps(&call.payload, call.refs.as_slice())?;
     has_call_room(store, call.refs.len(), call.reference)
+}
+
+// By where it goes: over a wire its capabilities go out.
+fn has_room_over(store: &Store, refs: &[RefId], node: Node) -> Result<(), Refusal>
+    requires sound { IsSound store.now }
+    ensures ok { OnOk result (exports_lack_at (state_of store.now) (heads (state_of store.now) refs.now) node ≡ false) }
+    ensures err { IfErr result (λ r. (r ≡ refusal.Full) × (exports_lack_at (state_of store.now) (heads (state_of store.now) refs.now) node ≡ true)) }
+{
+    match node {
+        Node::Object(_) => Ok(()),
+        Node::Promise(_) => Ok(()),
+        Node::Field(_, _) => Ok(()),
+        Node::Import(_) => check_call_exports(store, refs),
+        Node::Pipe(_, _) => check_call_exports(store, refs),
+        Node::Broken(_) => Ok(()),
+    }
+}
+
+// Where the call goes over a wire, the exports have room for its capabilities.
+fn has_export_room(store: &Store, call: &CallCommand) -> Result<(), Refusal>
+    requires sound { IsSound store.now }
+    ensures ok { OnOk result (exports_lack_for (state_of store.now) call.now ≡ false) }
+    ensures err { IfErr result (λ r. (r ≡ refusal.Full) × (exports_lack_for (state_of store.now) call.now ≡ true)) }
+{
+    let Some(reference) = store.refs.get(call.reference.0) else {
+        return Ok(());
+    };
+    match reference.embargo {
+        Some(_) => Ok(()),
+        None => has_room_over(store, call.refs.as_slice(), settle(store, reference.head)),
+    }
+}
+
+/// Whether `call` is refused, and with what. Takes no memory.
+pub fn check_call_whole(store: &Store, call: &CallCommand) -> Result<(), Refusal>
+    requires sound { IsSound store.now }
+    requires handed_out { store.now.waits.taken ≡ [] }
+    ensures ok { OnOk result (refused (state_of store.now) (command.Call call.now) ≡ None) }
+    ensures err { IfErr result (λ r. refused (state_of store.now) (command.Call call.now) ≡ Some r) }
+{
+    calls_are_refused();
+    check_call(store, call)?;
+    has_export_room(store, call)
 }

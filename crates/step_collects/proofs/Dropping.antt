@@ -10,14 +10,13 @@ use Rattle.vat_machine.specs.declared.entries.Import.{Import}
 use Rattle.vat_machine.specs.State.{State}
 use Rattle.vat_machine.specs.Progress.{Progress, with_state}
 use Rattle.vat_machine.specs.Collecting.{IsLoosePromise, IsLooseOutcome, IsLooseImport, IsTight, Collects, Tight, Goes, PromiseGoes, OutcomeGoes, ImportGoes, release}
-use Rattle.vat_outbox.specs.Outgoing.{with_release}
+use Rattle.vat_outbox.specs.Outgoing.{Outgoing, with_release}
 use Rattle.vat_store.specs.declared.store.Store.{Store}
 use Rattle.vat_store.specs.Holding.{state_of, IsSound, IsThere}
 use Rattle.store_peer.specs.Peer.{whole_count}
 use Rattle.step_base.specs.declared.step.Step.{Step}
-use Rattle.step_base.specs.InProgress.{progress_of, IsReady}
-use Rattle.step_base.proofs.Readying.{ready_same}
-use Rattle.step_collects.specs.Dropping.{things, Drops, Rests}
+use Rattle.step_base.specs.InProgress.{progress_of, IsReady, IsEnding}
+use Rattle.step_collects.specs.Dropping.{things, Drops, Rests, OnlyReleases}
 
 -- ---- What is loose is there
 
@@ -80,10 +79,21 @@ module _ (x : Step) (t s : Store) (same : t ≡ record (x.store) { names = t.nam
         fewer = omega (arith, one, all);
       }
 
-  -- Questions and imports stay.
-  pub ready_beside : IsReady x → IsSound s → s.slack ≡ t.slack → (state_of s).questions ≡ (state_of t).questions → (state_of s).imports ≡ (state_of t).imports → IsReady after
-  ready_beside h sound left asked taken =
-      ready_same x s h sound (let a = slack in omega (arith, a, left)) (asked ∙ ap (λ (y : State). y.questions) mid) (taken ∙ ap (λ (y : State). y.imports) mid)
+  -- Imports stay.
+  pub ending_beside : IsEnding x → IsSound s → s.slack ≡ t.slack → (state_of s).imports ≡ (state_of t).imports → IsEnding after
+  ending_beside h sound left taken =
+      let a = slack in
+      let n : map.len s.imports.entries ≡ map.len x.store.imports.entries = ap map.len (taken ∙ ap (λ (y : State). y.imports) mid) in record {
+        sound = sound;
+        outbox = let r = h.outbox in omega (arith, a, left, r);
+        arisen = let r = h.arisen in omega (arith, a, left, r);
+        releases = let r = h.releases in omega (arith, a, left, n, r);
+        can_abort = h.can_abort;
+      }
+
+  -- Questions stay.
+  pub only_beside : s.slack ≡ t.slack → (state_of s).questions ≡ (state_of t).questions → OnlyReleases x after
+  only_beside left asked = record { outbox = refl; arisen = refl; questions = asked ∙ ap (λ (y : State). y.questions) mid; left = left ∙ slack }
 
   -- An import goes, and is to be released.
   module _ (e n : ℕ) (loose : IsLooseImport before e (map.get before.imports e)) (gone : state_of s ≡ record (state_of t) { imports = map.remove (state_of t).imports e }) where
@@ -107,21 +117,21 @@ module _ (x : Step) (t s : Store) (same : t ≡ record (x.store) { names = t.nam
           fewer = omega (arith, a, all);
         }
 
-    pub has_room : IsReady x → 0 < x.outbox.release_room
+    pub has_room : IsEnding x → 0 < x.outbox.release_room
     has_room h = let a = one in let b = h.releases in omega (arith, a, b)
 
-    pub ready_released : IsReady x → IsSound s → s.slack ≡ t.slack → IsReady released
-    ready_released h sound left =
+    pub only_released : s.slack ≡ t.slack → OnlyReleases x released
+    only_released left = record { outbox = refl; arisen = refl; questions = ap (λ (y : State). y.questions) now; left = left ∙ slack }
+
+    pub ending_released : IsEnding x → IsSound s → s.slack ≡ t.slack → IsEnding released
+    ending_released h sound left =
         let a = slack in
-        let asked : map.len s.questions.entries ≡ map.len x.store.questions.entries = ap (λ (y : State). map.len y.questions) now in
         let taken : map.len s.imports.entries ≡ map.len (map.remove before.imports e) = ap (λ (y : State). map.len y.imports) now in
         let b = one in record {
           sound = sound;
           outbox = let r = h.outbox in omega (arith, a, left, r);
           arisen = let r = h.arisen in omega (arith, a, left, r);
-          finishes = let r = h.finishes in omega (arith, a, left, asked, r);
           releases = let r = h.releases in omega (arith, a, left, taken, b, r);
-          unfinished = h.unfinished;
           can_abort = h.can_abort;
         }
 
@@ -160,3 +170,31 @@ last_drops false old first second new a b c = all_tight old first second new a b
 -- Nothing is left that would go.
 pub rests_tight : (old new : Step) → Rests old new (IsTight (state_of old.store)) → Collects (progress_of new) (progress_of old)
 rests_tight old new h = subst (λ (d : Progress). Collects d (progress_of old)) (sym h.same) (Tight h.rest)
+
+-- ---- The rest of the step
+
+pub only_after : (old between new : Step) → OnlyReleases old between → OnlyReleases between new → OnlyReleases old new
+only_after old between new a b = record {
+  outbox = b.outbox ∙ ap (λ (o : Outgoing). record o { releases = new.outbox.releases; release_room = new.outbox.release_room }) a.outbox;
+  arisen = b.arisen ∙ a.arisen;
+  questions = b.questions ∙ a.questions;
+  left = b.left ∙ a.left;
+}
+
+-- A step that is ready is so after it.
+pub ready_ended : (old new : Step) → IsReady old → OnlyReleases old new → IsEnding new → IsReady new
+ready_ended old new r o e =
+    let q = ap map.len o.questions in
+    let left = o.left in
+    let room = ap (λ (x : Outgoing). x.finish_room) o.outbox in record {
+      sound = e.sound;
+      outbox = e.outbox;
+      arisen = e.arisen;
+      finishes = let f = r.finishes in omega (arith, q, left, room, f);
+      releases = e.releases;
+      unfinished = ap (λ (x : Outgoing). x.finishes) o.outbox ∙ r.unfinished;
+      can_abort = e.can_abort;
+    }
+
+pub ending_ready : (x : Step) → IsReady x → IsEnding x
+ending_ready x r = record { sound = r.sound; outbox = r.outbox; arisen = r.arisen; releases = r.releases; can_abort = r.can_abort }

@@ -1,3 +1,4 @@
 pub mod Dropping
+pub mod Getting
 pub mod Giving
 pub mod Searching

@@ -16,6 +16,13 @@ pub record Drops (old new : Step) : Type 0 where
   pub goes : Goes (progress_of old) (progress_of new)
   pub fewer : things (state_of new.store) < things (state_of old.store)
 
+-- Of what the step says only Releases came; what arose, the questions and the slack are as they were.
+pub record OnlyReleases (old new : Step) : Type 0 where
+  pub outbox : new.outbox ≡ record (old.outbox) { releases = new.outbox.releases; release_room = new.outbox.release_room }
+  pub arisen : new.arisen ≡ old.arisen
+  pub questions : new.store.questions.entries ≡ old.store.questions.entries
+  pub left : new.store.slack ≡ old.store.slack
+
 -- Nothing went, and this holds.
 pub record Rests (old new : Step) (P : Type 0) : Type 0 where
   pub same : progress_of new ≡ progress_of old

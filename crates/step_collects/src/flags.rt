@@ -1,13 +1,60 @@
 ghost use Rattle.std.specs.Prelude.{◌≡◌, [], cond, nat_eq};
+ghost use Rattle.std.specs.List.{list_all};
 ghost use Rattle.std.specs.FinMap as map;
-ghost use Rattle.vat_machine.specs.Flags.{give_each, may_lose};
+ghost use Rattle.vat_machine.specs.Flags.{flag_for, give_back, give_each, is_spared, may_lose};
 ghost use Rattle.vat_machine.specs.Lists.{how_many};
 ghost use Rattle.vat_machine.specs.Progress.{numbers};
 ghost use Rattle.vat_store.specs.Holding.{state_of, IsSound};
 
 use rpc_msg::ExportId;
 use store_peer::give_one;
+use vat_machine::Level;
 use vat_store::Store;
+
+/// The release flag for descriptors of these ids, while their own place stands: there are some, and all may be given back.
+/// A level 0 vat always says true. Takes no memory. No call may be taken out to be routed. For each id it looks at all of
+/// them.
+pub fn flag_for(store: &Store, ids: &[ExportId]) -> bool
+    requires sound { IsSound store.now }
+    requires none_taken { store.now.waits.taken ≡ [] }
+    ensures { result ≡ flag_for (state_of store.now) (numbers ids.now) }
+{
+    match store.level {
+        Level::Zero => true,
+        Level::One => !ids.is_empty() && all_spared(store, ids),
+    }
+}
+
+fn all_spared(store: &Store, ids: &[ExportId]) -> bool
+    requires sound { IsSound store.now }
+    requires none_taken { store.now.waits.taken ≡ [] }
+    ensures { result ≡ list_all (is_spared (state_of store.now) (numbers ids.now)) (numbers ids.now) }
+{
+    for id in ids {
+        if !may_lose(store, *id, times_given(ids, *id)) {
+            return false;
+        }
+    }
+    true
+}
+
+/// Gives back what the release flag for these ids lets go, and answers the flag. Takes no memory. No call may be taken out
+/// to be routed.
+pub fn give_back(store: &mut Store, ids: &[ExportId]) -> bool
+    requires sound { IsSound store.old }
+    requires none_taken { store.old.waits.taken ≡ [] }
+    ensures flag { result ≡ flag_for (state_of store.old) (numbers ids.now) }
+    ensures state { state_of store.new ≡ give_back (state_of store.old) (numbers ids.now) }
+    ensures left { store.new.slack ≡ store.old.slack }
+    ensures waits { store.new.waits ≡ store.old.waits }
+    ensures sound { IsSound store.new }
+{
+    let flag = flag_for(store, ids);
+    if flag {
+        give_each(store, ids);
+    }
+    flag
+}
 
 /// Gives back one of the count of the import of each of these ids; at zero it goes. Takes no memory.
 pub fn give_each(store: &mut Store, ids: &[ExportId])
@@ -47,7 +94,7 @@ pub fn times_given(ids: &[ExportId], id: ExportId) -> usize
     times
 }
 
-fn as_number(yes: bool) -> usize
+pub(crate) fn as_number(yes: bool) -> usize
     ensures { result ≡ cond yes 1 0 }
 {
     if yes {

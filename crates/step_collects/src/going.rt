@@ -2,8 +2,8 @@ ghost use Rattle.std.specs.Prelude.{◌≡◌, ℕ, [], MatchBool};
 ghost use Rattle.std.specs.FinMap as map;
 ghost use Rattle.vat_machine.specs.Collecting.{IsLoosePromise, IsLooseOutcome, IsLooseImport, IsTight, Collects};
 ghost use Rattle.vat_store.specs.Holding.{state_of};
-ghost use Rattle.step_base.specs.InProgress.{progress_of, IsReady};
-ghost use Rattle.step_collects.specs.Dropping.{Drops, Rests};
+ghost use Rattle.step_base.specs.InProgress.{progress_of, IsReady, IsEnding};
+ghost use Rattle.step_collects.specs.Dropping.{Drops, Rests, OnlyReleases};
 
 use crate::search::{next_loose_import, next_loose_outcome, next_loose_promise};
 use step_base::Step;
@@ -17,18 +17,32 @@ pub fn collect(step: &mut Step)
     requires none_taken { step.old.store.waits.taken ≡ [] }
     ensures collects { Collects (progress_of step.new) (progress_of step.old) }
     ensures taken { step.new.store.waits.taken ≡ [] }
+    ensures left { step.new.store.slack ≡ step.old.store.slack }
     ensures ready { IsReady step.new }
+{
+    collect_ending(step);
+}
+
+/// As `collect`, when Finishes may be made already: they stay, as does all that the step said.
+pub fn collect_ending(step: &mut Step)
+    requires ending { IsEnding step.old }
+    requires none_taken { step.old.store.waits.taken ≡ [] }
+    ensures collects { Collects (progress_of step.new) (progress_of step.old) }
+    ensures taken { step.new.store.waits.taken ≡ [] }
+    ensures rest { OnlyReleases step.old step.new }
+    ensures ending { IsEnding step.new }
 {
     'dropping: while drop_one(step) {}
 }
 
 // One thing goes that no place names, if there is one.
 fn drop_one(step: &mut Step) -> bool
-    requires ready { IsReady step.old }
+    requires ending { IsEnding step.old }
     requires none_taken { step.old.store.waits.taken ≡ [] }
     ensures drops { MatchBool result (Drops step.old step.new) (Rests step.old step.new (IsTight (state_of step.old.store))) }
     ensures taken { step.new.store.waits.taken ≡ [] }
-    ensures ready { IsReady step.new }
+    ensures rest { OnlyReleases step.old step.new }
+    ensures ending { IsEnding step.new }
 {
     if drop_promise(step) {
         return true;
@@ -41,11 +55,12 @@ fn drop_one(step: &mut Step) -> bool
 
 // A promise goes that no place names, if there is one.
 fn drop_promise(step: &mut Step) -> bool
-    requires ready { IsReady step.old }
+    requires ending { IsEnding step.old }
     requires none_taken { step.old.store.waits.taken ≡ [] }
     ensures drops { MatchBool result (Drops step.old step.new) (Rests step.old step.new ((p : ℕ) → ¬ (IsLoosePromise (state_of step.old.store) p (map.get (state_of step.old.store).promises p)))) }
     ensures taken { step.new.store.waits.taken ≡ [] }
-    ensures ready { IsReady step.new }
+    ensures rest { OnlyReleases step.old step.new }
+    ensures ending { IsEnding step.new }
 {
     let Some(key) = next_loose_promise(&mut step.store) else {
         return false;
@@ -58,11 +73,12 @@ fn drop_promise(step: &mut Step) -> bool
 
 // An outcome goes of which no place names a field, if there is one that may go.
 fn drop_outcome(step: &mut Step) -> bool
-    requires ready { IsReady step.old }
+    requires ending { IsEnding step.old }
     requires none_taken { step.old.store.waits.taken ≡ [] }
     ensures drops { MatchBool result (Drops step.old step.new) (Rests step.old step.new ((o : ℕ) → ¬ (IsLooseOutcome (state_of step.old.store) o (map.get (state_of step.old.store).outcomes o)))) }
     ensures taken { step.new.store.waits.taken ≡ [] }
-    ensures ready { IsReady step.new }
+    ensures rest { OnlyReleases step.old step.new }
+    ensures ending { IsEnding step.new }
 {
     let Some(key) = next_loose_outcome(&mut step.store) else {
         return false;
@@ -73,11 +89,12 @@ fn drop_outcome(step: &mut Step) -> bool
 
 // An import goes that no place names, if there is one, and is to be released.
 fn drop_import(step: &mut Step) -> bool
-    requires ready { IsReady step.old }
+    requires ending { IsEnding step.old }
     requires none_taken { step.old.store.waits.taken ≡ [] }
     ensures drops { MatchBool result (Drops step.old step.new) (Rests step.old step.new ((e : ℕ) → ¬ (IsLooseImport (state_of step.old.store) e (map.get (state_of step.old.store).imports e)))) }
     ensures taken { step.new.store.waits.taken ≡ [] }
-    ensures ready { IsReady step.new }
+    ensures rest { OnlyReleases step.old step.new }
+    ensures ending { IsEnding step.new }
 {
     let Some(id) = next_loose_import(&mut step.store) else {
         return false;

@@ -2,7 +2,7 @@ ghost use Rattle.std.specs.Prelude.{◌≡◌, [], MatchBool};
 ghost use Rattle.std.specs.FinMap as map;
 ghost use Rattle.vat_machine.specs.Collecting.{IsLoosePromise, IsLooseOutcome, IsLooseImport, CallerIsDone};
 ghost use Rattle.vat_names.specs.Names.{Counts};
-ghost use Rattle.vat_store.specs.Holding.{state_of, all_named};
+ghost use Rattle.vat_store.specs.Holding.{state_of, all_named, IsTold};
 
 use rpc_msg::ExportId;
 use vat_machine::Caller;
@@ -28,6 +28,13 @@ pub(crate) fn is_loose_outcome(store: &Store, key: u64) -> bool
     requires none_taken { store.now.waits.taken ≡ [] }
     ensures { MatchBool result (IsLooseOutcome (state_of store.now) key (map.get (state_of store.now).outcomes key)) (¬ (IsLooseOutcome (state_of store.now) key (map.get (state_of store.now).outcomes key))) }
 {
+    is_told(store, key) && store.names.of_outcome(key) == 0
+}
+
+/// Whether the outcome with that key is known, nothing waits for it, and nobody is still to be told. Takes no memory.
+pub fn is_told(store: &Store, key: u64) -> bool
+    ensures { MatchBool result (IsTold (state_of store.now) key (map.get (state_of store.now).outcomes key)) (¬ (IsTold (state_of store.now) key (map.get (state_of store.now).outcomes key))) }
+{
     let Some(caller) = store.waits.caller(key) else {
         return false;
     };
@@ -37,7 +44,7 @@ pub(crate) fn is_loose_outcome(store: &Store, key: u64) -> bool
     if store.waits.is_awaited(key) {
         return false;
     }
-    caller_is_done(store, key, caller) && store.names.of_outcome(key) == 0
+    caller_is_done(store, key, caller)
 }
 
 // Whether nobody is still to be told of the outcome.

@@ -2,6 +2,7 @@ ghost use Rattle.std.specs.Prelude.{◌≡◌, ℕ, [], IfSome, IfNone};
 ghost use Rattle.std.specs.FinMap as map;
 ghost use Rattle.vat_machine.specs.Collecting.{IsLoosePromise, IsLooseOutcome, IsLooseImport};
 ghost use Rattle.vat_store.specs.Holding.{state_of, IsSound};
+ghost use Rattle.vat_store.specs.Noted.{noted_of};
 
 use crate::loose::{is_loose_import, is_loose_outcome, is_loose_promise};
 use rpc_msg::ExportId;
@@ -15,6 +16,7 @@ pub fn next_loose_promise(store: &mut Store) -> Option<u64>
     ensures same { store.new ≡ record store.old { names = store.new.names } }
     ensures some { IfSome result (λ p. IsLoosePromise (state_of store.old) p (map.get (state_of store.old).promises p)) }
     ensures none { IfNone result ((p : ℕ) → ¬ (IsLoosePromise (state_of store.old) p (map.get (state_of store.old).promises p))) }
+    ensures rested { IfNone result (noted_of store.new.names ≡ record (noted_of store.old.names) { promises = [] }) }
     ensures sound { IsSound store.new }
 {
     while let Some(key) = store.names.take_promise() {
@@ -35,6 +37,7 @@ pub fn next_loose_outcome(store: &mut Store) -> Option<u64>
     ensures same { store.new ≡ record store.old { names = store.new.names } }
     ensures some { IfSome result (λ o. IsLooseOutcome (state_of store.old) o (map.get (state_of store.old).outcomes o)) }
     ensures none { IfNone result ((o : ℕ) → ¬ (IsLooseOutcome (state_of store.old) o (map.get (state_of store.old).outcomes o))) }
+    ensures rested { IfNone result (noted_of store.new.names ≡ record (noted_of store.old.names) { outcomes = [] }) }
     ensures sound { IsSound store.new }
 {
     while let Some(key) = store.names.take_outcome() {
@@ -55,6 +58,7 @@ pub fn next_loose_import(store: &mut Store) -> Option<ExportId>
     ensures same { store.new ≡ record store.old { names = store.new.names } }
     ensures some { IfSome result (λ e. IsLooseImport (state_of store.old) e.0 (map.get (state_of store.old).imports e.0)) }
     ensures none { IfNone result ((e : ℕ) → ¬ (IsLooseImport (state_of store.old) e (map.get (state_of store.old).imports e))) }
+    ensures rested { IfNone result (noted_of store.new.names ≡ record (noted_of store.old.names) { imports = [] }) }
     ensures sound { IsSound store.new }
 {
     while let Some(id) = store.names.take_import() {

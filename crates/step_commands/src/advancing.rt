@@ -1,4 +1,4 @@
-ghost use Rattle.std.specs.Prelude.{◌≡◌, ◌<◌, ◌≤◌, None, Some, true, false, IsSome};
+ghost use Rattle.std.specs.Prelude.{◌≡◌, ◌+◌, ◌<◌, ◌≤◌, None, Some, true, false, IsSome};
 ghost use Rattle.std.specs.FinMap as map;
 ghost use Rattle.vat_machine.specs.declared.command.Command.TheVariants as command;
 ghost use Rattle.vat_machine.specs.declared.command.Granted.TheVariants as granted;
@@ -27,6 +27,7 @@ fn head_to(step: &mut Step, id: RefId, from: &Reference, to: &Node)
     requires slack { 0 < step.old.store.slack }
     requires entry { map.get step.old.store.refs.entries id.0 ≡ Some from.now }
     ensures headed { progress_of step.new ≡ headed (progress_of step.old) id.0 from.now to.now }
+    ensures left { step.old.store.slack ≤ step.new.store.slack + 3 }
     ensures taken { step.new.store.waits.taken ≡ step.old.store.waits.taken }
     ensures ready { IsReady step.new }
 {
@@ -41,6 +42,7 @@ fn put_under_embargo(step: &mut Step, id: RefId, from: &Reference, wire: &Node, 
     requires wire { is_wire wire.now ≡ true }
     requires room { has_no_room step.old.store.waits.embargoes ≡ false }
     ensures under { Embargoes (progress_of step.old) id.0 from.now (wire_target wire.now) to.now (granted.Advanced Advanced.Embargoed) (progress_of step.new) }
+    ensures left { step.old.store.slack ≤ step.new.store.slack + 3 }
     ensures taken { step.new.store.waits.taken ≡ step.old.store.waits.taken }
     ensures ready { IsReady step.new }
 {
@@ -72,6 +74,7 @@ fn advance_by(
     requires named { IsNamed said }
     requires room { switch_lacks_room (state_of step.old.store) said ≡ false }
     ensures by { AdvancesBy (progress_of step.old) id.0 from.now wire.now said to.now (granted.Advanced result) (progress_of step.new) }
+    ensures left { step.old.store.slack ≤ step.new.store.slack + 3 }
     ensures taken { step.new.store.waits.taken ≡ step.old.store.waits.taken }
     ensures ready { IsReady step.new }
 {
@@ -110,6 +113,7 @@ fn advance_knowing(
     requires known { as_known known.now ≡ known_of_wire (state_of step.old.store) wire.now }
     requires room { advance_by (state_of step.old.store) wire.now (as_known known.now) ≡ false }
     ensures to { AdvancesTo (progress_of step.old) id.0 from.now wire.now (as_known known.now) (granted.Advanced result) (progress_of step.new) }
+    ensures left { step.old.store.slack ≤ step.new.store.slack + 3 }
     ensures taken { step.new.store.waits.taken ≡ step.old.store.waits.taken }
     ensures ready { IsReady step.new }
 {
@@ -135,6 +139,7 @@ fn advance_from(step: &mut Step, id: RefId, from: &Reference, wire: &Node) -> Ad
     requires entry { map.get step.old.store.refs.entries id.0 ≡ Some from.now }
     requires room { advance_by (state_of step.old.store) wire.now (known_of_wire (state_of step.old.store) wire.now) ≡ false }
     ensures to { AdvancesTo (progress_of step.old) id.0 from.now wire.now (known_of_wire (state_of step.old.store) wire.now) (granted.Advanced result) (progress_of step.new) }
+    ensures left { step.old.store.slack ≤ step.new.store.slack + 3 }
     ensures taken { step.new.store.waits.taken ≡ step.old.store.waits.taken }
     ensures ready { IsReady step.new }
 {
@@ -151,6 +156,7 @@ pub fn advance(step: &mut Step, id: RefId) -> Advanced
     requires slack { 3 ≤ step.old.store.slack }
     requires allowed { refused (state_of step.old.store) (command.Advance id) ≡ None }
     ensures acts { Acts (progress_of step.old) (command.Advance id) (granted.Advanced result) (progress_of step.new) }
+    ensures left { step.old.store.slack ≤ step.new.store.slack + 3 }
     ensures taken { step.new.store.waits.taken ≡ step.old.store.waits.taken }
     ensures ready { IsReady step.new }
 {

@@ -1,4 +1,5 @@
-ghost use Rattle.std.specs.Prelude.{◌≡◌, ◌+◌, ◌-◌, ◌<◌, None};
+ghost use Rattle.std.specs.Prelude.{◌≡◌, ◌+◌, ◌-◌, ◌<◌, None, Some};
+ghost use Rattle.std.specs.FinMap as map;
 ghost use Rattle.vat_machine.specs.declared.command.Command.TheVariants as command;
 ghost use Rattle.vat_machine.specs.declared.command.Granted.TheVariants as granted;
 ghost use Rattle.vat_machine.specs.Commands.{Acts};
@@ -10,7 +11,7 @@ ghost use Rattle.step_base.specs.InProgress.{progress_of, IsReady};
 use rpc_msg::{CallId, Items, ObjectId, Op, Path, RefId};
 use step_base::Step;
 use store_names::{add_ref, forget_ref};
-use vat_machine::{Node, OwnCall};
+use vat_machine::{Node, OwnCall, Reference};
 
 /// A new reference to an object of the application. Takes no memory, but one of the slack.
 pub fn host(step: &mut Step, object: ObjectId) -> RefId
@@ -64,16 +65,19 @@ pub fn field(step: &mut Step, id: CallId, path: &Items<Op>) -> RefId
     add_ref(&mut step.store, node)
 }
 
-/// The application has no more use for a reference, where that is not refused. What no place names then goes at the end of
-/// the step. Takes no memory.
-pub fn drop_ref(step: &mut Step, id: RefId)
+/// The application has no more use for a reference, where that is not refused; it is handed out. What no place names then
+/// goes at the end of the step. Takes no memory.
+pub fn drop_ref(step: &mut Step, id: RefId) -> Reference
     requires ready { IsReady step.old }
     requires allowed { refused (state_of step.old.store) (command.DropRef id) ≡ None }
+    ensures was { map.get (state_of step.old.store).refs id.0 ≡ Some result }
     ensures acts { Acts (progress_of step.old) (command.DropRef id) granted.Done (progress_of step.new) }
-    ensures taken { step.new.store.waits.taken ≡ step.old.store.waits.taken }
+    ensures left { step.new.store.slack ≡ step.old.store.slack }
+    ensures waits { step.new.store.waits ≡ step.old.store.waits }
     ensures ready { IsReady step.new }
 {
-    let Some(_) = forget_ref(&mut step.store, id) else {
+    let Some(reference) = forget_ref(&mut step.store, id) else {
         unreachable!()
     };
+    reference
 }

@@ -52,3 +52,7 @@ all_only s [] (d ∷ ds) new h = absurd h
 all_only s (n ∷ ns) [] new h = absurd h
 all_only s (n ∷ ns) (d ∷ ds) new h =
     all_only h.0 ns ds new h.2 ∙ ap (λ (t : State). record t { exports = new.exports }) (described_only s (settle s n) d h.0 h.1)
+
+-- The questions are what they were.
+pub questions_kept : (s new : State) (ns : List Node) (ds : List Descriptor) → DescribesAll s ns ds new → new.questions ≡ s.questions
+questions_kept s new ns ds h = ap (λ (t : State). t.questions) (all_only s ns ds new h)

@@ -3,4 +3,5 @@ pub mod Calling
 pub mod Delivering
 pub mod Describing
 pub mod Draining
+pub mod Roomy
 pub mod Sending

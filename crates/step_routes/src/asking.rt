@@ -1,8 +1,11 @@
-ghost use Rattle.std.specs.Prelude.{◌≡◌, ◌+◌, ◌<◌, ◌≤◌, [], length, vec_capacity, None, IfErr, OnOk};
+ghost use Rattle.std.specs.Prelude.{◌≡◌, ◌≢◌, ◌+◌, ◌<◌, ◌≤◌, [], length, vec_capacity, false, None, IsOk, IfErr, OnOk};
 ghost use Rattle.std.specs.FinMap as map;
 ghost use Rattle.vat_machine.specs.Commands.{CallsDirect};
+ghost use Rattle.vat_machine.specs.Fullness.{exports_lack_room, going_out};
+ghost use Rattle.vat_machine.specs.Limits.{table_limit};
 ghost use Rattle.vat_machine.specs.Routing.{Relays};
 ghost use Rattle.vat_store.specs.Holding.{state_of};
+ghost use Rattle.vat_store.specs.Noted.{noted_of};
 ghost use Rattle.step_base.specs.InProgress.{progress_of, IsReady};
 
 use crate::descriptors::describe_all_kept;
@@ -12,8 +15,8 @@ use vat_machine::{Request, WaitingCall};
 use vat_tables::TableFault;
 
 /// A call goes on to a wire, as a question: what its Return says will be the outcome of the call. The two lists are empty
-/// and have room for one of each capability. `Full` where a limit of the exports or of the questions is passed; the step is
-/// only to be dropped then. Takes no memory, but at most one of the slack for each capability, and two.
+/// and have room for one of each capability. `Full` where a limit of the exports or of the questions is passed, and there
+/// alone; the step is only to be dropped then. Takes no memory, but at most one of the slack for each capability, and two.
 pub fn relay_kept(
     step: &mut Step,
     call: WaitingCall,
@@ -29,9 +32,11 @@ pub fn relay_kept(
     requires id_room { length call.request.caps ≤ vec_capacity ids }
     ensures relayed { OnOk result (Relays (progress_of step.old) call target (progress_of step.new)) }
     ensures full { IfErr result (λ fault. fault ≡ TableFault.Full) }
+    ensures fits { map.len (state_of step.old.store).questions ≢ table_limit → exports_lack_room (state_of step.old.store) (going_out (state_of step.old.store) call.request.caps) ≡ false → IsOk result }
     ensures left { OnOk result (step.old.store.slack ≤ step.new.store.slack + (length call.request.caps + 2)) }
     ensures less { OnOk result (step.new.store.slack ≤ step.old.store.slack) }
     ensures waits { OnOk result (step.new.store.waits ≡ step.old.store.waits) }
+    ensures noted { OnOk result (noted_of step.new.store.names ≡ noted_of step.old.store.names) }
     ensures ready { OnOk result (IsReady step.new) }
 {
     let WaitingCall { request, outcome } = call;
@@ -65,8 +70,8 @@ pub fn relay_kept(
 }
 
 /// A call of the application, which has no entry yet, goes out as a question of its own. The two lists are empty and have
-/// room for one of each capability. `Full` where a limit of the exports or of the questions is passed; the step is only to
-/// be dropped then. Takes no memory, but at most one of the slack for each capability, and two.
+/// room for one of each capability. `Full` where a limit of the exports or of the questions is passed, and there alone; the
+/// step is only to be dropped then. Takes no memory, but at most one of the slack for each capability, and two.
 pub fn call_direct_kept(
     step: &mut Step,
     id: CallId,
@@ -85,9 +90,11 @@ pub fn call_direct_kept(
     requires id_room { length request.caps ≤ vec_capacity ids }
     ensures called { OnOk result (CallsDirect (progress_of step.old) id.0 request target (progress_of step.new)) }
     ensures full { IfErr result (λ fault. fault ≡ TableFault.Full) }
+    ensures fits { map.len (state_of step.old.store).questions ≢ table_limit → exports_lack_room (state_of step.old.store) (going_out (state_of step.old.store) request.caps) ≡ false → IsOk result }
     ensures left { OnOk result (step.old.store.slack ≤ step.new.store.slack + (length request.caps + 2)) }
     ensures less { OnOk result (step.new.store.slack ≤ step.old.store.slack) }
     ensures waits { OnOk result (step.new.store.waits ≡ step.old.store.waits) }
+    ensures noted { OnOk result (noted_of step.new.store.names ≡ noted_of step.old.store.names) }
     ensures ready { OnOk result (IsReady step.new) }
 {
     let Request {

@@ -1,6 +1,7 @@
 ghost use Rattle.std.specs.Prelude.{◌≡◌, ◌+◌, ◌-◌, ◌<◌, ◌≤◌, [], length, vec_capacity};
 ghost use Rattle.vat_machine.specs.Limits.{number_limit};
 ghost use Rattle.vat_machine.specs.Routing.{deliver};
+ghost use Rattle.vat_store.specs.Noted.{noted_of};
 ghost use Rattle.step_base.specs.InProgress.{progress_of, IsReady};
 
 use rpc_msg::{Items, ObjectId, RefId};
@@ -20,6 +21,7 @@ pub fn deliver_kept(step: &mut Step, call: WaitingCall, object: ObjectId, refs: 
     ensures delivered { progress_of step.new ≡ deliver (progress_of step.old) call object }
     ensures left { step.new.store.slack ≡ step.old.store.slack - (length call.request.caps + 2) }
     ensures waits { step.new.store.waits ≡ step.old.store.waits }
+    ensures noted { noted_of step.new.store.names ≡ noted_of step.old.store.names }
     ensures ready { IsReady step.new }
 {
     let WaitingCall { request, outcome } = call;

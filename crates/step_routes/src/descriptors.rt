@@ -1,8 +1,14 @@
-ghost use Rattle.std.specs.Prelude.{◌≡◌, ◌+◌, ◌-◌, ◌≤◌, ◌<◌, ◌++◌, ◌∷◌, [], length, vec_len, vec_capacity, option_to_list, IfOk, IfErr, OnOk, OnErr};
+ghost use Rattle.std.specs.Prelude.{◌≡◌, ◌+◌, ◌-◌, ◌≤◌, ◌<◌, ◌++◌, ◌∷◌, [], ℕ, false, length, vec_len, vec_capacity, option_to_list, Option, IsOk, IfOk, IfErr, OnOk, OnErr};
 ghost use Rattle.rpc_msg.specs.Messages.{given};
+ghost use Rattle.vat_machine.specs.declared.node.Node.{Node};
 ghost use Rattle.vat_machine.specs.Descriptors.{Describes, DescribesAll};
+ghost use Rattle.vat_machine.specs.Fullness.{exports_lack_room, going_out};
+ghost use Rattle.vat_machine.specs.Nodes.{settle};
 ghost use Rattle.vat_machine.specs.Progress.{export_ids};
+ghost use Rattle.vat_tables.specs.Exports.{IsOneEach};
 ghost use Rattle.vat_store.specs.Holding.{state_of, IsSound};
+ghost use Rattle.vat_store.specs.Noted.{noted_of};
+ghost use Rattle.step_routes.specs.Fitting.{AreCounts, HasExportRoom};
 
 use rpc_msg::{Descriptor, ExportId};
 use vat_machine::Node;
@@ -17,8 +23,10 @@ pub fn describe(store: &mut Store, node: Node) -> Result<Descriptor, TableFault>
     requires slack { 0 < store.old.slack }
     ensures ok { IfOk result (λ said. Describes (state_of store.old) node said (state_of store.new)) }
     ensures full { IfErr result (λ fault. fault ≡ TableFault.Full) }
+    ensures fits { (counts : Node → Option ℕ) → AreCounts (state_of store.old) counts → HasExportRoom (state_of store.old) counts (settle (state_of store.old) node) → IsOk result }
     ensures left { (store.old.slack ≤ store.new.slack + 1) × (store.new.slack ≤ store.old.slack) }
     ensures waits { store.new.waits ≡ store.old.waits }
+    ensures noted { noted_of store.new.names ≡ noted_of store.old.names }
     ensures sound { IsSound store.new }
 {
     let at = vat_store::settle(store, node);
@@ -41,9 +49,16 @@ pub fn describe(store: &mut Store, node: Node) -> Result<Descriptor, TableFault>
     }
 }
 
+// No two exports stand for one node: what the table says of itself.
+fn have_one_each(store: &Store)
+    ensures { IsOneEach store.now.exports.entries }
+{
+    let _ = store.exports.get(ExportId(0));
+}
+
 /// The descriptors of these nodes, made one after the other, and the ids of the exports that they add one to, put into two
-/// lists, which are empty and have room for one of each node. `Full` where a limit of the exports is passed; some may have
-/// one more on their count then. Takes no memory, but at most one of the slack for each node.
+/// lists, which are empty and have room for one of each node. `Full` where a limit of the exports is passed, and there alone;
+/// some may have one more on their count then. Takes no memory, but at most one of the slack for each node.
 pub fn describe_all_kept(
     store: &mut Store,
     nodes: &[Node],
@@ -59,10 +74,13 @@ pub fn describe_all_kept(
     ensures ok { OnOk result (DescribesAll (state_of store.old) nodes.now said.new.items (state_of store.new)) }
     ensures ids { OnOk result (ids.new.items ≡ export_ids (given said.new.items)) }
     ensures full { IfErr result (λ fault. fault ≡ TableFault.Full) }
+    ensures fits { exports_lack_room (state_of store.old) (going_out (state_of store.old) nodes.now) ≡ false → IsOk result }
     ensures left { (store.old.slack ≤ store.new.slack + length nodes.now) × (store.new.slack ≤ store.old.slack) }
     ensures waits { store.new.waits ≡ store.old.waits }
+    ensures noted { noted_of store.new.names ≡ noted_of store.old.names }
     ensures sound { IsSound store.new }
 {
+    have_one_each(store);
     for node in nodes {
         let one = describe(store, *node)?;
         push_given(ids, &one);

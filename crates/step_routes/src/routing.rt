@@ -2,6 +2,7 @@ ghost use Rattle.std.specs.Prelude.{◌≡◌, ◌+◌, ◌<◌, ◌≤◌, [], 
 ghost use Rattle.vat_machine.specs.Limits.{number_limit};
 ghost use Rattle.vat_machine.specs.Routing.{Routes, RoutesAll, RoutesHeld};
 ghost use Rattle.vat_waits.specs.Waiting.{calls_of};
+ghost use Rattle.vat_store.specs.Noted.{noted_of};
 ghost use Rattle.step_base.specs.InProgress.{progress_of, IsReady};
 ghost use Rattle.step_routes.specs.Prepared.{IsPrepared};
 
@@ -34,6 +35,7 @@ pub fn route_kept(
     ensures left { OnOk result (step.old.store.slack ≤ step.new.store.slack + (length call.request.caps + 2)) }
     ensures less { OnOk result (step.new.store.slack ≤ step.old.store.slack) }
     ensures taken { OnOk result (step.new.store.waits.taken ≡ step.old.store.waits.taken) }
+    ensures noted { OnOk result (noted_of step.new.store.names ≡ noted_of step.old.store.names) }
     ensures ready { OnOk result (IsReady step.new) }
 {
     let Lists {

@@ -4,6 +4,7 @@ ghost use Rattle.vat_machine.specs.Limits.{held_limit};
 ghost use Rattle.vat_machine.specs.Routing.{WaitsForPromise, WaitsForField};
 ghost use Rattle.vat_waits.specs.Changes.{IsOpen};
 ghost use Rattle.vat_store.specs.Holding.{state_of};
+ghost use Rattle.vat_store.specs.Noted.{noted_of};
 ghost use Rattle.step_base.specs.InProgress.{progress_of, IsReady};
 
 use rpc_msg::Path;
@@ -22,6 +23,7 @@ pub fn wait_for_promise(step: &mut Step, call: WaitingCall, p: u64) -> Result<()
     ensures full { result ≡ Err TableFault.Full → step.old.store.waits.held ≡ held_limit }
     ensures never { IsOpen (map.get (state_of step.old.store).promises p) → step.old.store.waits.held ≢ held_limit → IsOk result }
     ensures taken { step.new.store.waits.taken ≡ step.old.store.waits.taken }
+    ensures noted { noted_of step.new.store.names ≡ noted_of step.old.store.names }
     ensures left { OnOk result (step.new.store.slack ≡ step.old.store.slack - (length call.request.caps + 1)) }
     ensures same { OnErr result (step.new ≡ step.old) }
     ensures ready { IsReady step.new }
@@ -45,6 +47,7 @@ pub fn wait_for_field(
     ensures full { result ≡ Err TableFault.Full → step.old.store.waits.held ≡ held_limit }
     ensures never { IsSome (map.get (state_of step.old.store).outcomes o) → step.old.store.waits.held ≢ held_limit → IsOk result }
     ensures taken { step.new.store.waits.taken ≡ step.old.store.waits.taken }
+    ensures noted { noted_of step.new.store.names ≡ noted_of step.old.store.names }
     ensures left { OnOk result (step.new.store.slack ≡ step.old.store.slack - (length call.request.caps + 1)) }
     ensures same { OnErr result (step.new ≡ step.old) }
     ensures ready { IsReady step.new }

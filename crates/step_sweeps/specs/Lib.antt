@@ -1,1 +1,4 @@
+pub mod Ending
 pub mod Over
+pub mod Thinking
+pub mod Listed

@@ -1,2 +1,20 @@
 //! The end of a step: which questions are over, and what is sent for what goes.
 #![tactic(auto)]
+
+mod effects;
+mod finding;
+mod finishing;
+mod looseness;
+mod losing;
+mod over;
+mod resting;
+mod sweeping;
+mod tallies;
+mod tally;
+mod thought;
+
+pub use effects::{end_settled, hand_out, sweep};
+pub use over::find_over;
+pub use resting::rest;
+pub use sweeping::sweep_over;
+pub use thought::Thought;

@@ -16,7 +16,7 @@ use Rattle.vat_store.specs.declared.store.Store.{Store}
 use Rattle.vat_store.specs.Holding.{state_of, IsFresh, IsSound}
 use Rattle.vat_store.proofs.Covering.{covered_beside}
 use Rattle.vat_store.proofs.Keeping.{renamed, kept_refs}
-use Rattle.store_names.proofs.Beside.{fresh_after, fresh_still, fresh_without, call_numbers, task_numbers, promise_numbers, numbers_still, numbers_after, numbers_without, same_names, kept_numbers}
+use Rattle.store_names.proofs.Beside.{fresh_after, fresh_given, fresh_still, fresh_without, call_numbers, task_numbers, promise_numbers, numbers_still, numbers_after, numbers_without, same_names, kept_numbers}
 
 abbrev pub new_ref : Node → Reference
 new_ref n = record { head = n; embargo = None; made = 0 }
@@ -38,6 +38,23 @@ sound_added x n m c h some fits is room names =
     let b = h.bounded.added in
     subst (λ (c : Names). IsSound (record x { refs = m; names = c; next_ref = next; added = x.added + 1; slack = x.slack - 1 })) (sym names)
     (kept_refs x m next (n ∷ []) [] (x.slack - 1) (x.added + 1) h alike fresh fits made (omega (arith, some)) (omega arith) (omega (arith, b, some)) (omega (arith, a, room, some)))
+
+-- A reference that was taken out is there again.
+pub sound_again : (x : Store) (m : Table Reference) (r : ℕ) (y : Reference) (c : Names) → IsSound x → 0 < x.slack → r < x.next_ref → map.get x.refs.entries r ≡ None → y.made < number_limit
+    → m.entries ≡ map.insert x.refs.entries r y → x.refs.room ≤ m.room + 1 → c ≡ named x.names y.head
+    → IsSound (record x { refs = m; names = c; added = x.added + 1; slack = x.slack - 1 })
+sound_again x m r y c h some given free below is room names =
+    let s : State = state_of x in
+    let alike : Alike (y.head ∷ places s) (places (record s { refs = m.entries; next_ref = x.next_ref })) =
+    subst (λ (e : Map Reference). Alike (y.head ∷ places s) (places (record s { refs = e; next_ref = x.next_ref }))) (sym is) (ref_comes s x.next_ref r y free) in
+    let fresh : IsFresh m.entries x.next_ref = subst (λ (e : Map Reference). IsFresh e x.next_ref) (sym is) (fresh_given s.refs x.next_ref h.numbered.refs r y given) in
+    let made : (k : ℕ) → made_through (map.get m.entries k) < number_limit =
+    subst (λ (e : Map Reference). (k : ℕ) → made_through (map.get e k) < number_limit) (sym is)
+    (each_inserted (λ k o. made_through o < number_limit) s.refs r y below (λ k apart. h.within.made k)) in
+    let a = h.room.refs in
+    let b = h.bounded.added in
+    subst (λ (c : Names). IsSound (record x { refs = m; names = c; added = x.added + 1; slack = x.slack - 1 })) (sym names)
+    (kept_refs x m x.next_ref (y.head ∷ []) [] (x.slack - 1) (x.added + 1) h alike fresh h.within.refs made (omega (arith, some)) (omega arith) (omega (arith, b, some)) (omega (arith, a, room, some)))
 
 sound_without : (x : Store) (m : Table Reference) (r : ℕ) (gone : List Node) → IsSound x → m.entries ≡ map.remove x.refs.entries r → x.refs.room ≤ m.room
     → Alike (places (state_of x)) (gone ++ places (record (state_of x) { refs = map.remove x.refs.entries r }))

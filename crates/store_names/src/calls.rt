@@ -3,6 +3,7 @@ ghost use Rattle.std.specs.FinMap as map;
 ghost use Rattle.vat_machine.specs.Limits.{number_limit};
 ghost use Rattle.vat_names.specs.Names.{HasSpare};
 ghost use Rattle.vat_store.specs.Holding.{state_of, IsSound};
+ghost use Rattle.vat_store.specs.Noted.{noted_of};
 ghost use Rattle.vat_machine.specs.OwnCalls.{HasItsOwnAlone};
 ghost use Rattle.store_names.specs.Ends.{noted_for};
 
@@ -19,6 +20,7 @@ pub fn number_call(store: &mut Store) -> CallId
     ensures state { state_of store.new ≡ record (state_of store.old) { next_call = store.old.next_call + 1 } }
     ensures left { store.new.slack ≡ store.old.slack }
     ensures waits { store.new.waits ≡ store.old.waits }
+    ensures noted { noted_of store.new.names ≡ noted_of store.old.names }
     ensures sound { IsSound store.new }
 {
     let number = store.next_call;
@@ -36,6 +38,7 @@ pub fn add_call(store: &mut Store, number: CallId, from: OwnCall)
     ensures state { state_of store.new ≡ record (state_of store.old) { calls = map.insert (state_of store.old).calls number.0 from } }
     ensures left { store.new.slack ≡ store.old.slack - 1 }
     ensures waits { store.new.waits ≡ store.old.waits }
+    ensures noted { noted_of store.new.names ≡ noted_of store.old.names }
     ensures sound { IsSound store.new }
 {
     let Ok(()) = store.calls.add(number.0, from) else {

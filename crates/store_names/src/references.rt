@@ -1,10 +1,11 @@
-ghost use Rattle.std.specs.Prelude.{◌≡◌, ◌+◌, ◌-◌, ◌≤◌, ◌<◌, [], ◌∷◌, ◌++◌, IsSome, length, vec_len, vec_capacity};
+ghost use Rattle.std.specs.Prelude.{◌≡◌, ◌+◌, ◌-◌, ◌≤◌, ◌<◌, [], ◌∷◌, ◌++◌, None, IsSome, length, vec_len, vec_capacity};
 ghost use Rattle.std.specs.FinMap as map;
 ghost use Rattle.vat_machine.specs.Lists.{update};
 ghost use Rattle.vat_machine.specs.Limits.{number_limit, made_through};
 ghost use Rattle.vat_machine.specs.Messages.{unembargoed};
 ghost use Rattle.vat_machine.specs.Progress.{with_refs, new_refs};
 ghost use Rattle.vat_store.specs.Holding.{state_of, IsSound};
+ghost use Rattle.vat_store.specs.Noted.{noted_of};
 ghost use Rattle.store_names.specs.Changes.{headed_to, turned_under, counted_once};
 
 use rpc_msg::{EmbargoId, RefId};
@@ -20,6 +21,7 @@ pub fn add_ref(store: &mut Store, node: Node) -> RefId
     ensures state { state_of store.new ≡ with_refs (state_of store.old) (node ∷ []) }
     ensures left { store.new.slack ≡ store.old.slack - 1 }
     ensures waits { store.new.waits ≡ store.old.waits }
+    ensures noted { noted_of store.new.names ≡ noted_of store.old.names }
     ensures sound { IsSound store.new }
 {
     let head = node;
@@ -52,6 +54,7 @@ pub fn add_refs(store: &mut Store, nodes: &[Node], ids: &mut Vec<RefId>)
     ensures state { state_of store.new ≡ with_refs (state_of store.old) nodes.now }
     ensures left { store.new.slack ≡ store.old.slack - length nodes.now }
     ensures waits { store.new.waits ≡ store.old.waits }
+    ensures noted { noted_of store.new.names ≡ noted_of store.old.names }
     ensures sound { IsSound store.new }
 {
     for node in nodes {
@@ -131,6 +134,7 @@ pub fn count_made(store: &mut Store, id: RefId)
     ensures state { state_of store.new ≡ record (state_of store.old) { refs = update (state_of store.old).refs id.0 counted_once } }
     ensures left { store.new.slack ≡ store.old.slack }
     ensures waits { store.new.waits ≡ store.old.waits }
+    ensures noted { noted_of store.new.names ≡ noted_of store.old.names }
     ensures sound { IsSound store.new }
 {
     let Some(reference) = store.refs.get_mut(id.0) else {
@@ -151,4 +155,26 @@ pub fn forget_ref(store: &mut Store, id: RefId) -> Option<Reference>
     let reference = store.refs.remove(id.0)?;
     store.names.sub(reference.head);
     Some(reference)
+}
+
+/// Puts back a reference that was taken out, under its number. Takes no memory, but one of the slack.
+pub fn put_back_ref(store: &mut Store, id: RefId, reference: Reference)
+    requires sound { IsSound store.old }
+    requires slack { 0 < store.old.slack }
+    requires free { map.get (state_of store.old).refs id.0 ≡ None }
+    requires given { id.0 < store.old.next_ref }
+    requires made { reference.made < number_limit }
+    ensures state { state_of store.new ≡ record (state_of store.old) { refs = map.insert (state_of store.old).refs id.0 reference } }
+    ensures left { store.new.slack ≡ store.old.slack - 1 }
+    ensures waits { store.new.waits ≡ store.old.waits }
+    ensures sound { IsSound store.new }
+{
+    let Ok(()) = store.names.add(reference.head) else {
+        unreachable!()
+    };
+    let Ok(()) = store.refs.add(id.0, reference) else {
+        unreachable!()
+    };
+    store.added += 1;
+    store.slack -= 1;
 }

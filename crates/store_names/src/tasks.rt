@@ -2,6 +2,7 @@ ghost use Rattle.std.specs.Prelude.{◌≡◌, ◌+◌, ◌-◌, ◌<◌};
 ghost use Rattle.std.specs.FinMap as map;
 ghost use Rattle.vat_machine.specs.Limits.{number_limit};
 ghost use Rattle.vat_store.specs.Holding.{state_of, IsSound};
+ghost use Rattle.vat_store.specs.Noted.{noted_of};
 
 use rpc_msg::TaskId;
 use vat_store::Store;
@@ -16,6 +17,7 @@ pub fn add_task(store: &mut Store, outcome: u64) -> TaskId
     ensures state { state_of store.new ≡ record (state_of store.old) { tasks = map.insert (state_of store.old).tasks store.old.next_task outcome; next_task = store.old.next_task + 1 } }
     ensures left { store.new.slack ≡ store.old.slack - 1 }
     ensures waits { store.new.waits ≡ store.old.waits }
+    ensures noted { noted_of store.new.names ≡ noted_of store.old.names }
     ensures sound { IsSound store.new }
 {
     let number = store.next_task;

@@ -7,6 +7,7 @@ ghost use Rattle.vat_machine.specs.Progress.{numbers};
 ghost use Rattle.vat_machine.specs.Settling.{exports_where};
 ghost use Rattle.vat_tables.specs.Exports.{IsNameLimit};
 ghost use Rattle.vat_store.specs.Holding.{state_of, IsSound};
+ghost use Rattle.vat_store.specs.Noted.{noted_of};
 
 use crate::naming::name_if;
 use rpc_msg::{ExportId, Items, Memory};
@@ -24,6 +25,7 @@ pub fn name_export(store: &mut Store, node: Node) -> Result<ExportId, TableFault
     ensures named { IfOk result (λ e. Exported (state_of store.old) node e.0 (state_of store.new)) }
     ensures left { OnOk result (store.new.slack ≡ store.old.slack - 1) }
     ensures waits { store.new.waits ≡ store.old.waits }
+    ensures noted { noted_of store.new.names ≡ noted_of store.old.names }
     ensures sound { IsSound store.new }
     ensures at_limit { IsNameLimit (state_of store.old).exports node → result ≡ Err TableFault.Full }
     ensures full { IfErr result (λ fault. (fault ≡ TableFault.Full) × IsNameLimit (state_of store.old).exports node) }

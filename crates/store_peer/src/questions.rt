@@ -8,6 +8,7 @@ ghost use Rattle.vat_machine.specs.Lists.{update};
 ghost use Rattle.vat_machine.specs.Messages.{waived};
 ghost use Rattle.vat_machine.specs.Places.{named_by_returned};
 ghost use Rattle.vat_store.specs.Holding.{state_of, IsSound};
+ghost use Rattle.vat_store.specs.Noted.{noted_of};
 ghost use Rattle.store_peer.specs.Peer.{NewQuestion, NewQuestionFor, question_said, question_waived, close_question};
 
 use crate::naming::{count_returned, name_returned, note_relay, unname_returned};
@@ -30,6 +31,7 @@ pub fn ask_relay(
     ensures asked { IfOk result (λ q. NewQuestion (state_of store.old) q.0 (record { role = role.Relay outcome; given = given; returned = None; finish = finishing.Owed }) (state_of store.new)) }
     ensures left { OnOk result (store.new.slack ≡ store.old.slack - 1) }
     ensures waits { store.new.waits ≡ store.old.waits }
+    ensures noted { noted_of store.new.names ≡ noted_of store.old.names }
     ensures sound { IsSound store.new }
     ensures at_limit { map.len (state_of store.old).questions ≡ table_limit → result ≡ Err TableFault.Full }
     ensures below { map.len (state_of store.old).questions ≢ table_limit → IsOk result }
@@ -68,6 +70,7 @@ pub fn ask_direct(
     ensures asked { IfOk result (λ q. NewQuestionFor (state_of store.old) call.0 q.0 (own.Direct q) (record { role = role.Direct call; given = given; returned = None; finish = finishing.Owed }) (state_of store.new)) }
     ensures left { OnOk result (store.new.slack ≡ store.old.slack - 1) }
     ensures waits { store.new.waits ≡ store.old.waits }
+    ensures noted { noted_of store.new.names ≡ noted_of store.old.names }
     ensures sound { IsSound store.new }
     ensures at_limit { map.len (state_of store.old).questions ≡ table_limit → result ≡ Err TableFault.Full }
     ensures below { map.len (state_of store.old).questions ≢ table_limit → IsOk result }

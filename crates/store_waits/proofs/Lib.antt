@@ -4,3 +4,4 @@ pub mod Knowing
 pub mod Lifting
 pub mod Linked
 pub mod Promising
+pub mod Unnoted

@@ -4,6 +4,7 @@ ghost use Rattle.vat_machine.specs.Commands.{WaitsForEmbargo};
 ghost use Rattle.vat_machine.specs.Limits.{held_limit, table_limit};
 ghost use Rattle.vat_machine.specs.Progress.{Progress, with_state};
 ghost use Rattle.vat_store.specs.Holding.{state_of, IsSound};
+ghost use Rattle.vat_store.specs.Noted.{noted_of};
 ghost use Rattle.store_waits.specs.Changes.{Lifts};
 
 use rpc_msg::{EmbargoId, Memory, RefId};
@@ -48,6 +49,7 @@ pub fn hold_under(store: &mut Store, id: EmbargoId, call: WaitingCall) -> Result
     ensures taken { store.new.waits.taken ≡ store.old.waits.taken }
     ensures left { OnOk result (store.new.slack ≡ store.old.slack - (length call.request.caps + 1)) }
     ensures same { OnErr result (store.new ≡ store.old) }
+    ensures noted { noted_of store.new.names ≡ noted_of store.old.names }
     ensures sound { IsSound store.new }
 {
     let Some(_parts) = store.waits.embargo(id) else {

@@ -5,8 +5,11 @@ ghost use Rattle.vat_machine.specs.Limits.{held_limit};
 ghost use Rattle.vat_machine.specs.Progress.{Progress, with_state, caps_of};
 ghost use Rattle.vat_machine.specs.Routing.{WaitsForField};
 ghost use Rattle.vat_waits.specs.Changes.{HasNoneWaiting, outcome_parts};
+ghost use Rattle.vat_names.specs.Names.{named_all};
 ghost use Rattle.vat_store.specs.Holding.{state_of, IsSound};
+ghost use Rattle.vat_store.specs.Noted.{noted_of};
 ghost use Rattle.store_waits.specs.Changes.{IsUnknown, Knows, TakesHeld};
+ghost use Rattle.store_waits.specs.Noting.{noted_unnamed};
 
 use crate::naming::{caps_if_known, caps_of, note_unnamed};
 use rpc_msg::{Memory, Path};
@@ -23,6 +26,7 @@ pub fn new_outcome(store: &mut Store, caller: Caller) -> u64
     ensures state { state_of store.new ≡ with_outcome (state_of store.old) result caller }
     ensures taken { store.new.waits.taken ≡ store.old.waits.taken }
     ensures left { store.new.slack ≡ store.old.slack - 1 }
+    ensures noted { noted_of store.new.names ≡ noted_of store.old.names }
     ensures sound { IsSound store.new }
 {
     let Ok(key) = store.waits.new_outcome(caller) else {
@@ -50,6 +54,7 @@ pub fn hold_for_field(
     ensures taken { store.new.waits.taken ≡ store.old.waits.taken }
     ensures left { OnOk result (store.new.slack ≡ store.old.slack - (length call.request.caps + 1)) }
     ensures same { OnErr result (store.new ≡ store.old) }
+    ensures noted { noted_of store.new.names ≡ noted_of store.old.names }
     ensures sound { IsSound store.new }
 {
     let Some(_caller) = store.waits.caller(key) else {
@@ -80,6 +85,7 @@ pub fn know(store: &mut Store, key: u64, value: Value) -> Result<(), Memory>
     ensures never { IsUnknown (map.get (state_of store.old).outcomes key) → IsOk result }
     ensures taken { store.new.waits.taken ≡ store.old.waits.taken }
     ensures left { OnOk result (store.new.slack ≡ store.old.slack - (length (caps_of value) + 1)) }
+    ensures noted { OnOk result (noted_of store.new.names ≡ noted_of (noted_unnamed (named_all store.old.names (caps_of value)) key)) }
     ensures same { OnErr result (store.new ≡ store.old) }
     ensures sound { IsSound store.new }
 {

@@ -7,6 +7,7 @@ ghost use Rattle.vat_machine.specs.Routing.{WaitsForPromise};
 ghost use Rattle.vat_machine.specs.Nodes.{promise_link};
 ghost use Rattle.vat_waits.specs.Changes.{IsOpen};
 ghost use Rattle.vat_store.specs.Holding.{state_of, IsSound};
+ghost use Rattle.vat_store.specs.Noted.{noted_of};
 ghost use Rattle.store_waits.specs.Changes.{Fixes};
 
 use rpc_msg::Memory;
@@ -22,6 +23,7 @@ pub fn open_promise(store: &mut Store) -> u64
     ensures state { state_of store.new ≡ record (state_of store.old) { promises = map.insert (state_of store.old).promises result (promise.Open []) } }
     ensures taken { store.new.waits.taken ≡ store.old.waits.taken }
     ensures left { store.new.slack ≡ store.old.slack - 1 }
+    ensures noted { noted_of store.new.names ≡ noted_of store.old.names }
     ensures sound { IsSound store.new }
 {
     let Ok(key) = store.waits.open_promise() else {
@@ -49,6 +51,7 @@ pub fn hold_for_promise(store: &mut Store, key: u64, call: WaitingCall) -> Resul
     ensures taken { store.new.waits.taken ≡ store.old.waits.taken }
     ensures left { OnOk result (store.new.slack ≡ store.old.slack - (length call.request.caps + 1)) }
     ensures same { OnErr result (store.new ≡ store.old) }
+    ensures noted { noted_of store.new.names ≡ noted_of store.old.names }
     ensures sound { IsSound store.new }
 {
     if !store.waits.has_promise(key) {

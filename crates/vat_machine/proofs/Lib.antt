@@ -1,5 +1,6 @@
 pub mod StaysDown
 pub mod Settles
+pub mod Following
 pub mod ExportCounts
 pub mod StepCounts
 pub mod Lowering

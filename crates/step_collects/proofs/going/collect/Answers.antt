@@ -1,15 +1,8 @@
-use Rattle.vat_machine.specs.Collecting.{Loose}
-use Rattle.step_base.specs.InProgress.{progress_of}
-use Rattle.step_collects.proofs.Dropping.{rests_tight}
+use Rattle.step_collects.proofs.Dropping.{ready_ended, ending_ready}
 use Rattle.step_collects.proofs.going.collect.Goals as goal
 
-pub dropping-preserved : goal.dropping-preserved
-dropping-preserved c = record {
-  rest = λ new all. c.dropping.invariant.rest new (Loose c.dropping-test.ensures.drops.goes all);
-  taken = c.drop_one.ensures.taken;
-  ready = c.drop_one.ensures.ready;
-}
+pub collect_ending-requires-clause-ending : goal.collect_ending-requires-clause-ending
+collect_ending-requires-clause-ending c = ending_ready c.args.step.now c.requires.ready
 
-pub returns-clause-collects : goal.returns-clause-collects
-returns-clause-collects c =
-    c.dropping.invariant.rest (progress_of c.drop_one.new.step) (rests_tight c.dropping.step c.drop_one.new.step c.dropping-test.ensures.drops)
+pub returns-clause-ready : goal.returns-clause-ready
+returns-clause-ready c = ready_ended c.args.step.now c.collect_ending.new.step c.requires.ready c.collect_ending.ensures.rest c.collect_ending.ensures.ending

@@ -1,5 +1,7 @@
 use Rattle.std.proofs.Common.{ap, ◌∙◌}
+use Rattle.vat_names.specs.Names.{Names}
 use Rattle.vat_store.specs.declared.store.Store.{Store}
+use Rattle.vat_store.specs.Noted.{Notes, noted_of}
 use Rattle.step_collects.proofs.Searching.{import_passed, import_again}
 use Rattle.step_collects.proofs.search.next_loose_import.Goals as goal
 
@@ -13,4 +15,5 @@ loop-id-preserved c =
     let none = ap (λ (x : Store). x.waits.taken) c.loop-id.invariant.same ∙ c.requires.none_taken in record {
       same = ap (λ (x : Store). record x { names = c.take_import.new.self }) c.loop-id.invariant.same;
       sound = import_passed c.loop-id.store none c.loop-id.invariant.sound c.take_import.new.self c.in-Some.id.0 c.in-Some.ensures c.if-is_loose_import.ensures;
+      noted = ap (λ (n : Names). record (noted_of n) { imports = c.take_import.new.self.imports.noted }) c.in-Some.ensures.2 ∙ ap (λ (n : Notes). record n { imports = c.take_import.new.self.imports.noted }) c.loop-id.invariant.noted;
     }

@@ -1,5 +1,7 @@
 use Rattle.std.proofs.Common.{ap, ◌∙◌}
+use Rattle.vat_names.specs.Names.{Names}
 use Rattle.vat_store.specs.declared.store.Store.{Store}
+use Rattle.vat_store.specs.Noted.{Notes, noted_of}
 use Rattle.step_collects.proofs.Searching.{outcome_passed, outcome_again}
 use Rattle.step_collects.proofs.search.next_loose_outcome.Goals as goal
 
@@ -13,4 +15,5 @@ loop-key-preserved c =
     let none = ap (λ (x : Store). x.waits.taken) c.loop-key.invariant.same ∙ c.requires.none_taken in record {
       same = ap (λ (x : Store). record x { names = c.take_outcome.new.self }) c.loop-key.invariant.same;
       sound = outcome_passed c.loop-key.store none c.loop-key.invariant.sound c.take_outcome.new.self c.in-Some.key c.in-Some.ensures c.if-is_loose_outcome.ensures;
+      noted = ap (λ (n : Names). record (noted_of n) { outcomes = c.take_outcome.new.self.outcomes.noted }) c.in-Some.ensures.2 ∙ ap (λ (n : Notes). record n { outcomes = c.take_outcome.new.self.outcomes.noted }) c.loop-key.invariant.noted;
     }

@@ -1,7 +1,8 @@
-use Rattle.std.proofs.Common.{length, ap, ◌∙◌, arith}
+use Rattle.std.proofs.Common.{◌≡◌, false, true, length, IsOk, sym, ap, subst, ◌∙◌, arith}
 use Rattle.std.specs.FinMap as map
 use Rattle.vat_store.specs.Holding.{state_of}
 use Rattle.step_routes.proofs.Calling.{calls_kept, next_call_kept, ready_called, calls}
+use Rattle.step_routes.proofs.Describing.{questions_kept}
 use Rattle.step_routes.proofs.asking.call_direct_kept.Goals as goal
 
 pub ask_direct-requires-clause-new : goal.ask_direct-requires-clause-new
@@ -23,3 +24,8 @@ returns-clause-called c =
     calls c.args.step.now c.in_ok-question.question c.args.id c.as_slice.result.now c.describe_all_kept.new.said.items c.from_vec.result
     c.describe_all_kept.new.store c.ask_direct.new.store c.in_ok-describe_all_kept.ensures.ok c.in_ok-question.ensures.asked
     c.args.target c.args.request c.from_vec-2.result _ c.as_slice.ensures (c.from_vec.ensures ∙ c.in_ok-describe_all_kept.ensures.ids) c.from_vec-2.ensures c.send.ensures.said
+
+pub returns-in_err-question-clause-fits : goal.returns-in_err-question-clause-fits
+returns-in_err-question-clause-fits c = λ free room.
+    let kept = questions_kept (state_of c.args.step.now.store) (state_of c.describe_all_kept.new.store) c.as_slice.result.now c.describe_all_kept.new.said.items c.in_ok-describe_all_kept.ensures.ok in
+    absurd (let bad : false ≡ true = subst IsOk c.in_err-question.was (c.ask_direct.ensures.below (λ full. free (ap map.len (sym kept) ∙ full))) in cc)

@@ -1,6 +1,9 @@
-use Rattle.std.proofs.Common.{length, ap, ◌∙◌, arith}
+use Rattle.std.proofs.Common.{◌≡◌, false, true, length, IsOk, sym, ap, subst, ◌∙◌, arith}
+use Rattle.std.specs.FinMap as map
 use Rattle.vat_machine.specs.declared.entries.Role.TheVariants as role
+use Rattle.vat_store.specs.Holding.{state_of}
 use Rattle.step_routes.proofs.Sending.{ready_relayed, asks}
+use Rattle.step_routes.proofs.Describing.{questions_kept}
 use Rattle.step_routes.proofs.asking.relay_kept.Goals as goal
 
 pub send-requires-clause-ready : goal.send-requires-clause-ready
@@ -16,3 +19,8 @@ returns-clause-relayed c = (
       c.describe_all_kept.new.store c.ask_relay.new.store c.in_ok-describe_all_kept.ensures.ok c.in_ok-question.ensures.asked
       c.args.target c.args.call.request c.from_vec-2.result _ c.as_slice.ensures (c.from_vec.ensures ∙ c.in_ok-describe_all_kept.ensures.ids) c.from_vec-2.ensures c.send.ensures.said,
 )
+
+pub returns-in_err-question-clause-fits : goal.returns-in_err-question-clause-fits
+returns-in_err-question-clause-fits c = λ free room.
+    let kept = questions_kept (state_of c.args.step.now.store) (state_of c.describe_all_kept.new.store) c.as_slice.result.now c.describe_all_kept.new.said.items c.in_ok-describe_all_kept.ensures.ok in
+    absurd (let bad : false ≡ true = subst IsOk c.in_err-question.was (c.ask_relay.ensures.below (λ full. free (ap map.len (sym kept) ∙ full))) in cc)

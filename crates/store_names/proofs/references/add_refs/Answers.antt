@@ -19,5 +19,9 @@ loop-node-preserved c =
       next = let e = ap (λ s. s.next_ref) made.state in let f = before.next in omega (arith, e, f);
       slack = let e = made.left in let f = before.slack in let g = c.requires.slack in omega (arith, e, f, g, c.loop-node-test.true);
       waits = made.waits ∙ before.waits;
+      noted = made.noted ∙ before.noted;
       room = let e = c.in-Ok.ensures.len in let f = c.push.ensures.capacity in let g = before.room in omega (arith, e, f, g, c.loop-node-test.true);
     }
+
+pub returns-clause-noted : goal.returns-clause-noted
+returns-clause-noted c = c.loop-node.invariant.noted

@@ -1,6 +1,7 @@
 use Rattle.std.proofs.Common.{◌≡◌, ◌+◌, ◌-◌, ◌≤◌, ◌++◌, take, length, vec_len, vec_capacity}
 use Rattle.vat_machine.specs.Progress.{with_refs, new_refs}
 use Rattle.vat_store.specs.Holding.{state_of, IsSound}
+use Rattle.vat_store.specs.Noted.{noted_of}
 use Rattle.store_names.proofs.references.add_refs.Given as goal
 
 abbrev pub invariant-loop-node : goal.invariant-loop-node
@@ -11,5 +12,6 @@ invariant-loop-node l = record {
   next : l.store.next_ref ≡ l.fn.store.next_ref + l.node-index;
   slack : l.store.slack + l.node-index ≡ l.fn.store.slack;
   waits : l.store.waits ≡ l.fn.store.waits;
+  noted : noted_of l.store.names ≡ noted_of l.fn.store.names;
   room : vec_len l.ids + (length l.nodes - l.node-index) ≤ vec_capacity l.ids;
 }

@@ -1,7 +1,10 @@
-use Rattle.std.proofs.Common.{arith}
+use Rattle.std.proofs.Common.{arith, ap, ◌∙◌}
 use Rattle.std.specs.FinMap as map
+use Rattle.vat_names.specs.Names.{Names}
+use Rattle.vat_store.specs.Noted.{noted_of}
 use Rattle.store_waits.proofs.Beside.{named_each}
 use Rattle.store_waits.proofs.Lifting.{waits_there, sound_held}
+use Rattle.store_waits.proofs.Unnoted.{noted_each}
 use Rattle.store_waits.proofs.embargoes.hold_under.Goals as goal
 
 pub returns-clause-sound : goal.returns-clause-sound
@@ -14,3 +17,12 @@ returns-clause-sound c =
 
 pub returns-clause-ok : goal.returns-clause-ok
 returns-clause-ok c = λ d. waits_there c.args.store.now c.args.id.0 c.args.call (map.get c.args.store.now.waits.embargoes c.args.id.0) c.hold_under.new.self d c.in-Ok-hold_under.ensures.ok
+
+pub returns-clause-noted : goal.returns-clause-noted
+returns-clause-noted c =
+    let x = c.args.store.now in
+    let caps = c.args.call.request.caps in
+    let some = c.requires.slack in
+    ap (λ (names : Names). noted_of names)
+    (named_each x c.as_slice.result.now caps c.add_all.new.self c.requires.sound c.as_slice.ensures (omega (arith, some)) c.in-Ok.ensures.in_room)
+    ∙ noted_each x.names caps

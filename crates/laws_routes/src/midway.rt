@@ -1,0 +1,85 @@
+//! What the laws of pieces take as known of a state follows from one record of what is so in the middle of a step. No code runs
+//! here.
+
+ghost use Rattle.laws_routes.specs.Midway.{
+  AllHeldMayGoFollows,
+  AllMayGoFollows,
+  AllMaySendFollows,
+  CollectedFollows,
+  LinksRestFollows,
+  MayActFollows,
+  MayAdvanceFollows,
+  MayAskFollows,
+  MayCallFollows,
+  MayFixFollows,
+  MayGoFollows,
+  MayKeepFollows,
+  MayOpenFollows,
+  MaySayFollows,
+  MaySendFollows,
+  MaySettleFollows,
+  MayTakeFollows,
+  MidwayAsRouted,
+  OwnMayBeTold,
+  SettlingKeepsIt,
+};
+
+/// A free id or key may be used: a question may be asked with it, an outcome kept, a promise opened, an import taken.
+pub fn free_ids_may_be_used()
+    ensures asked { MayAskFollows }
+    ensures kept { MayKeepFollows }
+    ensures opened { MayOpenFollows }
+    ensures taken { MayTakeFollows }
+{}
+
+/// Links rest, a call may be routed to any node that is held, and one may be made through any reference.
+pub fn calls_may_go()
+    ensures rest { LinksRestFollows }
+    ensures goes { MayGoFollows }
+    ensures made { MayCallFollows }
+{}
+
+/// A descriptor may be made of where any such node settles, a Resolve sent of any export, and any reference may advance.
+pub fn more_may_be_said()
+    ensures said { MaySayFollows }
+    ensures sent { MaySendFollows }
+    ensures advances { MayAdvanceFollows }
+{}
+
+/// A command may do its first act, where it is not refused, if the caller of the outcome that it settles may be told.
+/// Behind one that settles a promise or an outcome it is so too.
+pub fn commands_may_act()
+    ensures acts { MayActFollows }
+    ensures kept { SettlingKeepsIt }
+{}
+
+/// A call that goes on keeps what is so in the middle of a step. So a list of calls may be routed, one after the other, and those
+/// that waited for an outcome.
+pub fn routed_calls_keep_it()
+    ensures one { MidwayAsRouted }
+    ensures list { AllMayGoFollows }
+    ensures held { AllHeldMayGoFollows }
+{}
+
+/// The Resolves of a promise or of an outcome may be sent, and keep what is so in the middle of a step.
+pub fn resolves_keep_it()
+    ensures { AllMaySendFollows }
+{}
+
+/// A promise may be fixed to what is held and does not lead to it: its calls go on and its Resolves are sent, and it is so behind
+/// them.
+pub fn fixed_promises_keep_it()
+    ensures { MayFixFollows }
+{}
+
+/// An outcome may settle with a value whose capabilities are held, if its caller may be told: its calls go on and its Resolves are
+/// sent, and it is so behind them. The application may always be told.
+pub fn settled_outcomes_keep_it()
+    ensures any { MaySettleFollows }
+    ensures own { OwnMayBeTold }
+{}
+
+/// What no place names may go, one after the other: it is so behind them.
+pub fn collecting_keeps_it()
+    ensures { CollectedFollows }
+{}

@@ -1,0 +1,42 @@
+use Rattle.std.proofs.Common.{ap, ◌∙◌}
+use Rattle.vat_machine.specs.Progress.{caps_of}
+use Rattle.vat_machine.specs.declared.calls.Value.{Value}
+use Rattle.vat_names.specs.Names.{named_all}
+use Rattle.vat_store.specs.Noted.{noted_of}
+use Rattle.vat_store.specs.declared.store.Store.{Store}
+use Rattle.vat_store.specs.Holding.{state_of}
+use Rattle.store_waits.specs.Noting.{noted_unnamed}
+use Rattle.step_base.specs.InProgress.{progress_of}
+use Rattle.step_calls.proofs.Once.{same_key, same_value, knew, said_so, drains, noted_key}
+use Rattle.step_calls.proofs.ended.settle_ended.Goals as goal
+
+pub returns-clause-drains : goal.returns-clause-drains
+returns-clause-drains c =
+    let d = progress_of c.args.step.now in
+    let then = progress_of c.next_arisen.new.step in
+    let k = c.in-Some.key in
+    let v = c.in-Some.value in
+    let is = c.in-Some.ensures.some in
+    let t = state_of c.know.new.store in
+    let new = progress_of c.tell_ended.new.step in
+    let call = c.args.call in
+    let told = c.args.told in
+    let h = c.requires.ends in
+    drains d call told h new
+    (said_so d call told h then k v is t c.new.result new (knew d call told h then k v is t c.in-Ok.ensures.ok) c.new.ensures c.tell_ended.ensures.said)
+
+pub returns-clause-noted : goal.returns-clause-noted
+returns-clause-noted c =
+    let x = c.args.step.now in
+    let d = progress_of x in
+    let then = progress_of c.next_arisen.new.step in
+    let k = c.in-Some.key in
+    let v = c.in-Some.value in
+    let is = c.in-Some.ensures.some in
+    let call = c.args.call in
+    let told = c.args.told in
+    let h = c.requires.ends in
+    noted_key x call told h c.requires.ready.sound c.requires.none_taken k (noted_of c.tell_ended.new.step.store.names) (same_key d call told h then k v is)
+    (ap (λ (s : Store). noted_of s.names) c.tell_ended.ensures.store ∙ c.in-Ok.ensures.noted
+    ∙ ap (λ (w : Value). noted_of (noted_unnamed (named_all c.next_arisen.new.step.store.names (caps_of w)) k)) (same_value d call told h then k v is)
+    ∙ ap (λ (s : Store). noted_of (noted_unnamed s.names k)) c.in-Some.ensures.store)

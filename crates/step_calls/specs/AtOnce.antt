@@ -1,0 +1,31 @@
+-- A call of the application that ends where it is made.
+use Rattle.std.specs.Prelude.{◌≡◌, ℕ, None, Some, List, [], ◌∷◌, ◌++◌}
+use Rattle.std.specs.FinMap as map
+use Rattle.rpc_msg.specs.declared.exception.Exception.{Exception}
+use Rattle.rpc_msg.specs.declared.ids.CallId.{CallId}
+use Rattle.vat_machine.specs.declared.calls.Caller.TheVariants as caller
+use Rattle.vat_machine.specs.declared.calls.OwnCall.{OwnCall}
+use Rattle.vat_machine.specs.declared.calls.Value.{Value}
+use Rattle.vat_machine.specs.declared.calls.Value.TheVariants as value
+use Rattle.vat_machine.specs.Nodes.{is_field}
+use Rattle.vat_machine.specs.Places.{names}
+use Rattle.vat_machine.specs.Progress.{Progress}
+use Rattle.vat_store.specs.Noted.{Notes}
+
+-- One outcome arose, that of an unfinished call of the application, and it is this exception. It is not known, nothing
+-- waits for it, and no place names a field of it.
+pub record EndsAtOnce (d : Progress) (call : CallId) (told : Exception) : Type 0 where
+  pub key : ℕ
+  pub from : OwnCall
+  pub arisen : d.arisen ≡ (key, value.Exception told) ∷ []
+  pub outcome : map.get d.state.outcomes key ≡ Some (record { caller = caller.Application call; value = None; waiting = [] })
+  pub unfinished : map.get d.state.calls call.0 ≡ Some from
+  pub unnamed : names d.state (is_field key) ≡ 0
+
+-- The outcomes that arose are noted, behind those that were.
+abbrev pub keys_of : List (ℕ × Value) → List ℕ
+keys_of [] = []
+keys_of (x ∷ xs) = x.0 ∷ keys_of xs
+
+abbrev pub noted_with : Notes → List (ℕ × Value) → Notes
+noted_with n arisen = record n { outcomes = n.outcomes ++ keys_of arisen }

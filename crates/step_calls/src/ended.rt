@@ -1,0 +1,38 @@
+ghost use Rattle.std.specs.Prelude.{◌≡◌, ◌-◌, ◌≤◌, []};
+ghost use Rattle.vat_machine.specs.Settling.{Drains};
+ghost use Rattle.vat_store.specs.Noted.{noted_of};
+ghost use Rattle.step_base.specs.InProgress.{progress_of, IsReady};
+ghost use Rattle.step_calls.specs.AtOnce.{EndsAtOnce, noted_with};
+
+use rpc_msg::{CallId, Exception, Items};
+use std::alloc::Global;
+use step_base::Step;
+use vat_journal::{Ended, Outcome};
+
+/// The application is told of a call of its own that ended at once, by the one exception that arose: the outcome keeps that,
+/// and the application is told the same, which is given over. All that arose is settled then. Takes no memory, but two of
+/// the slack.
+pub fn settle_ended(step: &mut Step, alloc: Global, call: CallId, told: Exception)
+    requires ready { IsReady step.old }
+    requires slack { 2 ≤ step.old.store.slack }
+    requires none_taken { step.old.store.waits.taken ≡ [] }
+    requires ends { EndsAtOnce (progress_of step.old) call told }
+    ensures drains { Drains (progress_of step.new) (progress_of step.old) }
+    ensures taken { step.new.store.waits.taken ≡ [] }
+    ensures left { step.new.store.slack ≡ step.old.store.slack - 2 }
+    ensures noted { noted_of step.new.store.names ≡ noted_with (noted_of step.old.store.names) (progress_of step.old).arisen }
+    ensures ready { IsReady step.new }
+{
+    let Some((key, value)) = step_base::next_arisen(step) else {
+        unreachable!()
+    };
+    let Ok(()) = store_waits::know(&mut step.store, key, value) else {
+        unreachable!()
+    };
+    let ended = Ended {
+        call,
+        outcome: Outcome::Exception(told),
+        refs: Items::new(alloc),
+    };
+    step_base::tell_ended(step, ended);
+}

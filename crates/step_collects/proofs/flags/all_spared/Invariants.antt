@@ -1,0 +1,9 @@
+use Rattle.std.proofs.Common.{◌≡◌, true, take}
+use Rattle.std.specs.List.{list_all}
+use Rattle.vat_machine.specs.Flags.{is_spared}
+use Rattle.vat_machine.specs.Progress.{numbers}
+use Rattle.vat_store.specs.Holding.{state_of}
+use Rattle.step_collects.proofs.flags.all_spared.Given as goal
+
+abbrev pub invariant-loop-id : goal.invariant-loop-id
+invariant-loop-id l = list_all (is_spared (state_of l.store) (numbers l.ids)) (numbers (take l.id-index l.ids)) ≡ true

@@ -1,0 +1,19 @@
+use Rattle.std.proofs.Common.{ℕ, sym, ap, ◌∙◌}
+use Rattle.vat_machine.specs.Down.{silent, falling, fallen}
+use Rattle.vat_store.specs.Holding.{state_of}
+use Rattle.step_ends.proofs.Received.{aborted, fell}
+use Rattle.step_ends.proofs.receiving.receive.Goals as goal
+
+pub returns-then-is_abort-clause-receives : goal.returns-then-is_abort-clause-receives
+returns-then-is_abort-clause-receives c =
+    let s = state_of c.args.machine.now.step.store in
+    aborted s (state_of c.fall_silently_as.new.machine.step.store) c.args.message c.fall_silently_as.result c.in-None.is (sym c.is_abort.ensures ∙ c.if-is_abort.true)
+    (c.fall_silently_as.ensures.effects ∙ ap (λ (n : ℕ). silent n) c.code.ensures)
+    (c.fall_silently_as.ensures.state ∙ c.named_of-named.ensures c.code.result ∙ ap (λ (n : ℕ). fallen s n) c.code.ensures)
+
+pub returns-in-Err-clause-receives : goal.returns-in-Err-clause-receives
+returns-in-Err-clause-receives c =
+    let s = state_of c.args.machine.now.step.store in
+    fell s (state_of c.fall_as.new.machine.step.store) c.args.message c.fall_as.result c.in-Err.fault c.in-None.is (sym c.is_abort.ensures ∙ c.if-is_abort.false) c.in-Err.ensures.fault
+    (c.fall_as.ensures.effects ∙ ap (λ (n : ℕ). falling n) c.code-in-Err.ensures)
+    (c.fall_as.ensures.state ∙ c.named_of-named.ensures c.code-in-Err.result ∙ ap (λ (n : ℕ). fallen s n) c.code-in-Err.ensures)

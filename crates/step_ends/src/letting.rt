@@ -1,0 +1,85 @@
+ghost use Rattle.std.specs.Prelude.{◌≡◌, None, [], IfOk, OnOk, OnErr};
+ghost use Rattle.vat_machine.specs.declared.command.Command.TheVariants as command;
+ghost use Rattle.vat_machine.specs.declared.command.Granted.TheVariants as granted;
+ghost use Rattle.vat_machine.specs.OwnCalls.{CallsHaveTheirOwn};
+ghost use Rattle.vat_machine.specs.Refusals.{refused};
+ghost use Rattle.vat_machine.specs.Steps.{Does};
+ghost use Rattle.vat_store.specs.Holding.{state_of};
+ghost use Rattle.step_base.specs.InProgress.{IsIdle};
+ghost use Rattle.step_ends.specs.Whole.{IsResting, Tries};
+
+use crate::machine::{Done, Machine};
+use rpc_msg::{CallId, Memory, RefId};
+use step_base::{Step, begin};
+use step_commands::finish_call;
+use step_sweeps::{Thought, sweep};
+use store_names::{add_call, put_back_ref};
+use vat_machine::{Effects, Granted};
+
+/// Has no more use for a reference, where that is not refused. `Err` for want of memory; the vat holds what it held then.
+pub fn drop_ref(machine: &mut Machine, id: RefId) -> Result<Done, Memory>
+    requires resting { IsResting machine.old }
+    requires allowed { refused (state_of machine.old.step.store) (command.DropRef id) ≡ None }
+    ensures obeys { Tries machine.old (command.DropRef id) result machine.new }
+    ensures resting { IsResting machine.new }
+{
+    let effects = drop_whole(&mut machine.step, &mut machine.thought, id)?;
+    Ok(Done {
+        granted: Granted::Done,
+        effects,
+    })
+}
+
+// The step of it.
+fn drop_whole(step: &mut Step, thought: &mut Thought, id: RefId) -> Result<Effects, Memory>
+    requires idle { IsIdle step.old }
+    requires none_taken { step.old.store.waits.taken ≡ [] }
+    requires allowed { refused (state_of step.old.store) (command.DropRef id) ≡ None }
+    ensures does { IfOk result (λ effects. Does (state_of step.old.store) (command.DropRef id) granted.Done effects (state_of step.new.store)) }
+    ensures same { OnErr result (state_of step.new.store ≡ state_of step.old.store) }
+    ensures taken { step.new.store.waits.taken ≡ [] }
+    ensures idle { IsIdle step.new }
+{
+    begin(step, 1)?;
+    let reference = step_commands::drop_ref(step, id);
+    let Ok(effects) = sweep(step, thought) else {
+        put_back_ref(&mut step.store, id, reference);
+        return Err(Memory);
+    };
+    Ok(effects)
+}
+
+/// Has no more use for a call, where that is not refused. `Err` for want of memory; the vat holds what it held then.
+pub fn finish(machine: &mut Machine, id: CallId) -> Result<Done, Memory>
+    requires resting { IsResting machine.old }
+    requires own { CallsHaveTheirOwn (state_of machine.old.step.store) }
+    requires allowed { refused (state_of machine.old.step.store) (command.Finish id) ≡ None }
+    ensures obeys { Tries machine.old (command.Finish id) result machine.new }
+    ensures resting { IsResting machine.new }
+{
+    let effects = finish_whole(&mut machine.step, &mut machine.thought, id)?;
+    Ok(Done {
+        granted: Granted::Done,
+        effects,
+    })
+}
+
+// The step of it.
+fn finish_whole(step: &mut Step, thought: &mut Thought, id: CallId) -> Result<Effects, Memory>
+    requires idle { IsIdle step.old }
+    requires none_taken { step.old.store.waits.taken ≡ [] }
+    requires own { CallsHaveTheirOwn (state_of step.old.store) }
+    requires allowed { refused (state_of step.old.store) (command.Finish id) ≡ None }
+    ensures does { IfOk result (λ effects. Does (state_of step.old.store) (command.Finish id) granted.Done effects (state_of step.new.store)) }
+    ensures same { OnErr result (state_of step.new.store ≡ state_of step.old.store) }
+    ensures taken { step.new.store.waits.taken ≡ [] }
+    ensures idle { IsIdle step.new }
+{
+    begin(step, 2)?;
+    let from = finish_call(step, id);
+    let Ok(effects) = sweep(step, thought) else {
+        add_call(&mut step.store, id, from);
+        return Err(Memory);
+    };
+    Ok(effects)
+}

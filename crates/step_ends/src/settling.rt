@@ -1,0 +1,182 @@
+ghost use Rattle.std.specs.Prelude.{◌≡◌, None, Ok, [], IfOk, OnOk};
+ghost use Rattle.vat_machine.specs.declared.command.Command.TheVariants as command;
+ghost use Rattle.vat_machine.specs.declared.command.Granted.TheVariants as granted;
+ghost use Rattle.vat_machine.specs.Refusals.{refused};
+ghost use Rattle.vat_machine.specs.Steps.{Does, Obeys};
+ghost use Rattle.vat_store.specs.Holding.{state_of};
+ghost use Rattle.step_base.specs.InProgress.{IsIdle};
+ghost use Rattle.step_ends.specs.Whole.{IsResting};
+
+use crate::ending::end_step;
+use crate::falling::{WANT_OF_ROOM, fall_as, named_of};
+use crate::machine::Machine;
+use rpc_msg::{Exception, Items, Memory, Payload, PromiseId, RefId, TaskId};
+use std::alloc::Global;
+use step_base::{Step, begin};
+use step_sweeps::Thought;
+use vat_machine::Effects;
+
+/// Settles a promise to what a reference leads to, where that is not refused. Where memory is refused, or a limit met, the
+/// vat goes down.
+pub fn resolve(machine: &mut Machine, promise: PromiseId, reference: RefId) -> Effects
+    requires resting { IsResting machine.old }
+    requires allowed { refused (state_of machine.old.step.store) (command.Resolve promise reference) ≡ None }
+    ensures obeys { Obeys (state_of machine.old.step.store) (command.Resolve promise reference) (Ok granted.Done) result (state_of machine.new.step.store) }
+    ensures resting { IsResting machine.new }
+{
+    let named = named_of(&machine.step.store);
+    let step = &mut machine.step;
+    let ended = resolve_whole(
+        step,
+        &mut machine.thought,
+        machine.alloc,
+        promise,
+        reference,
+    );
+    let Ok(effects) = ended else {
+        return fall_as(machine, named, WANT_OF_ROOM);
+    };
+    effects
+}
+
+// The step of it. After an `Err` the vat goes down.
+fn resolve_whole(
+    step: &mut Step,
+    thought: &mut Thought,
+    alloc: Global,
+    promise: PromiseId,
+    reference: RefId,
+) -> Result<Effects, Memory>
+    requires idle { IsIdle step.old }
+    requires none_taken { step.old.store.waits.taken ≡ [] }
+    ensures does { IfOk result (λ effects. Does (state_of step.old.store) (command.Resolve promise reference) granted.Done effects (state_of step.new.store)) }
+    ensures taken { OnOk result (step.new.store.waits.taken ≡ []) }
+    ensures idle { OnOk result (IsIdle step.new) }
+{
+    begin(step, 1)?;
+    step_settles::resolve(step, alloc, promise, reference)?;
+    let effects = end_step(step, alloc, thought)?;
+    Ok(effects)
+}
+
+/// Breaks a promise, where that is not refused; the vat goes down as `resolve` says.
+pub fn reject(machine: &mut Machine, promise: PromiseId, exception: Exception) -> Effects
+    requires resting { IsResting machine.old }
+    requires allowed { refused (state_of machine.old.step.store) (command.Reject promise exception) ≡ None }
+    ensures obeys { Obeys (state_of machine.old.step.store) (command.Reject promise exception) (Ok granted.Done) result (state_of machine.new.step.store) }
+    ensures resting { IsResting machine.new }
+{
+    let named = named_of(&machine.step.store);
+    let step = &mut machine.step;
+    let ended = reject_whole(
+        step,
+        &mut machine.thought,
+        machine.alloc,
+        promise,
+        exception,
+    );
+    let Ok(effects) = ended else {
+        return fall_as(machine, named, WANT_OF_ROOM);
+    };
+    effects
+}
+
+// The step of it. After an `Err` the vat goes down.
+fn reject_whole(
+    step: &mut Step,
+    thought: &mut Thought,
+    alloc: Global,
+    promise: PromiseId,
+    exception: Exception,
+) -> Result<Effects, Memory>
+    requires idle { IsIdle step.old }
+    requires none_taken { step.old.store.waits.taken ≡ [] }
+    ensures does { IfOk result (λ effects. Does (state_of step.old.store) (command.Reject promise exception) granted.Done effects (state_of step.new.store)) }
+    ensures taken { OnOk result (step.new.store.waits.taken ≡ []) }
+    ensures idle { OnOk result (IsIdle step.new) }
+{
+    begin(step, 1)?;
+    step_settles::reject(step, alloc, promise, exception)?;
+    let effects = end_step(step, alloc, thought)?;
+    Ok(effects)
+}
+
+/// Gives a task its results, with the heads of these references, where that is not refused; the vat goes down as `resolve` says.
+pub fn answer(machine: &mut Machine, task: TaskId, payload: Payload, refs: Items<RefId>) -> Effects
+    requires resting { IsResting machine.old }
+    requires allowed { refused (state_of machine.old.step.store) (command.Answer task payload refs) ≡ None }
+    ensures obeys { Obeys (state_of machine.old.step.store) (command.Answer task payload refs) (Ok granted.Done) result (state_of machine.new.step.store) }
+    ensures resting { IsResting machine.new }
+{
+    let named = named_of(&machine.step.store);
+    let step = &mut machine.step;
+    let ended = answer_whole(
+        step,
+        &mut machine.thought,
+        machine.alloc,
+        task,
+        payload,
+        refs,
+    );
+    let Ok(effects) = ended else {
+        return fall_as(machine, named, WANT_OF_ROOM);
+    };
+    effects
+}
+
+// The step of it. After an `Err` the vat goes down.
+fn answer_whole(
+    step: &mut Step,
+    thought: &mut Thought,
+    alloc: Global,
+    task: TaskId,
+    payload: Payload,
+    refs: Items<RefId>,
+) -> Result<Effects, Memory>
+    requires idle { IsIdle step.old }
+    requires none_taken { step.old.store.waits.taken ≡ [] }
+    ensures does { IfOk result (λ effects. Does (state_of step.old.store) (command.Answer task payload refs) granted.Done effects (state_of step.new.store)) }
+    ensures taken { OnOk result (step.new.store.waits.taken ≡ []) }
+    ensures idle { OnOk result (IsIdle step.new) }
+{
+    begin(step, 1)?;
+    step_settles::answer(step, alloc, task, payload, refs)?;
+    let effects = end_step(step, alloc, thought)?;
+    Ok(effects)
+}
+
+/// Gives a task an exception, where that is not refused; the vat goes down as `resolve` says.
+pub fn fail(machine: &mut Machine, task: TaskId, exception: Exception) -> Effects
+    requires resting { IsResting machine.old }
+    requires allowed { refused (state_of machine.old.step.store) (command.Fail task exception) ≡ None }
+    ensures obeys { Obeys (state_of machine.old.step.store) (command.Fail task exception) (Ok granted.Done) result (state_of machine.new.step.store) }
+    ensures resting { IsResting machine.new }
+{
+    let named = named_of(&machine.step.store);
+    let step = &mut machine.step;
+    let ended = fail_whole(step, &mut machine.thought, machine.alloc, task, exception);
+    let Ok(effects) = ended else {
+        return fall_as(machine, named, WANT_OF_ROOM);
+    };
+    effects
+}
+
+// The step of it. After an `Err` the vat goes down.
+fn fail_whole(
+    step: &mut Step,
+    thought: &mut Thought,
+    alloc: Global,
+    task: TaskId,
+    exception: Exception,
+) -> Result<Effects, Memory>
+    requires idle { IsIdle step.old }
+    requires none_taken { step.old.store.waits.taken ≡ [] }
+    ensures does { IfOk result (λ effects. Does (state_of step.old.store) (command.Fail task exception) granted.Done effects (state_of step.new.store)) }
+    ensures taken { OnOk result (step.new.store.waits.taken ≡ []) }
+    ensures idle { OnOk result (IsIdle step.new) }
+{
+    begin(step, 1)?;
+    step_settles::fail(step, alloc, task, exception)?;
+    let effects = end_step(step, alloc, thought)?;
+    Ok(effects)
+}

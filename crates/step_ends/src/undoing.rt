@@ -1,0 +1,60 @@
+ghost use Rattle.std.specs.Prelude.{◌≡◌, ◌+◌, ◌<◌, [], None, Some};
+ghost use Rattle.std.specs.FinMap as map;
+ghost use Rattle.vat_machine.specs.State.{State};
+ghost use Rattle.vat_machine.specs.Limits.{number_limit};
+ghost use Rattle.vat_store.specs.Holding.{state_of, IsSound};
+ghost use Rattle.step_ends.specs.Undoing.{WasLed, LiftsOf, HasNewRef};
+
+use rpc_msg::RefId;
+use store_names::{forget_ref, put_back_ref};
+use store_waits::lift;
+use vat_machine::Reference;
+use vat_store::Store;
+
+/// Leads a reference back to where it led before it was advanced, and lifts the embargo under which it was put, for which
+/// no call waits yet. Takes no memory, but one of the slack.
+pub fn lead_back(store: &mut Store, id: RefId, from: Reference)
+    requires sound { IsSound store.old }
+    requires slack { 0 < store.old.slack }
+    requires given { id.0 < store.old.next_ref }
+    requires made { from.made < number_limit }
+    requires none_taken { store.old.waits.taken ≡ [] }
+    ensures back { (s : State) → map.get s.refs id.0 ≡ Some from → from.embargo ≡ None → WasLed s id.0 (state_of store.old) → (state_of store.new ≡ s) × (store.new.waits.taken ≡ []) }
+    ensures sound { IsSound store.new }
+{
+    let led = forget_ref(store, id);
+    lift_of(store, led);
+    put_back_ref(store, id, from);
+}
+
+// The embargo of a reference that was taken out is lifted, if it has one.
+fn lift_of(store: &mut Store, led: Option<Reference>)
+    requires sound { IsSound store.old }
+    requires none_taken { store.old.waits.taken ≡ [] }
+    ensures lifted { LiftsOf (state_of store.old) led (state_of store.new) store.new.waits.taken }
+    ensures refs { (state_of store.new).refs ≡ (state_of store.old).refs }
+    ensures next { store.new.next_ref ≡ store.old.next_ref }
+    ensures left { store.new.slack ≡ store.old.slack }
+    ensures sound { IsSound store.new }
+{
+    let Some(reference) = led else {
+        return;
+    };
+    let Some(embargo) = reference.embargo else {
+        return;
+    };
+    let _ = lift(store, embargo);
+}
+
+/// Takes the newest reference out again, whose number is free then as it was before. Takes no memory.
+pub fn take_back_ref(store: &mut Store, id: RefId)
+    requires sound { IsSound store.old }
+    requires newest { store.old.next_ref ≡ id.0 + 1 }
+    ensures back { (s : State) → map.get s.refs id.0 ≡ None → HasNewRef s id.0 (state_of store.old) → state_of store.new ≡ s }
+    ensures left { store.new.slack ≡ store.old.slack }
+    ensures waits { store.new.waits ≡ store.old.waits }
+    ensures sound { IsSound store.new }
+{
+    let _ = forget_ref(store, id);
+    store.next_ref = id.0;
+}

@@ -1,0 +1,4 @@
+pub mod BackComing
+pub mod InTurn
+pub mod Opened
+pub mod Readied

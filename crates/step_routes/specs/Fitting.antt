@@ -1,0 +1,24 @@
+-- When the exports have room for a node that is described.
+use Rattle.std.specs.Prelude.{◌≡◌, ℕ, ◌≤◌, true, false, Option, None, Some}
+use Rattle.std.specs.FinMap as map
+use Rattle.finite_maps.specs.Tally.{Map}
+use Rattle.vat_machine.specs.declared.node.Node.{Node}
+use Rattle.vat_machine.specs.declared.entries.Export.{Export}
+use Rattle.vat_machine.specs.State.{State}
+use Rattle.vat_machine.specs.Fullness.{is_exportable, name_lacks_room}
+use Rattle.vat_tables.specs.Exports.{IsNotExported}
+
+-- An export stands for the node, and none with a greater count; or none does.
+abbrev pub IsCount : Map Export → Node → Option ℕ → Type 0
+IsCount exports n None = IsNotExported exports n
+IsCount exports n (Some count) =
+    (IsNotExported exports n → ⊥)
+    × ((e : ℕ) (x : Export) → map.get exports e ≡ Some x → x.node ≡ n → x.count ≤ count)
+
+-- The counts of all nodes of which exports are made.
+abbrev pub AreCounts : State → (Node → Option ℕ) → Type 0
+AreCounts s counts = (n : Node) → is_exportable n ≡ true → IsCount s.exports n (counts n)
+
+-- If an export is made of the node, or has one more on its count, no limit is passed.
+abbrev pub HasExportRoom : State → (Node → Option ℕ) → Node → Type 0
+HasExportRoom s counts n = is_exportable n ≡ true → name_lacks_room (map.len s.exports) (counts n) ≡ false

@@ -1,0 +1,9 @@
+pub mod Circles
+pub mod Collected
+pub mod Drained
+pub mod Fewer
+pub mod Fixed
+pub mod Known
+pub mod Resolves
+pub mod Said
+pub mod Told

@@ -1,0 +1,13 @@
+use Rattle.std.proofs.Common.{◌≡◌}
+use Rattle.vat_store.specs.Holding.{state_of}
+use Rattle.step_settles.specs.Circles.{is_there, Walked}
+use Rattle.step_settles.proofs.untangling.turns_back.Given as goal
+
+abbrev pub invariant-loop-there : goal.invariant-loop-there
+invariant-loop-there l = record {
+  there : l.there ≡ is_there l.key l.payload l.at l.walked;
+  walked : Walked (state_of l.store) l.key l.payload l.at l.behind l.fn.node l.walked;
+}
+
+abbrev pub decreases-loop-there : goal.decreases-loop-there
+decreases-loop-there l = l.left

@@ -1,0 +1,151 @@
+ghost use Rattle.std.specs.Prelude.{◌≡◌, ◌-◌, ◌<◌, [], false, IfOk, OnOk};
+ghost use Rattle.std.specs.FinMap as map;
+ghost use Rattle.vat_machine.specs.Flags.{flag_for, give_back};
+ghost use Rattle.vat_machine.specs.Progress.{with_state, numbers};
+ghost use Rattle.vat_machine.specs.Settling.{TellsPeer};
+ghost use Rattle.vat_machine.specs.declared.calls.Value.TheVariants as value;
+ghost use Rattle.vat_store.specs.Holding.{state_of};
+ghost use Rattle.store_peer.specs.Peer.{return_answer};
+ghost use Rattle.step_base.specs.InProgress.{progress_of, IsReady};
+ghost use Rattle.step_settles.specs.Returning.{Says, returned_with};
+
+use rpc_msg::{ExportId, Items, Memory, Payload, PlainMessage, QuestionId, Return, ReturnBody};
+use std::alloc::Global;
+use step_base::Step;
+use step_collects::collect;
+use step_routes::describe_all_kept;
+use store_peer::set_answer_returned;
+use vat_machine::{Node, Value};
+
+// What a Return says, and the ids of the exports to which its descriptors add one.
+#[derive(Drop)]
+struct Saying {
+    body: ReturnBody,
+    ids: Items<ExportId>,
+}
+
+/// The Return of an answer is sent: what the call came to, or that it was canceled, where its Finish came first. What no
+/// place names is gone before its flag is made. `Err` for want of memory, where a limit of the exports is passed, or there
+/// is no such answer, which does not come for one whose outcome is kept; the step is only to be dropped then.
+pub fn returns(step: &mut Step, alloc: Global, q: QuestionId, value: Value) -> Result<(), Memory>
+    requires ready { IsReady step.old }
+    requires none_taken { step.old.store.waits.taken ≡ [] }
+    ensures told { OnOk result (TellsPeer (progress_of step.old) q value (map.get (state_of step.old.store).answers q.0) (progress_of step.new)) }
+    ensures taken { OnOk result (step.new.store.waits.taken ≡ []) }
+    ensures ready { OnOk result (IsReady step.new) }
+{
+    let Some(answer) = step.store.answers.get(q.0) else {
+        return Err(Memory);
+    };
+    let finished = answer.finished;
+    let taken = answer.taken.copy(alloc)?;
+    let said = say_back(step, alloc, finished, value)?;
+    collect(step);
+    send_return(step, q, taken.as_slice(), said)?;
+    Ok(())
+}
+
+// What the Return of a value says.
+fn say_back(step: &mut Step, alloc: Global, finished: bool, value: Value) -> Result<Saying, Memory>
+    requires ready { IsReady step.old }
+    ensures says { IfOk result (λ said. Says (state_of step.old.store) finished value said.body said.ids (state_of step.new.store)) }
+    ensures same { OnOk result (progress_of step.new ≡ with_state (progress_of step.old) (state_of step.new.store)) }
+    ensures taken { OnOk result (step.new.store.waits.taken ≡ step.old.store.waits.taken) }
+    ensures ready { OnOk result (IsReady step.new) }
+{
+    if finished {
+        return Ok(Saying {
+            body: ReturnBody::Canceled,
+            ids: Items::new(alloc),
+        });
+    }
+    match value {
+        Value::Exception(exception) => {
+            Ok(Saying {
+                body: ReturnBody::Exception(exception),
+                ids: Items::new(alloc),
+            })
+        }
+        Value::Results(payload, caps) => {
+            let said = say_results(step, alloc, payload, caps)?;
+            Ok(said)
+        }
+    }
+}
+
+// What the Return of results says: each capability has its descriptor.
+fn say_results(
+    step: &mut Step,
+    alloc: Global,
+    payload: Payload,
+    caps: Items<Node>,
+) -> Result<Saying, Memory>
+    requires ready { IsReady step.old }
+    ensures says { IfOk result (λ said. Says (state_of step.old.store) false (value.Results payload caps) said.body said.ids (state_of step.new.store)) }
+    ensures same { OnOk result (progress_of step.new ≡ with_state (progress_of step.old) (state_of step.new.store)) }
+    ensures taken { OnOk result (step.new.store.waits.taken ≡ step.old.store.waits.taken) }
+    ensures ready { OnOk result (IsReady step.new) }
+{
+    let count = caps.len();
+    let mut said = Vec::with_capacity(alloc, count)?;
+    let mut ids = Vec::with_capacity(alloc, count)?;
+    step_base::reserve(step, count)?;
+    let Ok(()) = describe_all_kept(&mut step.store, caps.as_slice(), &mut said, &mut ids) else {
+        return Err(Memory);
+    };
+    Ok(Saying {
+        body: ReturnBody::Results(payload, Items::from_vec(said)),
+        ids: Items::from_vec(ids),
+    })
+}
+
+// The flag is made, and the Return is sent.
+fn send_return(
+    step: &mut Step,
+    q: QuestionId,
+    taken: &[ExportId],
+    said: Saying,
+) -> Result<(), Memory>
+    requires ready { IsReady step.old }
+    requires none_taken { step.old.store.waits.taken ≡ [] }
+    ensures sent { OnOk result (progress_of step.new ≡ returned_with (progress_of step.old) q (numbers taken.now) said.body said.ids) }
+    ensures taken { OnOk result (step.new.store.waits.taken ≡ []) }
+    ensures ready { OnOk result (IsReady step.new) }
+{
+    step_base::reserve(step, 2)?;
+    let Saying { body, ids } = said;
+    let flag = give_taken(step, taken);
+    close_answer(step, q, ids);
+    let message = Return {
+        answer: q,
+        release_param_caps: flag,
+        body,
+    };
+    step_base::send(step, PlainMessage::Return(message));
+    Ok(())
+}
+
+// Gives back what the flag lets go, and says the flag.
+fn give_taken(step: &mut Step, ids: &[ExportId]) -> bool
+    requires ready { IsReady step.old }
+    requires none_taken { step.old.store.waits.taken ≡ [] }
+    ensures flag { result ≡ flag_for (state_of step.old.store) (numbers ids.now) }
+    ensures given { progress_of step.new ≡ with_state (progress_of step.old) (give_back (state_of step.old.store) (numbers ids.now)) }
+    ensures left { step.new.store.slack ≡ step.old.store.slack }
+    ensures waits { step.new.store.waits ≡ step.old.store.waits }
+    ensures ready { IsReady step.new }
+{
+    step_collects::give_back(&mut step.store, ids)
+}
+
+// The answer's Return is sent, with these exports.
+fn close_answer(step: &mut Step, q: QuestionId, ids: Items<ExportId>)
+    requires ready { IsReady step.old }
+    requires slack { 0 < step.old.store.slack }
+    ensures closed { progress_of step.new ≡ with_state (progress_of step.old) (return_answer (state_of step.old.store) q.0 (numbers ids) (map.get (state_of step.old.store).answers q.0)) }
+    ensures left { step.new.store.slack ≡ step.old.store.slack - 1 }
+    ensures waits { step.new.store.waits ≡ step.old.store.waits }
+    ensures ready { IsReady step.new }
+{
+    set_answer_returned(&mut step.store, q, ids);
+}

@@ -1,0 +1,103 @@
+ghost use Rattle.std.specs.Prelude.{◌≡◌, length, IfOk, OnOk};
+ghost use Rattle.std.specs.FinMap as map;
+ghost use Rattle.vat_machine.specs.Progress.{outcome_of, caps_of};
+ghost use Rattle.vat_machine.specs.Settling.{report, TellsCall};
+ghost use Rattle.vat_store.specs.Holding.{state_of};
+ghost use Rattle.step_base.specs.InProgress.{progress_of, IsReady};
+
+use rpc_msg::{CallId, Items, Memory};
+use std::alloc::Global;
+use step_base::Step;
+use vat_journal::{Ended, Outcome};
+use vat_machine::{Node, Value};
+
+/// The application is told how a call of its own ended, with one new reference for each capability; of a call that it
+/// finished it is told nothing. The value is copied where it is told. `Err` for want of memory, or of numbers of
+/// references; the step is only to be dropped then.
+pub fn tell_call(step: &mut Step, alloc: Global, call: CallId, value: &Value) -> Result<(), Memory>
+    requires ready { IsReady step.old }
+    ensures told { OnOk result (TellsCall (progress_of step.old) call.0 value.now (map.get (state_of step.old.store).calls call.0) (progress_of step.new)) }
+    ensures taken { OnOk result (step.new.store.waits.taken ≡ step.old.store.waits.taken) }
+    ensures ready { OnOk result (IsReady step.new) }
+{
+    let Some(_) = step.store.calls.get(call.0) else {
+        return Ok(());
+    };
+    let told = copy_value(alloc, value)?;
+    report(step, alloc, call, told)?;
+    Ok(())
+}
+
+/// The same, by a value that is given over, so that nothing is copied.
+pub fn tell_call_with(
+    step: &mut Step,
+    alloc: Global,
+    call: CallId,
+    value: Value,
+) -> Result<(), Memory>
+    requires ready { IsReady step.old }
+    ensures told { OnOk result (TellsCall (progress_of step.old) call.0 value (map.get (state_of step.old.store).calls call.0) (progress_of step.new)) }
+    ensures taken { OnOk result (step.new.store.waits.taken ≡ step.old.store.waits.taken) }
+    ensures ready { OnOk result (IsReady step.new) }
+{
+    let Some(_) = step.store.calls.get(call.0) else {
+        return Ok(());
+    };
+    report(step, alloc, call, value)?;
+    Ok(())
+}
+
+// The application is told, with one new reference for each capability.
+fn report(step: &mut Step, alloc: Global, call: CallId, value: Value) -> Result<(), Memory>
+    requires ready { IsReady step.old }
+    ensures told { OnOk result (progress_of step.new ≡ report (progress_of step.old) call.0 value) }
+    ensures taken { OnOk result (step.new.store.waits.taken ≡ step.old.store.waits.taken) }
+    ensures ready { OnOk result (IsReady step.new) }
+{
+    let (outcome, caps) = split(alloc, value);
+    let count = caps.len();
+    let Some(_) = step.store.next_ref.checked_add(count as u64) else {
+        return Err(Memory);
+    };
+    let Some(more) = count.checked_add(1) else {
+        return Err(Memory);
+    };
+    let mut refs = Vec::with_capacity(alloc, count)?;
+    step_base::reserve(step, more)?;
+    store_names::add_refs(&mut step.store, caps.as_slice(), &mut refs);
+    let ended = Ended {
+        call,
+        outcome,
+        refs: Items::from_vec(refs),
+    };
+    step_base::tell_ended(step, ended);
+    Ok(())
+}
+
+/// The same value, in memory of its own.
+pub fn copy_value(alloc: Global, value: &Value) -> Result<Value, Memory>
+    ensures { IfOk result (λ copy. copy ≡ value.now) }
+{
+    match value {
+        Value::Results(payload, caps) => {
+            let payload = payload.copy(alloc)?;
+            let caps = caps.copy(alloc)?;
+            Ok(Value::Results(payload, caps))
+        }
+        Value::Exception(exception) => {
+            let exception = exception.copy(alloc)?;
+            Ok(Value::Exception(exception))
+        }
+    }
+}
+
+// What the application is told of a value, and its capabilities.
+fn split(alloc: Global, value: Value) -> (Outcome, Items<Node>)
+    ensures outcome { result.0 ≡ outcome_of value }
+    ensures caps { result.1 ≡ caps_of value }
+{
+    match value {
+        Value::Results(payload, caps) => (Outcome::Results(payload), caps),
+        Value::Exception(exception) => (Outcome::Exception(exception), Items::new(alloc)),
+    }
+}

@@ -1,0 +1,14 @@
+pub mod Closed
+pub mod Turning
+pub mod Withered
+pub mod Entries
+pub mod Leaving
+pub mod Looking
+pub mod Covering
+pub mod FoundAll
+pub mod Things
+pub mod Thoughts
+pub mod Rising
+pub mod Ending
+pub mod ListedKeys
+pub mod Unnoted

@@ -1,0 +1,66 @@
+ghost use Rattle.std.specs.Prelude.{◌≡◌, ℕ, [], IsOk, IfOk, OnOk, OnErr};
+ghost use Rattle.std.specs.FinMap as map;
+ghost use Rattle.vat_machine.specs.Collecting.{IsTight};
+ghost use Rattle.vat_machine.specs.Progress.{Progress};
+ghost use Rattle.vat_machine.specs.Settling.{Drains};
+ghost use Rattle.vat_machine.specs.Steps.{staying_up, Ends};
+ghost use Rattle.vat_machine.specs.Sweeping.{IsToFinish};
+ghost use Rattle.vat_store.specs.Holding.{state_of};
+ghost use Rattle.vat_store.specs.Noted.{noted_of, nothing_noted};
+ghost use Rattle.step_base.specs.InProgress.{progress_of, IsReady, IsEnding, IsIdle};
+ghost use Rattle.step_sweeps.specs.Ending.{swept_of};
+ghost use Rattle.step_sweeps.specs.Over.{AreOver};
+
+use crate::over::find_over;
+use crate::sweeping::sweep_over;
+use crate::thought::Thought;
+use rpc_msg::{Memory, QuestionId};
+use step_base::Step;
+use vat_machine::Effects;
+
+/// Hands out what a step says, at its end: its messages, then its Finishes and its Releases, each by rising id. No step is
+/// in progress then, and what is held stays. Takes no memory.
+pub fn hand_out(step: &mut Step) -> Effects
+    requires ending { IsEnding step.old }
+    requires settled { step.old.arisen.0 ≡ [] }
+    ensures effects { result ≡ staying_up (swept_of step.old).effects }
+    ensures store { step.new.store ≡ step.old.store }
+    ensures idle { IsIdle step.new }
+{
+    let mut effects = step.outbox.take();
+    effects.down = None;
+    effects
+}
+
+/// Ends a step whose outcomes are settled and in which these questions are over, and hands out what it says. No step is in
+/// progress then. Takes no memory. No call may be taken out to be routed.
+pub fn end_settled(step: &mut Step, over: &[QuestionId]) -> Effects
+    requires ready { IsReady step.old }
+    requires none_taken { step.old.store.waits.taken ≡ [] }
+    requires settled { step.old.arisen.0 ≡ [] }
+    requires over { AreOver (state_of step.old.store) over.now }
+    ensures ends { (acted : Progress) → Drains (progress_of step.old) acted → Ends acted result (state_of step.new.store) }
+    ensures taken { step.new.store.waits.taken ≡ [] }
+    ensures idle { IsIdle step.new }
+{
+    sweep_over(step, over);
+    hand_out(step)
+}
+
+/// Ends a step whose outcomes are settled, and hands out what it says: finds which questions are over, and finishes these.
+/// No step is in progress then. `Err` where memory was refused for finding them; the step is as it was then. No call may be
+/// taken out to be routed.
+pub fn sweep(step: &mut Step, thought: &mut Thought) -> Result<Effects, Memory>
+    requires ready { IsReady step.old }
+    requires none_taken { step.old.store.waits.taken ≡ [] }
+    requires settled { step.old.arisen.0 ≡ [] }
+    ensures ends { IfOk result (λ effects. (acted : Progress) → Drains (progress_of step.old) acted → Ends acted effects (state_of step.new.store)) }
+    ensures taken { OnOk result (step.new.store.waits.taken ≡ []) }
+    ensures idle { OnOk result (IsIdle step.new) }
+    ensures never { IsTight (state_of step.old.store) → ((q : ℕ) → ¬ (IsToFinish (state_of step.old.store) q (map.get (state_of step.old.store).questions q))) → IsOk result }
+    ensures rested { noted_of step.old.store.names ≡ nothing_noted → IsOk result }
+    ensures same { OnErr result (step.new ≡ step.old) }
+{
+    find_over(&step.store, thought)?;
+    Ok(end_settled(step, thought.over.as_slice()))
+}
