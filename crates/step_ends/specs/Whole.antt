@@ -1,6 +1,5 @@
 -- Whole steps: a vat between them, and what a command answers.
 use Rattle.std.specs.Prelude.{◌≡◌, ℕ, true, None, Some, Result, Ok, Err, []}
-use Rattle.rpc_msg.specs.declared.Memory.{Memory}
 use Rattle.vat_machine.specs.declared.command.Command.{Command}
 use Rattle.vat_machine.specs.declared.command.Granted.{Granted}
 use Rattle.vat_machine.specs.declared.command.Refusal.{Refusal}
@@ -31,14 +30,14 @@ abbrev pub fallen_as : Named → ℕ → State
 fallen_as x n = record (start x.vat x.level x.bootstrap) { down = Some n }
 
 -- A command that is not refused is done, or is refused for want of memory, and does nothing then.
-abbrev pub answer_of : Result Done Memory → Result Granted Refusal
+abbrev pub answer_of : {E : Type 0} → Result Done E → Result Granted Refusal
 answer_of (Ok x) = Ok x.granted
-answer_of (Err m) = Err refusal.Memory
+answer_of (Err e) = Err refusal.Memory
 
-abbrev pub effects_of : Result Done Memory → Effects
+abbrev pub effects_of : {E : Type 0} → Result Done E → Effects
 effects_of (Ok x) = x.effects
-effects_of (Err m) = quiet
+effects_of (Err e) = quiet
 
 -- The command is obeyed as the machine has it.
-abbrev pub Tries : Machine → Command → Result Done Memory → Machine → Type 0
+abbrev pub Tries : {E : Type 0} → Machine → Command → Result Done E → Machine → Type 0
 Tries old c result new = Obeys (state_of old.step.store) c (answer_of result) (effects_of result) (state_of new.step.store)

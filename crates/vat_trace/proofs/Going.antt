@@ -3,10 +3,10 @@ use Rattle.std.proofs.Common.{◌≡◌, ◌<◌, ◌+◌, ℕ, List, [], ◌∷
 use Rattle.std.specs.List.{take-map}
 use lib.ListN.{get_or}
 use Rattle.std.proofs.lemmas.List.{take_more}
-use Rattle.vat_script.specs.declared.line.Line.{Line}
-use Rattle.vat_script.specs.declared.names.Names.{Names}
-use Rattle.vat_script.specs.Lines.{line_of}
-use Rattle.vat_world.specs.World.{World}
+use Rattle.thin_script.specs.declared.line.Line.{Line}
+use Rattle.thin_script.specs.declared.names.Names.{Names}
+use Rattle.thin_script.specs.Lines.{line_of}
+use Rattle.thin_world.specs.World.{World}
 use Rattle.vat_trace.specs.Scripts.{said_by}
 use Rattle.vat_trace.specs.declared.fault.PlayFault.{PlayFault}
 use Rattle.vat_trace.specs.declared.fault.PlayFault.TheVariants.{Unbound}

@@ -2,10 +2,10 @@
 use Rattle.std.proofs.Common.{◌≡◌, ℕ, Some, List, [], ◌∷◌, ◌++◌, Err, map, inr, ap, subst, ◌∙◌}
 use Rattle.vat_journal.specs.declared.entry.JournalEntry.{JournalEntry}
 use Rattle.vat_journal.specs.declared.entry.JournalEntry.TheVariants as entry
-use Rattle.vat_script.specs.declared.line.Line.{Line}
-use Rattle.vat_script.specs.declared.names.Names.{Names}
-use Rattle.vat_script.specs.Bindings.{no_names}
-use Rattle.vat_world.specs.World.{World, tables_entry}
+use Rattle.thin_script.specs.declared.line.Line.{Line}
+use Rattle.thin_script.specs.declared.names.Names.{Names}
+use Rattle.thin_script.specs.Bindings.{no_names}
+use Rattle.thin_world.specs.World.{World, tables_entry}
 use Rattle.vat_trace.specs.declared.fault.ScriptFault.{ScriptFault}
 use Rattle.vat_trace.specs.declared.fault.ScriptFault.TheVariants as fault
 use Rattle.vat_trace.specs.Playing.{Plays, PlaysAll, IsUnboundAt}

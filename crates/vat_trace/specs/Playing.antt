@@ -1,17 +1,17 @@
 -- What the lines of a script do to two vats and to the script's names.
 use Rattle.std.specs.Prelude.{ℕ, ◌≡◌, ◌+◌, Option, None, Some, Result, Ok, Err, List, [], ◌∷◌, ◌++◌, take}
 use Rattle.rpc_msg.specs.declared.ids.Vat.{Vat}
-use Rattle.vat_core.specs.declared.command.Command.{Command}
-use Rattle.vat_core.specs.declared.command.Answer.{Answer}
-use Rattle.vat_script.specs.declared.line.Line.{Line}
-use Rattle.vat_script.specs.declared.line.Line.TheVariants as line
-use Rattle.vat_script.specs.declared.line.LineCommand.{LineCommand}
-use Rattle.vat_script.specs.declared.names.Names.{Names}
-use Rattle.vat_script.specs.Bindings.{names_of, command_for, binds}
-use Rattle.vat_world.specs.declared.event.WorldEvent.TheVariants as event
-use Rattle.vat_world.specs.declared.event.StepAnswer.{StepAnswer}
-use Rattle.vat_world.specs.declared.event.StepAnswer.TheVariants as step
-use Rattle.vat_world.specs.World.{World, Happens}
+use Rattle.thin_core.specs.declared.command.Command.{Command}
+use Rattle.thin_core.specs.declared.command.Answer.{Answer}
+use Rattle.thin_script.specs.declared.line.Line.{Line}
+use Rattle.thin_script.specs.declared.line.Line.TheVariants as line
+use Rattle.thin_script.specs.declared.line.LineCommand.{LineCommand}
+use Rattle.thin_script.specs.declared.names.Names.{Names}
+use Rattle.thin_script.specs.Bindings.{names_of, command_for, binds}
+use Rattle.thin_world.specs.declared.event.WorldEvent.TheVariants as event
+use Rattle.thin_world.specs.declared.event.StepAnswer.{StepAnswer}
+use Rattle.thin_world.specs.declared.event.StepAnswer.TheVariants as step
+use Rattle.thin_world.specs.World.{World, Happens}
 use Rattle.vat_trace.specs.declared.fault.PlayFault.{PlayFault}
 use Rattle.vat_trace.specs.declared.fault.PlayFault.TheVariants as play
 use Rattle.vat_trace.specs.declared.fault.ScriptFault.{ScriptFault}

@@ -1,8 +1,8 @@
 -- The lines of a script (docs/script.md, "Lines").
 use Rattle.std.specs.Prelude.{ℕ, ◌≡◌, ◌+◌, ◌==◌, Option, None, Some, Result, Ok, Err, List, map, take}
 use Rattle.std.specs.List.{slice_split, slice_get}
-use Rattle.vat_script.specs.declared.line.Line.{Line}
-use Rattle.vat_script.specs.Lines.{line_of}
+use Rattle.thin_script.specs.declared.line.Line.{Line}
+use Rattle.thin_script.specs.Lines.{line_of}
 use Rattle.vat_trace.specs.declared.fault.ScriptFault.{ScriptFault}
 use Rattle.vat_trace.specs.declared.fault.ScriptFault.TheVariants as fault
 

@@ -7,10 +7,10 @@ use Rattle.trace_write.specs.declared.version.TraceVersion.TheVariants.{One}
 use Rattle.trace_check.specs.declared.verdict.Verdict.{Verdict}
 use Rattle.trace_check.specs.Breaches.{verdict_of}
 use Rattle.trace_file.specs.Traces.{trace_text}
-use Rattle.vat_script.specs.declared.line.Line.{Line}
-use Rattle.vat_script.specs.declared.names.Names.{Names}
-use Rattle.vat_script.specs.Bindings.{no_names}
-use Rattle.vat_world.specs.World.{World, new_world, tables_entry}
+use Rattle.thin_script.specs.declared.line.Line.{Line}
+use Rattle.thin_script.specs.declared.names.Names.{Names}
+use Rattle.thin_script.specs.Bindings.{no_names}
+use Rattle.thin_world.specs.World.{World, new_world, tables_entry}
 use Rattle.vat_trace.specs.declared.fault.ScriptFault.{ScriptFault}
 use Rattle.vat_trace.specs.declared.fault.ScriptFault.TheVariants as fault
 use Rattle.vat_trace.specs.Scripts.{texts_of, said_by, IsFirstFault}

@@ -1,12 +1,12 @@
 ghost use Rattle.std.specs.Prelude.{◌≡◌};
 ghost use Rattle.vat_trace.specs.Playing.{PlaysLine, PlaysCommand, PlaysAll};
-ghost use Rattle.vat_script.specs.Bindings.{names_of, command_for};
+ghost use Rattle.thin_script.specs.Bindings.{names_of, command_for};
 
 use crate::fault::{PlayFault, ScriptFault};
 use rpc_msg::{Memory, Vat};
 use std::alloc::Global;
-use vat_script::{Line, LineCommand, NameFault, Names};
-use vat_world::{World, WorldEvent};
+use thin_script::{Line, LineCommand, NameFault, Names};
+use thin_world::{World, WorldEvent};
 
 /// Plays the lines in order. `Line` where a line has a name that is not bound, with its number, counted from 1; what
 /// stands before it was played. `Memory` where a growth of the names or of a command was refused.

@@ -1,6 +1,6 @@
 ghost use Rattle.std.specs.Prelude.{◌≡◌, ◌∷◌, IfOk, IfErr, string_bytes};
 ghost use Rattle.vat_journal.specs.declared.entry.JournalEntry.TheVariants as entry;
-ghost use Rattle.vat_script.specs.Bindings.{no_names};
+ghost use Rattle.thin_script.specs.Bindings.{no_names};
 ghost use Rattle.trace_write.specs.declared.version.TraceVersion.TheVariants.{One};
 ghost use Rattle.trace_check.specs.Breaches.{verdict_of};
 ghost use Rattle.trace_check.specs.Kept.{HasTaken};
@@ -12,12 +12,12 @@ use crate::playing::play_lines;
 use crate::script::read_script;
 use rpc_msg::{Memory, ObjectId};
 use std::alloc::Global;
+use thin_script::{Line, Names};
+use thin_world::World;
 use trace_check::{Checker, Verdict};
 use trace_file::{write_entries, write_entry};
 use trace_json::TraceVersion;
 use vat_journal::JournalEntry;
-use vat_script::{Line, Names};
-use vat_world::World;
 
 /// The object of both vats that the other asks for.
 const FIRST_OBJECT: ObjectId = ObjectId(0);

@@ -4,7 +4,7 @@ ghost use Rattle.vat_trace.specs.Scripts.{ReadsScript, ReadsTexts, texts_of};
 use crate::fault::ScriptFault;
 use rpc_msg::Items;
 use std::alloc::{AllocError, Global};
-use vat_script::{Line, LineFault};
+use thin_script::{Line, LineFault};
 
 /// The lines of a script, which are parted by newlines. `Line` where a line says nothing, with the number of the
 /// first; `Memory` where a growth was refused.

@@ -5,7 +5,7 @@ use rpc_msg::{
 };
 use std::alloc::Global;
 use std::process::Abort;
-use vat_core::{Command, Core, Effects, Refusal};
+use thin_core::{Command, Core, Effects, Refusal};
 use vat_journal::Counts;
 
 // No clause says what these do: a test is proved quicker where nothing is known of the vats that it compares.

@@ -3,8 +3,8 @@
 use rpc_msg::{CallId, Items, Op, RefId, TaskId, Vat};
 use std::alloc::Global;
 use std::process::Abort;
-use vat_core::{Answer, Command, Effects, Refusal};
-use vat_script::{Line, LineCommand, LineFault, Name, NameFault, Names};
+use thin_core::{Answer, Command, Effects, Refusal};
+use thin_script::{Line, LineCommand, LineFault, Name, NameFault, Names};
 
 /// Lines that say nothing.
 const SKIPPED: [&str; 5] = ["", "#", "# a drop x", "#deliver a", "#\r"];

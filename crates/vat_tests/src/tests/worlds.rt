@@ -1,5 +1,5 @@
 ghost use Rattle.std.specs.Prelude.{◌≡◌, IfOk};
-ghost use Rattle.vat_world.specs.World.{IsBuiltEvent, AreBuilt};
+ghost use Rattle.thin_world.specs.World.{IsBuiltEvent, AreBuilt};
 
 use rpc_msg::{
     Call, CallId, Descriptor, ExportId, Items, Memory, Message, ObjectId, Payload, PlainMessage,
@@ -8,9 +8,9 @@ use rpc_msg::{
 use std::alloc::Global;
 use std::process::Abort;
 use std::test::Fail;
-use vat_core::{Answer, CallCommand, Command, Refusal};
+use thin_core::{Answer, CallCommand, Command, Refusal};
+use thin_world::{StepAnswer, World, WorldEvent};
 use vat_journal::{Delivery, Ended, JournalEntry, MadeCall, Origin, Outcome};
-use vat_world::{StepAnswer, World, WorldEvent};
 
 const FIRST_STAMP: Stamp = Stamp {
     vat: Vat::A,

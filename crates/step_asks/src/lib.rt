@@ -1,0 +1,9 @@
+//! Whole steps of the commands that make something for which the vat waits: a promise, a question for the peer's bootstrap
+//! object, a call.
+#![tactic(auto)]
+
+mod calling;
+mod opening;
+
+pub use calling::call;
+pub use opening::{bootstrap, promise};
