@@ -93,11 +93,8 @@ pub fn route(step: &mut Step, alloc: Global, call: WaitingCall, node: Node) -> R
     ensures ready { OnOk result (IsReady step.new) }
 {
     let count = call.request.caps.len();
-    let Some(more) = count.checked_add(2) else {
-        return Err(Memory);
-    };
     let lists = Lists::new(alloc, count)?;
-    step_base::reserve(step, more)?;
+    step_base::reserve(step, count + 2)?;
     let Ok(()) = route_kept(step, lists, call, node) else {
         return Err(Memory);
     };
