@@ -8,8 +8,6 @@ use Rattle.vat_machine.specs.declared.node.Node.{Node}
 use Rattle.vat_machine.specs.Progress.{Progress}
 use Rattle.vat_machine.specs.Routing.{Routes}
 use Rattle.vat_machine.specs.Commands.{kept, CallsHere, WaitsForEmbargo}
-use Rattle.step_base.specs.declared.step.Step.{Step}
-use Rattle.step_base.specs.InProgress.{progress_of}
 use Rattle.step_routes.proofs.Behind.{SamePeer}
 use Rattle.step_calls.specs.Ways.{CallsUnder}
 

@@ -1,4 +1,4 @@
-use Rattle.std.proofs.Common.{◌+◌, length, IsSome, sym, ap, subst, ◌∙◌}
+use Rattle.std.proofs.Common.{◌+◌, length, IsSome, sym, subst, ◌∙◌}
 use Rattle.std.specs.FinMap as map
 use Rattle.std.proofs.lemmas.Result.{on_ok_weaker}
 use Rattle.vat_machine.specs.Progress.{Progress}
