@@ -1,5 +1,5 @@
 -- What was asked for or promised just now does not go.
-use Rattle.std.proofs.Common.{◌≡◌, ℕ, [], ◌∷◌, Option, None, Some, Ok, refl, sym, ap, subst, ◌∙◌, arith}
+use Rattle.std.proofs.Common.{◌≡◌, ℕ, ◌+◌, [], ◌∷◌, Option, None, Some, Ok, sym, ap, subst, ◌∙◌}
 use Rattle.std.specs.FinMap as map
 use Rattle.finite_maps.proofs.Gets.{at_each, get-insert_same, get-insert_other}
 use Rattle.vat_machine.specs.declared.node.Node.TheVariants as node
@@ -11,28 +11,21 @@ use Rattle.vat_machine.specs.declared.calls.Promise.{Promise}
 use Rattle.vat_machine.specs.declared.calls.Promise.TheVariants as promise
 use Rattle.vat_machine.specs.declared.command.Command.TheVariants as command
 use Rattle.vat_machine.specs.declared.command.Granted.{Granted}
-use Rattle.vat_machine.specs.declared.command.Effects.{Effects}
 use Rattle.vat_machine.specs.declared.entries.Question.{Question}
 use Rattle.vat_machine.specs.declared.entries.Role.TheVariants as role
 use Rattle.vat_machine.specs.declared.entries.Finishing.TheVariants as finishing
 use Rattle.vat_machine.specs.State.{State}
 use Rattle.vat_machine.specs.Limits.{IsWithin}
-use Rattle.vat_machine.specs.Lists.{how_many}
-use Rattle.vat_machine.specs.Places.{places}
 use Rattle.vat_machine.specs.Progress.{Progress, begin, quiet, with_refs}
-use Rattle.vat_machine.specs.Settling.{NoneLeft, Drains}
 use Rattle.vat_machine.specs.Collecting.{IsLoosePromise, CallerIsDone}
 use Rattle.vat_machine.specs.Sweeping.{IsToFinish}
 use Rattle.vat_machine.specs.Refusals.{refused}
 use Rattle.vat_machine.specs.Commands.{AsksBootstrap, MakesPromise}
-use Rattle.vat_machine.specs.Steps.{Does, Ends, Obeys}
-use Rattle.laws_places.specs.Alike.{Alike}
+use Rattle.vat_machine.specs.Steps.{Obeys}
 use Rattle.laws_places.proofs.Promises.{promise_opens}
 use Rattle.laws_places.proofs.Questions.{question_asked}
-use Rattle.laws_places.proofs.References.{refs_come}
 use Rattle.vat_store.specs.Holding.{IsFresh}
 use Rattle.step_sweeps.specs.Thinking.{IsQuiet}
-use Rattle.step_ends.proofs.Answered.{does, done}
 use Rattle.step_ends.proofs.Quietly.{quiet_behind, done_quietly, calm_with_ref}
 
 -- ---- A promise
@@ -76,32 +69,33 @@ with_asked s q = record s {
   next_call = s.next_call + 1;
 }
 
-calm_asked : (s : State) (q : ℕ) → map.get s.questions q ≡ None → IsQuiet s → IsQuiet (with_asked s q)
-calm_asked s q free calm =
-    quiet_behind s t [] (question_asked s q (role.Direct (record { 0 = s.next_call })) [] finishing.Owed free)
-    (record { promises = λ p h. h; outcomes = λ o h. h; imports = λ e h. h; questions = was; callers = before; calls = called })
-    calm
-  where
-    abbrev t : State
-    t = with_asked s q
+module _ (s : State) (q : ℕ) (free : map.get s.questions q ≡ None) where
+  abbrev t : State
+  t = with_asked s q
 
-    abbrev from : OwnCall
-    from = own.Direct (record { 0 = q })
+  abbrev from : OwnCall
+  from = own.Direct (record { 0 = q })
 
-    called : (c : ℕ) → map.get (map.insert s.calls s.next_call from) c ≡ None → map.get s.calls c ≡ None
-    called = at_each (λ c. map.get (map.insert s.calls s.next_call from) c ≡ None → map.get s.calls c ≡ None) s.next_call
-        (λ h. let there = get-insert_same s.calls s.next_call from in cc)
-        (λ c apart h. sym (get-insert_other s.calls s.next_call from c apart) ∙ h)
+  called : (c : ℕ) → map.get (map.insert s.calls s.next_call from) c ≡ None → map.get s.calls c ≡ None
+  called = at_each (λ c. map.get (map.insert s.calls s.next_call from) c ≡ None → map.get s.calls c ≡ None) s.next_call
+      (λ h. let there = get-insert_same s.calls s.next_call from in cc)
+      (λ c apart h. sym (get-insert_other s.calls s.next_call from c apart) ∙ h)
 
-    was : (k : ℕ) → IsToFinish t k (map.get (map.insert s.questions q (asked_by s.next_call)) k) → IsToFinish t k (map.get s.questions k)
-    was = at_each (λ k. IsToFinish t k (map.get (map.insert s.questions q (asked_by s.next_call)) k) → IsToFinish t k (map.get s.questions k)) q
-        (λ h. let over : IsToFinish t q (Some (asked_by s.next_call)) = subst (λ (o : Option Question). IsToFinish t q o) (get-insert_same s.questions q (asked_by s.next_call)) h in
-        let there = get-insert_same s.calls s.next_call from in let none = over.1.0 in cc)
-        (λ k apart h. subst (λ (o : Option Question). IsToFinish t k o) (get-insert_other s.questions q (asked_by s.next_call) k apart) h)
+  was : (k : ℕ) → IsToFinish t k (map.get (map.insert s.questions q (asked_by s.next_call)) k) → IsToFinish t k (map.get s.questions k)
+  was = at_each (λ k. IsToFinish t k (map.get (map.insert s.questions q (asked_by s.next_call)) k) → IsToFinish t k (map.get s.questions k)) q
+      (λ h. let over : IsToFinish t q (Some (asked_by s.next_call)) = subst (λ (o : Option Question). IsToFinish t q o) (get-insert_same s.questions q (asked_by s.next_call)) h in
+      let there = get-insert_same s.calls s.next_call from in let none = over.1.0 in cc)
+      (λ k apart h. subst (λ (o : Option Question). IsToFinish t k o) (get-insert_other s.questions q (asked_by s.next_call) k apart) h)
 
-    before : (o : ℕ) (who : Caller) → CallerIsDone t o who → CallerIsDone s o who
-    before o (caller.Application c) h = called c.0 h
-    before o (caller.Peer k) h = h
+  before : (o : ℕ) (who : Caller) → CallerIsDone t o who → CallerIsDone s o who
+  before o (caller.Application c) h = called c.0 h
+  before o (caller.Peer k) h = h
+
+  calm_asked : IsQuiet s → IsQuiet t
+  calm_asked calm =
+      quiet_behind s t [] (question_asked s q (role.Direct (record { 0 = s.next_call })) [] finishing.Owed free)
+      (record { promises = λ p h. h; outcomes = λ o h. h; imports = λ e h. h; questions = was; callers = before; calls = called })
+      calm
 
 -- What follows the question: nothing is loose, and nothing waits to be settled.
 pub asked : (s : State) (g : Granted) (d new : Progress) → d ≡ begin s → AsksBootstrap d g new → IsQuiet s → IsQuiet new.state × (new.arisen ≡ [])

@@ -1,5 +1,5 @@
 -- What a call takes that is made by an application, and when it ends at once.
-use Rattle.std.specs.Prelude.{◌≡◌, ℕ, ◌≤◌, Option, None, Some, [], length, vec_capacity}
+use Rattle.std.specs.Prelude.{◌≡◌, ◌≤◌, Option, None, Some, [], length, vec_capacity}
 use Rattle.std.specs.FinMap as map
 use Rattle.rpc_msg.specs.declared.exception.Exception.{Exception}
 use Rattle.rpc_msg.specs.declared.ids.CallId.{CallId}

@@ -7,7 +7,7 @@ ghost use Rattle.vat_machine.specs.Progress.{begin};
 ghost use Rattle.vat_machine.specs.Refusals.{refused};
 ghost use Rattle.vat_machine.specs.Settling.{Drains};
 ghost use Rattle.laws_steps.specs.NodesThere.{IsReached};
-ghost use Rattle.vat_store.specs.Holding.{state_of};
+ghost use Rattle.vat_store.specs.Holding.{state_of, IsSound};
 ghost use Rattle.vat_store.specs.Noted.{noted_of, nothing_noted};
 ghost use Rattle.step_base.specs.InProgress.{progress_of, IsReady};
 ghost use Rattle.step_sweeps.specs.Thinking.{IsQuiet};
@@ -63,6 +63,7 @@ pub fn call(machine: &mut Machine, call: CallCommand) -> Result<(CallId, Effects
 
 // Provides what a call takes.
 fn provide(store: &Store, alloc: Global, call: &CallCommand) -> Result<Provided, Memory>
+    requires { IsSound store.now }
     ensures { IfOk result (λ x. IsProvided (state_of store.now) call.now x) }
 {
     let count = call.refs.len();
@@ -74,6 +75,7 @@ fn provide(store: &Store, alloc: Global, call: &CallCommand) -> Result<Provided,
 
 // What the application is told at once of a call through that reference.
 fn told_at(store: &Store, alloc: Global, id: RefId) -> Result<Option<Exception>, Memory>
+    requires { IsSound store.now }
     ensures { IfOk result (λ told. told ≡ told_of (broken_at (state_of store.now) (map.get (state_of store.now).refs id.0))) }
 {
     let Some(reason) = reason_at(store, id) else {
@@ -85,6 +87,7 @@ fn told_at(store: &Store, alloc: Global, id: RefId) -> Result<Option<Exception>,
 
 // Why a call through that reference ends at once.
 fn reason_at(store: &Store, id: RefId) -> Option<Reason>
+    requires { IsSound store.now }
     ensures { result ≡ broken_at (state_of store.now) (map.get (state_of store.now).refs id.0) }
 {
     let reference = store.refs.get(id.0)?;

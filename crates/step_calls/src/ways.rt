@@ -35,6 +35,7 @@ pub fn call_under(
     requires counted { id.0 < step.old.store.next_call }
     ensures called { OnOk result (CallsUnder (progress_of step.old) id.0 request embargo.0 (progress_of step.new)) }
     ensures fits { step.old.store.waits.taken ≡ [] → IsSome (map.get (state_of step.old.store).embargoes embargo.0) → nat_le held_limit (held (state_of step.old.store)) ≡ false → IsOk result }
+    ensures left { OnOk result (step.old.store.slack ≤ step.new.store.slack + (length request.caps + 3)) }
     ensures taken { step.new.store.waits.taken ≡ step.old.store.waits.taken }
     ensures noted { noted_of step.new.store.names ≡ noted_of step.old.store.names }
     ensures ready { IsReady step.new }
@@ -62,6 +63,7 @@ pub fn call_here(
     requires prepared { IsPrepared (length request.caps) lists }
     ensures called { OnOk result (CallsHere (progress_of step.old) id.0 request head (progress_of step.new)) }
     ensures fits { step.old.store.waits.taken ≡ [] → IsOpenThere (state_of step.old.store) (settle (state_of step.old.store) head) → lacks_room_at (state_of step.old.store) request.caps (settle (state_of step.old.store) head) ≡ false → IsOk result }
+    ensures left { OnOk result (step.old.store.slack ≤ step.new.store.slack + (length request.caps + 4)) }
     ensures taken { OnOk result (step.new.store.waits.taken ≡ step.old.store.waits.taken) }
     ensures noted { OnOk result (noted_of step.new.store.names ≡ noted_of step.old.store.names) }
     ensures ready { OnOk result (IsReady step.new) }
@@ -87,6 +89,7 @@ pub fn call_over(
     requires prepared { IsPrepared (length request.caps) lists }
     ensures called { OnOk result (CallsDirect (progress_of step.old) id.0 request target (progress_of step.new)) }
     ensures fits { map.len (state_of step.old.store).questions ≢ table_limit → exports_lack_room (state_of step.old.store) (going_out (state_of step.old.store) request.caps) ≡ false → IsOk result }
+    ensures left { OnOk result (step.old.store.slack ≤ step.new.store.slack + (length request.caps + 2)) }
     ensures taken { OnOk result (step.new.store.waits.taken ≡ step.old.store.waits.taken) }
     ensures noted { OnOk result (noted_of step.new.store.names ≡ noted_of step.old.store.names) }
     ensures ready { OnOk result (IsReady step.new) }

@@ -47,3 +47,9 @@ returns-in_err-call_through-clause-fits c = λ none there room.
     let roomy = ap (λ (ns : List Node). lacks_room_through (state_of mid.store) ns y.head y.embargo) caps ∙ room_numbered x mid r is y (sym c.in-Some.ensures) (heads s c.args.call.refs) room in
     let ok = c.call_through.ensures.fits (c.number_through-number.ensures.taken ∙ none) (goes_numbered x mid r is y (sym c.in-Some.ensures) there) roomy in
     absurd (let bad : false ≡ true = subst IsOk c.in_err-call_through.was ok in cc)
+
+pub returns-clause-left : goal.returns-clause-left
+returns-clause-left c =
+    let long = caps_long (state_of c.args.step.now.store) c.args.call c.in-Some.reference c.request_of-request.result c.request_of-request.ensures in
+    let same = c.number_through-number.ensures.left in let a = c.in_ok-call_through.ensures.left in
+    omega (arith, long, same, a)
