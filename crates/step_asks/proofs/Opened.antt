@@ -100,8 +100,7 @@ module _ (s : State) (q : ℕ) (free : map.get s.questions q ≡ None) where
 -- What follows the question: nothing is loose, and nothing waits to be settled.
 pub asked : (s : State) (g : Granted) (d new : Progress) → d ≡ begin s → AsksBootstrap d g new → IsQuiet s → IsQuiet new.state × (new.arisen ≡ [])
 asked s g d new began acts calm =
-    let made : AsksBootstrap (begin s) g new = subst (λ (x : Progress). AsksBootstrap x g new) began acts in
-    (
+    let made : AsksBootstrap (begin s) g new = subst (λ (x : Progress). AsksBootstrap x g new) began acts in (
       subst (λ (x : Progress). IsQuiet x.state) (sym made.3) (calm_asked s made.0 made.1 calm),
       ap (λ (x : Progress). x.arisen) made.3,
     )

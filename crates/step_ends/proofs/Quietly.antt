@@ -109,6 +109,7 @@ ends_quietly s calm = record {
   effects_are = refl;
   new_is = refl;
 }
+
 -- So a command whose first act says nothing is done with that.
 pub done_quietly : (s t : State) (c : Command) (g : Granted) (d new : Progress) → refused s c ≡ None → d ≡ begin s → Acts d c g new → new ≡ begin t → IsQuiet t → IsWithin t → Obeys s c (Ok g) quiet t
 done_quietly s t c g d new free began acts says calm within = done s c g quiet t free (does s c g d new quiet t began acts (subst (λ (x : Progress). Ends x quiet t) (sym says) (ends_quietly t calm))) within
