@@ -68,6 +68,8 @@ module _ (s other : State) (out back : List Message) (h : Midway s other out bac
     theirs = h.theirs;
     imported = h.imported;
     answers = h.answers;
+    pending = h.pending;
+    awaited = h.awaited;
     opens = h.opens;
     returns = h.returns;
     met = h.met;
@@ -140,6 +142,8 @@ module _ (s : State) (U : Map ℕ) where
     theirs = h.theirs;
     imported = h.imported;
     answers = h.answers;
+    pending = h.pending;
+    awaited = h.awaited;
     opens = h.opens;
     returns = h.returns;
     met = h.met;

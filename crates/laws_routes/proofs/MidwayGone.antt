@@ -30,6 +30,7 @@ use Rattle.vat_machine.specs.Collecting.{AnswerIsOther, CallerIsDone, Collects, 
 use Rattle.vat_machine.specs.Places.{named_by_calls, named_by_held, names}
 use Rattle.vat_machine.specs.Progress.{Progress}
 use Rattle.vat_machine.specs.Laws as machine
+use Rattle.laws_steps.specs.Callers.{IsOpenFor}
 use Rattle.laws_steps.specs.Settled.{IsAmong, IsThere}
 use Rattle.laws_steps.proofs.Among.{among_left, among_right}
 use Rattle.laws_routes.specs.MakingLaws.{EmbargoIsThere}
@@ -128,6 +129,13 @@ module _ (s other : State) (out back : List Message) (h : Midway s other out bac
       by None f k = cc
       by (Some x) f k = subst (λ (o : Option Import). IsSome o) (sym (imports_left e x f)) refl
 
+  still_open : (o q : ℕ) → IsOpenFor q (map.get O o) → IsOpenFor q (map.get s.outcomes o)
+  still_open o q i = by (map.get O o) refl i
+    where
+      by : (z : Option KeptOutcome) → map.get O o ≡ z → IsOpenFor q z → IsOpenFor q (map.get s.outcomes o)
+      by None f k = absurd k
+      by (Some x) f k = subst (IsOpenFor q) (sym (outcomes_left o x f)) k
+
   module _ (still : (n : Node) → test n ≡ false → IsHeld s n → IsHeld t n) (answers : (q : ℕ) (a : AnswerEntry) → map.get s.answers q ≡ Some a → IsOutcomeOf q (map.get O a.outcome)) where
     leads_held : (m k : Node) → link t m ≡ Some k → IsHeld t k
     leads_held (node.Object o) k e = let a : None ≡ Some k = e in cc
@@ -184,6 +192,8 @@ module _ (s other : State) (out back : List Message) (h : Midway s other out bac
       theirs = h.theirs;
       imported = λ e i. h.imported e (import_there e i);
       answers = answers;
+      pending = λ o q i. h.pending o q (still_open o q i);
+      awaited = h.awaited;
       opens = h.opens;
       returns = h.returns;
       met = h.met;

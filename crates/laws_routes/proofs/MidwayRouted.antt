@@ -32,6 +32,7 @@ use Rattle.vat_machine.specs.Descriptors.{Described, DescribesAll, ExportedAs}
 use Rattle.vat_machine.specs.Progress.{Progress, export_ids, with_refs}
 use Rattle.vat_machine.specs.Routing.{Asks, RoutedTo, RoutesAll, RoutesHeld, WaitsForField, WaitsForPromise}
 use Rattle.vat_machine.specs.Laws as machine
+use Rattle.laws_steps.specs.Callers.{IsOpenFor}
 use Rattle.laws_steps.specs.Settled.{IsThere}
 use Rattle.laws_routes.specs.Laws.{AllMayGo}
 use Rattle.laws_routes.specs.OutcomeLaws.{AllHeldMayGo}
@@ -56,7 +57,7 @@ refs_still (n ∷ ns) s other out back h i = refs_still ns (record s { refs = R;
     (moved s other out back h R s.promises s.outcomes s.calls s.tasks (s.next_ref + 1) s.next_call s.next_task
     (at_put (λ k o. (z : Reference) → o ≡ Some z → IsHeld s z.head) s.refs s.next_ref y (λ z e. (let a : y ≡ z = cc in subst (λ (z : Reference). IsHeld s z.head) a i.0)) (λ k f z e. h.heads k z e))
     (at_put (λ k o. (z : Reference) → o ≡ Some z → EmbargoIsThere s k z.embargo) s.refs s.next_ref y (λ z e. (let a : y ≡ z = cc in subst (λ (z : Reference). EmbargoIsThere s s.next_ref z.embargo) a tt)) (λ k f z e. h.paired k z e))
-    (λ p j. j) (λ p. refl) (λ o j. j) (λ o. refl) h.waits h.holds (λ o q i. i))
+    (λ p j. j) (λ p. refl) (λ o j. j) (λ o. refl) h.waits h.holds (λ o q i. i) (λ o q i. i))
     (all ns i.1)
   where
     y : Reference
@@ -70,7 +71,7 @@ refs_still (n ∷ ns) s other out back h i = refs_still ns (record s { refs = R;
     all (m ∷ ms) j = (held_more s R s.promises s.outcomes s.calls s.tasks (s.next_ref + 1) s.next_call s.next_task (λ p k. k) (λ o k. k) m j.0, all ms j.1)
 
 pub tasks_still : (s other : State) (out back : List Message) (T : Map ℕ) (k : ℕ) → Midway s other out back → Midway (record s { tasks = T; next_task = k }) other out back
-tasks_still s other out back T k h = moved s other out back h s.refs s.promises s.outcomes s.calls T s.next_ref s.next_call k h.heads h.paired (λ p i. i) (λ p. refl) (λ o i. i) (λ o. refl) h.waits h.holds (λ o q i. i)
+tasks_still s other out back T k h = moved s other out back h s.refs s.promises s.outcomes s.calls T s.next_ref s.next_call k h.heads h.paired (λ p i. i) (λ p. refl) (λ o i. i) (λ o. refl) h.waits h.holds (λ o q i. i) (λ o q i. i)
 
 calls_more : (s : State) (cs : List WaitingCall) (c : WaitingCall) → CallsAreHeld s cs → AllAreHeld s c.request.caps → CallsAreHeld s (cs ++ c ∷ [])
 calls_more s [] c h i = (i, tt)
@@ -90,7 +91,7 @@ waits_at_promise w d c p (Some (promise.Open cs)) new e h i a =
     (moved s w.other (w.out ++ d.effects.sends) w.back h s.refs (map.insert s.promises p x) s.outcomes s.calls s.tasks s.next_ref s.next_call s.next_task h.heads h.paired
     (at_put (λ k z. IsSome (map.get s.promises k) → IsSome z) s.promises p x (λ i. refl) (λ k n i. i))
     (at_put (λ k z. promise_link z ≡ promise_link (map.get s.promises k)) s.promises p x (sym (ap promise_link e)) (λ k n. refl)) (λ o i. i) (λ o. refl)
-    (at_put (λ k z. (ds : List WaitingCall) → z ≡ Some (promise.Open ds) → CallsAreHeld s ds) s.promises p x (λ ds f. (let b : cs ++ c ∷ [] ≡ ds = cc in subst (CallsAreHeld s) b (calls_more s cs c (h.waits p cs e) i))) (λ k n ds f. h.waits k ds f)) h.holds (λ o q i. i))
+    (at_put (λ k z. (ds : List WaitingCall) → z ≡ Some (promise.Open ds) → CallsAreHeld s ds) s.promises p x (λ ds f. (let b : cs ++ c ∷ [] ≡ ds = cc in subst (CallsAreHeld s) b (calls_more s cs c (h.waits p cs e) i))) (λ k n ds f. h.waits k ds f)) h.holds (λ o q i. i) (λ o q i. i))
 
 waits_at_field : (w : Around) (d : Progress) (c : WaitingCall) (o : ℕ) (path : _) (z : Option KeptOutcome) (new : Progress) → map.get d.state.outcomes o ≡ z → MidwayAt w d → AllAreHeld d.state c.request.caps → WaitsForField d c o path z new → MidwayAt w new
 waits_at_field w d c o path None new e h i a = absurd a
@@ -103,7 +104,8 @@ waits_at_field w d c o path (Some x) new e h i a =
     (at_put (λ k z. value_of z ≡ value_of (map.get s.outcomes k)) s.outcomes o y (sym (ap value_of e)) (λ k n. refl)) h.waits
     (at_put (λ k z. (u : KeptOutcome) → z ≡ Some u → HeldCallsAreHeld s u.waiting) s.outcomes o y
     (λ u f. (let b : y ≡ u = cc in subst (λ (u : KeptOutcome). HeldCallsAreHeld s u.waiting) b (held_calls_more s x.waiting (record { path = path; call = c }) (h.holds o x e) i))) (λ k n u f. h.holds k u f))
-    (at_put (λ k z. (q : ℕ) → IsOutcomeOf q (map.get s.outcomes k) → IsOutcomeOf q z) s.outcomes o y (λ q i. subst (IsOutcomeOf q) e i) (λ k n q i. i)))
+    (at_put (λ k z. (q : ℕ) → IsOutcomeOf q (map.get s.outcomes k) → IsOutcomeOf q z) s.outcomes o y (λ q i. subst (IsOutcomeOf q) e i) (λ k n q i. i))
+    (at_put (λ k z. (q : ℕ) → IsOpenFor q z → IsOpenFor q (map.get s.outcomes k)) s.outcomes o y (λ q i. subst (IsOpenFor q) (sym e) i) (λ k n q i. i)))
 
 -- ---- Exports, and a question
 
@@ -167,6 +169,8 @@ module _ (s : State) (E : Map Export) (Q : Map Question) (more : (q : ℕ) → I
     theirs = h.theirs;
     imported = h.imported;
     answers = h.answers;
+    pending = h.pending;
+    awaited = h.awaited;
     opens = opens;
     returns = returns;
     met = cap_map _ _ back grown h.met;

@@ -29,6 +29,7 @@ use Rattle.vat_machine.specs.Progress.{Progress, caps_of}
 use Rattle.vat_machine.specs.Settling.{Fits, PutsIn, SettlesFrom, SettlesOpen, TellsCall, Untangles, known}
 use Rattle.laws_nodes.specs.Settling.{AllStop}
 use Rattle.laws_nodes.proofs.Knowing.{known_stops}
+use Rattle.laws_steps.specs.Callers.{IsOpenFor}
 use Rattle.laws_steps.specs.Settled.{IsThere}
 use Rattle.laws_routes.specs.MakingLaws.{EmbargoIsThere}
 use Rattle.laws_routes.specs.OutcomeLaws.{MaySettleFrom, MaySettleOpen, with_known}
@@ -58,7 +59,7 @@ module _ (other : State) (out back : List Message) where
       moved s other out back h s.refs (map.insert s.promises p x) s.outcomes s.calls s.tasks s.next_ref s.next_call s.next_task h.heads h.paired
       (at_put (λ k z. IsSome (map.get s.promises k) → IsSome z) s.promises p x (λ i. refl) (λ k n i. i))
       (at_put (λ k z. promise_link z ≡ promise_link (map.get s.promises k)) s.promises p x (sym (ap promise_link free)) (λ k n. refl)) (λ o i. i) (λ o. refl)
-      (at_put (λ k z. (cs : List WaitingCall) → z ≡ Some (promise.Open cs) → CallsAreHeld s cs) s.promises p x (λ cs e. (let a : [] ≡ cs = cc in subst (CallsAreHeld s) a tt)) (λ k n cs e. h.waits k cs e)) h.holds (λ o q i. i)
+      (at_put (λ k z. (cs : List WaitingCall) → z ≡ Some (promise.Open cs) → CallsAreHeld s cs) s.promises p x (λ cs e. (let a : [] ≡ cs = cc in subst (CallsAreHeld s) a tt)) (λ k n cs e. h.waits k cs e)) h.holds (λ o q i. i) (λ o q i. i)
 
   put_in : (s : State) (o : ℕ) (from : Caller) (hs : List HeldCall) (payload : Payload) (i : ℕ) (n : Node) (rest caps : List Node) (new : State) → Midway s other out back → IsHeld s n → AllAreHeld s rest
       → PutsIn s o from hs payload i n rest caps new → Fitted s new caps
@@ -85,6 +86,9 @@ module _ (other : State) (out back : List Message) where
   fitted s o from hs (value.Results payload caps) fit new h k a = subst (λ (u : Value). Fitted s new (caps_of u)) (sym a.1) (untangled s o from hs payload 0 caps a.0 new h k a.2)
 
 -- ---- It is known
+
+not_open : (v : Value) → Some v ≡ None → ⊥
+not_open v e = cc
 
 cap_held : (s : State) (caps : List Node) (i : ℕ) → AllAreHeld s caps → IsHeld s (node_of_cap caps (Cap i))
 cap_held s [] i h = (tt, tt)
@@ -148,6 +152,8 @@ module _ (s other : State) (out back : List Message) (h : Midway s other out bac
     theirs = h.theirs;
     imported = h.imported;
     answers = λ q a f. at_put (λ k u. IsOutcomeOf q (map.get s.outcomes k) → IsOutcomeOf q u) s.outcomes o y (λ i. subst (IsOutcomeOf q) at i) (λ k n i. i) a.outcome (h.answers q a f);
+    pending = λ k q i. h.pending k q (at_put (λ k u. IsOpenFor q u → IsOpenFor q (map.get s.outcomes k)) s.outcomes o y (λ i. absurd (not_open v i.0)) (λ k n i. i) k i);
+    awaited = h.awaited;
     opens = h.opens;
     returns = h.returns;
     met = h.met;
@@ -164,6 +170,7 @@ emptied_still s other out back h o y v at is =
     (at_put (λ k u. value_of u ≡ value_of (map.get s.outcomes k)) s.outcomes o z (sym (ap value_of at ∙ is)) (λ k n. refl)) h.waits
     (at_put (λ k u. (b : KeptOutcome) → u ≡ Some b → HeldCallsAreHeld s b.waiting) s.outcomes o z (λ b e. (let a : z ≡ b = cc in subst (λ (b : KeptOutcome). HeldCallsAreHeld s b.waiting) a tt)) (λ k n b e. h.holds k b e))
     (at_put (λ k u. (q : ℕ) → IsOutcomeOf q (map.get s.outcomes k) → IsOutcomeOf q u) s.outcomes o z (λ q i. subst (IsOutcomeOf q) at i) (λ k n q i. i))
+    (at_put (λ k u. (q : ℕ) → IsOpenFor q u → IsOpenFor q (map.get s.outcomes k)) s.outcomes o z (λ q i. absurd (not_open v i.0)) (λ k n q i. i))
 
 -- ---- The application is told
 

@@ -1,6 +1,6 @@
 -- What is so of a vat in the middle of a step, and of what is on its way to it and from it. What the laws of pieces take as known
 -- of a state follows from it (docs/protocol.md, "Nodes", "Places", "Ids in use").
-use Rattle.std.specs.Prelude.{◌≡◌, ℕ, Bool, false, Option, None, Some, IsSome, List, [], ◌∷◌, ◌++◌}
+use Rattle.std.specs.Prelude.{◌≡◌, ℕ, Bool, false, true, nat_eq, Option, None, Some, IsSome, List, [], ◌∷◌, ◌++◌}
 use Rattle.std.specs.FinMap as map
 use Rattle.capn_wire.specs.declared.path.Op.{Op}
 use Rattle.rpc_msg.specs.declared.parts.Descriptor.{Descriptor}
@@ -32,12 +32,14 @@ use Rattle.vat_machine.specs.Refusals.{refused}
 use Rattle.vat_machine.specs.Settling.{FixesPromise, SendsResolves, SettlesOutcome, Tells, exports_where}
 use Rattle.rpc_msg.specs.declared.exception.Exception.{Exception}
 use Rattle.vat_machine.specs.Laws as machine
+use Rattle.laws_steps.specs.Callers.{AnswersWith, IsOpenFor}
 use Rattle.laws_steps.specs.Settled.{IsThere}
 use Rattle.laws_routes.specs.Named.{EachReturn, LinksMet}
 use Rattle.laws_routes.specs.Premises.{EachLoop, EachMayOpen, EachOpen, ExportsAreOwn, IsWireThere, LinksRest, MayAsk, MayGoTo, MayKeep, MayTake, TargetsAreMet}
 use Rattle.laws_routes.specs.Laws.{AllMayGo}
 use Rattle.laws_routes.specs.MakingLaws.{EmbargoIsThere, MayCall}
 use Rattle.laws_routes.specs.OutcomeLaws.{AllHeldMayGo, MayFixFrom, MaySettleFrom, PeerIsTold, with_known}
+use Rattle.laws_routes.specs.QuietLaws.{MayClose}
 use Rattle.laws_routes.specs.SayingLaws.{AllMaySend, MayAdvance, MaySay, MaySend}
 use Rattle.laws_routes.specs.StepLaws.{MayAct}
 use Rattle.laws_routes.specs.Ties.{Around}
@@ -63,6 +65,10 @@ abbrev pub IsOutcomeOf : ℕ → Option KeptOutcome → Type 0
 IsOutcomeOf q None = ⊥
 IsOutcomeOf q (Some x) = x.caller ≡ caller.Peer (record { 0 = q })
 
+-- The question q is not asked again, and its answer may close if it is finished.
+abbrev pub IsAwaited : State → List Message → ℕ → Bool → Type 0
+IsAwaited other back q finished = EachOpen (λ k. nat_eq k q ≡ false) back × (finished ≡ true → MayClose other back q)
+
 pub record Midway (s other : State) (out back : List Message) : Type 0 where
   -- each node stops, and one that is there leads to what is held
   pub stop : (m : Node) → (d : ℕ) × machine.Stops s d m
@@ -85,6 +91,10 @@ pub record Midway (s other : State) (out back : List Message) : Type 0 where
   pub imported : (e : ℕ) → IsSome (map.get s.imports e) → IsSome (map.get other.exports e)
   -- an answer has its outcome, and that is told to it
   pub answers : (q : ℕ) (a : AnswerEntry) → map.get s.answers q ≡ Some a → IsOutcomeOf q (map.get s.outcomes a.outcome)
+  -- an outcome that is not known yet, and of which the other vat is to be told, has its answer, whose Return was not sent
+  pub pending : (o q : ℕ) → IsOpenFor q (map.get s.outcomes o) → AnswersWith o (map.get s.answers q)
+  -- and that may be sent
+  pub awaited : (q : ℕ) (a : AnswerEntry) → map.get s.answers q ≡ Some a → a.returned ≡ None → IsAwaited other back q a.finished
   -- what asks is of a question that is there, and so is what returns
   pub opens : EachOpen (λ q. IsSome (map.get s.questions q)) out
   pub returns : EachReturn (λ q. IsSome (map.get s.questions q)) back
