@@ -10,6 +10,7 @@ pub mod CallSent
 pub mod CallRouted
 pub mod CallsRouted
 pub mod GroupSettles
+pub mod Placed
 pub mod PromiseFixed
 pub mod OutcomeKept
 pub mod CallMade
@@ -55,8 +56,8 @@ pub mod MidwayRouted
 pub mod MidwaySaid
 pub mod MidwayFixed
 pub mod MidwaySettled
-pub mod Unplaced
 pub mod MidwayGone
+pub mod MidwayBelow
 pub mod ActsFollow
 pub mod PairsTied
 pub mod StepsTied
