@@ -58,6 +58,7 @@ pub mod MidwayFixed
 pub mod MidwaySettled
 pub mod MidwayGone
 pub mod MidwayBelow
+pub mod MidwayTold
 pub mod ActsFollow
 pub mod PairsTied
 pub mod StepsTied

@@ -219,10 +219,10 @@ module _ (s other : State) (out back : List Message) (h : Midway s other out bac
 pub held_exports : (s : State) (E : Map Export) (n : Node) → IsHeld s n → IsHeld (record s { exports = E }) n
 held_exports s E n i = held s E s.questions (λ q u. u) n i
 
-held_behind : (s mid : State) (ns : List Node) → Exports s mid → AllAreHeld s ns → AllAreHeld mid ns
+pub held_behind : (s mid : State) (ns : List Node) → Exports s mid → AllAreHeld s ns → AllAreHeld mid ns
 held_behind s mid ns g i = subst (λ (z : State). AllAreHeld z ns) (sym g.1) (all_held s g.0 s.questions (λ q u. u) ns i)
 
-all_described : (ns : List Node) (s other : State) (out back : List Message) (ds : List Descriptor) (mid : State) → Midway s other out back → AllAreHeld s ns → DescribesAll s ns ds mid → Midway mid other out back × EachMet mid.exports other.exports ds
+pub all_described : (ns : List Node) (s other : State) (out back : List Message) (ds : List Descriptor) (mid : State) → Midway s other out back → AllAreHeld s ns → DescribesAll s ns ds mid → Midway mid other out back × EachMet mid.exports other.exports ds
 all_described [] s other out back [] mid h i a = (subst (λ (z : State). Midway z other out back) (sym a) h, tt)
 all_described [] s other out back (c ∷ ds) mid h i a = absurd a
 all_described (n ∷ ns) s other out back [] mid h i a = absurd a
