@@ -5,6 +5,7 @@ ghost use Rattle.laws_routes.specs.Midway.{
   AllHeldMayGoFollows,
   AllMayGoFollows,
   AllMaySendFollows,
+  CallersMayBeTold,
   CollectedFollows,
   LinksRestFollows,
   MayActFollows,
@@ -20,7 +21,6 @@ ghost use Rattle.laws_routes.specs.Midway.{
   MaySettleFollows,
   MayTakeFollows,
   MidwayAsRouted,
-  OwnMayBeTold,
   SettlingKeepsIt,
 };
 
@@ -46,8 +46,7 @@ pub fn more_may_be_said()
     ensures advances { MayAdvanceFollows }
 {}
 
-/// A command may do its first act, where it is not refused, if the caller of the outcome that it settles may be told.
-/// Behind one that settles a promise or an outcome it is so too.
+/// A command may do its first act, where it is not refused. Behind one that settles a promise or an outcome it is so too.
 pub fn commands_may_act()
     ensures acts { MayActFollows }
     ensures kept { SettlingKeepsIt }
@@ -72,11 +71,11 @@ pub fn fixed_promises_keep_it()
     ensures { MayFixFollows }
 {}
 
-/// An outcome may settle with a value whose capabilities are held, if its caller may be told: its calls go on and its Resolves are
-/// sent, and it is so behind them. The application may always be told.
+/// An outcome may settle with a value whose capabilities are held: its caller is told, its calls go on and its Resolves are sent,
+/// and it is so behind them.
 pub fn settled_outcomes_keep_it()
     ensures any { MaySettleFollows }
-    ensures own { OwnMayBeTold }
+    ensures told { CallersMayBeTold }
 {}
 
 /// What no place names may go, one after the other: it is so behind them.
