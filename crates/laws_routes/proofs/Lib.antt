@@ -56,6 +56,8 @@ pub mod MidwayRouted
 pub mod MidwaySaid
 pub mod MidwayFixed
 pub mod MidwaySettled
+pub mod Unmoved
+pub mod MidwayDrained
 pub mod MidwayGone
 pub mod MidwayBelow
 pub mod MidwayTold

@@ -25,7 +25,7 @@ pub use messages::{
     silent_is_no_move,
 };
 pub use midway::{
-    calls_may_go, collecting_keeps_it, commands_may_act, fixed_promises_keep_it,
+    calls_may_go, collecting_keeps_it, commands_may_act, drains_keep_it, fixed_promises_keep_it,
     free_ids_may_be_used, more_may_be_said, resolves_keep_it, routed_calls_keep_it,
     settled_outcomes_keep_it,
 };

@@ -7,6 +7,7 @@ ghost use Rattle.laws_routes.specs.Midway.{
   AllMaySendFollows,
   CallersMayBeTold,
   CollectedFollows,
+  DrainsFollow,
   LinksRestFollows,
   MayActFollows,
   MayAdvanceFollows,
@@ -76,6 +77,11 @@ pub fn fixed_promises_keep_it()
 pub fn settled_outcomes_keep_it()
     ensures any { MaySettleFollows }
     ensures told { CallersMayBeTold }
+{}
+
+/// What arose may settle, one after the other, if the capabilities of what came first are held; and it is so behind all.
+pub fn drains_keep_it()
+    ensures { DrainsFollow }
 {}
 
 /// What no place names may go, one after the other: it is so behind them.
