@@ -1,6 +1,6 @@
 -- Entries go, and what is still named is held: it is still so in the middle of the step.
 use Rattle.std.specs.FinMap as map
-use Rattle.std.proofs.Common.{◌≡◌, ◌⊎◌, inl, inr, ℕ, List, [], Option, None, Some, IsSome, refl, sym, ap, subst, ◌∙◌}
+use Rattle.std.proofs.Common.{◌≡◌, ◌⊎◌, inl, inr, ℕ, nat_eq, false, List, [], Option, None, Some, IsSome, refl, sym, ap, subst, ◌∙◌}
 use Rattle.finite_maps.specs.Tally.{Map}
 use Rattle.capn_wire.specs.declared.path.Op.{Op}
 use Rattle.rpc_msg.specs.declared.ids.EmbargoId.{EmbargoId}
@@ -17,6 +17,7 @@ use Rattle.vat_machine.specs.declared.entries.Export.{Export}
 use Rattle.vat_machine.specs.declared.entries.Import.{Import}
 use Rattle.vat_machine.specs.declared.entries.Question.{Question}
 use Rattle.vat_machine.specs.declared.entries.Reference.{Reference}
+use Rattle.vat_machine.specs.declared.entries.Returned.{Returned}
 use Rattle.vat_machine.specs.declared.node.Node.{Node}
 use Rattle.vat_machine.specs.declared.node.Node.TheVariants as node
 use Rattle.vat_machine.specs.State.{State}
@@ -33,6 +34,7 @@ use Rattle.laws_routes.specs.Sayings.{has_of}
 use Rattle.laws_routes.specs.Midway.{IsAwaited, IsHeld, IsOutcomeOf, Midway}
 use Rattle.laws_routes.proofs.MidwayGone.{calls_left, held_left, less_stops, met_fewer}
 use Rattle.laws_routes.proofs.Placed as placed
+use Rattle.laws_routes.proofs.WhatGoes.{none_there}
 
 module _ (s t other : State) (out back : List Message) (h : Midway s other out back) (b : Below s t) (still : (n : Node) → IsAmong n (places t) → IsHeld s n → IsHeld t n) where
   -- What is held before is held behind.
@@ -126,6 +128,13 @@ module _ (s t other : State) (out back : List Message) (h : Midway s other out b
       by (inl e) = h.returned q path said to (ap (λ (o : Option Question). known_by_return path (returned_of o)) (sym e) ∙ a)
       by (inr i) = absurd (closed (map.get t.questions q) i a)
 
+  still_answered : (q : ℕ) (x : Question) → map.get t.questions q ≡ Some x → IsSome x.returned → (map.get t.questions q ≡ map.get s.questions q) ⊎ IsClosed (map.get t.questions q)
+      → EachOpen (λ k. nat_eq k q ≡ false) out × EachReturn (λ k. nat_eq k q ≡ false) back
+  still_answered q x e i (inl same) = h.answered q x (sym same ∙ e) i
+  still_answered q x e i (inr closed) =
+      let c : IsClosed (Some x) = subst IsClosed e closed in
+      absurd (none_there Returned (subst (λ (o : Option Returned). IsSome o) c.0 i))
+
   pub below_still : ((q : ℕ) (a : AnswerEntry) → map.get t.answers q ≡ Some a → IsOutcomeOf q (map.get t.outcomes a.outcome)) → EachOpen (λ q. IsSome (map.get t.questions q)) out → EachReturn (λ q. IsSome (map.get t.questions q)) back → Midway t other out back
   below_still answers opens returns = record {
     stop = λ n. (let a = h.stop n in less_stops s t less a.0 n a.1);
@@ -146,6 +155,7 @@ module _ (s t other : State) (out back : List Message) (h : Midway s other out b
     awaited = λ q a e. h.awaited q a (ap (λ m. map.get m q) (sym b.answers) ∙ e);
     opens = opens;
     returns = returns;
+    answered = λ q x e i. still_answered q x e i (b.questions q);
     met = subst (λ (E : Map Export). EachTargetCap (λ e. IsSome (map.get E e)) back) (sym b.exports) h.met;
     named = (let a = h.named in (
       subst (λ (E : Map Export). AllMet E other.exports (has_of [] other.imports other.questions) out) (sym b.exports) a.0,

@@ -72,6 +72,7 @@ module _ (s other : State) (out back : List Message) (h : Midway s other out bac
     awaited = h.awaited;
     opens = h.opens;
     returns = h.returns;
+    answered = h.answered;
     met = h.met;
     named = h.named;
     sent = h.sent;
@@ -146,6 +147,7 @@ module _ (s : State) (U : Map ℕ) where
     awaited = h.awaited;
     opens = h.opens;
     returns = h.returns;
+    answered = h.answered;
     met = h.met;
     named = h.named;
     sent = h.sent;

@@ -199,6 +199,7 @@ module _ (s other : State) (out back : List Message) (h : Midway s other out bac
       awaited = h.awaited;
       opens = h.opens;
       returns = h.returns;
+      answered = h.answered;
       met = h.met;
       named = (let a = h.named in (a.0, met_fewer other.exports s.exports (has_of [] s.imports s.questions) (has_of [] I s.questions) back import_there a.1));
       sent = h.sent;

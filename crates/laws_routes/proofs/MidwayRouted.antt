@@ -1,8 +1,8 @@
 -- A call goes on: it is still so in the middle of the step.
 use Rattle.std.specs.FinMap as map
-use Rattle.std.proofs.Common.{◌≡◌, ℕ, ◌+◌, zero, suc, false, List, [], ◌∷◌, ◌++◌, append_assoc, Option, None, Some, IsSome, refl, sym, ap, subst, ◌∙◌}
+use Rattle.std.proofs.Common.{◌≡◌, ℕ, ◌+◌, zero, suc, nat_eq, false, List, [], ◌∷◌, ◌++◌, append_assoc, Option, None, Some, IsSome, refl, sym, ap, subst, ◌∙◌}
 use Rattle.finite_maps.specs.Tally.{Map}
-use Rattle.finite_maps.proofs.Tested.{at_put}
+use Rattle.finite_maps.proofs.Tested.{at_put, sides}
 use Rattle.finite_maps.proofs.Gets.{get-insert_same}
 use Rattle.rpc_msg.specs.declared.parts.Descriptor.{Descriptor}
 use Rattle.rpc_msg.specs.declared.parts.Target.{Target}
@@ -22,6 +22,7 @@ use Rattle.vat_machine.specs.declared.entries.Export.{Export}
 use Rattle.vat_machine.specs.declared.entries.Finishing.TheVariants as finishing
 use Rattle.vat_machine.specs.declared.entries.Question.{Question}
 use Rattle.vat_machine.specs.declared.entries.Reference.{Reference}
+use Rattle.vat_machine.specs.declared.entries.Returned.{Returned}
 use Rattle.vat_machine.specs.declared.entries.Role.{Role}
 use Rattle.vat_machine.specs.declared.node.Node.{Node}
 use Rattle.vat_machine.specs.declared.node.Node.TheVariants as node
@@ -48,6 +49,7 @@ use Rattle.laws_routes.proofs.LinkShapes.{cap_map, open_map}
 use Rattle.laws_routes.proofs.MidwayKept.{calls_still, held_more, held_still, moved}
 use Rattle.laws_routes.proofs.ReturnsSaySo.{there_as}
 use Rattle.laws_routes.proofs.SayingsCarried.{all_met, all_there, name_met, return_map, there_still}
+use Rattle.laws_routes.proofs.WhatGoes.{none_there}
 
 -- ---- New references, tasks, and calls that wait
 
@@ -152,9 +154,10 @@ module _ (s : State) (E : Map Export) (Q : Map Question) (more : (q : ℕ) → I
 
   asked : (other : State) (out then back : List Message) → Midway s other out back → ((e : ℕ) (x : Export) → map.get E e ≡ Some x → (is_wire x.node ≡ false) × IsHeld s x.node)
       → ((q : ℕ) (path : _) (said : Descriptor) (to : Node) → known_by_return path (returned_of (map.get Q q)) ≡ Leads said to → IsHeld s to)
-      → EachOpen (λ q. IsSome (map.get Q q)) then → EachReturn (λ q. IsSome (map.get Q q)) back → ((e : ℕ) → IsSome (map.get s.exports e) → IsSome (map.get E e)) → LinksMet t other then back
+      → EachOpen (λ q. IsSome (map.get Q q)) then → EachReturn (λ q. IsSome (map.get Q q)) back
+      → ((q : ℕ) (x : Question) → map.get Q q ≡ Some x → IsSome x.returned → EachOpen (λ k. nat_eq k q ≡ false) then × EachReturn (λ k. nat_eq k q ≡ false) back) → ((e : ℕ) → IsSome (map.get s.exports e) → IsSome (map.get E e)) → LinksMet t other then back
       → EachLoop (λ e. IsSome (map.get s.embargoes e)) (λ e. Unit {0}) then → Midway t other then back
-  asked other out then back h own returned opens returns grown named sent = record {
+  asked other out then back h own returned opens returns answered grown named sent = record {
     stop = λ m. (let a = h.stop m in (a.0, stops a.0 m a.1));
     links = λ m k i e. held k (h.links m k (there m i) (sym (same_link m) ∙ e));
     heads = λ r x e. held x.head (h.heads r x e);
@@ -173,6 +176,7 @@ module _ (s : State) (E : Map Export) (Q : Map Question) (more : (q : ℕ) → I
     awaited = h.awaited;
     opens = opens;
     returns = returns;
+    answered = answered;
     met = cap_map _ _ back grown h.met;
     named = named;
     sent = sent;
@@ -196,7 +200,7 @@ module _ (s other : State) (out back : List Message) (h : Midway s other out bac
       let none = all_there other.exports in
       subst (λ (z : State). Midway z other out back) (sym g.1)
       (asked s E s.questions (λ q u. u) other out out back h (subst (λ (z : State). (j : ℕ) (x : Export) → map.get z.exports j ≡ Some x → (is_wire x.node ≡ false) × IsHeld s x.node) g.1 own)
-      h.returned h.opens h.returns (there_still s.exports E grows.still)
+      h.returned h.opens h.returns h.answered (there_still s.exports E grows.still)
       (all_met s.exports E other.exports other.exports grows.still none (has_of [] other.imports other.questions) out h.named.0, all_met other.exports other.exports s.exports E none grows.still (has_of [] s.imports s.questions) back h.named.1) h.sent)
 
   pub described_still : (n : Node) (c : Descriptor) (mid : State) → IsHeld s n → Described s n c mid → Midway mid other out back × NamesMet mid.exports other.exports c
@@ -296,11 +300,16 @@ asks_still w d q role target r new h i a =
     let still : Midway (record mid { questions = Q }) u (out ++ message.Plain (plain.Call c) ∷ []) w.back =
     asked mid mid.exports Q (at_put (λ j o. IsUnfinished (map.get mid.questions j) → IsUnfinished o) mid.questions q x (λ i. tt) (λ j n i. i)) u out (out ++ message.Plain (plain.Call c) ∷ []) w.back k k.exports
     (λ j path. at_put (λ j o. (said : Descriptor) (to : Node) → known_by_return path (returned_of o) ≡ Leads said to → IsHeld mid to) mid.questions q x (λ said to e. (let b : NothingYet ≡ Leads said to = e in cc)) (λ j n said to e. k.returned j path said to e) j)
-    (opens_more _ out (message.Plain (plain.Call c)) (open_map _ _ out is k.opens) here) (return_map _ _ w.back is k.returns) (λ e i. i)
+    (opens_more _ out (message.Plain (plain.Call c)) (open_map _ _ out is k.opens) here) (return_map _ _ w.back is k.returns)
+    (λ j. at_put (λ j o. (y : Question) → o ≡ Some y → IsSome y.returned → EachOpen (λ k. nat_eq k j ≡ false) (out ++ message.Plain (plain.Call c) ∷ []) × EachReturn (λ k. nat_eq k j ≡ false) w.back) mid.questions q x (λ y e i. absurd (unreturned x y refl (let b : x ≡ y = cc in b) i))
+    (λ j n y e i. (let b = k.answered j y e i in (opens_more _ out (message.Plain (plain.Call c)) b.0 (sides q j ∙ n), b.1))) j) (λ e i. i)
     (met_more mid.exports u.exports (has_of [] u.imports u.questions) out (message.Plain (plain.Call c)) k.named.0 (λ has. (made.1, tt, tt)), met_alike u.exports mid.exports (has_of [] mid.imports mid.questions) (has_of [] mid.imports Q) w.back refl k.named.1)
     (loops_more _ _ out (message.Plain (plain.Call c)) k.sent tt) in
     subst (MidwayAt w) (sym a.1.3) (subst (λ (ms : List Message). Midway (record mid { questions = Q }) u ms w.back) (append_assoc w.out d.effects.sends (message.Plain (plain.Call c) ∷ [])) still)
   where
+    unreturned : (x y : Question) → x.returned ≡ None → x ≡ y → IsSome y.returned → ⊥
+    unreturned x y e f i = none_there Returned (subst (λ (o : Option Returned). IsSome o) (ap (λ (z : Question). z.returned) (sym f) ∙ e) i)
+
     at_same : (m : Map Question) (q : ℕ) (x : Question) → IsSome (map.get (map.insert m q x) q)
     at_same m q x = subst (λ (o : Option Question). IsSome o) (sym (get-insert_same m q x)) refl
 

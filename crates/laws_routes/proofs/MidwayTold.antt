@@ -215,6 +215,7 @@ module _ (s other : State) (out back : List Message) (h : Midway s other out bac
         awaited = awaited_now f;
         opens = h.opens;
         returns = h.returns;
+        answered = h.answered;
         met = h.met;
         named = h.named;
         sent = h.sent;
@@ -311,7 +312,7 @@ module _ (w : Around) (d : Progress) (q : QuestionId) (o : ℕ) (a : AnswerEntry
       let y : PlainMessage = plain.Return (record { answer = q; release_param_caps = flag; body = said }) in
       let same : s.exports ≡ mid.exports = three.1 ∙ links.0 in
       let met : EachMet s.exports (w.other).exports (descriptors_of (message.Plain y)) = subst (λ (E : Map Export). EachMet E (w.other).exports (descriptors_of (message.Plain y))) (sym same) (one.1 q flag) in
-      let more = goes_out s w.other (w.out ++ then.effects.sends) w.back (message.Plain y) three.0 tt (λ has. (met, tt, tt)) tt in
+      let more = goes_out s w.other (w.out ++ then.effects.sends) w.back (message.Plain y) three.0 (λ P. tt) (λ has. (met, tt, tt)) tt in
       let sent : MidwayAt w (send (with_state then s) y) = subst (λ (ms : List Message). Midway s w.other ms w.back) (append_assoc w.out then.effects.sends (message.Plain y ∷ [])) more in
       let there : map.get s.outcomes o ≡ Some x = ap (λ z. map.get z o) three.2 ∙ at_then.0 in
       subst (λ (z : Progress). MidwayAt w z × (map.get z.state.outcomes o ≡ Some x)) (sym h.4.2) (sent, there)

@@ -12,6 +12,7 @@ use Rattle.vat_machine.specs.declared.command.Level.TheVariants.{One}
 use Rattle.vat_machine.specs.declared.entries.AnswerEntry.{AnswerEntry}
 use Rattle.vat_machine.specs.declared.entries.Embargo.{Embargo}
 use Rattle.vat_machine.specs.declared.entries.Export.{Export}
+use Rattle.vat_machine.specs.declared.entries.Question.{Question}
 use Rattle.vat_machine.specs.declared.entries.Reference.{Reference}
 use Rattle.vat_machine.specs.declared.node.Node.{Node}
 use Rattle.vat_machine.specs.State.{State}
@@ -99,6 +100,8 @@ pub record Midway (s other : State) (out back : List Message) : Type 0 where
   -- what asks is of a question that is there, and so is what returns
   pub opens : EachOpen (λ q. IsSome (map.get s.questions q)) out
   pub returns : EachReturn (λ q. IsSome (map.get s.questions q)) back
+  -- where the Return came the question is asked no more, and is not returned again
+  pub answered : (q : ℕ) (x : Question) → map.get s.questions q ≡ Some x → IsSome x.returned → EachOpen (λ k. nat_eq k q ≡ false) out × EachReturn (λ k. nat_eq k q ≡ false) back
   -- exports at which a message is aimed are there, and those that one names
   pub met : TargetsAreMet s back
   pub named : LinksMet s other out back
