@@ -58,6 +58,7 @@ pub mod MidwayFixed
 pub mod MidwaySettled
 pub mod Unmoved
 pub mod MidwayDrained
+pub mod MidwaySwept
 pub mod MidwayGone
 pub mod MidwayBelow
 pub mod MidwayTold
