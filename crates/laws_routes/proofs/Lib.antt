@@ -59,6 +59,7 @@ pub mod MidwaySettled
 pub mod Unmoved
 pub mod MidwayDrained
 pub mod MidwaySwept
+pub mod StepsFollow
 pub mod MidwayGone
 pub mod MidwayBelow
 pub mod MidwayTold

@@ -18,3 +18,4 @@ pub mod PairLaws
 pub mod KnownLaws
 pub mod ChainLaws
 pub mod Midway
+pub mod WholeSteps

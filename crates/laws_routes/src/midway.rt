@@ -24,6 +24,7 @@ ghost use Rattle.laws_routes.specs.Midway.{
   MidwayAsRouted,
   SettlingKeepsIt,
 };
+ghost use Rattle.laws_routes.specs.WholeSteps.{CommandsFollow, EndsFollow, SweptFollows};
 
 /// A free id or key may be used: a question may be asked with it, an outcome kept, a promise opened, an import taken.
 pub fn free_ids_may_be_used()
@@ -87,4 +88,16 @@ pub fn drains_keep_it()
 /// What no place names may go, one after the other: it is so behind them.
 pub fn collecting_keeps_it()
     ensures { CollectedFollows }
+{}
+
+/// At the end of a step what no place names goes, questions are finished and imports are released: it is so behind all of it.
+pub fn sweeps_keep_it()
+    ensures { SweptFollows }
+{}
+
+/// Behind the first act of a step all may go on that the laws of whole steps ask of it, and what is so in the middle of a step is
+/// so behind the whole step. So a command that is done may do all of it.
+pub fn whole_steps_keep_it()
+    ensures ends { EndsFollow }
+    ensures commands { CommandsFollow }
 {}
