@@ -10,13 +10,11 @@ use Rattle.vat_machine.specs.declared.calls.KeptOutcome.{KeptOutcome}
 use Rattle.vat_machine.specs.declared.calls.Promise.{Promise}
 use Rattle.vat_machine.specs.declared.calls.Promise.TheVariants as promise
 use Rattle.vat_machine.specs.declared.calls.Value.{Value}
-use Rattle.vat_machine.specs.declared.calls.WaitingCall.{WaitingCall}
 use Rattle.vat_machine.specs.declared.entries.AnswerEntry.{AnswerEntry}
 use Rattle.vat_machine.specs.declared.entries.Embargo.{Embargo}
 use Rattle.vat_machine.specs.declared.entries.Export.{Export}
 use Rattle.vat_machine.specs.declared.entries.Import.{Import}
 use Rattle.vat_machine.specs.declared.entries.Question.{Question}
-use Rattle.vat_machine.specs.declared.entries.Reference.{Reference}
 use Rattle.vat_machine.specs.declared.entries.Returned.{Returned}
 use Rattle.vat_machine.specs.declared.node.Node.{Node}
 use Rattle.vat_machine.specs.declared.node.Node.TheVariants as node
@@ -31,7 +29,7 @@ use Rattle.laws_routes.specs.MakingLaws.{EmbargoIsThere}
 use Rattle.laws_routes.specs.Named.{AllMet, EachReturn}
 use Rattle.laws_routes.specs.Premises.{EachLoop, EachOpen, EachTargetCap}
 use Rattle.laws_routes.specs.Sayings.{has_of}
-use Rattle.laws_routes.specs.Midway.{IsAwaited, IsHeld, IsOutcomeOf, Midway}
+use Rattle.laws_routes.specs.Midway.{IsHeld, IsOutcomeOf, Midway}
 use Rattle.laws_routes.proofs.MidwayGone.{calls_left, held_left, less_stops, met_fewer}
 use Rattle.laws_routes.proofs.Placed as placed
 use Rattle.laws_routes.proofs.WhatGoes.{none_there}
@@ -160,7 +158,7 @@ module _ (s t other : State) (out back : List Message) (h : Midway s other out b
     named = (let a = h.named in (
       subst (λ (E : Map Export). AllMet E other.exports (has_of [] other.imports other.questions) out) (sym b.exports) a.0,
       subst (λ (E : Map Export). AllMet other.exports E (has_of [] t.imports t.questions) back) (sym b.exports)
-      (met_fewer other.exports s.exports (has_of [] s.imports s.questions) (has_of [] t.imports t.questions) back import_there a.1),
+          (met_fewer other.exports s.exports (has_of [] s.imports s.questions) (has_of [] t.imports t.questions) back import_there a.1),
     ));
     sent = subst (λ (m : Map Embargo). EachLoop (λ e. IsSome (map.get m e)) (λ e. Unit {0}) out) (sym b.embargoes) h.sent;
     echoed = subst (λ (m : Map Embargo). EachLoop (λ e. Unit {0}) (λ e. IsSome (map.get m e)) back) (sym b.embargoes) h.echoed;

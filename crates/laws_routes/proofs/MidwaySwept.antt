@@ -4,9 +4,8 @@ use Rattle.std.specs.FinMap.Entries as entries
 use Rattle.std.specs.Ordering.{nat_cmp}
 use Rattle.std.proofs.Common.{◌≡◌, ◌⊎◌, inl, inr, ℕ, nat_eq, true, false, List, [], ◌∷◌, ◌++◌, append_assoc, append-nil, Option, None, Some, IsSome, refl, sym, ap, subst, ◌∙◌, T}
 use Rattle.finite_maps.specs.Tally.{Map}
-use Rattle.finite_maps.proofs.Gets.{get-insert_same}
 use Rattle.finite_maps.proofs.Sorted.{behind, first_entry, later_entry, sorted_tail}
-use Rattle.finite_maps.proofs.Tested.{at_cut, at_put, equal, get_other, itself}
+use Rattle.finite_maps.proofs.Tested.{at_cut, at_put, get_other, itself}
 use Rattle.rpc_msg.specs.declared.message.Message.{Message}
 use Rattle.rpc_msg.specs.declared.message.Message.TheVariants as message
 use Rattle.rpc_msg.specs.declared.message.PlainMessage.{PlainMessage}
@@ -22,12 +21,10 @@ use Rattle.vat_machine.specs.declared.node.Node.TheVariants as node
 use Rattle.vat_machine.specs.State.{State}
 use Rattle.vat_machine.specs.Collecting.{Collects}
 use Rattle.vat_machine.specs.Flags.{flag_for, give_if}
-use Rattle.vat_machine.specs.Places.{places}
 use Rattle.vat_machine.specs.Progress.{Progress, export_id, send, with_state}
-use Rattle.vat_machine.specs.Sweeping.{Asked, FinishesEach, IsNotSent, Over, Sweeps, Thing, Withers, closed, closed_map, finished_by, got_of, release_each}
+use Rattle.vat_machine.specs.Sweeping.{Asked, FinishesEach, Over, Sweeps, Thing, Withers, closed, closed_map, finished_by, got_of, release_each}
 use Rattle.laws_steps.specs.Callers.{HasOutcome, IsAskedFor, IsFor, peer}
 use Rattle.laws_steps.specs.NodesThere.{IsWhole, Stands}
-use Rattle.laws_steps.specs.Settled.{IsAmong}
 use Rattle.laws_steps.proofs.Below.{Below, below_same, below_then, closes_below, collects_below, collects_questions, gives_below, goes_questions}
 use Rattle.laws_routes.specs.Named.{EachReturn, ReturnOf}
 use Rattle.laws_routes.specs.Premises.{EachOpen, IsUnfinished, OpenOf}

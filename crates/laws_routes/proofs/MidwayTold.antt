@@ -1,8 +1,8 @@
 -- The other vat is told by a Return: it may be, and it is still so in the middle of the step.
 use Rattle.std.specs.FinMap as map
-use Rattle.std.proofs.Common.{◌≡◌, ◌⊎◌, inl, inr, ℕ, ◌+◌, ◌≤◌, Bool, nat_eq, true, false, List, [], ◌∷◌, ◌++◌, append_assoc, Option, None, Some, IsSome, refl, sym, ap, subst, ◌∙◌, arith}
+use Rattle.std.proofs.Common.{◌≡◌, ℕ, ◌+◌, ◌≤◌, Bool, nat_eq, true, false, List, [], ◌∷◌, ◌++◌, append_assoc, Option, None, Some, IsSome, refl, sym, ap, subst, ◌∙◌, arith}
 use Rattle.finite_maps.specs.Tally.{Map}
-use Rattle.finite_maps.proofs.Tested.{at_cut, at_put, equal, get_left, get_other, itself}
+use Rattle.finite_maps.proofs.Tested.{at_cut, at_put, equal, get_left, get_other}
 use Rattle.rpc_msg.specs.declared.ids.EmbargoId.{EmbargoId}
 use Rattle.rpc_msg.specs.declared.ids.ExportId.{ExportId}
 use Rattle.rpc_msg.specs.declared.ids.QuestionId.{QuestionId}
@@ -11,7 +11,6 @@ use Rattle.rpc_msg.specs.declared.message.Message.TheVariants as message
 use Rattle.rpc_msg.specs.declared.message.PlainMessage.{PlainMessage}
 use Rattle.rpc_msg.specs.declared.message.PlainMessage.TheVariants as plain
 use Rattle.rpc_msg.specs.declared.message.ReturnBody.{ReturnBody}
-use Rattle.rpc_msg.specs.declared.message.ReturnBody.TheVariants as body
 use Rattle.rpc_msg.specs.declared.parts.Descriptor.{Descriptor}
 use Rattle.rpc_msg.specs.Messages.{descriptors_of, given}
 use Rattle.vat_machine.specs.declared.calls.Caller.{Caller}
@@ -20,7 +19,6 @@ use Rattle.vat_machine.specs.declared.calls.KeptOutcome.{KeptOutcome}
 use Rattle.vat_machine.specs.declared.calls.OwnCall.{OwnCall}
 use Rattle.vat_machine.specs.declared.calls.Value.{Value}
 use Rattle.vat_machine.specs.declared.calls.Value.TheVariants as value
-use Rattle.vat_machine.specs.declared.command.Level.{Level}
 use Rattle.vat_machine.specs.declared.command.Level.TheVariants.{Zero, One}
 use Rattle.vat_machine.specs.declared.entries.AnswerEntry.{AnswerEntry}
 use Rattle.vat_machine.specs.declared.entries.Export.{Export}
@@ -32,17 +30,16 @@ use Rattle.vat_machine.specs.Lists.{how_many}
 use Rattle.vat_machine.specs.Nodes.{is_import, link, settle}
 use Rattle.vat_machine.specs.Collecting.{AnswerIsOther, CallerIsDone, Collects, Goes, ImportGoes, IsLooseOutcome, IsLooseValue, Loose, OutcomeGoes, PromiseGoes, Tight}
 use Rattle.vat_machine.specs.Descriptors.{DescribesAll}
-use Rattle.vat_machine.specs.Flags.{flag_for, give_back, give_if}
+use Rattle.vat_machine.specs.Flags.{flag_for, give_if}
 use Rattle.vat_machine.specs.Places.{imports_of, named_by_answer, named_by_taken, names, places}
 use Rattle.vat_machine.specs.Progress.{Progress, caps_of, export_ids, numbers, send, with_state}
 use Rattle.vat_machine.specs.Settling.{Returns, SaysBack, Tells, TellsCall, TellsPeer, returned, returned_map}
 use Rattle.laws_steps.specs.Callers.{AnswersWith, IsOpenFor, peer}
 use Rattle.laws_steps.specs.Settled.{IsAmong, IsThere}
-use Rattle.laws_steps.proofs.Below.{Below, gives_below, places_below}
-use Rattle.laws_steps.proofs.GivenBack.{given_if, of_returned, of_taken, still_here}
-use Rattle.laws_steps.proofs.NamedNodes.{Asked, HereIn, NoneAtZero, Present}
-use Rattle.laws_routes.specs.Named.{AllMet, EachMet}
-use Rattle.laws_routes.specs.Sayings.{Has, has_of}
+use Rattle.laws_steps.proofs.Below.{gives_below, places_below}
+use Rattle.laws_steps.proofs.GivenBack.{of_returned, of_taken, still_here}
+use Rattle.laws_steps.proofs.NamedNodes.{Asked, NoneAtZero, Present}
+use Rattle.laws_routes.specs.Named.{EachMet}
 use Rattle.laws_routes.specs.MakingLaws.{EmbargoIsThere}
 use Rattle.laws_routes.specs.OutcomeLaws.{PeerIsTold, ReturnGoesAs, ReturnMayGo}
 use Rattle.laws_routes.specs.Premises.{IsAnswerOf}
@@ -52,7 +49,7 @@ use Rattle.laws_routes.specs.Ties.{Around}
 use Rattle.laws_routes.specs.Midway.{AllAreHeld, IsAwaited, IsHeld, IsOutcomeOf, Midway, MidwayAt}
 use Rattle.laws_nodes.proofs.Stopping.{same}
 use Rattle.laws_routes.proofs.ApplicationTold.{call_alone}
-use Rattle.laws_routes.proofs.ExportsGrown.{Exports, described}
+use Rattle.laws_routes.proofs.ExportsGrown.{described}
 use Rattle.laws_routes.proofs.FromMidway.{at_end, links_rest, may_say}
 use Rattle.laws_routes.proofs.MidwayBelow.{below_still}
 use Rattle.laws_routes.proofs.MidwayGone.{collected}

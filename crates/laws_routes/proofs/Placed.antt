@@ -1,6 +1,6 @@
 -- What is so of all that places name is so of all to which what a state names leads.
 use Rattle.std.specs.FinMap as map
-use Rattle.std.proofs.Common.{◌≡◌, inl, inr, ℕ, zero, suc, Bool, false, List, [], ◌∷◌, Option, None, Some, refl, subst}
+use Rattle.std.proofs.Common.{◌≡◌, inl, inr, ℕ, zero, suc, List, [], ◌∷◌, Option, None, Some, refl, subst}
 use Rattle.capn_wire.specs.declared.path.Op.{Op}
 use Rattle.capn_wire.specs.declared.path.CapAt.{CapAt}
 use Rattle.capn_wire.specs.declared.path.CapAt.TheVariants.{Cap, Null, NotCap}
@@ -27,10 +27,10 @@ use Rattle.vat_machine.specs.declared.node.Reason.{Reason}
 use Rattle.vat_machine.specs.State.{State}
 use Rattle.vat_machine.specs.Nodes.{field_of, node_of_cap}
 use Rattle.vat_machine.specs.Advancing.{Leads, known_at, known_by, known_by_resolve, known_by_return, known_cap, resolution_of, returned_of}
-use Rattle.vat_machine.specs.Places.{named_by_calls, named_by_embargo, named_by_export, named_by_held, named_by_import, named_by_outcome, named_by_promise, named_by_question, named_by_reference, named_by_resolution, named_by_returned, named_by_value, names, nodes, places}
+use Rattle.vat_machine.specs.Places.{named_by_calls, named_by_embargo, named_by_export, named_by_held, named_by_import, named_by_outcome, named_by_promise, named_by_question, named_by_reference, named_by_resolution, named_by_returned, named_by_value, nodes, places}
 use Rattle.vat_machine.specs.Progress.{caps_of}
 use Rattle.laws_steps.specs.Settled.{IsAmong}
-use Rattle.laws_steps.proofs.Among.{among_left, among_right, in_embargoes, in_exports, in_imports, in_outcomes, in_promises, in_questions, in_refs, named, none_among}
+use Rattle.laws_steps.proofs.Among.{among_left, among_right, in_embargoes, in_exports, in_imports, in_outcomes, in_promises, in_questions, in_refs, named}
 
 module _ (P : Node → Type 0) (fine : (r : Reason) → P (node.Broken r)) where
   abbrev EachOf : List Node → Type 0

@@ -1,6 +1,5 @@
 -- What the laws of whole steps take as known follows from what is so before the step, and it is so behind the step.
-use Rattle.std.specs.Prelude.{◌≡◌, None, List, ◌++◌}
-use Rattle.rpc_msg.specs.declared.message.Message.{Message}
+use Rattle.std.specs.Prelude.{◌≡◌, None, ◌++◌}
 use Rattle.vat_machine.specs.declared.command.Command.{Command}
 use Rattle.vat_machine.specs.declared.command.Effects.{Effects}
 use Rattle.vat_machine.specs.declared.command.Granted.{Granted}
