@@ -60,6 +60,7 @@ pub mod Unmoved
 pub mod MidwayDrained
 pub mod MidwaySwept
 pub mod StepsFollow
+pub mod MidwayBetween
 pub mod MidwayGone
 pub mod MidwayBelow
 pub mod MidwayTold

@@ -19,3 +19,4 @@ pub mod KnownLaws
 pub mod ChainLaws
 pub mod Midway
 pub mod WholeSteps
+pub mod Between

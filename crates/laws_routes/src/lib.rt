@@ -27,7 +27,7 @@ pub use messages::{
 pub use midway::{
     calls_may_go, collecting_keeps_it, commands_may_act, drains_keep_it, fixed_promises_keep_it,
     free_ids_may_be_used, more_may_be_said, resolves_keep_it, routed_calls_keep_it,
-    settled_outcomes_keep_it, sweeps_keep_it, whole_steps_keep_it,
+    settled_outcomes_keep_it, steps_begin_and_end_with_it, sweeps_keep_it, whole_steps_keep_it,
 };
 pub use outcomes::{
     applications_are_told, held_calls_are_routed, outcomes_become_known, outcomes_settle,

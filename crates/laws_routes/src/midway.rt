@@ -24,6 +24,7 @@ ghost use Rattle.laws_routes.specs.Midway.{
   MidwayAsRouted,
   SettlingKeepsIt,
 };
+ghost use Rattle.laws_routes.specs.Between.{JoinsFollow, NewVatsAreSo, SplitsFollow};
 ghost use Rattle.laws_routes.specs.WholeSteps.{CommandsFollow, EndsFollow, SweptFollows};
 
 /// A free id or key may be used: a question may be asked with it, an outcome kept, a promise opened, an import taken.
@@ -48,7 +49,8 @@ pub fn more_may_be_said()
     ensures advances { MayAdvanceFollows }
 {}
 
-/// A command may do its first act, where it is not refused. Behind one that settles a promise or an outcome it is so too.
+/// A command may do its first act at a vat of level 1, where it is not refused. Behind one that settles a promise or an outcome it
+/// is so too.
 pub fn commands_may_act()
     ensures acts { MayActFollows }
     ensures kept { SettlingKeepsIt }
@@ -96,8 +98,16 @@ pub fn sweeps_keep_it()
 {}
 
 /// Behind the first act of a step all may go on that the laws of whole steps ask of it, and what is so in the middle of a step is
-/// so behind the whole step. So a command that is done may do all of it.
+/// so behind the whole step. So a command that is done at a vat of level 1 may do all of it.
 pub fn whole_steps_keep_it()
     ensures ends { EndsFollow }
     ensures commands { CommandsFollow }
+{}
+
+/// Between two steps that record is what is so of each vat alone, and what is so of one with the other and with what is on its way.
+/// All of it is so of two new vats.
+pub fn steps_begin_and_end_with_it()
+    ensures joins { JoinsFollow }
+    ensures splits { SplitsFollow }
+    ensures new_vats { NewVatsAreSo }
 {}
