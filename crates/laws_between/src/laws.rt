@@ -1,0 +1,14 @@
+//! The functions run no code: what each ensures is the law.
+
+ghost use Rattle.laws_between.specs.Meeting.{QuestionsMeetInScenes};
+
+use laws_sessions::counts_agree_in_scenes;
+
+/// In each scene what asks on the way is of a question that is there, and so is what returns; where the Return came the question is
+/// asked no more, and is not returned again; and an answer whose Return was not sent is not asked again, and may close if it is
+/// finished.
+pub fn questions_meet()
+    ensures { QuestionsMeetInScenes }
+{
+    counts_agree_in_scenes();
+}
