@@ -1,3 +1,4 @@
 pub mod Both
 pub mod Links
 pub mod Questions
+pub mod Loops

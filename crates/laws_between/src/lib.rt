@@ -4,4 +4,4 @@
 
 mod laws;
 
-pub use laws::{questions_meet};
+pub use laws::{loops_meet, questions_meet};
