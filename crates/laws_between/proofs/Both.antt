@@ -1,6 +1,5 @@
 -- What holds of two vats with notes of what is on the way holds of a world, seen from either vat.
 use Rattle.std.proofs.Common.{◌≡◌, List, sym, subst}
-use Rattle.rpc_msg.specs.declared.ids.Vat.{Vat}
 use Rattle.rpc_msg.specs.declared.ids.Vat.TheVariants.{A, B}
 use Rattle.rpc_msg.specs.declared.message.Message.{Message}
 use Rattle.vat_machine.specs.State.{State}

@@ -2,3 +2,4 @@ pub mod Both
 pub mod Links
 pub mod Questions
 pub mod Loops
+pub mod Exports

@@ -1,6 +1,6 @@
 -- What links hold, read as the sessions of questions do.
-use Rattle.std.proofs.Common.{◌≡◌, ◌⊎◌, inl, inr, ℕ, Bool, nat_eq, true, false, List, [], ◌∷◌, ◌++◌, Option, refl, sym, ◌∙◌}
-use Rattle.finite_maps.proofs.Tested.{itself, sides}
+use Rattle.std.proofs.Common.{◌≡◌, ℕ, Bool, nat_eq, true, false, List, [], ◌∷◌, ◌++◌, refl, ◌∙◌}
+use Rattle.finite_maps.proofs.Tested.{sides}
 use Rattle.rpc_msg.specs.declared.message.Message.{Message}
 use Rattle.rpc_msg.specs.declared.message.Message.TheVariants as message
 use Rattle.rpc_msg.specs.declared.message.PlainMessage.{PlainMessage}
@@ -11,14 +11,14 @@ use Rattle.rpc_msg.specs.declared.parts.Target.{Target}
 use Rattle.rpc_msg.specs.declared.parts.Target.TheVariants.{ImportedCap, PromisedAnswer}
 use Rattle.rpc_msg.specs.Messages.{descriptors_of_plain}
 use Rattle.laws_acts.specs.Sent.{Ids, Noted, messages}
-use Rattle.laws_sessions.specs.Questions.{Answerer, Answered, Fin, NotOpen, Open, Out, Ret, Return, Strange, Unwanted, Working, hear_one}
+use Rattle.laws_sessions.specs.Questions.{Answerer, Answered, Fin, NotOpen, Open, Out, Ret, Strange, Unwanted, Working, hear_one}
 use Rattle.laws_sessions.specs.Names as mark
 use Rattle.laws_sessions.specs.Names.{Mark, Met, Names, Says}
 use Rattle.laws_sessions.specs.Views.{only, out_of, outs, ret_of, rets}
 use Rattle.laws_answers.specs.Named.{each_marks, marks, says, target_marks, targets_marks}
 use Rattle.laws_routes.specs.Named.{EachReturn, ReturnOf}
 use Rattle.laws_routes.specs.Premises.{EachOpen, OpenOf}
-use Rattle.laws_routes.specs.QuietLaws.{AimsElsewhere, AimsElsewherePlain, EachOff, IsOffAnswer, NoneAims, NoneNames, Unless, opens}
+use Rattle.laws_routes.specs.QuietLaws.{AimsElsewherePlain, EachOff, IsOffAnswer, NoneAims, NoneNames, Unless, opens}
 
 -- ---- What asks
 

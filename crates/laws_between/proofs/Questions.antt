@@ -1,13 +1,7 @@
 -- What is on the way is of questions and answers as they are, as their sessions stand.
 use Rattle.std.specs.FinMap as map
-use Rattle.std.proofs.Common.{◌≡◌, ◌⊎◌, inl, inr, ℕ, Bool, nat_eq, true, false, List, [], ◌∷◌, Option, None, Some, IsSome, refl, sym, ap, subst, ◌∙◌}
+use Rattle.std.proofs.Common.{◌≡◌, ◌⊎◌, inl, inr, ℕ, Bool, nat_eq, true, false, List, [], Option, None, Some, IsSome, refl, sym, subst, ◌∙◌}
 use Rattle.rpc_msg.specs.declared.ids.ExportId.{ExportId}
-use Rattle.rpc_msg.specs.declared.ids.Vat.{Vat}
-use Rattle.rpc_msg.specs.declared.ids.Vat.TheVariants.{A, B}
-use Rattle.rpc_msg.specs.declared.message.Message.{Message}
-use Rattle.rpc_msg.specs.declared.message.Message.TheVariants as message
-use Rattle.rpc_msg.specs.declared.message.PlainMessage.{PlainMessage}
-use Rattle.rpc_msg.specs.declared.message.PlainMessage.TheVariants as plain
 use Rattle.vat_machine.specs.declared.entries.AnswerEntry.{AnswerEntry}
 use Rattle.vat_machine.specs.declared.entries.Finishing.{Finishing}
 use Rattle.vat_machine.specs.declared.entries.Finishing.TheVariants as finishing
@@ -26,7 +20,7 @@ use Rattle.laws_sessions.specs.Names.{Met}
 use Rattle.laws_answers.specs.Named.{marks}
 use Rattle.laws_answers.proofs.FindingNamed.{Found, are_kept}
 use Rattle.laws_routes.specs.Midway.{IsAwaited}
-use Rattle.laws_routes.specs.Named.{EachReturn, ReturnOf}
+use Rattle.laws_routes.specs.Named.{EachReturn}
 use Rattle.laws_routes.specs.Premises.{EachOpen}
 use Rattle.laws_routes.specs.QuietLaws.{IsFinished, MayClose}
 use Rattle.laws_routes.proofs.LinkShapes.{all_opens}
