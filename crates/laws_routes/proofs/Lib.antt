@@ -70,3 +70,5 @@ pub mod StepsTied
 pub mod KnownKept
 pub mod SayingsCarried
 pub mod SayingsTaken
+pub mod MidwayTurned
+pub mod FirstCommands

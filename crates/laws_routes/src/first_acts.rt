@@ -1,0 +1,14 @@
+//! The first act of each command keeps what is so in the middle of a step. No code runs here.
+
+ghost use Rattle.laws_routes.specs.FirstActs.{OtherCommandsKeepIt, TiedEmbargoesAreNamed};
+
+/// A command that settles nothing keeps what is so in the middle of a step: a reference, a call, a question or a promise is made,
+/// let go or advanced.
+pub fn other_commands_keep_it()
+    ensures { OtherCommandsKeepIt }
+{}
+
+/// No embargo of a vat that is tied is of a reference that has none.
+pub fn embargoes_are_named()
+    ensures { TiedEmbargoesAreNamed }
+{}
