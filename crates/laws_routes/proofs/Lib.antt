@@ -71,4 +71,5 @@ pub mod KnownKept
 pub mod SayingsCarried
 pub mod SayingsTaken
 pub mod MidwayTurned
+pub mod MidwayTaken
 pub mod FirstCommands
