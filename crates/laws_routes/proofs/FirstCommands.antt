@@ -3,7 +3,7 @@ use Rattle.std.specs.FinMap as map
 use Rattle.std.proofs.Common.{◌≡◌, inl, inr, ℕ, ◌+◌, nat_eq, false, List, [], ◌∷◌, ◌++◌, append_assoc, Option, None, Some, IsSome, refl, sym, ap, subst, ◌∙◌}
 use Rattle.finite_maps.specs.Tally.{Map}
 use Rattle.finite_maps.proofs.Gets.{get-insert_same}
-use Rattle.finite_maps.proofs.Tested.{apart, at_cut, at_put}
+use Rattle.finite_maps.proofs.Tested.{apart, at_cut, at_put, sides}
 use Rattle.capn_wire.specs.declared.path.Op.{Op}
 use Rattle.capn_wire.specs.declared.path.Op.TheVariants.{Noop, Field}
 use Rattle.rpc_msg.specs.declared.ids.EmbargoId.{EmbargoId}
@@ -43,7 +43,8 @@ use Rattle.vat_machine.specs.Commands.{Acts, AsksBootstrap, CallsBy, CallsDirect
 use Rattle.vat_machine.specs.Progress.{Progress, with_refs, with_state}
 use Rattle.laws_steps.specs.Callers.{HasSource, IsAskedFor, IsFor}
 use Rattle.laws_routes.specs.MakingLaws.{EmbargoIsThere}
-use Rattle.laws_routes.specs.Premises.{IsUnfinished}
+use Rattle.laws_routes.specs.Named.{EachReturn}
+use Rattle.laws_routes.specs.Premises.{EachOpen, IsUnfinished}
 use Rattle.laws_routes.specs.Sayings.{has_of}
 use Rattle.call_order.specs.Machine as routing
 use Rattle.laws_routes.specs.Points.{routes}
@@ -54,7 +55,7 @@ use Rattle.laws_routes.specs.Midway.{AllAreHeld, CallsAreHeld, IsHeld, Midway, M
 use Rattle.laws_routes.specs.FirstActs.{CallsHaveSources, EmbargoesAreNamed}
 use Rattle.laws_routes.proofs.LinkShapes.{loops_map, open_map}
 use Rattle.laws_routes.proofs.MidwayKept.{all_still, counted_still, held_more, kept_still, moved}
-use Rattle.laws_routes.proofs.MidwayRouted.{as_routed, asked, asks_still, calls_more, loops_more, met_alike, met_more, opens_more, refs_still}
+use Rattle.laws_routes.proofs.MidwayRouted.{as_routed, asked, asks_still, unreturned, calls_more, loops_more, met_alike, met_more, opens_more, refs_still}
 use Rattle.laws_routes.proofs.MidwaySaid.{goes_out}
 use Rattle.laws_routes.proofs.MidwayTurned.{pairs_as, turned}
 use Rattle.laws_routes.proofs.SayingsCarried.{return_map}
@@ -206,7 +207,7 @@ module _ (w : Around) (d : Progress) (r : ℕ) (x : Reference) (h : MidwayAt w d
     said t =
         let m = message.Plain (plain.Disembargo (record { target = t; context = SenderLoopback (record { 0 = e }) })) in
         subst (λ (ms : List Message). Midway u w.other ms w.back) (append_assoc w.out d.effects.sends (m ∷ []))
-        (goes_out u w.other out w.back m turns tt (λ has. (tt, tt, tt)) (subst (λ (o : Option Embargo). IsSome o) (sym (get-insert_same s.embargoes e b)) refl, tt))
+        (goes_out u w.other out w.back m turns (λ P. tt) (λ has. (tt, tt, tt)) (subst (λ (o : Option Embargo). IsSome o) (sym (get-insert_same s.embargoes e b)) refl, tt))
 
   turns_to : (t : Option Target) (n : Node) (granted : Granted) (new : Progress) → IsHeld s n → Embargoes d r x t n granted new → MidwayAt w new
   turns_to None n granted new i a = absurd a
@@ -261,7 +262,9 @@ module _ (w : Around) (d : Progress) (granted : Granted) (new : Progress) (h : M
       let one : Midway (record old { questions = Q }) w.other (going ++ m ∷ []) w.back =
       asked old old.exports Q (at_put (λ j o. IsUnfinished (map.get old.questions j) → IsUnfinished o) old.questions q x (λ i. tt) (λ j n i. i)) w.other going (going ++ m ∷ []) w.back h h.exports
       (λ j path. at_put (λ j o. (said : Descriptor) (to : Node) → known_by_return path (returned_of o) ≡ Leads said to → IsHeld old to) old.questions q x (λ said to e. (let b : NothingYet ≡ Leads said to = e in cc)) (λ j n said to e. h.returned j path said to e) j)
-      (opens_more _ going m (open_map _ _ going is h.opens) here) (return_map _ _ w.back is h.returns) (λ e i. i)
+      (opens_more _ going m (open_map _ _ going is h.opens) here) (return_map _ _ w.back is h.returns)
+      (λ j. at_put (λ j o. (y : Question) → o ≡ Some y → IsSome y.returned → EachOpen (λ k. nat_eq k j ≡ false) (going ++ m ∷ []) × EachReturn (λ k. nat_eq k j ≡ false) w.back) old.questions q x (λ y e i. absurd (unreturned x y refl (let b : x ≡ y = cc in b) i))
+      (λ j n y e i. (let b = h.answered j y e i in (opens_more _ going m b.0 (sides q j ∙ n), b.1))) j) (λ e i. i)
       (met_more old.exports w.other.exports (has_of [] w.other.imports w.other.questions) going m h.named.0 (λ has. (tt, tt, tt)), met_alike w.other.exports old.exports (has_of [] old.imports old.questions) (has_of [] old.imports Q) w.back refl h.named.1)
       (loops_more _ _ going m h.sent tt) in
       let u : State = record old { questions = Q } in

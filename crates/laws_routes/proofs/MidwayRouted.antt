@@ -284,6 +284,9 @@ module _ (E F : Map Export) where
 
 -- ---- The call is sent
 
+pub unreturned : (x y : Question) → x.returned ≡ None → x ≡ y → IsSome y.returned → ⊥
+unreturned x y e f i = none_there Returned (subst (λ (o : Option Returned). IsSome o) (ap (λ (z : Question). z.returned) (sym f) ∙ e) i)
+
 pub asks_still : (w : Around) (d : Progress) (q : ℕ) (role : Role) (target : Target) (r : Request) (new : Progress) → MidwayAt w d → AllAreHeld d.state r.caps → Asks d q role target r new → MidwayAt w new
 asks_still w d q role target r new h i a =
     let ds = a.1.0 in
@@ -307,9 +310,6 @@ asks_still w d q role target r new h i a =
     (loops_more _ _ out (message.Plain (plain.Call c)) k.sent tt) in
     subst (MidwayAt w) (sym a.1.3) (subst (λ (ms : List Message). Midway (record mid { questions = Q }) u ms w.back) (append_assoc w.out d.effects.sends (message.Plain (plain.Call c) ∷ [])) still)
   where
-    unreturned : (x y : Question) → x.returned ≡ None → x ≡ y → IsSome y.returned → ⊥
-    unreturned x y e f i = none_there Returned (subst (λ (o : Option Returned). IsSome o) (ap (λ (z : Question). z.returned) (sym f) ∙ e) i)
-
     at_same : (m : Map Question) (q : ℕ) (x : Question) → IsSome (map.get (map.insert m q x) q)
     at_same m q x = subst (λ (o : Option Question). IsSome o) (sym (get-insert_same m q x)) refl
 

@@ -20,7 +20,7 @@ use Rattle.vat_machine.specs.declared.command.Level.TheVariants.{One, Zero}
 use Rattle.vat_machine.specs.declared.entries.AnswerEntry.{AnswerEntry}
 use Rattle.vat_machine.specs.declared.entries.Export.{Export}
 use Rattle.vat_machine.specs.declared.entries.Import.{Import}
-use Rattle.vat_machine.specs.declared.entries.Resolution.{Resolution}
+use Rattle.vat_machine.specs.declared.entries.Question.{Question}
 use Rattle.vat_machine.specs.declared.node.Node.{Node}
 use Rattle.vat_machine.specs.declared.node.Node.TheVariants as node
 use Rattle.vat_machine.specs.State.{State}
@@ -92,10 +92,11 @@ module _ (s : State) (I : Map Import) (E : Map Export) (A : Map AnswerEntry) (O 
       → ((o : ℕ) (x : KeptOutcome) → map.get O o ≡ Some x → HeldCallsAreHeld s x.waiting) → ((e : ℕ) (x : Export) → map.get E e ≡ Some x → (is_wire x.node ≡ false) × IsHeld s x.node)
       → ((e : ℕ) → IsSome (map.get I e) → IsSome (map.get other.exports e)) → ((q : ℕ) (a : AnswerEntry) → map.get A q ≡ Some a → IsOutcomeOf q (map.get O a.outcome))
       → ((o q : ℕ) → IsOpenFor q (map.get O o) → AnswersWith o (map.get A q)) → ((q : ℕ) (a : AnswerEntry) → map.get A q ≡ Some a → a.returned ≡ None → IsAwaited other later q a.finished)
-      → EachReturn (λ q. IsSome (map.get s.questions q)) later → EachTargetCap (λ e. IsSome (map.get E e)) later
+      → EachReturn (λ q. IsSome (map.get s.questions q)) later → ((q : ℕ) (x : Question) → map.get s.questions q ≡ Some x → IsSome x.returned → EachOpen (λ k. nat_eq k q ≡ false) out × EachReturn (λ k. nat_eq k q ≡ false) later)
+      → EachTargetCap (λ e. IsSome (map.get E e)) later
       → AllMet E other.exports (has_of [] other.imports other.questions) out × AllMet other.exports E (has_of [] I s.questions) later → EachLoop (λ e. Unit {0}) (λ e. IsSome (map.get s.embargoes e)) later
       → Midway t other out later
-  peers other out back later h resolved holds own imported answers pending awaited returns met named echoed = record {
+  peers other out back later h resolved holds own imported answers pending awaited returns answered met named echoed = record {
     stop = λ m. (let a = h.stop m in (a.0, stops a.0 m a.1));
     links = λ m k i e. goes m k (sym (same_link m) ∙ e) (before m i);
     heads = λ r x e. held_too x.head (h.heads r x e);
@@ -114,6 +115,7 @@ module _ (s : State) (I : Map Import) (E : Map Export) (A : Map AnswerEntry) (O 
     awaited = awaited;
     opens = h.opens;
     returns = returns;
+    answered = answered;
     met = met;
     named = named;
     sent = h.sent;
@@ -254,7 +256,7 @@ taken s other out x rest h level = subst (λ (z : State). Midway z other out res
         peers s I s.exports s.answers s.outcomes (at_one s ds level (λ (z : State). (e : ℕ) → IsSome (map.get s.imports e) → IsSome (map.get z.imports e)) (kept_each ds s)) (λ o i. i) (λ o. refl) other out (message.Plain x ∷ rest) rest h
         (λ e said to a. h.resolved e said to (ap known_by_resolve (sym (same e)) ∙ a)) h.holds h.exports
         (let a = h.named in at_one s ds level (λ (z : State). (e : ℕ) → IsSome (map.get z.imports e) → IsSome (map.get other.exports e)) (exported_each other.exports s.exports ds s a.1.0 h.imported)) h.answers h.pending
-        (λ q a f g. awaited_behind other x rest q a.finished (h.awaited q a f g)) (let a = h.returns in a.1) (let a = h.met in a.1)
+        (λ q a f g. awaited_behind other x rest q a.finished (h.awaited q a f g)) (let a = h.returns in a.1) (λ q y e i. (let a = h.answered q y e i in (a.0, a.1.1))) (let a = h.met in a.1)
         (let a = h.named in (a.0, met_fewer other.exports s.exports (has_behind (has_of [] s.imports s.questions) ds) (has_of [] I s.questions) rest (all_taken s.level s ds) a.1.2))
         (loops_behind _ _ x rest h.echoed)
 
@@ -355,5 +357,5 @@ module _ (E F : Map Export) where
 pub lowered_still : (s other : State) (out back : List Message) (E : Map Export) → Midway s other out back → Lowered s.exports E → MayLower (record s { exports = E }) other out back → Midway (record s { exports = E }) other out back
 lowered_still s other out back E h lower may =
     peers s s.imports E s.answers s.outcomes (λ e i. i) (λ o i. i) (λ o. refl) other out back back h h.resolved h.holds
-    (λ e y f. (let z = lower e y f in let a = h.exports e z.0 z.1 in subst (λ (n : Node). (is_wire n ≡ false) × IsHeld s n) z.2 a)) h.imported h.answers h.pending h.awaited h.returns may.met
+    (λ e y f. (let z = lower e y f in let a = h.exports e z.0 z.1 in subst (λ (n : Node). (is_wire n ≡ false) × IsHeld s n) z.2 a)) h.imported h.answers h.pending h.awaited h.returns h.answered may.met
     (met_named E other.exports (has_of [] other.imports other.questions) out may.imported may.named, met_named other.exports E (has_of [] s.imports s.questions) back h.imported may.named_back) h.echoed

@@ -91,6 +91,7 @@ module _ (s : State) (R : Map Reference) (B : Map Embargo) (U : Map â„•) (a : â„
     awaited = h.awaited;
     opens = h.opens;
     returns = h.returns;
+    answered = h.answered;
     met = h.met;
     named = h.named;
     sent = sent;
