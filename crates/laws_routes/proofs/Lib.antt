@@ -73,3 +73,7 @@ pub mod SayingsTaken
 pub mod MidwayTurned
 pub mod MidwayTaken
 pub mod FirstCommands
+pub mod MessagesTaken
+pub mod CallsReceived
+pub mod ReturnsReceived
+pub mod EachReceived

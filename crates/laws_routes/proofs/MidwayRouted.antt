@@ -124,7 +124,7 @@ module _ (s : State) (E : Map Export) (Q : Map Question) (more : (q : ℕ) → I
   held (node.Pipe q path) i = (i.0, (more q.0 i.1.0, i.1.1))
   held (node.Broken reason) i = i
 
-  all_held : (ns : List Node) → AllAreHeld s ns → AllAreHeld t ns
+  pub all_held : (ns : List Node) → AllAreHeld s ns → AllAreHeld t ns
   all_held [] i = tt
   all_held (n ∷ ns) i = (held n i.0, all_held ns i.1)
 

@@ -1,6 +1,6 @@
 -- A message comes off the link, and its descriptors are taken: it is still so in the middle of the step.
 use Rattle.std.specs.FinMap as map
-use Rattle.std.proofs.Common.{◌≡◌, ◌⊎◌, inl, inr, ℕ, zero, suc, Bool, true, false, ◌||◌, nat_eq, List, [], ◌∷◌, ◌++◌, Option, None, Some, IsSome, refl, sym, ap, subst, ◌∙◌}
+use Rattle.std.proofs.Common.{◌≡◌, ◌⊎◌, inl, inr, ℕ, zero, suc, Bool, true, false, ◌||◌, nat_eq, List, [], ◌∷◌, Option, None, Some, IsSome, refl, sym, ap, subst, ◌∙◌}
 use Rattle.finite_maps.specs.Tally.{Map}
 use Rattle.finite_maps.proofs.Gets.{get-insert_same}
 use Rattle.finite_maps.proofs.Tested.{at_put, equal}
@@ -26,7 +26,7 @@ use Rattle.vat_machine.specs.declared.node.Node.TheVariants as node
 use Rattle.vat_machine.specs.State.{State}
 use Rattle.vat_machine.specs.Nodes.{field_link, is_wire, link, value_of}
 use Rattle.vat_machine.specs.Advancing.{Leads, known_by_resolve, resolution_of}
-use Rattle.vat_machine.specs.Descriptors.{answer_node, export_node, import_one, read, read_all, read_at, read_one, received, take_all, take_at, take_each, take_one}
+use Rattle.vat_machine.specs.Descriptors.{answer_node, export_node, import_one, read, read_all, read_at, read_one, received, take_all, take_at, take_each}
 use Rattle.vat_machine.specs.Laws as machine
 use Rattle.laws_steps.specs.Callers.{AnswersWith, IsOpenFor}
 use Rattle.laws_steps.specs.Settled.{IsThere}
@@ -39,7 +39,6 @@ use Rattle.laws_routes.specs.Midway.{AllAreHeld, HeldCallsAreHeld, IsAwaited, Is
 use Rattle.laws_routes.proofs.CallAnswered.{taken_alone}
 use Rattle.laws_routes.proofs.ExportsLowered.{Lowered}
 use Rattle.laws_routes.proofs.FromMidway.{may_take}
-use Rattle.laws_routes.proofs.LinkShapes.{cap_map}
 use Rattle.laws_routes.proofs.MidwayGone.{met_fewer}
 use Rattle.laws_routes.proofs.MidwayKept.{calls_still, held_still}
 use Rattle.laws_routes.proofs.SayingsTaken.{all_taken}

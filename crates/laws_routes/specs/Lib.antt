@@ -21,3 +21,4 @@ pub mod Midway
 pub mod WholeSteps
 pub mod Between
 pub mod FirstActs
+pub mod Received

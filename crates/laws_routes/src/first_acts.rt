@@ -1,6 +1,7 @@
-//! The first act of each command keeps what is so in the middle of a step. No code runs here.
+//! The first act of each command and of each received message keeps what is so in the middle of a step. No code runs here.
 
 ghost use Rattle.laws_routes.specs.FirstActs.{OtherCommandsKeepIt, TiedEmbargoesAreNamed};
+ghost use Rattle.laws_routes.specs.Received.{MessagesMayBeTaken};
 
 /// A command that settles nothing keeps what is so in the middle of a step: a reference, a call, a question or a promise is made,
 /// let go or advanced.
@@ -11,4 +12,9 @@ pub fn other_commands_keep_it()
 /// No embargo of a vat that is tied is of a reference that has none.
 pub fn embargoes_are_named()
     ensures { TiedEmbargoesAreNamed }
+{}
+
+/// A received message that is no fault may be taken, whatever it is, and keeps what is so in the middle of a step.
+pub fn messages_may_be_taken()
+    ensures { MessagesMayBeTaken }
 {}
