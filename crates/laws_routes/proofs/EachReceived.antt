@@ -28,7 +28,7 @@ module _ (w : Around) (d : Progress) (rest : List Message) (new : Progress) (lev
   each (plain.Abort exception) h fine m a = absurd a
   each (plain.Bootstrap q) h fine m a = bootstrap w d q rest new (off d.state w.other (w.out ++ d.effects.sends) (plain.Bootstrap q) rest refl h level) level (free_entry (map.get d.state.answers q.0) _ fine) m a
   each (plain.Call c) h fine m a = call w d c rest new h level fine m a
-  each (plain.Return r) h fine m a = returns w d r rest new h level (map.get d.state.questions r.answer.0) refl m fine a
+  each (plain.Return r) h fine m a = let b = returns w d r rest new h level (map.get d.state.questions r.answer.0) refl m fine a in (b.0, b.1)
   each (plain.Finish x) h fine m a = finish w d x rest new h level (map.get d.state.answers x.question.0) refl m a
   each (plain.Resolve r) h fine m a = resolve w d r.promise.0 r.to r rest new refl h level (first_none (resolve_fault d.state r.to) None (rest_none _ _ (rest_none _ _ fine))) a
   each (plain.Release x) h fine m a = (m, release w d x rest new h level m a)

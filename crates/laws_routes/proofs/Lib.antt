@@ -77,3 +77,4 @@ pub mod MessagesTaken
 pub mod CallsReceived
 pub mod ReturnsReceived
 pub mod EachReceived
+pub mod MessagesFollow

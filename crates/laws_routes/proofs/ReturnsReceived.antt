@@ -16,6 +16,7 @@ use Rattle.rpc_msg.specs.declared.message.ReturnBody.TheVariants as body
 use Rattle.rpc_msg.specs.declared.parts.Descriptor.{Descriptor}
 use Rattle.rpc_msg.specs.Messages.{descriptors_of_body}
 use Rattle.vat_machine.specs.declared.calls.OwnCall.{OwnCall}
+use Rattle.vat_machine.specs.declared.calls.Value.{Value}
 use Rattle.vat_machine.specs.declared.command.Level.TheVariants.{One}
 use Rattle.vat_machine.specs.declared.entries.Export.{Export}
 use Rattle.vat_machine.specs.declared.entries.Finishing.{Finishing}
@@ -34,7 +35,7 @@ use Rattle.vat_machine.specs.Flags.{lower_each, obey}
 use Rattle.vat_machine.specs.Messages.{ComesBack, ComesFor, TakesReturn, kept_returned, results_of, value_of_results}
 use Rattle.vat_machine.specs.Payloads.{cap_at}
 use Rattle.vat_machine.specs.Places.{nodes}
-use Rattle.vat_machine.specs.Progress.{Progress, caps_of, numbers, with_state}
+use Rattle.vat_machine.specs.Progress.{Progress, caps_of, numbers, with_refs, with_state}
 use Rattle.vat_machine.specs.Settling.{TellsCall}
 use Rattle.vat_machine.specs.Sweeping.{IsNotSent}
 use Rattle.laws_routes.specs.Laws.{with_back}
@@ -44,7 +45,7 @@ use Rattle.laws_routes.specs.Sayings.{has_of}
 use Rattle.laws_routes.specs.SayingLaws.{EachReadable}
 use Rattle.laws_routes.specs.StepLaws.{MayReturn}
 use Rattle.laws_routes.specs.Ties.{Around}
-use Rattle.laws_routes.specs.Midway.{AllAreHeld, IsHeld, Midway, MidwayAt}
+use Rattle.laws_routes.specs.Midway.{AllAreHeld, ArisenAreHeld, IsHeld, Midway, MidwayAt}
 use Rattle.laws_routes.specs.Received.{IfQuestion}
 use Rattle.laws_routes.proofs.CallAnswered.{taken_alone}
 use Rattle.laws_routes.proofs.CallsReceived.{all_readable, first_none, known_held_by, rest_none}
@@ -173,19 +174,33 @@ module _ (w : Around) (d : Progress) (q : ℕ) (x : Question) (said : Returned) 
   still_held : (Q : Map Question) → ((j : ℕ) → IsUnfinished (map.get s.questions j) → IsUnfinished (map.get Q j)) → (ns : List Node) → AllAreHeld s ns → AllAreHeld (record s { questions = Q }) ns
   still_held Q more ns i = all_held s s.exports Q more ns i
 
-  told : (c : ℕ) (v : _) (o : Option OwnCall) (new : Progress) → AllAreHeld (kept_returned d q x said).state (caps_of v) → TellsCall (kept_returned d q x said) c v o new → MidwayAt w new
-  told c v None new i a = subst (MidwayAt w) (sym a) kept
-  told c v (Some y) new i a = subst (MidwayAt w) (sym a) (refs_still (caps_of v) (kept_returned d q x said).state w.other out w.back kept i)
-
-  comes_for : (r : Role) (new : Progress) → ComesFor (kept_returned d q x said) r (value_of_results said) new → MidwayAt w new
-  comes_for (role.Relay o) new a = subst (MidwayAt w) (sym a) kept
-  comes_for (role.Direct c) new a =
+  value_kept : AllAreHeld (kept_returned d q x said).state (caps_of (value_of_results said))
+  value_kept =
       let y : Question = record x { returned = Some said } in
-      told c.0 (value_of_results said) (map.get s.calls c.0) new
-      (still_held (map.insert s.questions q y) (at_put (λ j o. IsUnfinished (map.get s.questions j) → IsUnfinished o) s.questions q y (λ i. subst IsUnfinished at i) (λ j n i. i)) (caps_of (value_of_results said)) (value_held s said held_said)) a
+      still_held (map.insert s.questions q y) (at_put (λ j o. IsUnfinished (map.get s.questions j) → IsUnfinished o) s.questions q y (λ i. subst IsUnfinished at i) (λ j n i. i)) (caps_of (value_of_results said)) (value_held s said held_said)
 
-  comes_back : (f : Finishing) (new : Progress) → x.finish ≡ f → ComesBack d q x said f new → MidwayAt w new
-  comes_back finishing.Sent new e a = subst (MidwayAt w) (sym a) (closed e)
+  -- What it brings for a relay arises, and its capabilities are held.
+  abbrev Comes : Progress → Type 0
+  Comes new = MidwayAt w new × (d.arisen ≡ [] → ArisenAreHeld new.state new.arisen)
+
+  nothing_arisen : (u : State) → d.arisen ≡ [] → ArisenAreHeld u d.arisen
+  nothing_arisen u e = subst (ArisenAreHeld u) (sym e) tt
+
+  told : (c : ℕ) (v : Value) (o : Option OwnCall) (new : Progress) → AllAreHeld (kept_returned d q x said).state (caps_of v) → TellsCall (kept_returned d q x said) c v o new → Comes new
+  told c v None new i a = subst Comes (sym a) (kept, nothing_arisen (kept_returned d q x said).state)
+  told c v (Some y) new i a =
+      let u = (kept_returned d q x said).state in
+      subst Comes (sym a) (refs_still (caps_of v) u w.other out w.back kept i, nothing_arisen (with_refs u (caps_of v)))
+
+  comes_for : (r : Role) (new : Progress) → ComesFor (kept_returned d q x said) r (value_of_results said) new → Comes new
+  comes_for (role.Relay o) new a =
+      let u = (kept_returned d q x said).state in
+      let v = value_of_results said in
+      subst Comes (sym a) (kept, λ e. subst (λ (xs : List (ℕ × Value)). ArisenAreHeld u (xs ++ (o, v) ∷ [])) (sym e) (value_kept, tt))
+  comes_for (role.Direct c) new a = told c.0 (value_of_results said) (map.get s.calls c.0) new value_kept a
+
+  comes_back : (f : Finishing) (new : Progress) → x.finish ≡ f → ComesBack d q x said f new → Comes new
+  comes_back finishing.Sent new e a = subst Comes (sym a) (closed e, nothing_arisen (record s { questions = map.remove s.questions q }))
   comes_back finishing.Owed new e a = comes_for x.role new a
   comes_back finishing.Waived new e a = comes_for x.role new a
 
@@ -198,7 +213,7 @@ body_readable s body.Canceled level f = tt
 
 module _ (w : Around) (d : Progress) (r : Return) (rest : List Message) (new : Progress) (h : MidwayAt (with_back w (message.Plain (plain.Return r) ∷ rest)) d) (level : (d.state).level ≡ One) where
   pub returns : (o : Option Question) → map.get d.state.questions r.answer.0 ≡ o → IfQuestion d.state w.other (w.out ++ d.effects.sends) rest r o → return_fault d.state r.release_param_caps r.body o ≡ None → TakesReturn d r o new
-      → MayReturn (with_back w rest) d r o × MidwayAt (with_back w rest) new
+      → MayReturn (with_back w rest) d r o × MidwayAt (with_back w rest) new × (d.arisen ≡ [] → ArisenAreHeld new.state new.arisen)
   returns None at m fine a = absurd a
   returns (Some x) at m fine a =
       let s = d.state in
@@ -215,7 +230,8 @@ module _ (w : Around) (d : Progress) (r : Return) (rest : List Message) (new : P
       let v = obey u flag ids in
       let one : Midway v w.other out rest = obeyed_still u w.other out rest flag ids k m.lowers in
       let there : map.get v.questions r.answer.0 ≡ Some x = ap (λ (Q : Map Question). map.get Q r.answer.0) (obeyed_questions u flag ids ∙ ap (λ (z : State). z.questions) alone) ∙ at in
-      let named = h.named in (
+      let named = h.named in
+      let comes = comes_back (with_back w rest) (with_state d v) r.answer.0 x (results_of s r.body) one there (obeyed_held u flag ids (results_of s r.body) held_there) m.not_open m.once x.finish new refl a in (
         record {
           own = λ e y f. (let b = h.exports e y f in b.0);
           takes = each_may_take s w.other out (message.Plain (plain.Return r) ∷ rest) h s.exports ds named.1.0;
@@ -223,5 +239,6 @@ module _ (w : Around) (d : Progress) (r : Return) (rest : List Message) (new : P
           readable = λ l. body_readable s r.body level (first_none (body_fault s r.body) _ (rest_none _ _ fine));
           whole = m.whole;
         },
-        comes_back (with_back w rest) (with_state d v) r.answer.0 x (results_of s r.body) one there (obeyed_held u flag ids (results_of s r.body) held_there) m.not_open m.once x.finish new refl a,
+        comes.0,
+        comes.1,
       )

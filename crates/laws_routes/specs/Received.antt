@@ -10,26 +10,31 @@ use Rattle.rpc_msg.specs.declared.message.PlainMessage.{PlainMessage}
 use Rattle.rpc_msg.specs.declared.message.PlainMessage.TheVariants as plain
 use Rattle.rpc_msg.specs.declared.message.Return.{Return}
 use Rattle.rpc_msg.specs.Messages.{descriptors_of_body}
+use Rattle.vat_machine.specs.declared.command.Effects.{Effects}
 use Rattle.vat_machine.specs.declared.command.Level.TheVariants.{One}
 use Rattle.vat_machine.specs.declared.entries.AnswerEntry.{AnswerEntry}
 use Rattle.vat_machine.specs.declared.entries.Embargo.{Embargo}
 use Rattle.vat_machine.specs.declared.entries.Question.{Question}
 use Rattle.vat_machine.specs.State.{State}
 use Rattle.vat_machine.specs.Descriptors.{take_all}
-use Rattle.vat_machine.specs.Faults.{gave, plain_fault}
+use Rattle.vat_machine.specs.Faults.{fault_of, gave, plain_fault}
 use Rattle.vat_machine.specs.Flags.{obey}
 use Rattle.vat_machine.specs.Messages.{TakesPlain}
 use Rattle.vat_machine.specs.Nodes.{is_wire}
-use Rattle.vat_machine.specs.Progress.{Progress, numbers}
+use Rattle.vat_machine.specs.Progress.{Progress, begin, numbers}
+use Rattle.vat_machine.specs.Steps.{Handles}
 use Rattle.vat_machine.specs.Sweeping.{IsNotSent}
+use Rattle.laws_steps.specs.NodesThere.{IsWhole}
 use Rattle.laws_routes.specs.Laws.{with_back}
+use Rattle.laws_routes.specs.OutcomeLaws.{AllMaySettle}
 use Rattle.laws_routes.specs.Named.{EachReturn}
 use Rattle.laws_routes.specs.Premises.{EachOpen, IsLastLoop, IsOnlyEmbargo}
 use Rattle.laws_routes.specs.QuietLaws.{MayClose, MayLower, lowering}
 use Rattle.laws_routes.specs.SayingLaws.{IsNotCanceled}
-use Rattle.laws_routes.specs.StepLaws.{MayTakePlain}
+use Rattle.laws_routes.specs.StepLaws.{MayHandle, MayTakePlain}
 use Rattle.laws_routes.specs.Ties.{Around}
-use Rattle.laws_routes.specs.Midway.{MidwayAt}
+use Rattle.laws_routes.specs.Midway.{Midway, MidwayAt}
+use Rattle.laws_routes.specs.WholeSteps.{MidwayBehind}
 
 -- ---- What is taken as known of the oldest message on its way to s, with rest behind it and out on the way to the other vat
 
@@ -91,3 +96,11 @@ abbrev pub MessagesMayBeTaken : Type 0
 MessagesMayBeTaken =
     (w : Around) (d : Progress) (x : PlainMessage) (rest : List Message) (new : Progress) → MidwayAt (with_back w (message.Plain x ∷ rest)) d → d.state.level ≡ One → plain_fault d.state x ≡ None
     → IsMet d.state w.other (w.out ++ d.effects.sends) rest x → (h : TakesPlain d x new) → MayTakePlain (with_back w rest) d x new h × MidwayAt (with_back w rest) new
+
+-- So all that the laws of whole steps take as known of a received message follows from what is so before the step, and it is so behind
+-- the whole step.
+abbrev pub MessagesFollow : Type 0
+MessagesFollow =
+    (w : Around) (s : State) (x : PlainMessage) (rest : List Message) (effects : Effects) (new : State) → Midway s w.other w.out (message.Plain x ∷ rest) → s.level ≡ One → fault_of s (message.Plain x) ≡ None → IsMet s w.other w.out rest x
+    → IsWhole new → (h : Handles s (message.Plain x) effects new)
+    → MayHandle (with_back w rest) (begin s) (message.Plain x) h.taken h.takes × AllMaySettle (with_back w rest) h.ends.drained h.taken h.ends.drains × MidwayBehind (with_back w rest) new effects
