@@ -70,3 +70,11 @@ pub mod StepsTied
 pub mod KnownKept
 pub mod SayingsCarried
 pub mod SayingsTaken
+pub mod MidwayTurned
+pub mod MidwayTaken
+pub mod FirstCommands
+pub mod MessagesTaken
+pub mod CallsReceived
+pub mod ReturnsReceived
+pub mod EachReceived
+pub mod MessagesFollow

@@ -75,7 +75,7 @@ refs_still (n ∷ ns) s other out back h i = refs_still ns (record s { refs = R;
 pub tasks_still : (s other : State) (out back : List Message) (T : Map ℕ) (k : ℕ) → Midway s other out back → Midway (record s { tasks = T; next_task = k }) other out back
 tasks_still s other out back T k h = moved s other out back h s.refs s.promises s.outcomes s.calls T s.next_ref s.next_call k h.heads h.paired (λ p i. i) (λ p. refl) (λ o i. i) (λ o. refl) h.waits h.holds (λ o q i. i) (λ o q i. i)
 
-calls_more : (s : State) (cs : List WaitingCall) (c : WaitingCall) → CallsAreHeld s cs → AllAreHeld s c.request.caps → CallsAreHeld s (cs ++ c ∷ [])
+pub calls_more : (s : State) (cs : List WaitingCall) (c : WaitingCall) → CallsAreHeld s cs → AllAreHeld s c.request.caps → CallsAreHeld s (cs ++ c ∷ [])
 calls_more s [] c h i = (i, tt)
 calls_more s (x ∷ cs) c h i = (h.0, calls_more s cs c h.1 i)
 
@@ -124,7 +124,7 @@ module _ (s : State) (E : Map Export) (Q : Map Question) (more : (q : ℕ) → I
   held (node.Pipe q path) i = (i.0, (more q.0 i.1.0, i.1.1))
   held (node.Broken reason) i = i
 
-  all_held : (ns : List Node) → AllAreHeld s ns → AllAreHeld t ns
+  pub all_held : (ns : List Node) → AllAreHeld s ns → AllAreHeld t ns
   all_held [] i = tt
   all_held (n ∷ ns) i = (held n i.0, all_held ns i.1)
 
@@ -152,7 +152,7 @@ module _ (s : State) (E : Map Export) (Q : Map Question) (more : (q : ℕ) → I
   embargo r None i = tt
   embargo r (Some e) i = i
 
-  asked : (other : State) (out then back : List Message) → Midway s other out back → ((e : ℕ) (x : Export) → map.get E e ≡ Some x → (is_wire x.node ≡ false) × IsHeld s x.node)
+  pub asked : (other : State) (out then back : List Message) → Midway s other out back → ((e : ℕ) (x : Export) → map.get E e ≡ Some x → (is_wire x.node ≡ false) × IsHeld s x.node)
       → ((q : ℕ) (path : _) (said : Descriptor) (to : Node) → known_by_return path (returned_of (map.get Q q)) ≡ Leads said to → IsHeld s to)
       → EachOpen (λ q. IsSome (map.get Q q)) then → EachReturn (λ q. IsSome (map.get Q q)) back
       → ((q : ℕ) (x : Question) → map.get Q q ≡ Some x → IsSome x.returned → EachOpen (λ k. nat_eq k q ≡ false) then × EachReturn (λ k. nat_eq k q ≡ false) back) → ((e : ℕ) → IsSome (map.get s.exports e) → IsSome (map.get E e)) → LinksMet t other then back
@@ -275,7 +275,7 @@ module _ (E F : Map Export) where
   resolve_alike has left (plain.Disembargo x) e h = tt
   resolve_alike has left (plain.Other n) e h = tt
 
-  met_alike : (has left : Has) (ms : List Message) → left.import ≡ has.import → AllMet E F has ms → AllMet E F left ms
+  pub met_alike : (has left : Has) (ms : List Message) → left.import ≡ has.import → AllMet E F has ms → AllMet E F left ms
   met_alike has left [] e h = tt
   met_alike has left (message.Plain m ∷ ms) e h =
       let ds = descriptors_of (message.Plain m) in
@@ -284,7 +284,10 @@ module _ (E F : Map Export) where
 
 -- ---- The call is sent
 
-asks_still : (w : Around) (d : Progress) (q : ℕ) (role : Role) (target : Target) (r : Request) (new : Progress) → MidwayAt w d → AllAreHeld d.state r.caps → Asks d q role target r new → MidwayAt w new
+pub unreturned : (x y : Question) → x.returned ≡ None → x ≡ y → IsSome y.returned → ⊥
+unreturned x y e f i = none_there Returned (subst (λ (o : Option Returned). IsSome o) (ap (λ (z : Question). z.returned) (sym f) ∙ e) i)
+
+pub asks_still : (w : Around) (d : Progress) (q : ℕ) (role : Role) (target : Target) (r : Request) (new : Progress) → MidwayAt w d → AllAreHeld d.state r.caps → Asks d q role target r new → MidwayAt w new
 asks_still w d q role target r new h i a =
     let ds = a.1.0 in
     let mid = a.1.1 in
@@ -307,9 +310,6 @@ asks_still w d q role target r new h i a =
     (loops_more _ _ out (message.Plain (plain.Call c)) k.sent tt) in
     subst (MidwayAt w) (sym a.1.3) (subst (λ (ms : List Message). Midway (record mid { questions = Q }) u ms w.back) (append_assoc w.out d.effects.sends (message.Plain (plain.Call c) ∷ [])) still)
   where
-    unreturned : (x y : Question) → x.returned ≡ None → x ≡ y → IsSome y.returned → ⊥
-    unreturned x y e f i = none_there Returned (subst (λ (o : Option Returned). IsSome o) (ap (λ (z : Question). z.returned) (sym f) ∙ e) i)
-
     at_same : (m : Map Question) (q : ℕ) (x : Question) → IsSome (map.get (map.insert m q x) q)
     at_same m q x = subst (λ (o : Option Question). IsSome o) (sym (get-insert_same m q x)) refl
 

@@ -19,7 +19,7 @@ use Rattle.laws_acts.proofs.EachStep.{kept}
 use Rattle.laws_acts.proofs.Pieces.{settles}
 
 module _ (v : Vat) (l : Level) where
-  abbrev Is : Moment → Type 0
+  abbrev pub Is : Moment → Type 0
   Is d = (d.state.vat ≡ v) × (d.state.level ≡ l)
 
   acted : (d new : Moment) → Is d → Act d new → Is new
@@ -46,7 +46,7 @@ module _ (v : Vat) (l : Level) where
   acted d new i (act.Closes q x rest e f j k l h) = rw h i
   acted d new i (act.Releases w e f h) = rw h i
 
-  all : (last d : Moment) → Acts last d → Is d → Is last
+  pub all : (last d : Moment) → Acts last d → Is d → Is last
   all last d h i = kept Is acted last d h i
 
   pub settled_is : (d : Progress) (o : ℕ) (u : Value) (new : Progress) → SettlesOutcome d o u new → Is (at_rest d) → Is (at_rest new)

@@ -20,3 +20,5 @@ pub mod ChainLaws
 pub mod Midway
 pub mod WholeSteps
 pub mod Between
+pub mod FirstActs
+pub mod Received

@@ -3,6 +3,7 @@
 //! machine").
 #![tactic(auto)]
 
+mod first_acts;
 mod laws;
 mod making;
 mod messages;
@@ -13,6 +14,9 @@ mod sayings;
 mod steps;
 mod taking;
 
+pub use first_acts::{
+    embargoes_are_named, messages_may_be_taken, other_commands_keep_it, steps_may_be_done,
+};
 pub use laws::{
     calls_are_made, calls_are_routed, calls_come, embargoes_end, gone_is_no_move,
     known_outcomes_stop, new_refs_begin, outcomes_are_kept, promises_are_fixed, references_advance,
