@@ -18,3 +18,4 @@ pub mod Opening
 pub mod Hosting
 pub mod Rooted
 pub mod Leaving
+pub mod Tasking

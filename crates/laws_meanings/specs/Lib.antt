@@ -5,3 +5,4 @@ pub mod WhatIsLeft
 pub mod AskedCalls
 pub mod OnePlace
 pub mod Bootstraps
+pub mod Tasks

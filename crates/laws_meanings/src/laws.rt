@@ -6,6 +6,7 @@ ghost use Rattle.laws_meanings.specs.OnePlace.{CallsAreAtOnePlace, DeliveriesAre
 ghost use Rattle.laws_meanings.specs.FirstEnds.{EndsAreFirst};
 ghost use Rattle.laws_meanings.specs.AskedCalls.{EndsWereAsked};
 ghost use Rattle.laws_meanings.specs.Bootstraps.{NumbersAreAsked, RootsAreReturned, RootsAreLeft, BootstrapsEnd};
+ghost use Rattle.laws_meanings.specs.Tasks.{TasksAreOpen, TasksAreAnsweredOnce};
 ghost use Rattle.laws_meanings.specs.WhatIsLeft.{ObjectsAreLeft, AnswersAreLeft, CallsAreLeft};
 
 use laws_answers::named_answers_are_there;
@@ -76,6 +77,13 @@ pub fn bootstraps_end_with_roots()
     counts_agree_in_scenes();
     bootstraps_are_left();
 }
+
+/// In each scene a task that is there was delivered once and was not answered; and in every run each task is answered once
+/// at most.
+pub fn tasks_are_answered_once()
+    ensures open { TasksAreOpen }
+    ensures once { TasksAreAnsweredOnce }
+{}
 
 /// Where in a scene each end of a call is as that was answered, all that is promised of its ends holds.
 pub fn ends_of_calls_are_left()
