@@ -19,3 +19,9 @@ pub mod Hosting
 pub mod Rooted
 pub mod Leaving
 pub mod Tasking
+pub mod Identified
+pub mod Whose
+pub mod WhoseFirst
+pub mod LastAsked
+pub mod OfCalls
+pub mod OfCallsScenes

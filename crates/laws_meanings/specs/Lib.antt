@@ -6,3 +6,4 @@ pub mod AskedCalls
 pub mod OnePlace
 pub mod Bootstraps
 pub mod Tasks
+pub mod Identities

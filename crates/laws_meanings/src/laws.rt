@@ -6,10 +6,12 @@ ghost use Rattle.laws_meanings.specs.OnePlace.{CallsAreAtOnePlace, DeliveriesAre
 ghost use Rattle.laws_meanings.specs.FirstEnds.{EndsAreFirst};
 ghost use Rattle.laws_meanings.specs.AskedCalls.{EndsWereAsked};
 ghost use Rattle.laws_meanings.specs.Bootstraps.{NumbersAreAsked, RootsAreReturned, RootsAreLeft, BootstrapsEnd};
+ghost use Rattle.laws_meanings.specs.Identities.{OutcomesAreOfCalls};
 ghost use Rattle.laws_meanings.specs.Tasks.{TasksAreOpen, TasksAreAnsweredOnce};
 ghost use Rattle.laws_meanings.specs.WhatIsLeft.{ObjectsAreLeft, AnswersAreLeft, CallsAreLeft};
 
 use laws_answers::named_answers_are_there;
+use laws_nodes::outcomes_have_sources;
 use laws_sessions::counts_agree_in_scenes;
 
 /// In each scene every call that waits or is on its way, and every delivery in the history up to it, has the interface,
@@ -84,6 +86,16 @@ pub fn tasks_are_answered_once()
     ensures open { TasksAreOpen }
     ensures once { TasksAreAnsweredOnce }
 {}
+
+/// In each scene each outcome that is not known is of the call that its caller asked: the task, the question or the waiting
+/// call from which it will come is of that call; and what is on its way to a vat with a question id is what the other vat
+/// asked last with it.
+pub fn outcomes_are_of_calls()
+    ensures { OutcomesAreOfCalls }
+{
+    outcomes_have_sources();
+    counts_agree_in_scenes();
+}
 
 /// Where in a scene each end of a call is as that was answered, all that is promised of its ends holds.
 pub fn ends_of_calls_are_left()
