@@ -25,3 +25,7 @@ pub mod WhoseFirst
 pub mod LastAsked
 pub mod OfCalls
 pub mod OfCallsScenes
+pub mod Awaited
+pub mod Replies
+pub mod Returning
+pub mod Answering

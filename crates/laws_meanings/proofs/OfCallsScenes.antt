@@ -181,17 +181,17 @@ free : (s : Stamp) (why : Reason) → Unit {0}
 free s why = tt
 
 -- Its own entries ask nothing by messages.
-es_asks : (own : List JournalEntry) (v : Vat) (x : Effects) (q : ℕ) → last_asked own v q ≡ None → last_asked (own ++ effect_entries v x) v q ≡ asked_last q x.sends
+pub es_asks : (own : List JournalEntry) (v : Vat) (x : Effects) (q : ℕ) → last_asked own v q ≡ None → last_asked (own ++ effect_entries v x) v q ≡ asked_last q x.sends
 es_asks own v x q e = asked-append own (effect_entries v x) v q ∙ ap (λ (o : Option Asking). or_rest (last_asked (effect_entries v x) v q) o) e ∙ by (last_asked (effect_entries v x) v q) ∙ of_effects v q x
   where
     by : (o : Option Asking) → or_rest o None ≡ o
     by None = refl
     by (Some y) = refl
 
-es_none : (own : List JournalEntry) (v : Vat) (x : Effects) (q : ℕ) → last_asked own (other_vat v) q ≡ None → last_asked (own ++ effect_entries v x) (other_vat v) q ≡ None
+pub es_none : (own : List JournalEntry) (v : Vat) (x : Effects) (q : ℕ) → last_asked own (other_vat v) q ≡ None → last_asked (own ++ effect_entries v x) (other_vat v) q ≡ None
 es_none own v x q e = none_more (other_vat v) q own (effect_entries v x) (of_other_effects (other_vat v) q v (apart v) x) ∙ e
 
-twice : (v : Vat) → other_vat (other_vat v) ≡ v
+pub twice : (v : Vat) → other_vat (other_vat v) ≡ v
 twice A = refl
 twice B = refl
 
@@ -273,8 +273,8 @@ module _ (law : EachHasOneSource) (sessions : InScenes (HoldsIn Stand)) (a b : O
       let now : walk.Commanded (asked_of (h ++ own) v) (last_asked (h ++ own) v) (DeliveredIn (h ++ own) v) Free Any free t c g = record {
         root = λ y z. root_asked h v t c g later y z;
         call = λ y z f j l. call_asked h v t c g later (scenes_count a b x i v) y z f j l;
-        answers = λ y p rs z f j. tt;
-        fails = λ y p z f j. tt;
+        answers = λ y p rs z l f q j. tt;
+        fails = λ y p z l f q j. tt;
       } in
       let begun : Begins (h ++ own) v t = (begins_so (h ++ own) v t (quiet_mine h own v t n (at v x k).0), all_answers (h ++ own) v t, no_source v x i) in
       let left = walk.commands (asked_of (h ++ own) v) (last_asked (h ++ own) v) (DeliveredIn (h ++ own) v) Free Any free t c g told s now begun d in

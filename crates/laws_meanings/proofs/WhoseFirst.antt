@@ -161,8 +161,8 @@ module _ (C : Caller → Option Asking) (L : ℕ → Option Asking) (T : ℕ →
   pub record Commanded (s : State) (c : Command) (g : Granted) : Type 0 where
     pub root : c ≡ command.Bootstrap → g ≡ first.next_call_of s → C (caller.Application (record { 0 = s.next_call })) ≡ Some OfBootstrap
     pub call : (k : CallCommand) (x : Reference) → c ≡ command.Call k → map.get s.refs k.reference.0 ≡ Some x → g ≡ first.next_call_of s → C (caller.Application (record { 0 = s.next_call })) ≡ Some (OfCall (request s k x).stamp)
-    pub answers : (t : TaskId) (payload : Payload) (refs : List RefId) (z : Stamp) → c ≡ command.Answer t payload refs → T t.0 z → W (OfCall z) (outcome.Results payload) (length (heads s refs))
-    pub fails : (t : TaskId) (why : Exception) (z : Stamp) → c ≡ command.Fail t why → T t.0 z → W (OfCall z) (outcome.Exception why) 0
+    pub answers : (t : TaskId) (payload : Payload) (refs : List RefId) (z : Stamp) (o : ℕ) → c ≡ command.Answer t payload refs → map.get s.tasks t.0 ≡ Some o → T t.0 z → W (OfCall z) (outcome.Results payload) (length (heads s refs))
+    pub fails : (t : TaskId) (why : Exception) (z : Stamp) (o : ℕ) → c ≡ command.Fail t why → map.get s.tasks t.0 ≡ Some o → T t.0 z → W (OfCall z) (outcome.Exception why) 0
 
   started : (s : State) (c : Command) (g : Granted) (new : Moment) → Commanded s c g → Begins s → Starts (beginning s) c g new → Fine new
   started s c g new n i (first.AsksRoot q e f a u) =
@@ -199,14 +199,14 @@ module _ (C : Caller → Option Asking) (L : ℕ → Option Asking) (T : ℕ →
       rw u ((at_cut (λ h o. TaskIs C s.outcomes (whose.Given C L T W U broken []) h o) s.tasks t.0 tt (λ h l. i.0.0 h), i.0.1, i.0.2, i.0.3, i.0.4), tt, tt, ((OfCall was.0, was.2, by was.0 was.1), tt), tt, i.1, tt, tt, tt)
     where
       by : (z : Stamp) → whose.Given C L T W U broken [] t.0 z → W (OfCall z) (outcome.Results payload) (length (heads s refs))
-      by z (inl h) = n.answers t payload refs z e h
+      by z (inl h) = n.answers t payload refs z o e f h
       by z (inr h) = absurd h
   started s c g new n i (first.Fails t why o e f a u) =
       let was : TaskIs C s.outcomes (whose.Given C L T W U broken []) t.0 (Some o) = subst (TaskIs C s.outcomes (whose.Given C L T W U broken []) t.0) f (i.0.0 t.0) in
       rw u ((at_cut (λ h o. TaskIs C s.outcomes (whose.Given C L T W U broken []) h o) s.tasks t.0 tt (λ h l. i.0.0 h), i.0.1, i.0.2, i.0.3, i.0.4), tt, tt, ((OfCall was.0, was.2, by was.0 was.1), tt), tt, i.1, tt, tt, tt)
     where
       by : (z : Stamp) → whose.Given C L T W U broken [] t.0 z → W (OfCall z) (outcome.Exception why) 0
-      by z (inl h) = n.fails t why z e h
+      by z (inl h) = n.fails t why z o e f h
       by z (inr h) = absurd h
   started s c g new n i (first.Hosts o e a u) = rw u (i.0, tt, tt, tt, tt, i.1, tt, tt, tt)
   started s c g new n i (first.Clones y x e f a u) = rw u (i.0, tt, tt, tt, tt, i.1, tt, tt, tt)

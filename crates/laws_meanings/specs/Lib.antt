@@ -7,3 +7,4 @@ pub mod OnePlace
 pub mod Bootstraps
 pub mod Tasks
 pub mod Identities
+pub mod AnsweredEnds

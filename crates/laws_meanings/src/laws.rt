@@ -7,6 +7,7 @@ ghost use Rattle.laws_meanings.specs.FirstEnds.{EndsAreFirst};
 ghost use Rattle.laws_meanings.specs.AskedCalls.{EndsWereAsked};
 ghost use Rattle.laws_meanings.specs.Bootstraps.{NumbersAreAsked, RootsAreReturned, RootsAreLeft, BootstrapsEnd};
 ghost use Rattle.laws_meanings.specs.Identities.{OutcomesAreOfCalls};
+ghost use Rattle.laws_meanings.specs.AnsweredEnds.{CallsEndAsAnswered};
 ghost use Rattle.laws_meanings.specs.Tasks.{TasksAreOpen, TasksAreAnsweredOnce};
 ghost use Rattle.laws_meanings.specs.WhatIsLeft.{ObjectsAreLeft, AnswersAreLeft, CallsAreLeft};
 
@@ -92,6 +93,15 @@ pub fn tasks_are_answered_once()
 /// asked last with it.
 pub fn outcomes_are_of_calls()
     ensures { OutcomesAreOfCalls }
+{
+    outcomes_have_sources();
+    counts_agree_in_scenes();
+}
+
+/// In each scene a call ends with what was answered to its delivery, with as many capabilities, or with the exception of a
+/// broken capability.
+pub fn calls_end_as_answered()
+    ensures { CallsEndAsAnswered }
 {
     outcomes_have_sources();
     counts_agree_in_scenes();
