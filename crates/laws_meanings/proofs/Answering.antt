@@ -1,35 +1,27 @@
 -- What a Return says, while its question is wanted, is what was answered to the delivery of the call, or that it is broken;
 -- so each call ends so, in each scene.
-use Rattle.std.proofs.Common.{◌≡◌, ◌⊎◌, inl, inr, ℕ, suc, ◌+◌, ◌≤◌, Bool, true, false, nat_eq, Option, None, Some, List, [], ◌∷◌, ◌++◌, length, map, append_assoc, refl, sym, ap, subst, ◌∙◌, arith}
+use Rattle.std.proofs.Common.{◌≡◌, inl, inr, ℕ, suc, ◌≤◌, true, false, Option, None, Some, List, [], ◌∷◌, ◌++◌, length, map, append_assoc, refl, sym, ap, subst, ◌∙◌, arith}
 use Rattle.std.specs.FinMap as map
 use Rattle.finite_maps.specs.Tally.{Map}
-use Rattle.capn_wire.specs.Payloads.{Contents as Payload}
 use Rattle.rpc_msg.specs.declared.ids.Vat.{Vat}
 use Rattle.rpc_msg.specs.declared.ids.Vat.TheVariants.{A, B}
 use Rattle.rpc_msg.specs.declared.ids.RefId.{RefId}
-use Rattle.rpc_msg.specs.declared.ids.TaskId.{TaskId}
 use Rattle.rpc_msg.specs.declared.ids.Stamp.{Stamp}
 use Rattle.rpc_msg.specs.declared.ids.ObjectId.{ObjectId}
-use Rattle.rpc_msg.specs.declared.exception.Exception.{Exception}
 use Rattle.rpc_msg.specs.declared.message.Message.{Message}
 use Rattle.rpc_msg.specs.declared.message.Message.TheVariants as message
 use Rattle.rpc_msg.specs.declared.message.PlainMessage.{PlainMessage}
 use Rattle.rpc_msg.specs.declared.message.PlainMessage.TheVariants as plain
-use Rattle.rpc_msg.specs.declared.message.ReturnBody.{ReturnBody}
 use Rattle.rpc_msg.specs.declared.message.Return.{Return}
 use Rattle.rpc_msg.specs.Vats.{other_vat}
 use Rattle.vat_journal.specs.declared.report.Ended.{Ended}
-use Rattle.vat_journal.specs.declared.report.Outcome.{Outcome}
 use Rattle.vat_journal.specs.declared.report.Outcome.TheVariants as outcome
 use Rattle.vat_journal.specs.declared.entry.JournalEntry.{JournalEntry}
 use Rattle.vat_journal.specs.declared.entry.JournalEntry.TheVariants as entry
 use Rattle.vat_journal.specs.History.{or_rest}
 use Rattle.vat_journal.specs.Sources.{Asking, OfBootstrap, OfCall, asking, asking_one}
 use Rattle.vat_machine.specs.declared.node.Reason.{Reason}
-use Rattle.vat_machine.specs.declared.calls.Caller.{Caller}
-use Rattle.vat_machine.specs.declared.calls.Caller.TheVariants as caller
 use Rattle.vat_machine.specs.declared.command.Command.{Command}
-use Rattle.vat_machine.specs.declared.command.Command.TheVariants as command
 use Rattle.vat_machine.specs.declared.command.Granted.{Granted}
 use Rattle.vat_machine.specs.declared.command.Granted.TheVariants as granted
 use Rattle.vat_machine.specs.declared.command.Effects.{Effects}
@@ -37,7 +29,7 @@ use Rattle.vat_machine.specs.declared.entries.AnswerEntry.{AnswerEntry}
 use Rattle.vat_machine.specs.declared.entries.Question.{Question}
 use Rattle.vat_machine.specs.State.{State}
 use Rattle.vat_machine.specs.Commands.{heads}
-use Rattle.vat_machine.specs.Messages.{results_of, value_of_results}
+use Rattle.vat_machine.specs.Messages.{value_of_results}
 use Rattle.vat_machine.specs.Routing.{failed, reason_text}
 use Rattle.vat_machine.specs.Sweeping.{IsNotSent}
 use Rattle.vat_machine.specs.World.{World, core, inbox, put_inbox, after}
@@ -63,7 +55,7 @@ use Rattle.laws_meanings.proofs.Awaited.{IsWanted, Waits}
 use Rattle.laws_meanings.proofs.Awaited as awaited
 use Rattle.laws_meanings.proofs.Replies.{answered, still_so}
 use Rattle.laws_meanings.proofs.Returning.{IsReturn, HasReturn, Unwanted, none_asked, it_waits, only_return, is_unwanted, fin_unwanted}
-use Rattle.laws_meanings.proofs.OfCalls.{Mine, NoneOpen, quiet_mine, same_last, apart}
+use Rattle.laws_meanings.proofs.OfCalls.{quiet_mine, same_last}
 use Rattle.laws_meanings.proofs.OfCallsScenes.{root_asked, call_asked, first_last, asks_root, asks_call, es_asks, es_none, twice, begins_so, no_source, mine_in}
 use Rattle.laws_meanings.proofs.Asking.{numbers_asked}
 use Rattle.laws_meanings.proofs.Placed.{entries-append}

@@ -1,5 +1,5 @@
 -- What is of a call stays so where outcomes become known, and where more is asked and delivered.
-use Rattle.std.proofs.Common.{◌≡◌, ◌⊎◌, inl, inr, ℕ, ◌+◌, Bool, true, false, nat_eq, Option, None, Some, List, [], ◌∷◌, ◌++◌, length, suc, refl, sym, ap, subst, ◌∙◌, arith}
+use Rattle.std.proofs.Common.{◌≡◌, inl, inr, ℕ, ◌+◌, Option, None, Some, List, [], ◌∷◌, ◌++◌, refl, sym, ap, subst, ◌∙◌}
 use Rattle.std.specs.FinMap as map
 use Rattle.finite_maps.specs.Tally.{Map}
 use Rattle.finite_maps.proofs.Tested.{at_put, at_cut}
@@ -8,7 +8,7 @@ use Rattle.rpc_msg.specs.declared.ids.CallId.{CallId}
 use Rattle.rpc_msg.specs.declared.ids.Stamp.{Stamp}
 use Rattle.rpc_msg.specs.declared.message.Message.{Message}
 use Rattle.vat_journal.specs.History.{or_rest}
-use Rattle.vat_journal.specs.Sources.{Asking, OfBootstrap, OfCall}
+use Rattle.vat_journal.specs.Sources.{Asking, OfCall}
 use Rattle.vat_machine.specs.declared.node.Node.{Node}
 use Rattle.vat_machine.specs.declared.calls.WaitingCall.{WaitingCall}
 use Rattle.vat_machine.specs.declared.calls.HeldCall.{HeldCall}
@@ -28,7 +28,7 @@ use Rattle.vat_machine.specs.declared.entries.Embargo.{Embargo}
 use Rattle.vat_machine.specs.State.{State}
 use Rattle.vat_machine.specs.Settling.{Fits, PutsIn, Untangles}
 use Rattle.vat_machine.specs.Sweeping.{closed_map}
-use Rattle.laws_meanings.specs.Identities.{asked_in, asked_last, IfNone, IsOf, Is, CallIs, CallsAre, HeldAre, PromiseIs, KeptIs, EmbargoIs, TaskIs, RoleIs, QuestionIs}
+use Rattle.laws_meanings.specs.Identities.{asked_in, asked_last, IfNone, IsOf, CallsAre, HeldAre, PromiseIs, KeptIs, EmbargoIs, TaskIs, RoleIs, QuestionIs}
 
 -- What is said of the outcome is still said.
 abbrev pub Soft : (Caller → Option Asking) → Map KeptOutcome → (Caller → Option Asking) → Map KeptOutcome → Type 0
@@ -79,8 +79,8 @@ module _ (C : Caller → Option Asking) (os : Map KeptOutcome) where
   pub softly : (u : ℕ) (x y : KeptOutcome) → map.get os u ≡ Some x → y.value ≡ x.value → y.caller ≡ x.caller → Soft C os C (map.insert os u y)
   softly u x y e f g o a = at_put (λ j n. IsOf C a (map.get os j) → IsOf C a n) os u y
       (λ i. let k : IfNone x.value (C x.caller ≡ Some a) = subst (IsOf C a) e i in
-          let l : IfNone y.value (C x.caller ≡ Some a) = subst (λ (z : Option Value). IfNone z (C x.caller ≡ Some a)) (sym f) k in
-          subst (λ (z : Caller). IfNone y.value (C z ≡ Some a)) (sym g) l)
+      let l : IfNone y.value (C x.caller ≡ Some a) = subst (λ (z : Option Value). IfNone z (C x.caller ≡ Some a)) (sym f) k in
+      subst (λ (z : Caller). IfNone y.value (C z ≡ Some a)) (sym g) l)
       (λ j n i. i) o
 
   pub known_soft : (u : ℕ) (y : KeptOutcome) (w : Value) → y.value ≡ Some w → Soft C os C (map.insert os u y)

@@ -1,65 +1,27 @@
 -- What is of a call stays of it with what each vat writes.
-use Rattle.std.proofs.Common.{◌≡◌, ◌⊎◌, inl, inr, ℕ, ◌+◌, ◌≤◌, Bool, true, false, ◌&&◌, nat_eq, Option, None, Some, Result, Ok, List, [], ◌∷◌, ◌++◌, append_assoc, refl, sym, ap, subst, ◌∙◌, arith}
-use Rattle.std.specs.Ordering.{nat_cmp}
+use Rattle.std.proofs.Common.{◌≡◌, ◌⊎◌, inl, inr, ℕ, false, Option, None, Some, List, ◌∷◌, ◌++◌, refl, sym, ap, subst, ◌∙◌}
 use Rattle.std.specs.FinMap as map
 use Rattle.rpc_msg.specs.declared.ids.Vat.{Vat}
-use Rattle.rpc_msg.specs.declared.ids.Vat.TheVariants.{A, B}
-use Rattle.rpc_msg.specs.declared.ids.CallId.{CallId}
 use Rattle.rpc_msg.specs.declared.ids.Stamp.{Stamp}
-use Rattle.rpc_msg.specs.declared.ids.ObjectId.{ObjectId}
 use Rattle.rpc_msg.specs.declared.message.Message.{Message}
-use Rattle.rpc_msg.specs.declared.message.Message.TheVariants as message
-use Rattle.rpc_msg.specs.declared.message.PlainMessage.TheVariants as plain
 use Rattle.rpc_msg.specs.Vats.{other_vat}
-use Rattle.vat_journal.specs.declared.report.Outcome.{Outcome}
 use Rattle.vat_journal.specs.declared.entry.JournalEntry.{JournalEntry}
-use Rattle.vat_journal.specs.declared.entry.JournalEntry.TheVariants as entry
-use Rattle.vat_journal.specs.History.{same_vat, or_rest, if_so}
-use Rattle.vat_journal.specs.Sources.{Asking, OfBootstrap, OfCall, asking, asking_one}
-use Rattle.vat_machine.specs.declared.node.Reason.{Reason}
+use Rattle.vat_journal.specs.History.{same_vat, or_rest}
+use Rattle.vat_journal.specs.Sources.{Asking, asking_one}
 use Rattle.vat_machine.specs.declared.calls.Caller.{Caller}
 use Rattle.vat_machine.specs.declared.calls.Caller.TheVariants as caller
 use Rattle.vat_machine.specs.declared.calls.KeptOutcome.{KeptOutcome}
 use Rattle.vat_machine.specs.declared.calls.Value.{Value}
-use Rattle.vat_machine.specs.declared.command.CallCommand.{CallCommand}
-use Rattle.vat_machine.specs.declared.command.Command.{Command}
-use Rattle.vat_machine.specs.declared.command.Command.TheVariants as command
-use Rattle.vat_machine.specs.declared.command.Granted.{Granted}
-use Rattle.vat_machine.specs.declared.command.Granted.TheVariants as granted
 use Rattle.vat_machine.specs.declared.command.Effects.{Effects}
-use Rattle.vat_machine.specs.declared.command.Level.TheVariants.{One}
-use Rattle.vat_machine.specs.declared.entries.Reference.{Reference}
-use Rattle.vat_machine.specs.State.{State, start}
-use Rattle.vat_machine.specs.Commands.{request}
-use Rattle.vat_machine.specs.Faults.{fault_of}
-use Rattle.vat_machine.specs.Steps.{Does, Handles, IsDone, IsHandled}
-use Rattle.vat_machine.specs.World.{World, core, inbox, put_inbox, after}
-use Rattle.vat_machine.specs.Journal.{index_in, effect_entries, granted_entries}
-use Rattle.laws_steps.specs.Callers.{IsOpenFor, AnswersWith}
-use Rattle.laws_steps.specs.NodesThere as reaching
-use Rattle.laws_steps.specs.NodesThere.{IsReached}
-use Rattle.laws_steps.proofs.Reached.{go_on}
-use Rattle.laws_nodes.specs.Sources.{sources, EachHasOneSource}
-use Rattle.laws_acts.specs.FirstActs as first
-use Rattle.laws_acts.specs.Sent.{Noted, messages}
-use Rattle.laws_sessions.specs.Views.{asker_of, answerer_of, outs, rets, IsReady}
-use Rattle.laws_sessions.specs.Worlds.{AreRows, Stand}
-use Rattle.laws_sessions.specs.Between.{HoldsIn}
-use Rattle.laws_sessions.specs.Scenes.{InScenes}
-use Rattle.laws_runs.specs.MadeCalls.{NumbersItsCalls}
-use Rattle.laws_runs.proofs.Counting.{scenes_count}
+use Rattle.vat_machine.specs.State.{State}
+use Rattle.vat_machine.specs.Journal.{effect_entries}
+use Rattle.laws_steps.specs.Callers.{IsOpenFor}
 use Rattle.laws_runs.proofs.Reading as reading
 use Rattle.laws_runs.proofs.Reading.{still_first}
-use Rattle.laws_runs.specs.Scenes as scenes
-use Rattle.laws_runs.specs.Scenes.{Scene, IsScene, begins}
-use Rattle.laws_meanings.specs.Identities.{asked_by, asked_in, asked_last, last_asked, asked_of, DeliveredIn, IfNone, IsOf, PromiseIs, KeptIs, EmbargoIs, TaskIs, QuestionIs, AreAskedLast, OutcomesAreOfCalls}
+use Rattle.laws_meanings.specs.Identities.{asked_in, asked_last, last_asked, asked_of, DeliveredIn, IfNone, IsOf, PromiseIs, KeptIs, EmbargoIs, TaskIs, QuestionIs, AreAskedLast}
 use Rattle.laws_meanings.proofs.Identified.{Soft, Apps, soft_promise, soft_kept, soft_embargo, soft_task, soft_question, last-append}
-use Rattle.laws_meanings.proofs.LastAsked.{none_more, of_effects, of_other_effects, of_own, asked-append, ahead, behind, in_effects, first_asks, while_working}
-use Rattle.laws_meanings.proofs.Asking.{next_is, numbers_asked}
-use Rattle.laws_meanings.proofs.Walked.{in_each, step_more}
-use Rattle.laws_meanings.proofs.Whose as whose
+use Rattle.laws_meanings.proofs.LastAsked.{none_more, of_effects, of_other_effects, asked-append, ahead, behind, in_effects}
 use Rattle.laws_meanings.proofs.Whose.{IsIn}
-use Rattle.laws_meanings.proofs.WhoseFirst as walk
 
 -- ---- What a state has, seen with less and with more
 

@@ -1,24 +1,21 @@
 -- Each act keeps of which call each outcome is, and that what becomes known of it is what is said of that call.
-use Rattle.std.proofs.Common.{◌≡◌, ◌⊎◌, inl, inr, ℕ, ◌+◌, Bool, true, false, ◌&&◌, nat_eq, Option, None, Some, List, [], ◌∷◌, ◌++◌, length, suc, refl, sym, ap, subst, ◌∙◌, arith}
+use Rattle.std.proofs.Common.{◌≡◌, ◌⊎◌, inl, inr, ℕ, Bool, true, false, nat_eq, Option, None, Some, List, [], ◌∷◌, ◌++◌, length, refl, sym, ap, subst, ◌∙◌}
 use Rattle.std.specs.FinMap as map
 use Rattle.finite_maps.specs.Tally.{Map}
 use Rattle.finite_maps.proofs.Tested.{at_put, at_cut, itself}
-use Rattle.rpc_msg.specs.declared.ids.CallId.{CallId}
-use Rattle.rpc_msg.specs.declared.ids.QuestionId.{QuestionId}
 use Rattle.rpc_msg.specs.declared.ids.Stamp.{Stamp}
 use Rattle.rpc_msg.specs.declared.message.Message.{Message}
 use Rattle.rpc_msg.specs.declared.message.Message.TheVariants as message
 use Rattle.rpc_msg.specs.declared.message.PlainMessage.{PlainMessage}
 use Rattle.rpc_msg.specs.declared.message.PlainMessage.TheVariants as plain
 use Rattle.rpc_msg.specs.declared.message.ReturnBody.{ReturnBody}
-use Rattle.rpc_msg.specs.declared.message.Finish.{Finish}
 use Rattle.rpc_msg.specs.declared.parts.Descriptor.{Descriptor}
 use Rattle.vat_journal.specs.declared.report.Delivery.{Delivery}
 use Rattle.vat_journal.specs.declared.report.Ended.{Ended}
 use Rattle.vat_journal.specs.declared.report.Outcome.{Outcome}
 use Rattle.vat_journal.specs.declared.report.Outcome.TheVariants as outcome
 use Rattle.vat_journal.specs.History.{or_rest, if_so}
-use Rattle.vat_journal.specs.Sources.{Asking, OfBootstrap, OfCall}
+use Rattle.vat_journal.specs.Sources.{Asking, OfCall}
 use Rattle.vat_machine.specs.declared.node.Node.{Node}
 use Rattle.vat_machine.specs.declared.node.Reason.{Reason}
 use Rattle.vat_machine.specs.declared.calls.WaitingCall.{WaitingCall}
@@ -36,9 +33,7 @@ use Rattle.vat_machine.specs.declared.entries.Embargo.{Embargo}
 use Rattle.vat_machine.specs.declared.entries.Role.TheVariants as role
 use Rattle.vat_machine.specs.declared.calls.Promise.{Promise}
 use Rattle.vat_machine.specs.State.{State}
-use Rattle.vat_machine.specs.Places.{nodes}
-use Rattle.vat_machine.specs.Descriptors.{read_beside}
-use Rattle.vat_machine.specs.Progress.{outcome_of, caps_of, new_refs}
+use Rattle.vat_machine.specs.Progress.{outcome_of, caps_of}
 use Rattle.vat_machine.specs.Routing.{failed, reason_text}
 use Rattle.vat_machine.specs.Messages.{results_of, value_of_results}
 use Rattle.vat_machine.specs.Settling.{Fits, returned_map}
@@ -49,8 +44,8 @@ use Rattle.laws_acts.specs.FirstActs.{asked, asking}
 use Rattle.laws_acts.specs.SmallActs.{Act, IsStill, kept_known, delivery, release_messages}
 use Rattle.laws_acts.specs.SmallActs as act
 use Rattle.laws_answers.proofs.Filled.{out_length}
-use Rattle.laws_meanings.specs.Identities.{asked_by, asked_in, asked_last, IfNone, IsOf, Is, CallIs, CallsAre, HeldAre, PromiseIs, KeptIs, EmbargoIs, TaskIs, RoleIs, QuestionIs}
-use Rattle.laws_meanings.proofs.Identified.{Soft, Apps, soft_calls, soft_held, soft_promise, soft_kept, soft_embargo, soft_task, soft_question, softly, known_soft, gone_soft, calls-append, held-append, Promises, fits_promises, closes, last-append}
+use Rattle.laws_meanings.specs.Identities.{asked_in, asked_last, IfNone, IsOf, Is, CallIs, CallsAre, HeldAre, PromiseIs, KeptIs, EmbargoIs, TaskIs, QuestionIs}
+use Rattle.laws_meanings.proofs.Identified.{Soft, soft_held, soft_promise, soft_kept, soft_embargo, soft_task, soft_question, softly, known_soft, gone_soft, calls-append, held-append, Promises, fits_promises, closes, last-append}
 use Rattle.laws_meanings.proofs.Made.{new_refs_length}
 use Rattle.laws_meanings.proofs.Rooting as rooting
 
@@ -283,7 +278,14 @@ module _ (C : Caller → Option Asking) (L : ℕ → Option Asking) (T : ℕ →
       let held : HeldAre C ns (x.waiting ++ z ∷ []) = held-append C ns x.waiting (z ∷ []) (soft_held C os C ns g x.waiting was) (g c.outcome (OfCall c.request.stamp) y.0, tt) in
       rw k (
         (soft_tasks os ns g d.effects.deliveries s.tasks i.0.0, soft_questions os ns g d.effects.sends s.questions i.0.1, soft_promises os ns g s.promises i.0.2, at_put (λ l o. KeptIs C ns o) os u w held (λ l m. soft_kepts os ns g os i.0.3 l), soft_embargoes os ns g s.embargoes i.0.4),
-        soft_yet os ns g rest y.1, soft_coming os ns g d.arisen i.2, soft_coming os ns g d.coming i.3, i.4, i.5, i.6, i.7, i.8,
+        soft_yet os ns g rest y.1,
+        soft_coming os ns g d.arisen i.2,
+        soft_coming os ns g d.coming i.3,
+        i.4,
+        i.5,
+        i.6,
+        i.7,
+        i.8,
       )
   acted d new i (act.Relays c n rest p t ds es e f j k u) =
       let s = d.state in
@@ -313,7 +315,14 @@ module _ (C : Caller → Option Asking) (L : ℕ → Option Asking) (T : ℕ →
       let promises : Promises C os ps = fits_promises C os o x.caller x.waiting s w fit (record s { promises = ps }) k i.0.2 in
       rw u (
         (soft_tasks os ns g d.effects.deliveries s.tasks i.0.0, soft_questions os ns g d.effects.sends s.questions i.0.1, soft_promises os ns g ps promises, at_put (λ l z. KeptIs C ns z) os o (kept_known x.caller fit x.waiting) (soft_held C os C ns g x.waiting was) (λ l m. soft_kepts os ns g os i.0.3 l), soft_embargoes os ns g s.embargoes i.0.4),
-        soft_yet os ns g d.yet i.1, soft_coming os ns g d.arisen i.2, tt, ((a, who, fine), tt), i.5, i.6, i.7, i.8,
+        soft_yet os ns g d.yet i.1,
+        soft_coming os ns g d.arisen i.2,
+        tt,
+        ((a, who, fine), tt),
+        i.5,
+        i.6,
+        i.7,
+        i.8,
       )
   acted d new i (act.Reports c w from e f u) =
       let y : Telling ((caller.Application (record { 0 = c }), w) ∷ []) = subst Telling e i.4 in
@@ -344,7 +353,14 @@ module _ (C : Caller → Option Asking) (L : ℕ → Option Asking) (T : ℕ →
           let h : Soft C os C ns = known_soft C os x.outcome w x.value refl in
           rw u (
             (soft_tasks os ns h d.effects.deliveries s.tasks i.0.0, soft_questions os ns h d.effects.sends s.questions i.0.1, soft_promises os ns h s.promises i.0.2, at_put (λ l o. KeptIs C ns o) os x.outcome w tt (λ l m. soft_kepts os ns h os i.0.3 l), soft_embargoes os ns h s.embargoes i.0.4),
-            yet_held ns x.outcome x.waiting (soft_held C os C ns h x.waiting (waiting g)), soft_coming os ns h d.arisen i.2, soft_coming os ns h d.coming i.3, i.4, i.5, i.6, i.7, i.8,
+            yet_held ns x.outcome x.waiting (soft_held C os C ns h x.waiting (waiting g)),
+            soft_coming os ns h d.arisen i.2,
+            soft_coming os ns h d.coming i.3,
+            i.4,
+            i.5,
+            i.6,
+            i.7,
+            i.8,
           )
         where
           waiting : IsStill d.state x → HeldAre C d.state.outcomes x.waiting
@@ -366,7 +382,14 @@ module _ (C : Caller → Option Asking) (L : ℕ → Option Asking) (T : ℕ →
       let g : Soft C os C ns = gone_soft C os o in
       rw u (
         (soft_tasks os ns g d.effects.deliveries s.tasks i.0.0, soft_questions os ns g d.effects.sends s.questions i.0.1, soft_promises os ns g s.promises i.0.2, at_cut (λ l y. KeptIs C ns y) os o tt (λ l m. soft_kepts os ns g os i.0.3 l), soft_embargoes os ns g s.embargoes i.0.4),
-        soft_yet os ns g d.yet i.1, soft_coming os ns g d.arisen i.2, soft_coming os ns g d.coming i.3, i.4, i.5, i.6, i.7, i.8,
+        soft_yet os ns g d.yet i.1,
+        soft_coming os ns g d.arisen i.2,
+        soft_coming os ns g d.coming i.3,
+        i.4,
+        i.5,
+        i.6,
+        i.7,
+        i.8,
       )
   acted d new i (act.ImportGoes k x w e f u) = rw u i
   acted d new i (act.Sweeps over e f j u) = rw u i

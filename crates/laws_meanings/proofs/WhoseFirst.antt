@@ -1,12 +1,11 @@
 -- The first act of each command and message says of which call each outcome is.
-use Rattle.std.proofs.Common.{◌≡◌, ◌⊎◌, inl, inr, ℕ, ◌+◌, Bool, true, false, cond, nat_eq, Option, None, Some, List, [], ◌∷◌, ◌++◌, length, refl, sym, ap, subst, ◌∙◌, arith}
+use Rattle.std.proofs.Common.{◌≡◌, ◌⊎◌, inl, inr, ℕ, Bool, true, false, nat_eq, Option, None, Some, List, [], ◌∷◌, ◌++◌, length, refl, sym, subst, ◌∙◌, arith}
 use Rattle.std.specs.FinMap as map
 use Rattle.finite_maps.specs.Tally.{Map, tally}
 use Rattle.finite_maps.proofs.Tallies.{tally-within}
 use Rattle.finite_maps.proofs.Tested.{at_put, at_cut, get_other}
 use Rattle.finite_maps.proofs.Gets.{get-insert_same}
 use Rattle.capn_wire.specs.Payloads.{Contents as Payload}
-use Rattle.rpc_msg.specs.declared.ids.CallId.{CallId}
 use Rattle.rpc_msg.specs.declared.ids.RefId.{RefId}
 use Rattle.rpc_msg.specs.declared.ids.TaskId.{TaskId}
 use Rattle.rpc_msg.specs.declared.ids.ExportId.{ExportId}
@@ -59,7 +58,7 @@ use Rattle.laws_acts.proofs.EachStep.{done, handled, at_end}
 use Rattle.laws_nodes.specs.Ones.{one_if}
 use Rattle.laws_nodes.specs.Sources as source
 use Rattle.laws_nodes.specs.Sources.{is_key, sources}
-use Rattle.laws_meanings.specs.Identities.{IfNone, IsOf, Is, CallIs, CallsAre, HeldAre, PromiseIs, KeptIs, EmbargoIs, TaskIs, RoleIs, QuestionIs}
+use Rattle.laws_meanings.specs.Identities.{IfNone, IsOf, Is, CallsAre, HeldAre, PromiseIs, KeptIs, EmbargoIs, TaskIs, RoleIs, QuestionIs}
 use Rattle.laws_meanings.proofs.Identified.{calls-append, Promises}
 use Rattle.laws_meanings.proofs.Whose as whose
 
