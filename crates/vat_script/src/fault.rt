@@ -1,0 +1,74 @@
+use std::alloc::AllocError;
+use thiserror::Error;
+
+/// Why a text is no line of a script. Where several things are wrong, the first from the left is answered, after the
+/// byte order mark and the carriage return.
+#[derive(Clone, Copy, Debug, PartialEq, Eq, Drop, Error)]
+pub enum LineFault {
+    /// It begins with a byte order mark.
+    #[error("the line begins with a byte order mark")]
+    ByteOrderMark,
+    /// It ends with a carriage return.
+    #[error("the line ends with a carriage return")]
+    CarriageReturn,
+    /// The first word, or the one behind `deliver`, is no vat.
+    #[error("no vat")]
+    Vat,
+    /// The word behind the vat is none that says what to do.
+    #[error("an unknown word")]
+    Word,
+    /// There are too many words, or too few.
+    #[error("a wrong number of words")]
+    Count,
+    /// A word that should be a name is empty or has another letter.
+    #[error("no name")]
+    Name,
+    /// A word that should be a name has more than 16 letters.
+    #[error("a name of more than 16 letters")]
+    LongName,
+    /// A word that should be a decimal number is none.
+    #[error("no number")]
+    Number,
+    /// A number is too large for its type.
+    #[error("a number that is too large")]
+    LargeNumber,
+    /// More than 65,535 capabilities are named.
+    #[error("more capabilities than a payload can have")]
+    ManyCaps,
+    /// It is a line of the other program.
+    #[error("a line of the other program")]
+    OtherProgram,
+}
+
+/// Why no line was read.
+#[derive(Clone, Copy, Debug, PartialEq, Eq, Drop, Error)]
+pub enum ReadFault {
+    /// A growth was refused.
+    #[error("out of memory")]
+    Memory,
+    /// The text is no line.
+    #[error("{0}")]
+    Line(LineFault),
+}
+
+impl From<LineFault> for ReadFault {
+    ghost use Rattle.std.specs.Prelude.{◌≡◌};
+    ghost use Rattle.vat_script.specs.declared.fault.ReadFault.TheVariants as read;
+
+    ghost from_gives = { λ fault why. why ≡ read.Line fault };
+
+    fn from(fault: LineFault) -> ReadFault {
+        ReadFault::Line(fault)
+    }
+}
+
+impl From<AllocError> for ReadFault {
+    ghost use Rattle.std.specs.Prelude.{◌≡◌};
+    ghost use Rattle.vat_script.specs.declared.fault.ReadFault.TheVariants as read;
+
+    ghost from_gives = { λ _ why. why ≡ read.Memory };
+
+    fn from(_fault: AllocError) -> ReadFault {
+        ReadFault::Memory
+    }
+}
