@@ -1,2 +1,5 @@
 pub mod Numbers
 pub mod Each
+pub mod Going
+pub mod NameKeys
+pub mod NameTree

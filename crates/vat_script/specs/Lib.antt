@@ -1,3 +1,4 @@
 pub mod Letters
 pub mod Words
 pub mod Lines
+pub mod Scripts

@@ -72,3 +72,17 @@ impl From<AllocError> for ReadFault {
         ReadFault::Memory
     }
 }
+
+/// Why a text is no script.
+#[derive(Clone, Copy, Debug, PartialEq, Eq, Drop, Error)]
+pub enum ScriptFault {
+    /// A growth was refused.
+    #[error("out of memory")]
+    Memory,
+    /// Its bytes are not UTF-8.
+    #[error("the script is not UTF-8")]
+    NotText,
+    /// The line with that number, counted from 1, is none: the first.
+    #[error("script line {0}: {1}")]
+    Line(usize, LineFault),
+}
