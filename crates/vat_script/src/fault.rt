@@ -1,3 +1,4 @@
+use rpc_msg::Memory;
 use std::alloc::AllocError;
 use thiserror::Error;
 
@@ -85,4 +86,60 @@ pub enum ScriptFault {
     /// The line with that number, counted from 1, is none: the first.
     #[error("script line {0}: {1}")]
     Line(usize, LineFault),
+}
+
+/// Why a line can't be done when its turn comes.
+#[derive(Clone, Copy, Debug, PartialEq, Eq, Drop, Error)]
+pub enum NameFault {
+    /// A name of a call is not bound.
+    #[error("no call has that name")]
+    Call,
+    /// A name of a reference is not bound.
+    #[error("no reference has that name")]
+    Reference,
+    /// A name of a promise is not bound.
+    #[error("no promise has that name")]
+    Promise,
+    /// No task with that number was delivered.
+    #[error("no such task was delivered")]
+    Task,
+    /// The call has no outcome yet.
+    #[error("the call has no outcome")]
+    Outcome,
+    /// The task, or the outcome, came with fewer references.
+    #[error("no reference of that index")]
+    Index,
+}
+
+/// Why a line gives nothing to be done.
+#[derive(Clone, Copy, Debug, PartialEq, Eq, Drop, Error)]
+pub enum GiveFault {
+    /// A growth was refused.
+    #[error("out of memory")]
+    Memory,
+    /// Something that the line names is not there.
+    #[error("{0}")]
+    Name(NameFault),
+}
+
+impl From<NameFault> for GiveFault {
+    ghost use Rattle.std.specs.Prelude.{◌≡◌};
+    ghost use Rattle.vat_script.specs.declared.fault.GiveFault.TheVariants as gives;
+
+    ghost from_gives = { λ fault why. why ≡ gives.Name fault };
+
+    fn from(fault: NameFault) -> GiveFault {
+        GiveFault::Name(fault)
+    }
+}
+
+impl From<Memory> for GiveFault {
+    ghost use Rattle.std.specs.Prelude.{◌≡◌};
+    ghost use Rattle.vat_script.specs.declared.fault.GiveFault.TheVariants as gives;
+
+    ghost from_gives = { λ _ why. why ≡ gives.Memory };
+
+    fn from(_fault: Memory) -> GiveFault {
+        GiveFault::Memory
+    }
 }
