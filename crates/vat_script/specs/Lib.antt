@@ -4,3 +4,4 @@ pub mod Lines
 pub mod Scripts
 pub mod Carried
 pub mod Bindings
+pub mod Acting

@@ -1,6 +1,7 @@
 //! The lines of scripts that drive two vats, what the names of a script stand for, and the commands that lines give.
 #![tactic(auto)]
 
+mod act;
 mod binding;
 mod bound;
 mod carried;
@@ -15,6 +16,7 @@ mod reading;
 mod script;
 mod words;
 
+pub use act::Act;
 pub use fault::{GiveFault, LineFault, NameFault, ReadFault, ScriptFault};
 pub use line::{CallLine, FieldLine, GotLine, Line, LineCommand, Program, TakeLine};
 pub use name::Name;
