@@ -62,6 +62,16 @@ use Rattle.laws_routes.specs.Embargoes.{AreRight, EmbargoesAreRight, LeadsBackOw
 same_number : (i j : RefId) → i ≡ j → i.0 ≡ j.0
 same_number i j e = ap (λ (r : RefId). r.0) e
 
+-- Of another entry with that reference and node.
+below_as : (k : ℕ) (y z : Embargo) → y.reference ≡ z.reference → y.reference.0 < k → z.reference.0 < k
+below_as k y z e h = subst (λ (i : RefId). i.0 < k) e h
+
+own_as : (y z : Embargo) → y.node ≡ z.node → is_wire y.node ≡ false → is_wire z.node ≡ false
+own_as y z e h = subst (λ (n : Node). is_wire n ≡ false) e h
+
+same_as : (v y w z : Embargo) → v.reference ≡ y.reference → w.reference ≡ z.reference → y.reference.0 ≡ z.reference.0 → v.reference.0 ≡ w.reference.0
+same_as v y w z e f u = same_number v.reference y.reference e ∙ (u ∙ sym (same_number w.reference z.reference f))
+
 -- ---- References
 
 module _ (R : Map Reference) (k : ℕ) (B : Map Embargo) (I : Map Import) (Q : Map Question) (h : AreRight R k B I Q) where
@@ -147,10 +157,10 @@ module _ (R : Map Reference) (k : ℕ) (B : Map Embargo) (I : Map Import) (Q : M
   joined : (e : ℕ) (b c : Embargo) → map.get B e ≡ Some b → c.reference ≡ b.reference → c.node ≡ b.node → AreRight R k (map.insert B e c) I Q
   joined e b c at same_ref same_node = record {
     low = h.low;
-    below = λ j z f. (let w = was j z f in subst (λ (i : ℕ). i < k) (same_number (w.0).reference z.reference w.2) (h.below j w.0 w.1));
+    below = λ j z f. (let w = was j z f in below_as k w.0 z w.2 (h.below j w.0 w.1));
     named = λ r x f g j. at_put (λ j o. IsEmbargoOf r o → ⊥) B e c (λ i. h.named r x f g e (subst (IsEmbargoOf r) (sym at) (same_number b.reference c.reference (sym same_ref) ∙ i))) (λ j n. h.named r x f g j) j;
-    only = λ j z f i y g u. (let w = was j z f in let v = was i y g in h.only j w.0 w.1 i v.0 v.1 (ap (λ (i : _). i.0) v.2 ∙ (u ∙ sym (same_number _ _ w.2))));
-    own = λ j z f. (let w = was j z f in subst (λ (n : Node). is_wire n ≡ false) w.3 (h.own j w.0 w.1));
+    only = λ j z f i y g u. (let w = was j z f in let v = was i y g in h.only j w.0 w.1 i v.0 v.1 (same_as v.0 y w.0 z v.2 w.2 u));
+    own = λ j z f. (let w = was j z f in own_as w.0 z w.3 (h.own j w.0 w.1));
     resolved = h.resolved;
     returned = h.returned;
   }
