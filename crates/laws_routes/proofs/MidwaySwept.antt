@@ -193,7 +193,7 @@ released_parts d (x ∷ xs) =
 -- ---- What is on its way is of questions that are left
 
 module _ (P Q : ℕ → Type 0) where
-  opens_left : (ms : List Message) → EachOpen P ms → ((k : ℕ) → P k → Q k ⊎ EachOpen (λ j. nat_eq j k ≡ false) ms) → EachOpen Q ms
+  pub opens_left : (ms : List Message) → EachOpen P ms → ((k : ℕ) → P k → Q k ⊎ EachOpen (λ j. nat_eq j k ≡ false) ms) → EachOpen Q ms
   opens_left [] h f = tt
   opens_left (m ∷ ms) h f = (one m h.0 f, opens_left ms h.1 (λ k p. behind k (f k p)))
     where
@@ -224,7 +224,7 @@ module _ (P Q : ℕ → Type 0) where
       one (message.Plain (plain.Other n)) i f = tt
       one (message.Unimplemented m) i f = tt
 
-  returns_left : (ms : List Message) → EachReturn P ms → ((k : ℕ) → P k → Q k ⊎ EachReturn (λ j. nat_eq j k ≡ false) ms) → EachReturn Q ms
+  pub returns_left : (ms : List Message) → EachReturn P ms → ((k : ℕ) → P k → Q k ⊎ EachReturn (λ j. nat_eq j k ≡ false) ms) → EachReturn Q ms
   returns_left [] h f = tt
   returns_left (message.Unimplemented m ∷ ms) h f = returns_left ms h f
   returns_left (message.Plain m ∷ ms) h f = (one m h.0 f, returns_left ms h.1 (λ k p. behind k (f k p)))

@@ -1,0 +1,6 @@
+pub mod Both
+pub mod Links
+pub mod Questions
+pub mod Loops
+pub mod Exports
+pub mod Oldest
