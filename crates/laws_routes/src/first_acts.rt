@@ -15,7 +15,8 @@ pub fn embargoes_are_named()
     ensures { TiedEmbargoesAreNamed }
 {}
 
-/// A received message that is no fault may be taken, whatever it is, and keeps what is so in the middle of a step.
+/// A received message that is no fault may be taken, whatever it is, by a vat of level 1, and keeps what is so in the middle of a
+/// step. Of messages that came back as not understood nothing is said.
 pub fn messages_may_be_taken()
     ensures { MessagesMayBeTaken }
 {}
