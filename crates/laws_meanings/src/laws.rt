@@ -98,8 +98,8 @@ pub fn outcomes_are_of_calls()
     counts_agree_in_scenes();
 }
 
-/// In each scene a call ends with what was answered to its delivery, with as many capabilities, or with the exception of a
-/// broken capability.
+/// In each scene a call ends with what was answered to its delivery, with as many capabilities; or, where it was not
+/// answered, with the exception of a broken capability.
 pub fn calls_end_as_answered()
     ensures { CallsEndAsAnswered }
 {
