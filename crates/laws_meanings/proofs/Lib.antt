@@ -30,3 +30,4 @@ pub mod Replies
 pub mod Returning
 pub mod Answering
 pub mod Broken
+pub mod Unanswered
