@@ -93,22 +93,22 @@ none_in (x ∷ xs) none = absurd (omega (arith, none))
 no_entries : {X : Type 0} → map.entries (map.empty {X = X} {R = nat_cmp}) ≡ []
 no_entries {X} = none_in _ (sym (map.len-entries _) ∙ map.len-empty nat_cmp X)
 
+none_finished : (s : State) → FinishesEach (begin s) (map.entries (map.empty {X = Question} {R = nat_cmp})) (begin s)
+none_finished s = subst (λ (xs : List (ℕ × Question)). FinishesEach (begin s) xs (begin s)) (sym no_entries) refl
+
+nothing_released : (s : State) → begin s ≡ releases (begin s)
+nothing_released s = sym (ap (λ (xs : List (ℕ × ℕ)). record (release_each (begin s) xs) { released = map.empty }) no_entries)
+
 -- A step that said nothing and in which nothing is loose ends as it is.
 pub ends_quietly : (s : State) → IsQuiet s → Ends (begin s) quiet s
 ends_quietly s calm = record {
   drained = begin s;
   swept = begin s;
   drains = NoneLeft refl;
-  sweeps = (map.empty, (Over (tight_of s calm) (none_over s calm), (begin s, (none_finished, (begin s, (Tight (tight_of s calm), nothing_released))))));
+  sweeps = (map.empty, Over (tight_of s calm) (none_over s calm), (begin s, none_finished s, (begin s, Tight (tight_of s calm), nothing_released s)));
   effects_are = refl;
   new_is = refl;
 }
-  where
-    none_finished : FinishesEach (begin s) (map.entries map.empty) (begin s)
-    none_finished = subst (λ (xs : List (ℕ × Question)). FinishesEach (begin s) xs (begin s)) (sym no_entries) refl
-
-    nothing_released : begin s ≡ releases (begin s)
-    nothing_released = sym (ap (λ (xs : List (ℕ × ℕ)). record (release_each (begin s) xs) { released = map.empty }) no_entries)
 
 -- So a command whose first act says nothing is done with that.
 pub done_quietly : (s t : State) (c : Command) (g : Granted) (d new : Progress) → refused s c ≡ None → d ≡ begin s → Acts d c g new → new ≡ begin t → IsQuiet t → IsWithin t → Obeys s c (Ok g) quiet t
@@ -117,6 +117,6 @@ done_quietly s t c g d new free began acts says calm within = done s c g quiet t
 -- One reference was made.
 pub named_quietly : (s t : State) (c : Command) (g : Granted) (d new : Progress) → refused s c ≡ None → d ≡ begin s → Acts d c g new → MadeRef s g new → new.state ≡ t → IsFresh s.refs s.next_ref → IsQuiet s → IsWithin t → Obeys s c (Ok g) quiet t
 named_quietly s t c g d new free began acts made is fresh calm within =
-    let says : new ≡ begin t = made.1.1 ∙ ap begin (sym (ap (λ (x : Progress). x.state) made.1.1) ∙ is) in
-    let state : with_refs s (made.0 ∷ []) ≡ t = sym (ap (λ (x : Progress). x.state) made.1.1) ∙ is in
+    let says : new ≡ begin t = made.2 ∙ ap begin (sym (ap (λ (x : Progress). x.state) made.2) ∙ is) in
+    let state : with_refs s (made.0 ∷ []) ≡ t = sym (ap (λ (x : Progress). x.state) made.2) ∙ is in
     done_quietly s t c g d new free began acts says (subst IsQuiet state (calm_with_ref s made.0 fresh calm)) within

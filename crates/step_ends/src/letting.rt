@@ -23,7 +23,8 @@ pub fn drop_ref(machine: &mut Machine, id: RefId) -> Result<Effects, Memory>
     ensures obeys { Tries machine.old (command.DropRef id) (λ e. granted.Done) (λ e. e) result machine.new }
     ensures resting { IsResting machine.new }
 {
-    drop_whole(&mut machine.step, &mut machine.thought, id)
+    let effects = drop_whole(&mut machine.step, &mut machine.thought, id)?;
+    Ok(effects)
 }
 
 // The step of it.
@@ -53,7 +54,8 @@ pub fn finish(machine: &mut Machine, id: CallId) -> Result<Effects, Memory>
     ensures obeys { Tries machine.old (command.Finish id) (λ e. granted.Done) (λ e. e) result machine.new }
     ensures resting { IsResting machine.new }
 {
-    finish_whole(&mut machine.step, &mut machine.thought, id)
+    let effects = finish_whole(&mut machine.step, &mut machine.thought, id)?;
+    Ok(effects)
 }
 
 // The step of it.

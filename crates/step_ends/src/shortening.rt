@@ -29,7 +29,8 @@ pub fn advance(machine: &mut Machine, id: RefId) -> Result<(Advanced, Effects), 
     ensures obeys { Tries machine.old (command.Advance id) (λ x. granted.Advanced x.0) (λ x. x.1) result machine.new }
     ensures resting { IsResting machine.new }
 {
-    advance_whole(&mut machine.step, &mut machine.thought, id)
+    let (advanced, effects) = advance_whole(&mut machine.step, &mut machine.thought, id)?;
+    Ok((advanced, effects))
 }
 
 // The step of it.

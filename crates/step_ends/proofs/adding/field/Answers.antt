@@ -1,3 +1,4 @@
+use Rattle.std.proofs.Common.{refl}
 use Rattle.std.specs.FinMap as map
 use Rattle.vat_machine.specs.declared.node.Node.TheVariants as node
 use Rattle.vat_machine.specs.declared.command.Command.TheVariants as command
@@ -12,5 +13,5 @@ pub returns-clause-obeys : goal.returns-clause-obeys
 returns-clause-obeys c =
     let s = state_of c.args.machine.now.step.store in
     named_quietly s _ (command.Field c.args.id c.args.path.now) (granted.Reference c.field.result) _ _ c.requires.allowed c.in_ok-begin_quietly.ensures.begun c.field.ensures.acts
-    (named s c.args.path.now (map.get (state_of c.begin_quietly.new.machine.step.store).calls c.args.id.0) (granted.Reference c.field.result) _ _ c.in_ok-begin_quietly.ensures.begun c.field.ensures.acts)
+    (named s c.args.path.now (map.get (state_of c.begin_quietly.new.step.store).calls c.args.id.0) (granted.Reference c.field.result) _ _ c.in_ok-begin_quietly.ensures.begun c.field.ensures.acts)
     refl c.requires.resting.sound.numbered.refs c.in_ok-begin_quietly.ensures.calm c.field.ensures.ready.sound.within
