@@ -8,4 +8,4 @@ use Rattle.vat_world.proofs.link.Link.has_call.Given as goal
 abbrev pub invariant-loop-message : goal.invariant-loop-message
 invariant-loop-message l =
     list_any (is_through (record { vat = l.vat; number = l.reference.0 })) (in_messages (deque_iter_rest l.message-iterator))
-    ≡ list_any (is_through (record { vat = l.vat; number = l.reference.0 })) (in_messages l.fn.self-inside.messages.items)
+    ≡ list_any (is_through (record { vat = l.vat; number = l.reference.0 })) (in_messages l.self.0)
