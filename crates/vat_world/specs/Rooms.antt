@@ -4,6 +4,7 @@ use Rattle.vat_journal.specs.declared.entry.JournalEntry.{JournalEntry}
 use Rattle.vat_machine.specs.World.{Side}
 use Rattle.vat_world.specs.declared.side.Side as kept
 use Rattle.vat_world.specs.Stages.{Stage}
+use Rattle.vat_world.specs.World.{Seen}
 
 abbrev pub side_of : kept.Side → Side
 side_of s = record { core = s.core; inbox = s.inbox.0 }
@@ -38,3 +39,7 @@ pub record IsReady (s peer : kept.Side) (journal : List JournalEntry × ℕ) : T
   pub acting : CanAbort s peer
   pub other : CanFall peer s
   pub entries : 3 + owed peer.core.down ≤ journal.1
+
+-- What contracts see of it all.
+abbrev pub seen_of : kept.Side → kept.Side → List JournalEntry × ℕ → Seen
+seen_of a b journal = record { world = record { a = side_of a; b = side_of b }; journal = journal.0; shut_a = a.was_shut; shut_b = b.was_shut }
