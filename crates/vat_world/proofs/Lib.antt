@@ -1,3 +1,6 @@
 mod Telling
 mod Noting
 mod Stepping
+mod Reaching
+mod Happened
+mod Standing

@@ -9,7 +9,9 @@ mod log;
 mod notes;
 mod side;
 mod step;
+mod world;
 
 pub use answer::StepAnswer;
 pub use vat_journal::JournalEntry;
 pub use vat_machine::Event as WorldEvent;
+pub use world::World;
