@@ -150,8 +150,8 @@ handles v w new m ms effects answer up i e h k = record {
   answer = Handled h.told;
   had_room = h.room;
   happens = subst (λ (l : List Message). ReceivesAt w.world v l (core w.world v).down (Handled h.told) h.room new.world) (sym i)
-    (subst (λ (o : Option ℕ). ReceivesAt w.world v (m ∷ ms) o (Handled h.told) h.room new.world) (sym up)
-    (h.s, subst (λ (s : State). MessageTold s m h.told h.room h.s) (taken_core v w.world ms) h.told_so, taken_world v w new ms h.s h.told (entry.Got v ∷ []) h.new_is));
+      (subst (λ (o : Option ℕ). ReceivesAt w.world v (m ∷ ms) o (Handled h.told) h.room new.world) (sym up)
+      (h.s, subst (λ (s : State). MessageTold s m h.told h.room h.s) (taken_core v w.world ms) h.told_so, taken_world v w new ms h.s h.told (entry.Got v ∷ []) h.new_is));
   journal_is = ap (λ (g : Stage). g.journal) h.new_is;
   shut_is = λ u. still_shut u v w new k.0 k.1;
   result_is = e ∙ ap given.Handled h.given_is;

@@ -163,7 +163,7 @@ told_more h es xs x e f =
     ∙ sym (journal_more [] xs x)
 
 pub reached_new : (root_a root_b : Option ObjectId) → IsReached (new_seen root_a root_b)
-reached_new root_a root_b = record { root_a = root_a; root_b = root_b; happened = []; ran = refl; told = refl; shuts = none }
+reached_new root_a root_b = record { run = record { root_a = root_a; root_b = root_b; happened = []; ran = refl; told = refl }; shuts = none }
   where
     none : (v : Vat) → shut (new_seen root_a root_b) v ≡ false
     none A = refl
@@ -171,13 +171,16 @@ reached_new root_a root_b = record { root_a = root_a; root_b = root_b; happened 
 
 pub reached_more : (w : Seen) (e : Event) (result : Given) (new : Seen) → IsReached w → Steps w e result new → IsReached new
 reached_more w e result new r h =
-    let x : Happening = record { event = e; answer = h.answer; had_room = h.had_room } in record {
-      root_a = r.root_a;
-      root_b = r.root_b;
-      happened = r.happened ++ x ∷ [];
-      ran = run_more _ r.happened w.world x new.world r.ran h.happens;
-      told = ap events_of h.journal_is ∙ told_more w.journal (event_entries w.journal e h.had_room h.answer) r.happened x r.told refl;
-      shuts = λ v. h.shut_is v ∙ ap (λ (b : Bool). b || is_some (shut_with v e h.answer)) (r.shuts v) ∙ sym (shut_more v r.happened x);
+    let x : Happening = record { event = e; answer = h.answer; had_room = h.had_room } in
+    let k = r.run in record {
+      run = record {
+        root_a = k.root_a;
+        root_b = k.root_b;
+        happened = k.happened ++ x ∷ [];
+        ran = run_more _ k.happened w.world x new.world k.ran h.happens;
+        told = ap events_of h.journal_is ∙ told_more w.journal (event_entries w.journal e h.had_room h.answer) k.happened x k.told refl;
+      };
+      shuts = λ v. h.shut_is v ∙ ap (λ (b : Bool). b || is_some (shut_with v e h.answer)) (r.shuts v) ∙ sym (shut_more v k.happened x);
     }
 
 -- ---- Counts
@@ -188,11 +191,13 @@ shut_same w h B = refl
 
 pub reached_noted : (w : Seen) → IsReached w → IsReached (record w { journal = w.journal ++ tables_entry w.world ∷ [] })
 reached_noted w r = record {
-  root_a = r.root_a;
-  root_b = r.root_b;
-  happened = r.happened;
-  ran = r.ran;
-  told = all_that-append but_tables w.journal (tables_entry w.world ∷ []) ∙ append-nil (events_of w.journal) ∙ r.told;
+  run = record {
+    root_a = r.run.root_a;
+    root_b = r.run.root_b;
+    happened = r.run.happened;
+    ran = r.run.ran;
+    told = all_that-append but_tables w.journal (tables_entry w.world ∷ []) ∙ append-nil (events_of w.journal) ∙ r.run.told;
+  };
   shuts = λ v. shut_same w (w.journal ++ tables_entry w.world ∷ []) v ∙ r.shuts v;
 }
 
@@ -201,8 +206,8 @@ reached_noted w r = record {
 -- Each reference of a vat that is up counts the calls that the journal says were made through it.
 pub counts_so : (w : Seen) (v : Vat) → RunsCount → IsReached w → (core w.world v).down ≡ None → NumbersItsCalls v (core w.world v) w.journal
 counts_so w v law r up =
-    let k : NumbersItsCalls v (core w.world v) (journal r.happened) = law r.root_a r.root_b r.happened w.world r.ran v up in
-    let same : (q : Ref) → length (made (journal r.happened) q) ≡ length (made w.journal q) = λ q. ap (λ (l : List JournalEntry). length (made l q)) (sym r.told) ∙ ap length (made_kept w.journal q) in record {
+    let k : NumbersItsCalls v (core w.world v) (journal r.run.happened) = law r.run.root_a r.run.root_b r.run.happened w.world r.run.ran v up in
+    let same : (q : Ref) → length (made (journal r.run.happened) q) ≡ length (made w.journal q) = λ q. ap (λ (l : List JournalEntry). length (made l q)) (sym r.run.told) ∙ ap length (made_kept w.journal q) in record {
       counts = λ q y e. k.counts q y e ∙ same (record { vat = v; number = q });
       stamps = λ c y e. k.stamps c y e ∙ ap (λ (i : ℕ). record { vat = v; reference = c.reference; index = i }) (same (record { vat = v; number = c.reference.0 }));
     }

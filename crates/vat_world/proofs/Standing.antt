@@ -62,6 +62,6 @@ noted a b j k x y h r e f g room = (
     entries = let p = owed_three a.core.down in let q = owed_three b.core.down in omega (arith, p, q, room);
   },
   subst (λ (l : List JournalEntry). IsReached (record (seen_of a b j) { journal = l }))
-  (sym (g ∙ ap (λ (z : Counts). j.0 ++ entry.Tables z y ∷ []) e ∙ ap (λ (z : Counts). j.0 ++ entry.Tables (counts_of a.core) z ∷ []) f))
-  (reached_noted (seen_of a b j) r),
+      (sym (g ∙ ap (λ (z : Counts). j.0 ++ entry.Tables z y ∷ []) e ∙ ap (λ (z : Counts). j.0 ++ entry.Tables (counts_of a.core) z ∷ []) f))
+      (reached_noted (seen_of a b j) r),
 )

@@ -13,8 +13,9 @@ use Rattle.vat_journal.specs.History.{all_that}
 use Rattle.vat_machine.specs.State.{State, state_code}
 use Rattle.vat_machine.specs.declared.event.Event.{Event}
 use Rattle.vat_machine.specs.declared.event.Event.TheVariants as event
-use Rattle.vat_machine.specs.World.{Side, World, new_world, Happening, HappensBy, Run, StepAnswer, Answered, Handled, Empty, shut_with, was_shut}
-use Rattle.vat_machine.specs.Journal.{event_entries, journal}
+use Rattle.vat_machine.specs.World.{Side, World, new_world, HappensBy, StepAnswer, Answered, Handled, Empty, shut_with, was_shut}
+use Rattle.vat_machine.specs.Journal.{event_entries}
+use Rattle.vat_machine.specs.Claims.{IsReached as LedTo}
 use Rattle.vat_world.specs.declared.answer.StepAnswer.{StepAnswer as Given}
 use Rattle.vat_world.specs.declared.answer.StepAnswer.TheVariants as given
 use Rattle.vat_world.specs.Stages.{given_of, without_sends}
@@ -83,9 +84,5 @@ events_of h = all_that but_tables h
 -- A run of two new vats leads to this world; the journal tells that run, and between its events the counts of both vats
 -- as often as they were asked for; and a vat is told to be taken down by a shut exactly where one did.
 pub record IsReached (w : Seen) : Type 0 where
-  pub root_a : Option ObjectId
-  pub root_b : Option ObjectId
-  pub happened : List Happening
-  pub ran : Run (new_world root_a root_b) happened w.world
-  pub told : events_of w.journal ≡ journal happened
-  pub shuts : (v : Vat) → shut w v ≡ was_shut v happened
+  pub run : LedTo (record { world = w.world; journal = events_of w.journal })
+  pub shuts : (v : Vat) → shut w v ≡ was_shut v run.happened

@@ -137,13 +137,7 @@ fn log_fall(
 }
 
 // Puts the entries of going down at the end of the journal: the Abort's, if there is one, by its copy that is kept.
-fn write_fall(
-    vat: Vat,
-    spare: &mut Outbox,
-    journal: &mut Journal,
-    number: u16,
-    effects: &Effects,
-)
+fn write_fall(vat: Vat, spare: &mut Outbox, journal: &mut Journal, number: u16, effects: &Effects)
     requires can_abort { spare.old.can_abort ≡ true }
     requires entries { 2 ≤ journal.old.1 }
     requires fall { IsFall effects.now number }

@@ -98,12 +98,7 @@ fn note_answer(
     Ok(Note::Whole(JournalEntry::Answered(vat, task, Outcome::Results(payload), refs)))
 }
 
-fn note_fail(
-    alloc: Global,
-    vat: Vat,
-    task: TaskId,
-    exception: &Exception,
-) -> Result<Note, Memory>
+fn note_fail(alloc: Global, vat: Vat, task: TaskId, exception: &Exception) -> Result<Note, Memory>
     ensures { IfOk result (λ note. note ≡ Whole (entry.Answered vat task (outcome.Exception exception.now) [])) }
 {
     let exception = exception.copy(alloc)?;

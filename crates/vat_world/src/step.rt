@@ -86,7 +86,11 @@ fn obey_up(
     Answer::Done(left_of(granted, told.room), told.effects)
 }
 
-fn own_entry(vat: Vat, note: Result<Note, Memory>, granted: Granted) -> Result<Option<JournalEntry>, Memory>
+fn own_entry(
+    vat: Vat,
+    note: Result<Note, Memory>,
+    granted: Granted,
+) -> Result<Option<JournalEntry>, Memory>
     ensures { IsOwn vat note granted result }
 {
     match note {

@@ -107,20 +107,8 @@ impl World {
         ensures { Steps self.old (event.Deliver vat) result self.new }
     {
         match vat {
-            Vat::A => return deliver(
-                self.alloc,
-                vat,
-                &mut self.a,
-                &mut self.b,
-                &mut self.journal,
-            ),
-            Vat::B => return deliver(
-                self.alloc,
-                vat,
-                &mut self.b,
-                &mut self.a,
-                &mut self.journal,
-            ),
+            Vat::A => return deliver(self.alloc, vat, &mut self.a, &mut self.b, &mut self.journal),
+            Vat::B => return deliver(self.alloc, vat, &mut self.b, &mut self.a, &mut self.journal),
         }
     }
 

@@ -17,7 +17,7 @@ pub invariant_of-self : goal.invariant_of-self
 invariant_of-self c = (
   c.obey.ensures.room,
   reached_more _ _ _ _ c.self.invariant.1
-  (command_a c.args.vat c.self.inside.a c.self.inside.b c.obey.new.acting c.obey.new.peer c.self.inside.journal c.obey.new.journal c.args.command c.obey.result c.in-A.is c.obey.ensures.obeys c.obey.ensures.was_shut c.obey.ensures.peer_shut),
+      (command_a c.args.vat c.self.inside.a c.self.inside.b c.obey.new.acting c.obey.new.peer c.self.inside.journal c.obey.new.journal c.args.command c.obey.result c.in-A.is c.obey.ensures.obeys c.obey.ensures.was_shut c.obey.ensures.peer_shut),
 )
 
 pub returns-in-A : goal.returns-in-A
@@ -29,7 +29,7 @@ pub invariant_of-self-in-B : goal.invariant_of-self-in-B
 invariant_of-self-in-B c = (
   turned c.obey-in-B.new.acting c.obey-in-B.new.peer c.obey-in-B.new.journal c.obey-in-B.ensures.room,
   reached_more _ _ _ _ c.self.invariant.1
-  (command_b c.args.vat c.self.inside.a c.self.inside.b c.obey-in-B.new.peer c.obey-in-B.new.acting c.self.inside.journal c.obey-in-B.new.journal c.args.command c.obey-in-B.result c.in-B.is c.obey-in-B.ensures.obeys c.obey-in-B.ensures.was_shut c.obey-in-B.ensures.peer_shut),
+      (command_b c.args.vat c.self.inside.a c.self.inside.b c.obey-in-B.new.peer c.obey-in-B.new.acting c.self.inside.journal c.obey-in-B.new.journal c.args.command c.obey-in-B.result c.in-B.is c.obey-in-B.ensures.obeys c.obey-in-B.ensures.was_shut c.obey-in-B.ensures.peer_shut),
 )
 
 pub returns-in-B : goal.returns-in-B

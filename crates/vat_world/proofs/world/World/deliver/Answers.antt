@@ -10,7 +10,7 @@ pub invariant_of-self : goal.invariant_of-self
 invariant_of-self c = (
   c.deliver.ensures.room,
   reached_more _ _ _ _ c.self.invariant.1
-  (deliver_a c.args.vat c.self.inside.a c.self.inside.b c.deliver.new.acting c.deliver.new.peer c.self.inside.journal c.deliver.new.journal c.deliver.result c.in-A.is c.deliver.ensures.delivers c.deliver.ensures.was_shut c.deliver.ensures.peer_shut),
+      (deliver_a c.args.vat c.self.inside.a c.self.inside.b c.deliver.new.acting c.deliver.new.peer c.self.inside.journal c.deliver.new.journal c.deliver.result c.in-A.is c.deliver.ensures.delivers c.deliver.ensures.was_shut c.deliver.ensures.peer_shut),
 )
 
 pub returns-in-A : goal.returns-in-A
@@ -22,7 +22,7 @@ pub invariant_of-self-in-B : goal.invariant_of-self-in-B
 invariant_of-self-in-B c = (
   turned c.deliver-in-B.new.acting c.deliver-in-B.new.peer c.deliver-in-B.new.journal c.deliver-in-B.ensures.room,
   reached_more _ _ _ _ c.self.invariant.1
-  (deliver_b c.args.vat c.self.inside.a c.self.inside.b c.deliver-in-B.new.peer c.deliver-in-B.new.acting c.self.inside.journal c.deliver-in-B.new.journal c.deliver-in-B.result c.in-B.is c.deliver-in-B.ensures.delivers c.deliver-in-B.ensures.was_shut c.deliver-in-B.ensures.peer_shut),
+      (deliver_b c.args.vat c.self.inside.a c.self.inside.b c.deliver-in-B.new.peer c.deliver-in-B.new.acting c.self.inside.journal c.deliver-in-B.new.journal c.deliver-in-B.result c.in-B.is c.deliver-in-B.ensures.delivers c.deliver-in-B.ensures.was_shut c.deliver-in-B.ensures.peer_shut),
 )
 
 pub returns-in-B : goal.returns-in-B
