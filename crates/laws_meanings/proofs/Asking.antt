@@ -173,7 +173,7 @@ module _ (v : Vat) (h : List JournalEntry) (S : Value → Type 0) (E : Outcome �
 
 -- ---- Numbers to come
 
-next_is : (v : Vat) (h : List JournalEntry) (n : ℕ) (e : JournalEntry) (a : Asking) → asking h v n ≡ None → asking_one v n e ≡ if_so (same_vat v v && nat_eq n n) a → asking (h ++ e ∷ []) v n ≡ Some a
+pub next_is : (v : Vat) (h : List JournalEntry) (n : ℕ) (e : JournalEntry) (a : Asking) → asking h v n ≡ None → asking_one v n e ≡ if_so (same_vat v v && nat_eq n n) a → asking (h ++ e ∷ []) v n ≡ Some a
 next_is v h n e a f g = nothing_before (asking_one v n) h (e ∷ []) f ∙ ap (λ (o : Option Asking). or_rest o None) (g ∙ by (same_vat v v) (nat_eq n n) (reading.itself v) (itself n))
   where
     by : (y z : Bool) → y ≡ true → z ≡ true → if_so (y && z) a ≡ Some a

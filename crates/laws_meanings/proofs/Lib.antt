@@ -18,3 +18,14 @@ pub mod Opening
 pub mod Hosting
 pub mod Rooted
 pub mod Leaving
+pub mod Tasking
+pub mod Identified
+pub mod Whose
+pub mod WhoseFirst
+pub mod LastAsked
+pub mod OfCalls
+pub mod OfCallsScenes
+pub mod Awaited
+pub mod Replies
+pub mod Returning
+pub mod Answering

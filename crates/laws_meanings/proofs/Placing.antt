@@ -229,7 +229,7 @@ module _ (k : Stamp) where
   none_of h [] f = refl
   none_of h (e ∷ es) f = let a = f.0 in let b = none_of (h ++ e ∷ []) es f.1 in omega arith
 
-  own_none : (h : List JournalEntry) (v : Vat) (c : Command) (g : Granted) → deliveries_of k (granted_entries h v c g) ≡ 0
+  pub own_none : (h : List JournalEntry) (v : Vat) (c : Command) (g : Granted) → deliveries_of k (granted_entries h v c g) ≡ 0
   own_none h v c g = none_of h (granted_entries h v c g) (granted_always NoDelivery no_delivery v h h c g)
 
 -- ---- Scenes

@@ -68,7 +68,7 @@ module _ (s : State) (o : ℕ) (who : Caller) (w : List HeldCall) (payload : Pay
   put_in i n ns rest out mid new h (inl k) = rw (k.1) (ap suc h)
   put_in i n ns rest out mid new h (inr k) = let g = k.1 in rw (g.2) (ap suc h)
 
-  untangled : (i : ℕ) (ns out : List Node) (new : State) → Untangles s o who w payload i ns out new → length out ≡ length ns
+  pub untangled : (i : ℕ) (ns out : List Node) (new : State) → Untangles s o who w payload i ns out new → length out ≡ length ns
   untangled i [] out new h = rw (h.0) refl
   untangled i (n ∷ ns) out new h = put_in i n ns h.0 out h.1 new (untangled (i + 1) ns h.0 h.1 h.2) h.3
 
@@ -81,7 +81,7 @@ fits_root r s o who w (value.Results payload caps) fit new h k =
 abbrev pub BodyRoot : Option ℕ → ReturnBody → Type 0
 BodyRoot r y = (s : State) → SaysRoot r (value_of_results (results_of s y))
 
-beside_length : (s : State) (ds : List Descriptor) → length (nodes (read_beside s ds)) ≡ length ds
+pub beside_length : (s : State) (ds : List Descriptor) → length (nodes (read_beside s ds)) ≡ length ds
 beside_length s [] = refl
 beside_length s (d ∷ ds) = ap suc (beside_length s ds)
 

@@ -3,7 +3,7 @@ use Rattle.std.proofs.Common.{Option}
 use Rattle.rpc_msg.specs.declared.ids.ObjectId.{ObjectId}
 use Rattle.laws_runs.specs.Scenes.{Scene, IsScene, begins, Steps, LeadsTo, NoMore, Then}
 
-step_more : (x y z : Scene) → LeadsTo x z → Steps x y → LeadsTo y z
+pub step_more : (x y z : Scene) → LeadsTo x z → Steps x y → LeadsTo y z
 step_more x y z NoMore s = Then s NoMore
 step_more x y z (Then {mid = mid} t rest) s = Then t (step_more x y mid rest s)
 

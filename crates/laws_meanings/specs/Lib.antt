@@ -5,3 +5,6 @@ pub mod WhatIsLeft
 pub mod AskedCalls
 pub mod OnePlace
 pub mod Bootstraps
+pub mod Tasks
+pub mod Identities
+pub mod AnsweredEnds

@@ -6,9 +6,13 @@ ghost use Rattle.laws_meanings.specs.OnePlace.{CallsAreAtOnePlace, DeliveriesAre
 ghost use Rattle.laws_meanings.specs.FirstEnds.{EndsAreFirst};
 ghost use Rattle.laws_meanings.specs.AskedCalls.{EndsWereAsked};
 ghost use Rattle.laws_meanings.specs.Bootstraps.{NumbersAreAsked, RootsAreReturned, RootsAreLeft, BootstrapsEnd};
+ghost use Rattle.laws_meanings.specs.Identities.{OutcomesAreOfCalls};
+ghost use Rattle.laws_meanings.specs.AnsweredEnds.{CallsEndAsAnswered};
+ghost use Rattle.laws_meanings.specs.Tasks.{TasksAreOpen, TasksAreAnsweredOnce};
 ghost use Rattle.laws_meanings.specs.WhatIsLeft.{ObjectsAreLeft, AnswersAreLeft, CallsAreLeft};
 
 use laws_answers::named_answers_are_there;
+use laws_nodes::outcomes_have_sources;
 use laws_sessions::counts_agree_in_scenes;
 
 /// In each scene every call that waits or is on its way, and every delivery in the history up to it, has the interface,
@@ -75,6 +79,32 @@ pub fn bootstraps_end_with_roots()
 {
     counts_agree_in_scenes();
     bootstraps_are_left();
+}
+
+/// In each scene a task that is there was delivered once and was not answered; and in every run each task is answered once
+/// at most.
+pub fn tasks_are_answered_once()
+    ensures open { TasksAreOpen }
+    ensures once { TasksAreAnsweredOnce }
+{}
+
+/// In each scene each outcome that is not known is of the call that its caller asked: the task, the question or the waiting
+/// call from which it will come is of that call; and what is on its way to a vat with a question id is what the other vat
+/// asked last with it.
+pub fn outcomes_are_of_calls()
+    ensures { OutcomesAreOfCalls }
+{
+    outcomes_have_sources();
+    counts_agree_in_scenes();
+}
+
+/// In each scene a call ends with what was answered to its delivery, with as many capabilities, or with the exception of a
+/// broken capability.
+pub fn calls_end_as_answered()
+    ensures { CallsEndAsAnswered }
+{
+    outcomes_have_sources();
+    counts_agree_in_scenes();
 }
 
 /// Where in a scene each end of a call is as that was answered, all that is promised of its ends holds.

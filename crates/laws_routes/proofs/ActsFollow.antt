@@ -24,7 +24,7 @@ use Rattle.vat_machine.specs.declared.calls.Value.TheVariants as value
 use Rattle.laws_routes.specs.SayingLaws.{MayAdvanceFrom}
 use Rattle.laws_routes.specs.StepLaws.{MayAct, MayAnswer, MayCallFrom, MayReject, MayResolve}
 use Rattle.laws_routes.specs.Ties.{Around}
-use Rattle.laws_routes.specs.Midway.{AllAreHeld, IsHeld, Midway, MidwayAt, OutcomeMayBeTold, Settles, TellsWhoMay}
+use Rattle.laws_routes.specs.Midway.{AllAreHeld, IsHeld, Midway, MidwayAt, Settles}
 use Rattle.laws_routes.proofs.FromMidway.{may_advance, may_ask, may_open}
 use Rattle.laws_routes.proofs.MidwayKept.{all_still, held_more, may_call}
 use Rattle.laws_routes.proofs.MidwayRouted.{tasks_still}
@@ -72,50 +72,50 @@ module _ (w : Around) (d : Progress) (granted : Granted) (new : Progress) (h : M
       by None e = (tt, tt)
       by (Some x) e = h.heads r.0 x e
 
-  answers : (t : ℕ) (v : Value) (key : Option ℕ) → map.get d.state.tasks t ≡ key → AllAreHeld d.state (caps_of v) → OutcomeMayBeTold w d t → (a : AnswersTask d t v key granted new) → MayAnswer w d t v key granted new a × MidwayAt w new
-  answers t v None e k tell a = absurd a
-  answers t v (Some o) e k tell a =
+  answers : (t : ℕ) (v : Value) (key : Option ℕ) → map.get d.state.tasks t ≡ key → AllAreHeld d.state (caps_of v) → (a : AnswersTask d t v key granted new) → MayAnswer w d t v key granted new a × MidwayAt w new
+  answers t v None e k a = absurd a
+  answers t v (Some o) e k a =
       let s = d.state in
       let T = map.remove s.tasks t in
       let u : State = record s { tasks = T } in
       let held : (n : Node) → IsHeld s n → IsHeld u n = λ n i. held_more s s.refs s.promises s.outcomes s.calls T s.next_ref s.next_call s.next_task (λ p j. j) (λ o j. j) n i in
-      may_settle w (answered d t) o v (map.get s.outcomes o) new refl (tasks_still s w.other (w.out ++ d.effects.sends) w.back T s.next_task h) (all_still s u held (caps_of v) k) (tell o e) a.1
+      may_settle w (answered d t) o v (map.get s.outcomes o) new refl (tasks_still s w.other (w.out ++ d.effects.sends) w.back T s.next_task h) level (all_still s u held (caps_of v) k) a.1
 
-  acts : (c : Command) → refused d.state c ≡ None → TellsWhoMay w d c → (a : Acts d c granted new) → MayAct w d c granted new a
-  acts (command.Host o) fine i a = tt
-  acts (command.CloneRef r) fine i a = tt
-  acts (command.DropRef r) fine i a = tt
-  acts command.Bootstrap fine i a = may_ask d.state w.other (w.out ++ d.effects.sends) w.back h
-  acts (command.Call c) fine i a = calls c.reference.0 (map.get d.state.refs c.reference.0) refl
-  acts (command.Field c path) fine i a = tt
-  acts command.Promise fine i a = may_open d.state w.other (w.out ++ d.effects.sends) w.back h
-  acts (command.Resolve p r) fine i a = (resolves p r fine (map.get d.state.unsettled p.0) (map.get d.state.refs r.0) refl refl a).0
-  acts (command.Reject p exception) fine i a = (rejects p.0 exception (map.get d.state.unsettled p.0) a).0
-  acts (command.Answer t payload refs) fine i a = (answers t.0 (value.Results payload (heads d.state refs)) (map.get d.state.tasks t.0) refl (heads_held refs) i a).0
-  acts (command.Fail t exception) fine i a = (answers t.0 (value.Exception exception) (map.get d.state.tasks t.0) refl tt i a).0
-  acts (command.Finish c) fine i a = tt
-  acts (command.Advance r) fine i a = advances r.0 (map.get d.state.refs r.0) refl a
-  acts (command.Shut n) fine i a = tt
+  acts : (c : Command) → refused d.state c ≡ None → (a : Acts d c granted new) → MayAct w d c granted new a
+  acts (command.Host o) fine a = tt
+  acts (command.CloneRef r) fine a = tt
+  acts (command.DropRef r) fine a = tt
+  acts command.Bootstrap fine a = may_ask d.state w.other (w.out ++ d.effects.sends) w.back h
+  acts (command.Call c) fine a = calls c.reference.0 (map.get d.state.refs c.reference.0) refl
+  acts (command.Field c path) fine a = tt
+  acts command.Promise fine a = may_open d.state w.other (w.out ++ d.effects.sends) w.back h
+  acts (command.Resolve p r) fine a = (resolves p r fine (map.get d.state.unsettled p.0) (map.get d.state.refs r.0) refl refl a).0
+  acts (command.Reject p exception) fine a = (rejects p.0 exception (map.get d.state.unsettled p.0) a).0
+  acts (command.Answer t payload refs) fine a = (answers t.0 (value.Results payload (heads d.state refs)) (map.get d.state.tasks t.0) refl (heads_held refs) a).0
+  acts (command.Fail t exception) fine a = (answers t.0 (value.Exception exception) (map.get d.state.tasks t.0) refl tt a).0
+  acts (command.Finish c) fine a = tt
+  acts (command.Advance r) fine a = advances r.0 (map.get d.state.refs r.0) refl a
+  acts (command.Shut n) fine a = tt
 
-  kept : (c : Command) → Settles c → refused d.state c ≡ None → TellsWhoMay w d c → (a : Acts d c granted new) → MidwayAt w new
-  kept (command.Host o) j fine i a = absurd j
-  kept (command.CloneRef r) j fine i a = absurd j
-  kept (command.DropRef r) j fine i a = absurd j
-  kept command.Bootstrap j fine i a = absurd j
-  kept (command.Call c) j fine i a = absurd j
-  kept (command.Field c path) j fine i a = absurd j
-  kept command.Promise j fine i a = absurd j
-  kept (command.Finish c) j fine i a = absurd j
-  kept (command.Advance r) j fine i a = absurd j
-  kept (command.Shut n) j fine i a = absurd j
-  kept (command.Resolve p r) j fine i a = (resolves p r fine (map.get d.state.unsettled p.0) (map.get d.state.refs r.0) refl refl a).1
-  kept (command.Reject p exception) j fine i a = (rejects p.0 exception (map.get d.state.unsettled p.0) a).1
-  kept (command.Answer t payload refs) j fine i a = (answers t.0 (value.Results payload (heads d.state refs)) (map.get d.state.tasks t.0) refl (heads_held refs) i a).1
-  kept (command.Fail t exception) j fine i a = (answers t.0 (value.Exception exception) (map.get d.state.tasks t.0) refl tt i a).1
+  kept : (c : Command) → Settles c → refused d.state c ≡ None → (a : Acts d c granted new) → MidwayAt w new
+  kept (command.Host o) j fine a = absurd j
+  kept (command.CloneRef r) j fine a = absurd j
+  kept (command.DropRef r) j fine a = absurd j
+  kept command.Bootstrap j fine a = absurd j
+  kept (command.Call c) j fine a = absurd j
+  kept (command.Field c path) j fine a = absurd j
+  kept command.Promise j fine a = absurd j
+  kept (command.Finish c) j fine a = absurd j
+  kept (command.Advance r) j fine a = absurd j
+  kept (command.Shut n) j fine a = absurd j
+  kept (command.Resolve p r) j fine a = (resolves p r fine (map.get d.state.unsettled p.0) (map.get d.state.refs r.0) refl refl a).1
+  kept (command.Reject p exception) j fine a = (rejects p.0 exception (map.get d.state.unsettled p.0) a).1
+  kept (command.Answer t payload refs) j fine a = (answers t.0 (value.Results payload (heads d.state refs)) (map.get d.state.tasks t.0) refl (heads_held refs) a).1
+  kept (command.Fail t exception) j fine a = (answers t.0 (value.Exception exception) (map.get d.state.tasks t.0) refl tt a).1
 
-pub may_act : (w : Around) (d : Progress) (c : Command) (granted : Granted) (new : Progress) → Midway d.state w.other (w.out ++ d.effects.sends) w.back → d.state.vat ≡ w.vat → d.state.level ≡ One → refused d.state c ≡ None → TellsWhoMay w d c
+pub may_act : (w : Around) (d : Progress) (c : Command) (granted : Granted) (new : Progress) → Midway d.state w.other (w.out ++ d.effects.sends) w.back → d.state.vat ≡ w.vat → d.state.level ≡ One → refused d.state c ≡ None
     → (h : Acts d c granted new) → MayAct w d c granted new h
-may_act w d c granted new h vat level fine i a = acts w d granted new h vat level c fine i a
+may_act w d c granted new h vat level fine a = acts w d granted new h vat level c fine a
 
-pub settling_kept : (w : Around) (d : Progress) (c : Command) (granted : Granted) (new : Progress) → MidwayAt w d → d.state.vat ≡ w.vat → d.state.level ≡ One → Settles c → refused d.state c ≡ None → TellsWhoMay w d c → Acts d c granted new → MidwayAt w new
-settling_kept w d c granted new h vat level j fine i a = kept w d granted new h vat level c j fine i a
+pub settling_kept : (w : Around) (d : Progress) (c : Command) (granted : Granted) (new : Progress) → MidwayAt w d → d.state.vat ≡ w.vat → d.state.level ≡ One → Settles c → refused d.state c ≡ None → Acts d c granted new → MidwayAt w new
+settling_kept w d c granted new h vat level j fine a = kept w d granted new h vat level c j fine a

@@ -30,7 +30,7 @@ use Rattle.laws_routes.proofs.SayingsCarried.{all_there, said_as_lowered}
 abbrev pub Lowered : Map Export → Map Export → Type 0
 Lowered E F = (e : ℕ) (y : Export) → map.get F e ≡ Some y → (x : Export) × (map.get E e ≡ Some x) × (x.node ≡ y.node)
 
-by_lowered : (E : Map Export) (e n : ℕ) → Lowered E (lower_by E e n)
+pub by_lowered : (E : Map Export) (e n : ℕ) → Lowered E (lower_by E e n)
 by_lowered E e n = by (map.get E e) refl
   where
     left : (x : Export) (b : Bool) → map.get E e ≡ Some x → Lowered E (cond b (map.remove E e) (map.insert E e (record x { count = x.count - n })))
@@ -42,7 +42,7 @@ by_lowered E e n = by (map.get E e) refl
     by None f = λ j y h. (y, h, refl)
     by (Some x) f = left x (nat_le x.count n) f
 
-each_lowered : (E : Map Export) (es : List ℕ) → Lowered E (lower_each E es)
+pub each_lowered : (E : Map Export) (es : List ℕ) → Lowered E (lower_each E es)
 each_lowered E [] = λ j y h. (y, h, refl)
 each_lowered E (e ∷ es) = λ j y h.
     let a = each_lowered (lower_by E e 1) es j y h in

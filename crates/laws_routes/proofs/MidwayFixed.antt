@@ -68,8 +68,11 @@ module _ (s other : State) (out back : List Message) (h : Midway s other out bac
     theirs = h.theirs;
     imported = h.imported;
     answers = h.answers;
+    pending = h.pending;
+    awaited = h.awaited;
     opens = h.opens;
     returns = h.returns;
+    answered = h.answered;
     met = h.met;
     named = h.named;
     sent = h.sent;
@@ -140,8 +143,11 @@ module _ (s : State) (U : Map ℕ) where
     theirs = h.theirs;
     imported = h.imported;
     answers = h.answers;
+    pending = h.pending;
+    awaited = h.awaited;
     opens = h.opens;
     returns = h.returns;
+    answered = h.answered;
     met = h.met;
     named = h.named;
     sent = h.sent;

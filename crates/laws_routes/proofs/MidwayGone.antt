@@ -27,17 +27,18 @@ use Rattle.vat_machine.specs.State.{State}
 use Rattle.vat_machine.specs.Nodes.{field_link, field_of, is_field, is_import, is_promise, link, promise_link, value_of}
 use Rattle.vat_machine.specs.Advancing.{Leads, known_by_resolve, resolution_of}
 use Rattle.vat_machine.specs.Collecting.{AnswerIsOther, CallerIsDone, Collects, Goes, ImportGoes, IsLooseImport, IsLooseOutcome, IsLoosePromise, IsLooseValue, Loose, OutcomeGoes, PromiseGoes, Tight}
-use Rattle.vat_machine.specs.Places.{named_by_calls, named_by_held, names}
+use Rattle.vat_machine.specs.Places.{named_by_calls, named_by_held, names, places}
 use Rattle.vat_machine.specs.Progress.{Progress}
 use Rattle.vat_machine.specs.Laws as machine
+use Rattle.laws_steps.specs.Callers.{IsOpenFor}
 use Rattle.laws_steps.specs.Settled.{IsAmong, IsThere}
-use Rattle.laws_steps.proofs.Among.{among_left, among_right}
+use Rattle.laws_steps.proofs.Among.{among_left, among_right, none_among}
 use Rattle.laws_routes.specs.MakingLaws.{EmbargoIsThere}
 use Rattle.laws_routes.specs.Named.{AllMet, ResolveMet}
 use Rattle.laws_routes.specs.Sayings.{Has, has_behind, has_of, is_among}
 use Rattle.laws_routes.specs.Ties.{Around}
 use Rattle.laws_routes.specs.Midway.{AllAreHeld, CallsAreHeld, HeldCallsAreHeld, IsHeld, IsOutcomeOf, Midway, MidwayAt}
-use Rattle.laws_routes.proofs.Unplaced as unplaced
+use Rattle.laws_routes.proofs.Placed as placed
 
 -- ---- Fewer imports on the receiver's side
 
@@ -57,7 +58,7 @@ module _ (E F : Map Export) where
   resolve_fewer has left (plain.Disembargo x) f h = tt
   resolve_fewer has left (plain.Other n) f h = tt
 
-  met_fewer : (has left : Has) (ms : List Message) → ((e : ℕ) → left.import e ≡ true → has.import e ≡ true) → AllMet E F has ms → AllMet E F left ms
+  pub met_fewer : (has left : Has) (ms : List Message) → ((e : ℕ) → left.import e ≡ true → has.import e ≡ true) → AllMet E F has ms → AllMet E F left ms
   met_fewer has left [] f h = tt
   met_fewer has left (message.Plain m ∷ ms) f h =
       let ds = descriptors_of (message.Plain m) in
@@ -66,24 +67,24 @@ module _ (E F : Map Export) where
 
 -- ---- What is left is held
 
-module _ (s t : State) (test : Node → Bool) (still : (n : Node) → test n ≡ false → IsHeld s n → IsHeld t n) where
-  all_left : (ns : List Node) → ((n : Node) → IsAmong n ns → test n ≡ false) → AllAreHeld s ns → AllAreHeld t ns
+module _ (s t : State) (P : Node → Type 0) (still : (n : Node) → P n → IsHeld s n → IsHeld t n) where
+  all_left : (ns : List Node) → ((n : Node) → IsAmong n ns → P n) → AllAreHeld s ns → AllAreHeld t ns
   all_left [] f h = tt
   all_left (n ∷ ns) f h = (still n (f n (inl refl)) h.0, all_left ns (λ m a. f m (inr a)) h.1)
 
-  calls_left : (cs : List WaitingCall) → ((n : Node) → IsAmong n (named_by_calls cs) → test n ≡ false) → CallsAreHeld s cs → CallsAreHeld t cs
+  pub calls_left : (cs : List WaitingCall) → ((n : Node) → IsAmong n (named_by_calls cs) → P n) → CallsAreHeld s cs → CallsAreHeld t cs
   calls_left [] f h = tt
   calls_left (c ∷ cs) f h =
       let caps = c.request.caps in
       (all_left caps (λ m a. f m (among_left m caps (named_by_calls cs) a)) h.0, calls_left cs (λ m a. f m (among_right m caps (named_by_calls cs) a)) h.1)
 
-  held_left : (hs : List HeldCall) → ((n : Node) → IsAmong n (named_by_held hs) → test n ≡ false) → HeldCallsAreHeld s hs → HeldCallsAreHeld t hs
+  pub held_left : (hs : List HeldCall) → ((n : Node) → IsAmong n (named_by_held hs) → P n) → HeldCallsAreHeld s hs → HeldCallsAreHeld t hs
   held_left [] f h = tt
   held_left (x ∷ hs) f h =
       let caps = x.call.request.caps in
       (all_left caps (λ m a. f m (among_left m caps (named_by_held hs) a)) h.0, held_left hs (λ m a. f m (among_right m caps (named_by_held hs) a)) h.1)
 
-less_stops : (s t : State) → ((n : Node) → (link t n ≡ link s n) ⊎ (link t n ≡ None)) → (d : ℕ) (n : Node) → machine.Stops s d n → (e : ℕ) × machine.Stops t e n
+pub less_stops : (s t : State) → ((n : Node) → (link t n ≡ link s n) ⊎ (link t n ≡ None)) → (d : ℕ) (n : Node) → machine.Stops s d n → (e : ℕ) × machine.Stops t e n
 less_stops s t f zero n h = by (f n)
   where
     by : (link t n ≡ link s n) ⊎ (link t n ≡ None) → (e : ℕ) × machine.Stops t e n
@@ -100,6 +101,9 @@ module _ (s other : State) (out back : List Message) (h : Midway s other out bac
     (imports_left : (e : ℕ) (x : Import) → map.get I e ≡ Some x → map.get s.imports e ≡ Some x) where
   abbrev t : State
   t = record s { promises = P; outcomes = O; imports = I }
+
+  every : (n : Node) → IsAmong n (places s) → test n ≡ false
+  every = none_among test (places s) none
 
   less : (n : Node) → (link t n ≡ link s n) ⊎ (link t n ≡ None)
   less (node.Object o) = inr refl
@@ -128,6 +132,13 @@ module _ (s other : State) (out back : List Message) (h : Midway s other out bac
       by None f k = cc
       by (Some x) f k = subst (λ (o : Option Import). IsSome o) (sym (imports_left e x f)) refl
 
+  still_open : (o q : ℕ) → IsOpenFor q (map.get O o) → IsOpenFor q (map.get s.outcomes o)
+  still_open o q i = by (map.get O o) refl i
+    where
+      by : (z : Option KeptOutcome) → map.get O o ≡ z → IsOpenFor q z → IsOpenFor q (map.get s.outcomes o)
+      by None f k = absurd k
+      by (Some x) f k = subst (IsOpenFor q) (sym (outcomes_left o x f)) k
+
   module _ (still : (n : Node) → test n ≡ false → IsHeld s n → IsHeld t n) (answers : (q : ℕ) (a : AnswerEntry) → map.get s.answers q ≡ Some a → IsOutcomeOf q (map.get O a.outcome)) where
     leads_held : (m k : Node) → link t m ≡ Some k → IsHeld t k
     leads_held (node.Object o) k e = let a : None ≡ Some k = e in cc
@@ -141,7 +152,7 @@ module _ (s other : State) (out back : List Message) (h : Midway s other out bac
             let a : Some to ≡ Some k = g in
             let is : to ≡ k = cc in
             let there : IsThere s (node.Promise p) = subst (λ (o : Option Promise). IsSome o) (sym at) refl in
-            subst (IsHeld t) is (still to (unplaced.fixed_to test fine s none p to at) (h.links (node.Promise p) to there (ap promise_link at)))
+            subst (IsHeld t) is (still to (placed.fixed_to (λ n. test n ≡ false) fine s every p to at) (h.links (node.Promise p) to there (ap promise_link at)))
     leads_held (node.Field o path) k e = by (map.get O o) refl e
       where
         by_value : (x : KeptOutcome) (z : Option Value) → map.get s.outcomes o ≡ Some x → x.value ≡ z → field_link path z ≡ Some k → IsHeld t k
@@ -150,7 +161,7 @@ module _ (s other : State) (out back : List Message) (h : Midway s other out bac
             let a : Some (field_of v path) ≡ Some k = g in
             let is : field_of v path ≡ k = cc in
             let there : IsThere s (node.Field o path) = subst (λ (z : Option KeptOutcome). IsSome z) (sym at) refl in
-            subst (IsHeld t) is (still (field_of v path) (unplaced.fields test fine s none o x v path at f) (h.links (node.Field o path) (field_of v path) there (ap (λ z. field_link path (value_of z)) at ∙ ap (field_link path) f)))
+            subst (IsHeld t) is (still (field_of v path) (placed.fields (λ n. test n ≡ false) fine s every o x v path at f) (h.links (node.Field o path) (field_of v path) there (ap (λ z. field_link path (value_of z)) at ∙ ap (field_link path) f)))
 
         by : (z : Option KeptOutcome) → map.get O o ≡ z → field_link path (value_of z) ≡ Some k → IsHeld t k
         by None f g = cc
@@ -166,26 +177,29 @@ module _ (s other : State) (out back : List Message) (h : Midway s other out bac
         by None f g = cc
         by (Some x) f g =
             let was : known_by_resolve (resolution_of (map.get s.imports e)) ≡ Leads said to = ap (λ o. known_by_resolve (resolution_of o)) (imports_left e x f) ∙ g in
-            still to (unplaced.resolved test fine s none e said to was) (h.resolved e said to was)
+            still to (placed.resolved (λ n. test n ≡ false) fine s every e said to was) (h.resolved e said to was)
 
     lessened : Midway t other out back
     lessened = record {
       stop = λ n. (let a = h.stop n in less_stops s t less a.0 n a.1);
       links = λ m k i e. leads_held m k e;
-      heads = λ r x e. still x.head (unplaced.heads test fine s none r x e) (h.heads r x e);
-      embargoes = λ e b i. still b.node (unplaced.embargoes test fine s none e b i) (h.embargoes e b i);
+      heads = λ r x e. still x.head (placed.heads (λ n. test n ≡ false) fine s every r x e) (h.heads r x e);
+      embargoes = λ e b i. still b.node (placed.embargoes (λ n. test n ≡ false) fine s every e b i) (h.embargoes e b i);
       resolved = resolved_left;
-      returned = λ q path said to a. still to (unplaced.returned test fine s none q path said to a) (h.returned q path said to a);
-      waits = λ p cs e. (let at = promises_left p (promise.Open cs) e in calls_left s t test still cs (unplaced.waits test fine s none p cs at) (h.waits p cs at));
-      holds = λ o x e. (let at = outcomes_left o x e in held_left s t test still x.waiting (unplaced.holds test fine s none o x at) (h.holds o x at));
-      keeps = λ e b i. calls_left s t test still b.waiting (unplaced.keeps test fine s none e b i) (h.keeps e b i);
+      returned = λ q path said to a. still to (placed.returned (λ n. test n ≡ false) fine s every q path said to a) (h.returned q path said to a);
+      waits = λ p cs e. (let at = promises_left p (promise.Open cs) e in calls_left s t (λ n. test n ≡ false) still cs (placed.waits (λ n. test n ≡ false) fine s every p cs at) (h.waits p cs at));
+      holds = λ o x e. (let at = outcomes_left o x e in held_left s t (λ n. test n ≡ false) still x.waiting (placed.holds (λ n. test n ≡ false) fine s every o x at) (h.holds o x at));
+      keeps = λ e b i. calls_left s t (λ n. test n ≡ false) still b.waiting (placed.keeps (λ n. test n ≡ false) fine s every e b i) (h.keeps e b i);
       paired = λ r x e. embargo r x.embargo (h.paired r x e);
-      exports = λ e x f. (let a = h.exports e x f in (a.0, still x.node (unplaced.exports test fine s none e x f) a.1));
+      exports = λ e x f. (let a = h.exports e x f in (a.0, still x.node (placed.exports (λ n. test n ≡ false) fine s every e x f) a.1));
       theirs = h.theirs;
       imported = λ e i. h.imported e (import_there e i);
       answers = answers;
+      pending = λ o q i. h.pending o q (still_open o q i);
+      awaited = h.awaited;
       opens = h.opens;
       returns = h.returns;
+      answered = h.answered;
       met = h.met;
       named = (let a = h.named in (a.0, met_fewer other.exports s.exports (has_of [] s.imports s.questions) (has_of [] I s.questions) back import_there a.1));
       sent = h.sent;

@@ -21,6 +21,7 @@ use Rattle.vat_machine.specs.Nodes.{field_link, link, promise_link, value_of}
 use Rattle.vat_machine.specs.Commands.{counted, with_outcome}
 use Rattle.vat_machine.specs.Progress.{Progress}
 use Rattle.vat_machine.specs.Laws as machine
+use Rattle.laws_steps.specs.Callers.{IsOpenFor, peer}
 use Rattle.laws_steps.specs.Settled.{IsThere}
 use Rattle.laws_routes.specs.MakingLaws.{EmbargoIsThere, MayCall}
 use Rattle.laws_routes.specs.Ties.{Around}
@@ -54,7 +55,7 @@ module _ (s other : State) (out back : List Message) (h : Midway s other out bac
     (heads : (r : ℕ) (x : Reference) → map.get R r ≡ Some x → IsHeld s x.head) (paired : (r : ℕ) (x : Reference) → map.get R r ≡ Some x → EmbargoIsThere s r x.embargo)
     (kept : (p : ℕ) → IsSome (map.get s.promises p) → IsSome (map.get P p)) (leads : (p : ℕ) → promise_link (map.get P p) ≡ promise_link (map.get s.promises p))
     (more : (o : ℕ) → IsSome (map.get s.outcomes o) → IsSome (map.get O o)) (values : (o : ℕ) → value_of (map.get O o) ≡ value_of (map.get s.outcomes o))
-    (waits : (p : ℕ) (cs : List WaitingCall) → map.get P p ≡ Some (promise.Open cs) → CallsAreHeld s cs) (holds : (o : ℕ) (x : KeptOutcome) → map.get O o ≡ Some x → HeldCallsAreHeld s x.waiting) (callers : (o q : ℕ) → IsOutcomeOf q (map.get s.outcomes o) → IsOutcomeOf q (map.get O o)) where
+    (waits : (p : ℕ) (cs : List WaitingCall) → map.get P p ≡ Some (promise.Open cs) → CallsAreHeld s cs) (holds : (o : ℕ) (x : KeptOutcome) → map.get O o ≡ Some x → HeldCallsAreHeld s x.waiting) (callers : (o q : ℕ) → IsOutcomeOf q (map.get s.outcomes o) → IsOutcomeOf q (map.get O o)) (pending : (o q : ℕ) → IsOpenFor q (map.get O o) → IsOpenFor q (map.get s.outcomes o)) where
   abbrev t : State
   t = record s { refs = R; promises = P; outcomes = O; calls = C; tasks = T; next_ref = a; next_call = b; next_task = c }
 
@@ -110,8 +111,11 @@ module _ (s other : State) (out back : List Message) (h : Midway s other out bac
     theirs = h.theirs;
     imported = h.imported;
     answers = λ q a f. callers a.outcome q (h.answers q a f);
+    pending = λ o q i. h.pending o q (pending o q i);
+    awaited = h.awaited;
     opens = h.opens;
     returns = h.returns;
+    answered = h.answered;
     met = h.met;
     named = h.named;
     sent = h.sent;
@@ -127,7 +131,7 @@ counted_still s other out back h r x at =
     moved s other out back h (map.insert s.refs r y) s.promises s.outcomes s.calls s.tasks s.next_ref (s.next_call + 1) s.next_task
     (at_put (λ k o. (z : Reference) → o ≡ Some z → IsHeld s z.head) s.refs r y (λ z e. (let a : y ≡ z = cc in subst (λ (z : Reference). IsHeld s z.head) a (h.heads r x at))) (λ k n z e. h.heads k z e))
     (at_put (λ k o. (z : Reference) → o ≡ Some z → EmbargoIsThere s k z.embargo) s.refs r y (λ z e. (let a : y ≡ z = cc in subst (λ (z : Reference). EmbargoIsThere s r z.embargo) a (h.paired r x at))) (λ k n z e. h.paired k z e))
-    (λ p i. i) (λ p. refl) (λ o i. i) (λ o. refl) h.waits h.holds (λ o q i. i)
+    (λ p i. i) (λ p. refl) (λ o i. i) (λ o. refl) h.waits h.holds (λ o q i. i) (λ o q i. i)
   where
     y : Reference
     y = record x { made = x.made + 1 }
@@ -140,9 +144,13 @@ kept_still s other out back h c o free =
     (at_put (λ k z. value_of z ≡ value_of (map.get s.outcomes k)) s.outcomes o x (sym (ap value_of free)) (λ k n. refl)) h.waits
     (at_put (λ k z. (y : KeptOutcome) → z ≡ Some y → HeldCallsAreHeld s y.waiting) s.outcomes o x (λ y e. (let a : x ≡ y = cc in subst (λ (y : KeptOutcome). HeldCallsAreHeld s y.waiting) a tt)) (λ k n y e. h.holds k y e))
     (at_put (λ k z. (q : ℕ) → IsOutcomeOf q (map.get s.outcomes k) → IsOutcomeOf q z) s.outcomes o x (λ q i. absurd (subst (IsOutcomeOf q) free i)) (λ k n q i. i))
+    (at_put (λ k z. (q : ℕ) → IsOpenFor q z → IsOpenFor q (map.get s.outcomes k)) s.outcomes o x (λ q i. absurd (not_peer q i.1)) (λ k n q i. i))
   where
     x : KeptOutcome
     x = record { caller = caller_of.Application (record { 0 = c }); value = None; waiting = [] }
+
+    not_peer : (q : ℕ) → caller_of.Application (record { 0 = c }) ≡ peer q → ⊥
+    not_peer q e = cc
 
 pub may_call : (w : Around) (d : Progress) → Midway d.state w.other (w.out ++ d.effects.sends) w.back → d.state.vat ≡ w.vat → (r : ℕ) (x : Reference) → map.get d.state.refs r ≡ Some x → MayCall w d r x
 may_call w d h vat r x at =

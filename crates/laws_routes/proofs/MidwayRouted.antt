@@ -1,8 +1,8 @@
 -- A call goes on: it is still so in the middle of the step.
 use Rattle.std.specs.FinMap as map
-use Rattle.std.proofs.Common.{◌≡◌, ℕ, ◌+◌, zero, suc, false, List, [], ◌∷◌, ◌++◌, append_assoc, Option, None, Some, IsSome, refl, sym, ap, subst, ◌∙◌}
+use Rattle.std.proofs.Common.{◌≡◌, ℕ, ◌+◌, zero, suc, nat_eq, false, List, [], ◌∷◌, ◌++◌, append_assoc, Option, None, Some, IsSome, refl, sym, ap, subst, ◌∙◌}
 use Rattle.finite_maps.specs.Tally.{Map}
-use Rattle.finite_maps.proofs.Tested.{at_put}
+use Rattle.finite_maps.proofs.Tested.{at_put, sides}
 use Rattle.finite_maps.proofs.Gets.{get-insert_same}
 use Rattle.rpc_msg.specs.declared.parts.Descriptor.{Descriptor}
 use Rattle.rpc_msg.specs.declared.parts.Target.{Target}
@@ -22,6 +22,7 @@ use Rattle.vat_machine.specs.declared.entries.Export.{Export}
 use Rattle.vat_machine.specs.declared.entries.Finishing.TheVariants as finishing
 use Rattle.vat_machine.specs.declared.entries.Question.{Question}
 use Rattle.vat_machine.specs.declared.entries.Reference.{Reference}
+use Rattle.vat_machine.specs.declared.entries.Returned.{Returned}
 use Rattle.vat_machine.specs.declared.entries.Role.{Role}
 use Rattle.vat_machine.specs.declared.node.Node.{Node}
 use Rattle.vat_machine.specs.declared.node.Node.TheVariants as node
@@ -32,6 +33,7 @@ use Rattle.vat_machine.specs.Descriptors.{Described, DescribesAll, ExportedAs}
 use Rattle.vat_machine.specs.Progress.{Progress, export_ids, with_refs}
 use Rattle.vat_machine.specs.Routing.{Asks, RoutedTo, RoutesAll, RoutesHeld, WaitsForField, WaitsForPromise}
 use Rattle.vat_machine.specs.Laws as machine
+use Rattle.laws_steps.specs.Callers.{IsOpenFor}
 use Rattle.laws_steps.specs.Settled.{IsThere}
 use Rattle.laws_routes.specs.Laws.{AllMayGo}
 use Rattle.laws_routes.specs.OutcomeLaws.{AllHeldMayGo}
@@ -47,6 +49,7 @@ use Rattle.laws_routes.proofs.LinkShapes.{cap_map, open_map}
 use Rattle.laws_routes.proofs.MidwayKept.{calls_still, held_more, held_still, moved}
 use Rattle.laws_routes.proofs.ReturnsSaySo.{there_as}
 use Rattle.laws_routes.proofs.SayingsCarried.{all_met, all_there, name_met, return_map, there_still}
+use Rattle.laws_routes.proofs.WhatGoes.{none_there}
 
 -- ---- New references, tasks, and calls that wait
 
@@ -56,7 +59,7 @@ refs_still (n ∷ ns) s other out back h i = refs_still ns (record s { refs = R;
     (moved s other out back h R s.promises s.outcomes s.calls s.tasks (s.next_ref + 1) s.next_call s.next_task
     (at_put (λ k o. (z : Reference) → o ≡ Some z → IsHeld s z.head) s.refs s.next_ref y (λ z e. (let a : y ≡ z = cc in subst (λ (z : Reference). IsHeld s z.head) a i.0)) (λ k f z e. h.heads k z e))
     (at_put (λ k o. (z : Reference) → o ≡ Some z → EmbargoIsThere s k z.embargo) s.refs s.next_ref y (λ z e. (let a : y ≡ z = cc in subst (λ (z : Reference). EmbargoIsThere s s.next_ref z.embargo) a tt)) (λ k f z e. h.paired k z e))
-    (λ p j. j) (λ p. refl) (λ o j. j) (λ o. refl) h.waits h.holds (λ o q i. i))
+    (λ p j. j) (λ p. refl) (λ o j. j) (λ o. refl) h.waits h.holds (λ o q i. i) (λ o q i. i))
     (all ns i.1)
   where
     y : Reference
@@ -70,9 +73,9 @@ refs_still (n ∷ ns) s other out back h i = refs_still ns (record s { refs = R;
     all (m ∷ ms) j = (held_more s R s.promises s.outcomes s.calls s.tasks (s.next_ref + 1) s.next_call s.next_task (λ p k. k) (λ o k. k) m j.0, all ms j.1)
 
 pub tasks_still : (s other : State) (out back : List Message) (T : Map ℕ) (k : ℕ) → Midway s other out back → Midway (record s { tasks = T; next_task = k }) other out back
-tasks_still s other out back T k h = moved s other out back h s.refs s.promises s.outcomes s.calls T s.next_ref s.next_call k h.heads h.paired (λ p i. i) (λ p. refl) (λ o i. i) (λ o. refl) h.waits h.holds (λ o q i. i)
+tasks_still s other out back T k h = moved s other out back h s.refs s.promises s.outcomes s.calls T s.next_ref s.next_call k h.heads h.paired (λ p i. i) (λ p. refl) (λ o i. i) (λ o. refl) h.waits h.holds (λ o q i. i) (λ o q i. i)
 
-calls_more : (s : State) (cs : List WaitingCall) (c : WaitingCall) → CallsAreHeld s cs → AllAreHeld s c.request.caps → CallsAreHeld s (cs ++ c ∷ [])
+pub calls_more : (s : State) (cs : List WaitingCall) (c : WaitingCall) → CallsAreHeld s cs → AllAreHeld s c.request.caps → CallsAreHeld s (cs ++ c ∷ [])
 calls_more s [] c h i = (i, tt)
 calls_more s (x ∷ cs) c h i = (h.0, calls_more s cs c h.1 i)
 
@@ -90,7 +93,7 @@ waits_at_promise w d c p (Some (promise.Open cs)) new e h i a =
     (moved s w.other (w.out ++ d.effects.sends) w.back h s.refs (map.insert s.promises p x) s.outcomes s.calls s.tasks s.next_ref s.next_call s.next_task h.heads h.paired
     (at_put (λ k z. IsSome (map.get s.promises k) → IsSome z) s.promises p x (λ i. refl) (λ k n i. i))
     (at_put (λ k z. promise_link z ≡ promise_link (map.get s.promises k)) s.promises p x (sym (ap promise_link e)) (λ k n. refl)) (λ o i. i) (λ o. refl)
-    (at_put (λ k z. (ds : List WaitingCall) → z ≡ Some (promise.Open ds) → CallsAreHeld s ds) s.promises p x (λ ds f. (let b : cs ++ c ∷ [] ≡ ds = cc in subst (CallsAreHeld s) b (calls_more s cs c (h.waits p cs e) i))) (λ k n ds f. h.waits k ds f)) h.holds (λ o q i. i))
+    (at_put (λ k z. (ds : List WaitingCall) → z ≡ Some (promise.Open ds) → CallsAreHeld s ds) s.promises p x (λ ds f. (let b : cs ++ c ∷ [] ≡ ds = cc in subst (CallsAreHeld s) b (calls_more s cs c (h.waits p cs e) i))) (λ k n ds f. h.waits k ds f)) h.holds (λ o q i. i) (λ o q i. i))
 
 waits_at_field : (w : Around) (d : Progress) (c : WaitingCall) (o : ℕ) (path : _) (z : Option KeptOutcome) (new : Progress) → map.get d.state.outcomes o ≡ z → MidwayAt w d → AllAreHeld d.state c.request.caps → WaitsForField d c o path z new → MidwayAt w new
 waits_at_field w d c o path None new e h i a = absurd a
@@ -103,7 +106,8 @@ waits_at_field w d c o path (Some x) new e h i a =
     (at_put (λ k z. value_of z ≡ value_of (map.get s.outcomes k)) s.outcomes o y (sym (ap value_of e)) (λ k n. refl)) h.waits
     (at_put (λ k z. (u : KeptOutcome) → z ≡ Some u → HeldCallsAreHeld s u.waiting) s.outcomes o y
     (λ u f. (let b : y ≡ u = cc in subst (λ (u : KeptOutcome). HeldCallsAreHeld s u.waiting) b (held_calls_more s x.waiting (record { path = path; call = c }) (h.holds o x e) i))) (λ k n u f. h.holds k u f))
-    (at_put (λ k z. (q : ℕ) → IsOutcomeOf q (map.get s.outcomes k) → IsOutcomeOf q z) s.outcomes o y (λ q i. subst (IsOutcomeOf q) e i) (λ k n q i. i)))
+    (at_put (λ k z. (q : ℕ) → IsOutcomeOf q (map.get s.outcomes k) → IsOutcomeOf q z) s.outcomes o y (λ q i. subst (IsOutcomeOf q) e i) (λ k n q i. i))
+    (at_put (λ k z. (q : ℕ) → IsOpenFor q z → IsOpenFor q (map.get s.outcomes k)) s.outcomes o y (λ q i. subst (IsOpenFor q) (sym e) i) (λ k n q i. i)))
 
 -- ---- Exports, and a question
 
@@ -120,7 +124,7 @@ module _ (s : State) (E : Map Export) (Q : Map Question) (more : (q : ℕ) → I
   held (node.Pipe q path) i = (i.0, (more q.0 i.1.0, i.1.1))
   held (node.Broken reason) i = i
 
-  all_held : (ns : List Node) → AllAreHeld s ns → AllAreHeld t ns
+  pub all_held : (ns : List Node) → AllAreHeld s ns → AllAreHeld t ns
   all_held [] i = tt
   all_held (n ∷ ns) i = (held n i.0, all_held ns i.1)
 
@@ -148,11 +152,12 @@ module _ (s : State) (E : Map Export) (Q : Map Question) (more : (q : ℕ) → I
   embargo r None i = tt
   embargo r (Some e) i = i
 
-  asked : (other : State) (out then back : List Message) → Midway s other out back → ((e : ℕ) (x : Export) → map.get E e ≡ Some x → (is_wire x.node ≡ false) × IsHeld s x.node)
+  pub asked : (other : State) (out then back : List Message) → Midway s other out back → ((e : ℕ) (x : Export) → map.get E e ≡ Some x → (is_wire x.node ≡ false) × IsHeld s x.node)
       → ((q : ℕ) (path : _) (said : Descriptor) (to : Node) → known_by_return path (returned_of (map.get Q q)) ≡ Leads said to → IsHeld s to)
-      → EachOpen (λ q. IsSome (map.get Q q)) then → EachReturn (λ q. IsSome (map.get Q q)) back → ((e : ℕ) → IsSome (map.get s.exports e) → IsSome (map.get E e)) → LinksMet t other then back
+      → EachOpen (λ q. IsSome (map.get Q q)) then → EachReturn (λ q. IsSome (map.get Q q)) back
+      → ((q : ℕ) (x : Question) → map.get Q q ≡ Some x → IsSome x.returned → EachOpen (λ k. nat_eq k q ≡ false) then × EachReturn (λ k. nat_eq k q ≡ false) back) → ((e : ℕ) → IsSome (map.get s.exports e) → IsSome (map.get E e)) → LinksMet t other then back
       → EachLoop (λ e. IsSome (map.get s.embargoes e)) (λ e. Unit {0}) then → Midway t other then back
-  asked other out then back h own returned opens returns grown named sent = record {
+  asked other out then back h own returned opens returns answered grown named sent = record {
     stop = λ m. (let a = h.stop m in (a.0, stops a.0 m a.1));
     links = λ m k i e. held k (h.links m k (there m i) (sym (same_link m) ∙ e));
     heads = λ r x e. held x.head (h.heads r x e);
@@ -167,8 +172,11 @@ module _ (s : State) (E : Map Export) (Q : Map Question) (more : (q : ℕ) → I
     theirs = h.theirs;
     imported = h.imported;
     answers = h.answers;
+    pending = h.pending;
+    awaited = h.awaited;
     opens = opens;
     returns = returns;
+    answered = answered;
     met = cap_map _ _ back grown h.met;
     named = named;
     sent = sent;
@@ -192,7 +200,7 @@ module _ (s other : State) (out back : List Message) (h : Midway s other out bac
       let none = all_there other.exports in
       subst (λ (z : State). Midway z other out back) (sym g.1)
       (asked s E s.questions (λ q u. u) other out out back h (subst (λ (z : State). (j : ℕ) (x : Export) → map.get z.exports j ≡ Some x → (is_wire x.node ≡ false) × IsHeld s x.node) g.1 own)
-      h.returned h.opens h.returns (there_still s.exports E grows.still)
+      h.returned h.opens h.returns h.answered (there_still s.exports E grows.still)
       (all_met s.exports E other.exports other.exports grows.still none (has_of [] other.imports other.questions) out h.named.0, all_met other.exports other.exports s.exports E none grows.still (has_of [] s.imports s.questions) back h.named.1) h.sent)
 
   pub described_still : (n : Node) (c : Descriptor) (mid : State) → IsHeld s n → Described s n c mid → Midway mid other out back × NamesMet mid.exports other.exports c
@@ -215,10 +223,10 @@ module _ (s other : State) (out back : List Message) (h : Midway s other out bac
 pub held_exports : (s : State) (E : Map Export) (n : Node) → IsHeld s n → IsHeld (record s { exports = E }) n
 held_exports s E n i = held s E s.questions (λ q u. u) n i
 
-held_behind : (s mid : State) (ns : List Node) → Exports s mid → AllAreHeld s ns → AllAreHeld mid ns
+pub held_behind : (s mid : State) (ns : List Node) → Exports s mid → AllAreHeld s ns → AllAreHeld mid ns
 held_behind s mid ns g i = subst (λ (z : State). AllAreHeld z ns) (sym g.1) (all_held s g.0 s.questions (λ q u. u) ns i)
 
-all_described : (ns : List Node) (s other : State) (out back : List Message) (ds : List Descriptor) (mid : State) → Midway s other out back → AllAreHeld s ns → DescribesAll s ns ds mid → Midway mid other out back × EachMet mid.exports other.exports ds
+pub all_described : (ns : List Node) (s other : State) (out back : List Message) (ds : List Descriptor) (mid : State) → Midway s other out back → AllAreHeld s ns → DescribesAll s ns ds mid → Midway mid other out back × EachMet mid.exports other.exports ds
 all_described [] s other out back [] mid h i a = (subst (λ (z : State). Midway z other out back) (sym a) h, tt)
 all_described [] s other out back (c ∷ ds) mid h i a = absurd a
 all_described (n ∷ ns) s other out back [] mid h i a = absurd a
@@ -267,7 +275,7 @@ module _ (E F : Map Export) where
   resolve_alike has left (plain.Disembargo x) e h = tt
   resolve_alike has left (plain.Other n) e h = tt
 
-  met_alike : (has left : Has) (ms : List Message) → left.import ≡ has.import → AllMet E F has ms → AllMet E F left ms
+  pub met_alike : (has left : Has) (ms : List Message) → left.import ≡ has.import → AllMet E F has ms → AllMet E F left ms
   met_alike has left [] e h = tt
   met_alike has left (message.Plain m ∷ ms) e h =
       let ds = descriptors_of (message.Plain m) in
@@ -276,7 +284,10 @@ module _ (E F : Map Export) where
 
 -- ---- The call is sent
 
-asks_still : (w : Around) (d : Progress) (q : ℕ) (role : Role) (target : Target) (r : Request) (new : Progress) → MidwayAt w d → AllAreHeld d.state r.caps → Asks d q role target r new → MidwayAt w new
+pub unreturned : (x y : Question) → x.returned ≡ None → x ≡ y → IsSome y.returned → ⊥
+unreturned x y e f i = none_there Returned (subst (λ (o : Option Returned). IsSome o) (ap (λ (z : Question). z.returned) (sym f) ∙ e) i)
+
+pub asks_still : (w : Around) (d : Progress) (q : ℕ) (role : Role) (target : Target) (r : Request) (new : Progress) → MidwayAt w d → AllAreHeld d.state r.caps → Asks d q role target r new → MidwayAt w new
 asks_still w d q role target r new h i a =
     let ds = a.1.0 in
     let mid = a.1.1 in
@@ -292,7 +303,9 @@ asks_still w d q role target r new h i a =
     let still : Midway (record mid { questions = Q }) u (out ++ message.Plain (plain.Call c) ∷ []) w.back =
     asked mid mid.exports Q (at_put (λ j o. IsUnfinished (map.get mid.questions j) → IsUnfinished o) mid.questions q x (λ i. tt) (λ j n i. i)) u out (out ++ message.Plain (plain.Call c) ∷ []) w.back k k.exports
     (λ j path. at_put (λ j o. (said : Descriptor) (to : Node) → known_by_return path (returned_of o) ≡ Leads said to → IsHeld mid to) mid.questions q x (λ said to e. (let b : NothingYet ≡ Leads said to = e in cc)) (λ j n said to e. k.returned j path said to e) j)
-    (opens_more _ out (message.Plain (plain.Call c)) (open_map _ _ out is k.opens) here) (return_map _ _ w.back is k.returns) (λ e i. i)
+    (opens_more _ out (message.Plain (plain.Call c)) (open_map _ _ out is k.opens) here) (return_map _ _ w.back is k.returns)
+    (λ j. at_put (λ j o. (y : Question) → o ≡ Some y → IsSome y.returned → EachOpen (λ k. nat_eq k j ≡ false) (out ++ message.Plain (plain.Call c) ∷ []) × EachReturn (λ k. nat_eq k j ≡ false) w.back) mid.questions q x (λ y e i. absurd (unreturned x y refl (let b : x ≡ y = cc in b) i))
+    (λ j n y e i. (let b = k.answered j y e i in (opens_more _ out (message.Plain (plain.Call c)) b.0 (sides q j ∙ n), b.1))) j) (λ e i. i)
     (met_more mid.exports u.exports (has_of [] u.imports u.questions) out (message.Plain (plain.Call c)) k.named.0 (λ has. (made.1, tt, tt)), met_alike u.exports mid.exports (has_of [] mid.imports mid.questions) (has_of [] mid.imports Q) w.back refl k.named.1)
     (loops_more _ _ out (message.Plain (plain.Call c)) k.sent tt) in
     subst (MidwayAt w) (sym a.1.3) (subst (λ (ms : List Message). Midway (record mid { questions = Q }) u ms w.back) (append_assoc w.out d.effects.sends (message.Plain (plain.Call c) ∷ [])) still)

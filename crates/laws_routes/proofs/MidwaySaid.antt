@@ -2,7 +2,7 @@
 use Rattle.std.specs.FinMap as map
 use Rattle.std.specs.FinMap.Entries as entries
 use Rattle.std.specs.Ordering.{nat_cmp}
-use Rattle.std.proofs.Common.{◌≡◌, ℕ, Bool, true, false, cond, List, [], ◌∷◌, ◌++◌, append_assoc, Option, None, Some, IsSome, refl, sym, ap, subst, ◌∙◌, T}
+use Rattle.std.proofs.Common.{◌≡◌, ℕ, Bool, nat_eq, true, false, cond, List, [], ◌∷◌, ◌++◌, append_assoc, Option, None, Some, IsSome, refl, sym, ap, subst, ◌∙◌, T}
 use Rattle.finite_maps.proofs.Sorted.{behind, first_entry, later_entry, sorted_tail}
 use Rattle.rpc_msg.specs.declared.exception.Exception.{Exception}
 use Rattle.rpc_msg.specs.declared.message.Message.{Message}
@@ -29,7 +29,7 @@ use Rattle.laws_routes.proofs.MidwayRouted.{described_still, held_exports, loops
 use Rattle.laws_routes.proofs.WhereNodesEnd.{settles_here}
 
 -- One more message goes out.
-pub goes_out : (s other : State) (out back : List Message) (m : Message) → Midway s other out back → OpenOf (λ q. IsSome (map.get s.questions q)) m → ((has : Has) → AllMet s.exports other.exports has (m ∷ []))
+pub goes_out : (s other : State) (out back : List Message) (m : Message) → Midway s other out back → ((P : ℕ → Type 0) → OpenOf P m) → ((has : Has) → AllMet s.exports other.exports has (m ∷ []))
     → EachLoop (λ e. IsSome (map.get s.embargoes e)) (λ e. Unit {0}) (m ∷ []) → Midway s other (out ++ m ∷ []) back
 goes_out s other out back m h asked met loop = record {
   stop = h.stop;
@@ -46,8 +46,11 @@ goes_out s other out back m h asked met loop = record {
   theirs = h.theirs;
   imported = h.imported;
   answers = h.answers;
-  opens = opens_more _ out m h.opens asked;
+  pending = h.pending;
+  awaited = h.awaited;
+  opens = opens_more _ out m h.opens (asked (λ q. IsSome (map.get s.questions q)));
   returns = h.returns;
+  answered = λ q x e i. (let a = h.answered q x e i in (opens_more _ out m a.0 (asked (λ k. nat_eq k q ≡ false)), a.1));
   met = h.met;
   named = (met_more s.exports other.exports (has_of [] other.imports other.questions) out m h.named.0 met, let a = h.named in a.1);
   sent = loops_more _ _ out m h.sent loop;
@@ -86,7 +89,7 @@ module _ (w : Around) (d : Progress) (e : ℕ) (reason : Option Exception) (k : 
       let grown = described d.state n c mid made in
       let one = described_still d.state w.other out w.back h n c mid stands.0 made in
       let there = export_there mid e k (export_still d.state mid grown e k i) in
-      let more = goes_out mid w.other out w.back (message.Plain (resolve_message e (resolved.Cap c))) one.0 tt (λ has. ((one.1, tt), λ j. there, tt)) tt in
+      let more = goes_out mid w.other out w.back (message.Plain (resolve_message e (resolved.Cap c))) one.0 (λ P. tt) (λ has. ((one.1, tt), λ j. there, tt)) tt in
       subst (λ (z : Progress). MidwayAt w z × Exports d.state z.state) (sym a.3) (as_sent mid (resolved.Cap c) more, grown)
 
   resolved_by : (n : Node) (new : Progress) → settle d.state k ≡ n → ResolvesBy d e reason n new → MidwayAt w new × Exports d.state new.state
@@ -99,7 +102,7 @@ module _ (w : Around) (d : Progress) (e : ℕ) (reason : Option Exception) (k : 
       let s = d.state in
       let there = export_there s e k i in
       let to : ResolvedTo = resolved.Exception (or_failed reason why) in
-      let more = goes_out s w.other out w.back (message.Plain (resolve_message e to)) h tt (λ has. (tt, λ j. there, tt)) tt in
+      let more = goes_out s w.other out w.back (message.Plain (resolve_message e to)) h (λ P. tt) (λ has. (tt, λ j. there, tt)) tt in
       subst (λ (z : Progress). MidwayAt w z × Exports s z.state) (sym a) (as_sent s to more, none_new s)
 
 -- ---- All

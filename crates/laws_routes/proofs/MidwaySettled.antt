@@ -12,39 +12,39 @@ use Rattle.rpc_msg.specs.declared.ids.EmbargoId.{EmbargoId}
 use Rattle.rpc_msg.specs.declared.message.Message.{Message}
 use Rattle.vat_machine.specs.Payloads.{cap_at}
 use Rattle.vat_machine.specs.declared.calls.Caller.{Caller}
-use Rattle.vat_machine.specs.declared.calls.Caller.TheVariants as who
 use Rattle.vat_machine.specs.declared.calls.HeldCall.{HeldCall}
 use Rattle.vat_machine.specs.declared.calls.KeptOutcome.{KeptOutcome}
-use Rattle.vat_machine.specs.declared.calls.OwnCall.{OwnCall}
 use Rattle.vat_machine.specs.declared.calls.Promise.{Promise}
 use Rattle.vat_machine.specs.declared.calls.Promise.TheVariants as promise
 use Rattle.vat_machine.specs.declared.calls.Value.{Value}
 use Rattle.vat_machine.specs.declared.calls.Value.TheVariants as value
 use Rattle.vat_machine.specs.declared.calls.WaitingCall.{WaitingCall}
+use Rattle.vat_machine.specs.declared.command.Level.TheVariants.{One}
 use Rattle.vat_machine.specs.declared.node.Node.{Node}
 use Rattle.vat_machine.specs.declared.node.Node.TheVariants as node
 use Rattle.vat_machine.specs.State.{State}
 use Rattle.vat_machine.specs.Nodes.{field_link, field_of, is_field, link, node_of_cap, promise_link, value_of}
 use Rattle.vat_machine.specs.Progress.{Progress, caps_of}
-use Rattle.vat_machine.specs.Settling.{Fits, PutsIn, SettlesFrom, SettlesOpen, TellsCall, Untangles, known}
+use Rattle.vat_machine.specs.Settling.{Fits, PutsIn, SettlesFrom, SettlesOpen, Untangles, known}
 use Rattle.laws_nodes.specs.Settling.{AllStop}
 use Rattle.laws_nodes.proofs.Knowing.{known_stops}
+use Rattle.laws_steps.specs.Callers.{AnswersWith, IsOpenFor, peer}
 use Rattle.laws_steps.specs.Settled.{IsThere}
 use Rattle.laws_routes.specs.MakingLaws.{EmbargoIsThere}
 use Rattle.laws_routes.specs.OutcomeLaws.{MaySettleFrom, MaySettleOpen, with_known}
 use Rattle.laws_routes.specs.Ties.{Around}
-use Rattle.laws_routes.specs.Midway.{AllAreHeld, CallerMayBeTold, CallsAreHeld, HeldCallsAreHeld, IsHeld, IsOutcomeOf, IsOwnCaller, IsToldOf, Midway, MidwayAt}
-use Rattle.laws_routes.proofs.ApplicationTold.{call_alone}
+use Rattle.laws_routes.specs.Midway.{AllAreHeld, CallsAreHeld, HeldCallsAreHeld, IsHeld, IsOutcomeOf, Midway, MidwayAt}
 use Rattle.laws_routes.proofs.FromMidway.{links_rest, may_open}
 use Rattle.laws_routes.proofs.MidwayKept.{all_still, calls_still, held_more, held_still, moved}
-use Rattle.laws_routes.proofs.MidwayRouted.{all_held_may_go, refs_still}
+use Rattle.laws_routes.proofs.MidwayRouted.{all_held_may_go}
 use Rattle.laws_routes.proofs.MidwaySaid.{all_may_send}
+use Rattle.laws_routes.proofs.MidwayTold.{told_still}
 
 -- ---- The value takes promises for circles
 
 module _ (other : State) (out back : List Message) where
   abbrev Fitted : State → State → List Node → Type 0
-  Fitted s new caps = Midway new other out back × AllAreHeld new caps × ((k : Node) → IsHeld s k → IsHeld new k) × (new.outcomes ≡ s.outcomes)
+  Fitted s new caps = Midway new other out back × AllAreHeld new caps × ((k : Node) → IsHeld s k → IsHeld new k) × (new.outcomes ≡ s.outcomes) × (new.level ≡ s.level)
 
   abbrev x : Promise
   x = promise.Open []
@@ -58,33 +58,36 @@ module _ (other : State) (out back : List Message) where
       moved s other out back h s.refs (map.insert s.promises p x) s.outcomes s.calls s.tasks s.next_ref s.next_call s.next_task h.heads h.paired
       (at_put (λ k z. IsSome (map.get s.promises k) → IsSome z) s.promises p x (λ i. refl) (λ k n i. i))
       (at_put (λ k z. promise_link z ≡ promise_link (map.get s.promises k)) s.promises p x (sym (ap promise_link free)) (λ k n. refl)) (λ o i. i) (λ o. refl)
-      (at_put (λ k z. (cs : List WaitingCall) → z ≡ Some (promise.Open cs) → CallsAreHeld s cs) s.promises p x (λ cs e. (let a : [] ≡ cs = cc in subst (CallsAreHeld s) a tt)) (λ k n cs e. h.waits k cs e)) h.holds (λ o q i. i)
+      (at_put (λ k z. (cs : List WaitingCall) → z ≡ Some (promise.Open cs) → CallsAreHeld s cs) s.promises p x (λ cs e. (let a : [] ≡ cs = cc in subst (CallsAreHeld s) a tt)) (λ k n cs e. h.waits k cs e)) h.holds (λ o q i. i) (λ o q i. i)
 
   put_in : (s : State) (o : ℕ) (from : Caller) (hs : List HeldCall) (payload : Payload) (i : ℕ) (n : Node) (rest caps : List Node) (new : State) → Midway s other out back → IsHeld s n → AllAreHeld s rest
       → PutsIn s o from hs payload i n rest caps new → Fitted s new caps
-  put_in s o from hs payload i n rest caps new h j k (inl a) = subst (Fitted s new) (sym a.1) (subst (λ (z : State). Fitted s z (n ∷ rest)) (sym a.2) (h, (j, k), λ m l. l, refl))
+  put_in s o from hs payload i n rest caps new h j k (inl a) = subst (Fitted s new) (sym a.1) (subst (λ (z : State). Fitted s z (n ∷ rest)) (sym a.2) (h, (j, k), λ m l. l, refl, refl))
   put_in s o from hs payload i n rest caps new h j k (inr a) =
       let g = a.1 in
       let p = g.0 in
       let t : State = record s { promises = map.insert s.promises p x } in
       let there : IsSome (map.get (map.insert s.promises p x) p) = subst (λ (z : Option Promise). IsSome z) (sym (get-insert_same s.promises p x)) refl in
-      subst (Fitted s new) (sym g.2) (subst (λ (z : State). Fitted s z (node.Promise p ∷ rest)) (sym g.3) (opened_still s p h g.1, ((there, tt), all_still s t (opened_held s p) rest k), opened_held s p, refl))
+      subst (Fitted s new) (sym g.2) (subst (λ (z : State). Fitted s z (node.Promise p ∷ rest)) (sym g.3) (opened_still s p h g.1, ((there, tt), all_still s t (opened_held s p) rest k), opened_held s p, refl, refl))
 
   untangled : (s : State) (o : ℕ) (from : Caller) (hs : List HeldCall) (payload : Payload) (i : ℕ) (ns caps : List Node) (new : State) → Midway s other out back → AllAreHeld s ns → Untangles s o from hs payload i ns caps new → Fitted s new caps
-  untangled s o from hs payload i [] caps new h k a = subst (Fitted s new) (sym a.0) (subst (λ (z : State). Fitted s z []) (sym a.1) (h, tt, λ m l. l, refl))
+  untangled s o from hs payload i [] caps new h k a = subst (Fitted s new) (sym a.0) (subst (λ (z : State). Fitted s z []) (sym a.1) (h, tt, λ m l. l, refl, refl))
   untangled s o from hs payload i (n ∷ ns) caps new h k a =
       let mid = a.1 in
       let f = untangled s o from hs payload (i + 1) ns a.0 mid h k.1 a.2 in
       let more = f.2 in
       let g = put_in mid o from hs payload i n a.0 caps new f.0 (more n k.0) f.1 a.3 in
       let further = g.2 in
-      (g.0, g.1, λ m l. further m (more m l), g.3 ∙ f.3)
+      (g.0, g.1, λ m l. further m (more m l), g.3 ∙ f.3, g.4 ∙ f.4)
 
   fitted : (s : State) (o : ℕ) (from : Caller) (hs : List HeldCall) (v fit : Value) (new : State) → Midway s other out back → AllAreHeld s (caps_of v) → Fits s o from hs v fit new → Fitted s new (caps_of fit)
-  fitted s o from hs (value.Exception exception) fit new h k a = subst (λ (u : Value). Fitted s new (caps_of u)) (sym a.0) (subst (λ (z : State). Fitted s z []) (sym a.1) (h, tt, λ m l. l, refl))
+  fitted s o from hs (value.Exception exception) fit new h k a = subst (λ (u : Value). Fitted s new (caps_of u)) (sym a.0) (subst (λ (z : State). Fitted s z []) (sym a.1) (h, tt, λ m l. l, refl, refl))
   fitted s o from hs (value.Results payload caps) fit new h k a = subst (λ (u : Value). Fitted s new (caps_of u)) (sym a.1) (untangled s o from hs payload 0 caps a.0 new h k a.2)
 
 -- ---- It is known
+
+not_open : (v : Value) → Some v ≡ None → ⊥
+not_open v e = cc
 
 cap_held : (s : State) (caps : List Node) (i : ℕ) → AllAreHeld s caps → IsHeld s (node_of_cap caps (Cap i))
 cap_held s [] i h = (tt, tt)
@@ -148,8 +151,11 @@ module _ (s other : State) (out back : List Message) (h : Midway s other out bac
     theirs = h.theirs;
     imported = h.imported;
     answers = λ q a f. at_put (λ k u. IsOutcomeOf q (map.get s.outcomes k) → IsOutcomeOf q u) s.outcomes o y (λ i. subst (IsOutcomeOf q) at i) (λ k n i. i) a.outcome (h.answers q a f);
+    pending = λ k q i. h.pending k q (at_put (λ k u. IsOpenFor q u → IsOpenFor q (map.get s.outcomes k)) s.outcomes o y (λ i. absurd (not_open v i.0)) (λ k n i. i) k i);
+    awaited = h.awaited;
     opens = h.opens;
     returns = h.returns;
+    answered = h.answered;
     met = h.met;
     named = h.named;
     sent = h.sent;
@@ -164,24 +170,14 @@ emptied_still s other out back h o y v at is =
     (at_put (λ k u. value_of u ≡ value_of (map.get s.outcomes k)) s.outcomes o z (sym (ap value_of at ∙ is)) (λ k n. refl)) h.waits
     (at_put (λ k u. (b : KeptOutcome) → u ≡ Some b → HeldCallsAreHeld s b.waiting) s.outcomes o z (λ b e. (let a : z ≡ b = cc in subst (λ (b : KeptOutcome). HeldCallsAreHeld s b.waiting) a tt)) (λ k n b e. h.holds k b e))
     (at_put (λ k u. (q : ℕ) → IsOutcomeOf q (map.get s.outcomes k) → IsOutcomeOf q u) s.outcomes o z (λ q i. subst (IsOutcomeOf q) at i) (λ k n q i. i))
-
--- ---- The application is told
-
-tells_call : (w : Around) (d : Progress) (c : ℕ) (v : Value) (z : Option OwnCall) (told : Progress) → MidwayAt w d → AllAreHeld d.state (caps_of v) → TellsCall d c v z told → MidwayAt w told
-tells_call w d c v None told h k a = subst (MidwayAt w) (sym a) h
-tells_call w d c v (Some from) told h k a = subst (MidwayAt w) (sym a) (refs_still (caps_of v) d.state w.other (w.out ++ d.effects.sends) w.back h k)
-
-pub own_told : (w : Around) (d : Progress) (o : ℕ) (from : Caller) → IsOwnCaller from → IsToldOf w d o from
-own_told w d o (who.Application c) own v y told h k at a =
-    (tt, tells_call w d c.0 v (map.get d.state.calls c.0) told h k a, ap (λ z. map.get z o) (call_alone d c.0 v (map.get d.state.calls c.0) told a) ∙ at)
-own_told w d o (who.Peer q) own v y told h k at a = absurd own
+    (at_put (λ k u. (q : ℕ) → IsOpenFor q u → IsOpenFor q (map.get s.outcomes k)) s.outcomes o z (λ q i. absurd (not_open v i.0)) (λ k n q i. i))
 
 -- ---- The whole
 
-settles_open : (w : Around) (d : Progress) (o : ℕ) (v : Value) (x : KeptOutcome) (z : Option Value) (new : Progress) → MidwayAt w d → map.get d.state.outcomes o ≡ Some x → AllAreHeld d.state (caps_of v)
-    → ((mid : State) (fit : Value) → IsToldOf w (with_known d mid o x x.waiting fit) o x.caller) → (h : SettlesOpen d o v x z new) → MaySettleOpen w d o v x z new h × MidwayAt w new
-settles_open w d o v x (Some before) new m at caps tell h = absurd h
-settles_open w d o v x None new m at caps tell h =
+settles_open : (w : Around) (d : Progress) (o : ℕ) (v : Value) (x : KeptOutcome) (z : Option Value) (new : Progress) → MidwayAt w d → d.state.level ≡ One → map.get d.state.outcomes o ≡ Some x → x.value ≡ z → AllAreHeld d.state (caps_of v)
+    → (h : SettlesOpen d o v x z new) → MaySettleOpen w d o v x z new h × MidwayAt w new
+settles_open w d o v x (Some before) new m level at is caps h = absurd h
+settles_open w d o v x None new m level at is caps h =
     let s = d.state in
     let out = w.out ++ d.effects.sends in
     let fit = h.0 in
@@ -193,7 +189,8 @@ settles_open w d o v x None new m at caps tell h =
     let f = fitted w.other out w.back s o x.caller x.waiting v fit mid m caps h.2 in
     let there : map.get mid.outcomes o ≡ Some x = ap (λ q. map.get q o) f.3 ∙ at in
     let here : MidwayAt w (with_known d mid o x x.waiting fit) = known_still mid w.other out w.back f.0 o x there fit f.1 (known_stops o x.caller x.waiting s v fit mid h.2 m.stop) in
-    let so = tell mid fit fit y told here (all_still mid (known mid o x.caller x.waiting fit) (held mid o y) (caps_of fit) f.1) (get-insert_same mid.outcomes o y) h.3.1 in
+    let waits : (q : ℕ) → x.caller ≡ peer q → AnswersWith o (map.get mid.answers q) = λ q i. f.0.pending o q (subst (IsOpenFor q) (sym there) (is, i)) in
+    let so = told_still w (with_known d mid o x x.waiting fit) o x.caller fit y told here (f.4 ∙ level) (all_still mid (known mid o x.caller x.waiting fit) (held mid o y) (caps_of fit) f.1) (get-insert_same mid.outcomes o y) refl refl waits h.3.1 in
     let t = told.state in
     let after = so.1 in
     let empty : MidwayAt w (with_known told t o x [] fit) = emptied_still t w.other (w.out ++ told.effects.sends) w.back after o y fit so.2 refl in
@@ -210,10 +207,7 @@ settles_open w d o v x None new m at caps tell h =
       says.1,
     )
 
-pub may_settle : (w : Around) (d : Progress) (o : ℕ) (v : Value) (z : Option KeptOutcome) (new : Progress) → map.get d.state.outcomes o ≡ z → MidwayAt w d → AllAreHeld d.state (caps_of v) → CallerMayBeTold w d o z
+pub may_settle : (w : Around) (d : Progress) (o : ℕ) (v : Value) (z : Option KeptOutcome) (new : Progress) → map.get d.state.outcomes o ≡ z → MidwayAt w d → d.state.level ≡ One → AllAreHeld d.state (caps_of v)
     → (h : SettlesFrom d o v z new) → MaySettleFrom w d o v z new h × MidwayAt w new
-may_settle w d o v None new e m caps tell h = absurd h
-may_settle w d o v (Some x) new e m caps tell h = settles_open w d o v x x.value new m e caps tell h
-
-pub own_may_be_told : (w : Around) (d : Progress) (o : ℕ) (x : KeptOutcome) → IsOwnCaller x.caller → CallerMayBeTold w d o (Some x)
-own_may_be_told w d o x own mid fit = own_told w (with_known d mid o x x.waiting fit) o x.caller own
+may_settle w d o v None new e m level caps h = absurd h
+may_settle w d o v (Some x) new e m level caps h = settles_open w d o v x x.value new m level e refl caps h

@@ -92,7 +92,7 @@ comes_back w d g m q x said f new t e is known h = by f is known h
     by finishing.Owed is known h = comes_for w (kept_returned d q x said) g m x.role said new (kept (known tt)) h
     by finishing.Waived is known h = comes_for w (kept_returned d q x said) g m x.role said new (kept (known tt)) h
 
-obeyed_questions : (s : State) (b : Bool) (es : List ℕ) → (obey s b es).questions ≡ s.questions
+pub obeyed_questions : (s : State) (b : Bool) (es : List ℕ) → (obey s b es).questions ≡ s.questions
 obeyed_questions s true es = refl
 obeyed_questions s false es = refl
 
@@ -104,7 +104,7 @@ obeyed_known v g m d s false es q x said h = h
 -- ---- What was said, once the descriptors are taken
 
 module _ (s : State) (I : Map Import) where
-  read_still : (l : Level) (c : Descriptor) → read_at l (record s { imports = I }) c ≡ read_at l s c
+  pub read_still : (l : Level) (c : Descriptor) → read_at l (record s { imports = I }) c ≡ read_at l s c
   read_still Zero c = refl
   read_still One descriptor.None = refl
   read_still One (descriptor.SenderHosted e) = refl
@@ -116,7 +116,7 @@ module _ (s : State) (I : Map Import) where
   beside_still [] = refl
   beside_still (c ∷ ds) = ap₂ (λ n cs. (c, n) ∷ cs) (read_still s.level c) (beside_still ds)
 
-  results_still : (x : ReturnBody) → results_of (record s { imports = I }) x ≡ results_of s x
+  pub results_still : (x : ReturnBody) → results_of (record s { imports = I }) x ≡ results_of s x
   results_still (body.Results payload ds) = ap (λ cs. returned_as.Results payload cs) (beside_still ds)
   results_still (body.Exception exception) = refl
   results_still body.Canceled = refl

@@ -36,7 +36,7 @@ each_taken s (descriptor.ReceiverHosted i ∷ ds) e h = each_taken s ds e h
 each_taken s (descriptor.ReceiverAnswer q path ∷ ds) e h = each_taken s ds e h
 
 -- A level 0 vat keeps no more imports than it has.
-all_taken : (l : Level) (s : State) (ds : List Descriptor) (e : ℕ) → is_some (map.get (take_at l s ds).imports e) ≡ true → (is_among e (given ds) || is_some (map.get s.imports e)) ≡ true
+pub all_taken : (l : Level) (s : State) (ds : List Descriptor) (e : ℕ) → is_some (map.get (take_at l s ds).imports e) ≡ true → (is_among e (given ds) || is_some (map.get s.imports e)) ≡ true
 all_taken Zero s ds e h = had (is_among e (given ds)) h
   where
     had : (b : Bool) → is_some (map.get s.imports e) ≡ true → (b || is_some (map.get s.imports e)) ≡ true

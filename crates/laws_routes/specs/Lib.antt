@@ -18,3 +18,7 @@ pub mod PairLaws
 pub mod KnownLaws
 pub mod ChainLaws
 pub mod Midway
+pub mod WholeSteps
+pub mod Between
+pub mod FirstActs
+pub mod Received

@@ -1,6 +1,6 @@
 -- What is so of a vat in the middle of a step, and of what is on its way to it and from it. What the laws of pieces take as known
 -- of a state follows from it (docs/protocol.md, "Nodes", "Places", "Ids in use").
-use Rattle.std.specs.Prelude.{◌≡◌, ℕ, Bool, false, Option, None, Some, IsSome, List, [], ◌∷◌, ◌++◌}
+use Rattle.std.specs.Prelude.{◌≡◌, ℕ, Bool, false, true, nat_eq, Option, None, Some, IsSome, List, [], ◌∷◌, ◌++◌}
 use Rattle.std.specs.FinMap as map
 use Rattle.capn_wire.specs.declared.path.Op.{Op}
 use Rattle.rpc_msg.specs.declared.parts.Descriptor.{Descriptor}
@@ -12,32 +12,36 @@ use Rattle.vat_machine.specs.declared.command.Level.TheVariants.{One}
 use Rattle.vat_machine.specs.declared.entries.AnswerEntry.{AnswerEntry}
 use Rattle.vat_machine.specs.declared.entries.Embargo.{Embargo}
 use Rattle.vat_machine.specs.declared.entries.Export.{Export}
+use Rattle.vat_machine.specs.declared.entries.Question.{Question}
 use Rattle.vat_machine.specs.declared.entries.Reference.{Reference}
 use Rattle.vat_machine.specs.declared.node.Node.{Node}
 use Rattle.vat_machine.specs.State.{State}
 use Rattle.vat_machine.specs.Nodes.{is_promise, is_wire, link, settle}
 use Rattle.vat_machine.specs.Advancing.{Leads, known_by_resolve, known_by_return, resolution_of, returned_of}
 use Rattle.vat_machine.specs.Collecting.{Collects}
-use Rattle.vat_machine.specs.Commands.{Acts, answered}
+use Rattle.vat_machine.specs.Commands.{Acts}
 use Rattle.vat_machine.specs.Routing.{RoutedTo, RoutesAll, RoutesHeld}
 use Rattle.vat_machine.specs.declared.calls.HeldCall.{HeldCall}
 use Rattle.vat_machine.specs.declared.calls.Caller.{Caller}
 use Rattle.vat_machine.specs.declared.calls.Caller.TheVariants as caller
 use Rattle.vat_machine.specs.declared.calls.Value.{Value}
+use Rattle.vat_machine.specs.declared.calls.Value.TheVariants as value
 use Rattle.vat_machine.specs.declared.calls.KeptOutcome.{KeptOutcome}
 use Rattle.vat_machine.specs.declared.calls.Promise.TheVariants as promise
 use Rattle.vat_machine.specs.declared.calls.WaitingCall.{WaitingCall}
 use Rattle.vat_machine.specs.Progress.{Progress, caps_of}
 use Rattle.vat_machine.specs.Refusals.{refused}
-use Rattle.vat_machine.specs.Settling.{FixesPromise, SendsResolves, SettlesOutcome, Tells, exports_where}
+use Rattle.vat_machine.specs.Settling.{Drains, FixesPromise, SendsResolves, SettlesOutcome, Tells, exports_where}
 use Rattle.rpc_msg.specs.declared.exception.Exception.{Exception}
 use Rattle.vat_machine.specs.Laws as machine
+use Rattle.laws_steps.specs.Callers.{AnswersWith, IsOpenFor, peer}
 use Rattle.laws_steps.specs.Settled.{IsThere}
 use Rattle.laws_routes.specs.Named.{EachReturn, LinksMet}
 use Rattle.laws_routes.specs.Premises.{EachLoop, EachMayOpen, EachOpen, ExportsAreOwn, IsWireThere, LinksRest, MayAsk, MayGoTo, MayKeep, MayTake, TargetsAreMet}
 use Rattle.laws_routes.specs.Laws.{AllMayGo}
 use Rattle.laws_routes.specs.MakingLaws.{EmbargoIsThere, MayCall}
-use Rattle.laws_routes.specs.OutcomeLaws.{AllHeldMayGo, MayFixFrom, MaySettleFrom, PeerIsTold, with_known}
+use Rattle.laws_routes.specs.OutcomeLaws.{AllHeldMayGo, AllMaySettle, MayFixFrom, MaySettleFrom, PeerIsTold}
+use Rattle.laws_routes.specs.QuietLaws.{MayClose}
 use Rattle.laws_routes.specs.SayingLaws.{AllMaySend, MayAdvance, MaySay, MaySend}
 use Rattle.laws_routes.specs.StepLaws.{MayAct}
 use Rattle.laws_routes.specs.Ties.{Around}
@@ -63,6 +67,10 @@ abbrev pub IsOutcomeOf : ℕ → Option KeptOutcome → Type 0
 IsOutcomeOf q None = ⊥
 IsOutcomeOf q (Some x) = x.caller ≡ caller.Peer (record { 0 = q })
 
+-- The question q is not asked again, and its answer may close if it is finished.
+abbrev pub IsAwaited : State → List Message → ℕ → Bool → Type 0
+IsAwaited other back q finished = EachOpen (λ k. nat_eq k q ≡ false) back × (finished ≡ true → MayClose other back q)
+
 pub record Midway (s other : State) (out back : List Message) : Type 0 where
   -- each node stops, and one that is there leads to what is held
   pub stop : (m : Node) → (d : ℕ) × machine.Stops s d m
@@ -85,9 +93,15 @@ pub record Midway (s other : State) (out back : List Message) : Type 0 where
   pub imported : (e : ℕ) → IsSome (map.get s.imports e) → IsSome (map.get other.exports e)
   -- an answer has its outcome, and that is told to it
   pub answers : (q : ℕ) (a : AnswerEntry) → map.get s.answers q ≡ Some a → IsOutcomeOf q (map.get s.outcomes a.outcome)
+  -- an outcome that is not known yet, and of which the other vat is to be told, has its answer, whose Return was not sent
+  pub pending : (o q : ℕ) → IsOpenFor q (map.get s.outcomes o) → AnswersWith o (map.get s.answers q)
+  -- and that may be sent
+  pub awaited : (q : ℕ) (a : AnswerEntry) → map.get s.answers q ≡ Some a → a.returned ≡ None → IsAwaited other back q a.finished
   -- what asks is of a question that is there, and so is what returns
   pub opens : EachOpen (λ q. IsSome (map.get s.questions q)) out
   pub returns : EachReturn (λ q. IsSome (map.get s.questions q)) back
+  -- where the Return came the question is asked no more, and is not returned again
+  pub answered : (q : ℕ) (x : Question) → map.get s.questions q ≡ Some x → IsSome x.returned → EachOpen (λ k. nat_eq k q ≡ false) out × EachReturn (λ k. nat_eq k q ≡ false) back
   -- exports at which a message is aimed are there, and those that one names
   pub met : TargetsAreMet s back
   pub named : LinksMet s other out back
@@ -166,31 +180,40 @@ MayFixFollows =
 
 -- ---- An outcome settles
 
--- The caller may be told what the outcome o is known to be, and it is so behind that; the outcome is as it was.
-abbrev pub IsToldOf : Around → Progress → ℕ → Caller → Type 0
-IsToldOf w d o from =
-    (v : Value) (y : KeptOutcome) (told : Progress) → MidwayAt w d → AllAreHeld d.state (caps_of v) → map.get d.state.outcomes o ≡ Some y
-    → (h : Tells d from v told) → PeerIsTold w d o from v told h × MidwayAt w told × (map.get told.state.outcomes o ≡ Some y)
+-- The caller of an outcome may be told what that is known to be, the application or the other vat, if its answer waits for it; and it
+-- is so behind that. The outcome is as it was.
+abbrev pub CallersMayBeTold : Type 0
+CallersMayBeTold =
+    (w : Around) (d : Progress) (o : ℕ) (from : Caller) (v : Value) (x : KeptOutcome) (told : Progress) → MidwayAt w d → d.state.level ≡ One → AllAreHeld d.state (caps_of v) → map.get d.state.outcomes o ≡ Some x
+    → x.caller ≡ from → x.value ≡ Some v → ((q : ℕ) → from ≡ peer q → AnswersWith o (map.get d.state.answers q))
+    → (h : Tells d from v told) → PeerIsTold w d o from v told h × MidwayAt w told × (map.get told.state.outcomes o ≡ Some x)
 
--- So it is with whatever value it becomes known.
-abbrev pub CallerMayBeTold : Around → Progress → ℕ → Option KeptOutcome → Type 0
-CallerMayBeTold w d o None = Unit {0}
-CallerMayBeTold w d o (Some x) = (mid : State) (fit : Value) → IsToldOf w (with_known d mid o x x.waiting fit) o x.caller
-
--- An outcome may settle with a value whose capabilities are held, if its caller may be told; and it is so behind its calls and its
--- Resolves.
+-- An outcome may settle with a value whose capabilities are held; and it is so behind its calls and its Resolves.
 abbrev pub MaySettleFollows : Type 0
 MaySettleFollows =
-    (w : Around) (d : Progress) (o : ℕ) (v : Value) (new : Progress) → MidwayAt w d → AllAreHeld d.state (caps_of v) → CallerMayBeTold w d o (map.get d.state.outcomes o)
+    (w : Around) (d : Progress) (o : ℕ) (v : Value) (new : Progress) → MidwayAt w d → d.state.level ≡ One → AllAreHeld d.state (caps_of v)
     → (h : SettlesOutcome d o v new) → MaySettleFrom w d o v (map.get d.state.outcomes o) new h × MidwayAt w new
 
--- The application may be told.
-abbrev pub IsOwnCaller : Caller → Type 0
-IsOwnCaller (caller.Application c) = Unit {0}
-IsOwnCaller (caller.Peer q) = ⊥
+-- ---- What arose settles
 
-abbrev pub OwnMayBeTold : Type 0
-OwnMayBeTold = (w : Around) (d : Progress) (o : ℕ) (x : KeptOutcome) → IsOwnCaller x.caller → CallerMayBeTold w d o (Some x)
+abbrev pub IsFailure : Value → Type 0
+IsFailure (value.Results payload caps) = ⊥
+IsFailure (value.Exception exception) = Unit {0}
+
+abbrev pub NoneCarry : List (ℕ × Value) → Type 0
+NoneCarry [] = Unit {0}
+NoneCarry (x ∷ xs) = IsFailure x.1 × NoneCarry xs
+
+-- The capabilities of what arose are held: results come first and alone, what arises behind them is exceptions.
+abbrev pub ArisenAreHeld : State → List (ℕ × Value) → Type 0
+ArisenAreHeld s [] = Unit {0}
+ArisenAreHeld s (x ∷ xs) = AllAreHeld s (caps_of x.1) × NoneCarry xs
+
+-- What arose may settle, one after the other, and what arises thereby; and it is so behind them.
+abbrev pub DrainsFollow : Type 0
+DrainsFollow =
+    (w : Around) (new d : Progress) → MidwayAt w d → d.state.level ≡ One → ArisenAreHeld d.state d.arisen
+    → (h : Drains new d) → AllMaySettle w new d h × MidwayAt w new × (new.state.level ≡ One)
 
 -- ---- What goes
 
@@ -200,30 +223,10 @@ CollectedFollows = (w : Around) (d new : Progress) → MidwayAt w d → Collects
 
 -- ---- A command
 
-abbrev pub OutcomeMayBeTold : Around → Progress → ℕ → Type 0
-OutcomeMayBeTold w d t = (o : ℕ) → map.get d.state.tasks t ≡ Some o → CallerMayBeTold w (answered d t) o (map.get d.state.outcomes o)
-
--- The caller of the outcome that a command settles may be told.
-abbrev pub TellsWhoMay : Around → Progress → Command → Type 0
-TellsWhoMay w d (command.Host o) = Unit {0}
-TellsWhoMay w d (command.CloneRef r) = Unit {0}
-TellsWhoMay w d (command.DropRef r) = Unit {0}
-TellsWhoMay w d command.Bootstrap = Unit {0}
-TellsWhoMay w d (command.Call c) = Unit {0}
-TellsWhoMay w d (command.Field c path) = Unit {0}
-TellsWhoMay w d command.Promise = Unit {0}
-TellsWhoMay w d (command.Resolve p r) = Unit {0}
-TellsWhoMay w d (command.Reject p exception) = Unit {0}
-TellsWhoMay w d (command.Answer t payload refs) = OutcomeMayBeTold w d t.0
-TellsWhoMay w d (command.Fail t exception) = OutcomeMayBeTold w d t.0
-TellsWhoMay w d (command.Finish c) = Unit {0}
-TellsWhoMay w d (command.Advance r) = Unit {0}
-TellsWhoMay w d (command.Shut n) = Unit {0}
-
 -- All that a command needs, where it is not refused.
 abbrev pub MayActFollows : Type 0
 MayActFollows =
-    (w : Around) (d : Progress) (c : Command) (granted : Granted) (new : Progress) → MidwayAt w d → d.state.vat ≡ w.vat → d.state.level ≡ One → refused d.state c ≡ None → TellsWhoMay w d c
+    (w : Around) (d : Progress) (c : Command) (granted : Granted) (new : Progress) → MidwayAt w d → d.state.vat ≡ w.vat → d.state.level ≡ One → refused d.state c ≡ None
     → (h : Acts d c granted new) → MayAct w d c granted new h
 
 -- A command that settles a promise or an outcome.
@@ -246,5 +249,5 @@ Settles (command.Fail t exception) = Unit {0}
 -- It is so behind its first act.
 abbrev pub SettlingKeepsIt : Type 0
 SettlingKeepsIt =
-    (w : Around) (d : Progress) (c : Command) (granted : Granted) (new : Progress) → MidwayAt w d → d.state.vat ≡ w.vat → d.state.level ≡ One → Settles c → refused d.state c ≡ None → TellsWhoMay w d c
+    (w : Around) (d : Progress) (c : Command) (granted : Granted) (new : Progress) → MidwayAt w d → d.state.vat ≡ w.vat → d.state.level ≡ One → Settles c → refused d.state c ≡ None
     → Acts d c granted new → MidwayAt w new

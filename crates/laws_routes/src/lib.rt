@@ -3,6 +3,7 @@
 //! machine").
 #![tactic(auto)]
 
+mod first_acts;
 mod laws;
 mod making;
 mod messages;
@@ -13,6 +14,9 @@ mod sayings;
 mod steps;
 mod taking;
 
+pub use first_acts::{
+    embargoes_are_named, messages_may_be_taken, other_commands_keep_it, steps_may_be_done,
+};
 pub use laws::{
     calls_are_made, calls_are_routed, calls_come, embargoes_end, gone_is_no_move,
     known_outcomes_stop, new_refs_begin, outcomes_are_kept, promises_are_fixed, references_advance,
@@ -25,9 +29,9 @@ pub use messages::{
     silent_is_no_move,
 };
 pub use midway::{
-    calls_may_go, collecting_keeps_it, commands_may_act, fixed_promises_keep_it,
+    calls_may_go, collecting_keeps_it, commands_may_act, drains_keep_it, fixed_promises_keep_it,
     free_ids_may_be_used, more_may_be_said, resolves_keep_it, routed_calls_keep_it,
-    settled_outcomes_keep_it,
+    settled_outcomes_keep_it, steps_begin_and_end_with_it, sweeps_keep_it, whole_steps_keep_it,
 };
 pub use outcomes::{
     applications_are_told, held_calls_are_routed, outcomes_become_known, outcomes_settle,

@@ -5,7 +5,9 @@ ghost use Rattle.laws_routes.specs.Midway.{
   AllHeldMayGoFollows,
   AllMayGoFollows,
   AllMaySendFollows,
+  CallersMayBeTold,
   CollectedFollows,
+  DrainsFollow,
   LinksRestFollows,
   MayActFollows,
   MayAdvanceFollows,
@@ -20,9 +22,10 @@ ghost use Rattle.laws_routes.specs.Midway.{
   MaySettleFollows,
   MayTakeFollows,
   MidwayAsRouted,
-  OwnMayBeTold,
   SettlingKeepsIt,
 };
+ghost use Rattle.laws_routes.specs.Between.{JoinsFollow, NewVatsAreSo, SplitsFollow};
+ghost use Rattle.laws_routes.specs.WholeSteps.{CommandsFollow, EndsFollow, SweptFollows};
 
 /// A free id or key may be used: a question may be asked with it, an outcome kept, a promise opened, an import taken.
 pub fn free_ids_may_be_used()
@@ -46,8 +49,8 @@ pub fn more_may_be_said()
     ensures advances { MayAdvanceFollows }
 {}
 
-/// A command may do its first act, where it is not refused, if the caller of the outcome that it settles may be told.
-/// Behind one that settles a promise or an outcome it is so too.
+/// A command may do its first act at a vat of level 1, where it is not refused. Behind one that settles a promise or an outcome it
+/// is so too.
 pub fn commands_may_act()
     ensures acts { MayActFollows }
     ensures kept { SettlingKeepsIt }
@@ -72,14 +75,39 @@ pub fn fixed_promises_keep_it()
     ensures { MayFixFollows }
 {}
 
-/// An outcome may settle with a value whose capabilities are held, if its caller may be told: its calls go on and its Resolves are
-/// sent, and it is so behind them. The application may always be told.
+/// An outcome may settle with a value whose capabilities are held: its caller is told, its calls go on and its Resolves are sent,
+/// and it is so behind them.
 pub fn settled_outcomes_keep_it()
     ensures any { MaySettleFollows }
-    ensures own { OwnMayBeTold }
+    ensures told { CallersMayBeTold }
+{}
+
+/// What arose may settle, one after the other, if the capabilities of what came first are held; and it is so behind all.
+pub fn drains_keep_it()
+    ensures { DrainsFollow }
 {}
 
 /// What no place names may go, one after the other: it is so behind them.
 pub fn collecting_keeps_it()
     ensures { CollectedFollows }
+{}
+
+/// At the end of a step what no place names goes, questions are finished and imports are released: it is so behind all of it.
+pub fn sweeps_keep_it()
+    ensures { SweptFollows }
+{}
+
+/// Behind the first act of a step all may go on that the laws of whole steps ask of it, and what is so in the middle of a step is
+/// so behind the whole step. So a command that is done at a vat of level 1 may do all of it.
+pub fn whole_steps_keep_it()
+    ensures ends { EndsFollow }
+    ensures commands { CommandsFollow }
+{}
+
+/// Between two steps that record is what is so of each vat alone, and what is so of one with the other and with what is on its way.
+/// All of it is so of two new vats.
+pub fn steps_begin_and_end_with_it()
+    ensures joins { JoinsFollow }
+    ensures splits { SplitsFollow }
+    ensures new_vats { NewVatsAreSo }
 {}

@@ -1,32 +1,40 @@
 ghost use Rattle.std.specs.Prelude.{◌≡◌, None};
 ghost use Rattle.vat_machine.specs.declared.command.Command.TheVariants as command;
-ghost use Rattle.vat_machine.specs.OwnCalls.{CallsHaveTheirOwn};
+ghost use Rattle.vat_machine.specs.declared.command.Granted.TheVariants as granted;
+ghost use Rattle.vat_machine.specs.Progress.{quiet};
 ghost use Rattle.vat_machine.specs.Refusals.{refused};
 ghost use Rattle.vat_store.specs.Holding.{state_of};
 ghost use Rattle.step_ends.specs.Whole.{IsResting, Tries};
 
-use rpc_msg::Memory;
-use step_ends::{Done, Machine};
+use rpc_msg::{CallId, Memory, PromiseId, RefId};
+use step_ends::{Machine, begin_quietly};
+use step_sweeps::sweep;
+use vat_machine::Effects;
 
-/// Makes a promise that is open, and a reference to it, where that is not refused. `Err` for want of memory; the vat holds
-/// what it held then.
-pub fn promise(machine: &mut Machine) -> Result<Done, Memory>
+/// Makes a promise that is open, and a reference to it, where that is not refused, and says nothing. `Err` for want of
+/// memory; the vat holds what it held then.
+pub fn promise(machine: &mut Machine) -> Result<(PromiseId, RefId), Memory>
     requires resting { IsResting machine.old }
     requires allowed { refused (state_of machine.old.step.store) command.Promise ≡ None }
-    ensures obeys { Tries machine.old command.Promise result machine.new }
+    ensures obeys { Tries machine.old command.Promise (λ x. granted.Promise x.0 x.1) (λ x. quiet) result machine.new }
     ensures resting { IsResting machine.new }
 {
-    Err(Memory)
+    begin_quietly(&mut machine.step, 3)?;
+    Ok(step_commands::promise(&mut machine.step))
 }
 
-/// Asks the peer for its bootstrap object, where that is not refused. `Err` for want of memory; the vat holds what it held
-/// then.
-pub fn bootstrap(machine: &mut Machine) -> Result<Done, Memory>
+/// Asks the peer for its bootstrap object, where that is not refused, and gives the number of that call, and what the step
+/// says. `Err` for want of memory; the vat holds what it held then.
+pub fn bootstrap(machine: &mut Machine) -> Result<(CallId, Effects), Memory>
     requires resting { IsResting machine.old }
-    requires own { CallsHaveTheirOwn (state_of machine.old.step.store) }
     requires allowed { refused (state_of machine.old.step.store) command.Bootstrap ≡ None }
-    ensures obeys { Tries machine.old command.Bootstrap result machine.new }
+    ensures obeys { Tries machine.old command.Bootstrap (λ x. granted.Call x.0) (λ x. x.1) result machine.new }
     ensures resting { IsResting machine.new }
 {
-    Err(Memory)
+    begin_quietly(&mut machine.step, 2)?;
+    let call = step_commands::bootstrap(&mut machine.step, machine.alloc);
+    let Ok(effects) = sweep(&mut machine.step, &mut machine.thought) else {
+        unreachable!()
+    };
+    Ok((call, effects))
 }

@@ -8,16 +8,8 @@ use Rattle.vat_machine.specs.declared.node.Node.{Node}
 use Rattle.vat_machine.specs.Progress.{Progress}
 use Rattle.vat_machine.specs.Routing.{Routes}
 use Rattle.vat_machine.specs.Commands.{kept, CallsHere, WaitsForEmbargo}
-use Rattle.step_base.specs.declared.step.Step.{Step}
-use Rattle.step_base.specs.InProgress.{progress_of}
 use Rattle.step_routes.proofs.Behind.{SamePeer}
 use Rattle.step_calls.specs.Ways.{CallsUnder}
-
-pub same_refs : (x mid : Step) (c o : ℕ) → progress_of mid ≡ kept (progress_of x) c o → mid.store.next_ref ≡ x.store.next_ref
-same_refs x mid c o is = ap (λ (p : Progress). p.state.next_ref) is
-
-pub same_tasks : (x mid : Step) (c o : ℕ) → progress_of mid ≡ kept (progress_of x) c o → mid.store.next_task ≡ x.store.next_task
-same_tasks x mid c o is = ap (λ (p : Progress). p.state.next_task) is
 
 pub same_under : (d : Progress) (w : WaitingCall) (e : ℕ) (b : Option Embargo) (new : Progress) → WaitsForEmbargo d w e b new → SamePeer d.state new.state
 same_under d w e None new h = absurd h

@@ -2,3 +2,4 @@ pub mod Keeping
 pub mod Making
 pub mod Wired
 pub mod Once
+pub mod Rooms

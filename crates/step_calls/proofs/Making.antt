@@ -24,12 +24,6 @@ pub caps_long : (s : State) (c : CallCommand) (x : Reference) (r : Request) → 
 caps_long s c x r is = ap (λ (q : Request). length q.caps) is ∙ heads_long s c.refs
 
 module _ (x mid : Step) (k : ℕ) (is : progress_of mid ≡ numbered (progress_of x) k) where
-  pub same_next : mid.store.next_ref ≡ x.store.next_ref
-  same_next = ap (λ (p : Progress). p.state.next_ref) is
-
-  pub same_task : mid.store.next_task ≡ x.store.next_task
-  same_task = ap (λ (p : Progress). p.state.next_task) is
-
   pub more_calls : mid.store.next_call ≡ x.store.next_call + 1
   more_calls = ap (λ (p : Progress). p.state.next_call) is
 

@@ -29,7 +29,7 @@ use Rattle.store_waits.specs.Noting.{noted_at, noted_unnamed}
 use Rattle.step_base.specs.declared.step.Step.{Step}
 use Rattle.step_base.specs.InProgress.{progress_of, IsReady}
 use Rattle.step_base.proofs.Readying.{ready_same}
-use Rattle.step_calls.specs.AtOnce.{EndsAtOnce, noted_with}
+use Rattle.step_calls.specs.AtOnce.{EndsAtOnce, HasEnded, ended_by, noted_with}
 
 -- ---- What arose
 
@@ -99,7 +99,7 @@ module _ (d : Progress) (call : CallId) (told : Exception) (h : EndsAtOnce d cal
   ends refs = record { call = call; outcome = outcome.Exception told; refs = refs }
 
   abbrev says : Progress
-  says = tell_ended (with_state left knows) (ends [])
+  says = ended_by d h.key call told
 
   twice : says ≡ with_state says (known says.state h.key (caller.Application call) [] (value.Exception told))
   twice =
@@ -134,6 +134,9 @@ module _ (d : Progress) (call : CallId) (told : Exception) (h : EndsAtOnce d cal
   pub drains : (new : Progress) → new ≡ says → Drains new d
   drains new is =
       subst (λ (p : Progress). Drains p d) (sym is) (OneMore {d = d} h.key (value.Exception told) [] h.arisen settled (NoneLeft refl))
+
+  pub has_ended : (new : Progress) → new ≡ says → HasEnded d new call told
+  has_ended new is = record { ends = h; is = is }
 
 -- ---- What is noted
 

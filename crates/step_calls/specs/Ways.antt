@@ -1,11 +1,17 @@
 -- The ways of a call that its vat does not refuse.
-use Rattle.std.specs.Prelude.{◌≡◌, ◌+◌, ℕ, None}
+use Rattle.std.specs.Prelude.{◌≡◌, ◌+◌, ℕ, Option, None, Some, IsSome}
 use Rattle.std.specs.FinMap as map
+use Rattle.rpc_msg.specs.declared.ids.EmbargoId.{EmbargoId}
 use Rattle.vat_machine.specs.declared.calls.Request.{Request}
+use Rattle.vat_machine.specs.declared.entries.Reference.{Reference}
+use Rattle.vat_machine.specs.declared.node.Node.{Node}
+use Rattle.vat_machine.specs.State.{State}
 use Rattle.vat_machine.specs.Lists.{update}
+use Rattle.vat_machine.specs.Nodes.{settle}
 use Rattle.vat_machine.specs.Progress.{Progress, with_state}
 use Rattle.vat_machine.specs.Commands.{kept, WaitsForEmbargo}
 use Rattle.store_names.specs.Changes.{counted_once}
+use Rattle.step_routes.specs.Fitting.{IsOpenThere}
 
 -- Its outcome is kept here, and it waits under that embargo.
 abbrev pub CallsUnder : Progress → ℕ → Request → ℕ → Progress → Type 0
@@ -17,3 +23,17 @@ CallsUnder d c r e new =
 abbrev pub numbered : Progress → ℕ → Progress
 numbered d r =
     with_state d (record (d.state) { refs = update d.state.refs r counted_once; next_call = d.state.next_call + 1 })
+
+-- A call with that head and embargo finds where it goes: the embargo is there; or without one, where the head settles a
+-- call that has to wait can.
+abbrev pub GoesThrough : State → Node → Option EmbargoId → Type 0
+GoesThrough s head None = IsOpenThere s (settle s head)
+GoesThrough s head (Some e) = IsSome (map.get s.embargoes e.0)
+
+abbrev pub GoesBy : State → Option Reference → Type 0
+GoesBy s None = ⊥
+GoesBy s (Some x) = GoesThrough s x.head x.embargo
+
+-- The reference is there, and a call through it finds where it goes.
+abbrev pub GoesSomewhere : State → ℕ → Type 0
+GoesSomewhere s r = GoesBy s (map.get s.refs r)

@@ -1,16 +1,18 @@
-ghost use Rattle.std.specs.Prelude.{◌≡◌, ◌+◌, ◌<◌, ◌≤◌, None, [], length, vec_capacity, IfOk, OnOk};
+ghost use Rattle.std.specs.Prelude.{◌≡◌, ◌+◌, ◌<◌, ◌≤◌, None, [], false, length, vec_capacity, IsOk, IfOk, OnOk};
 ghost use Rattle.std.specs.FinMap as map;
 ghost use Rattle.vat_machine.specs.declared.command.Command.TheVariants as command;
 ghost use Rattle.vat_machine.specs.declared.command.Granted.TheVariants as granted;
 ghost use Rattle.vat_machine.specs.Advancing.{wire_target};
-ghost use Rattle.vat_machine.specs.Commands.{Acts, CallsBy, CallsThrough};
+ghost use Rattle.vat_machine.specs.Commands.{Acts, CallsBy, CallsThrough, heads};
+ghost use Rattle.vat_machine.specs.Fullness.{lacks_room_at, lacks_room_through, call_lacks_room};
 ghost use Rattle.vat_machine.specs.Limits.{number_limit, made_through};
 ghost use Rattle.vat_machine.specs.Nodes.{settle};
 ghost use Rattle.vat_store.specs.Holding.{state_of};
 ghost use Rattle.vat_store.specs.Noted.{noted_of};
 ghost use Rattle.step_base.specs.InProgress.{progress_of, IsReady};
+ghost use Rattle.step_routes.specs.Fitting.{IsOpenThere};
 ghost use Rattle.step_routes.specs.Prepared.{IsPrepared};
-ghost use Rattle.step_calls.specs.Ways.{numbered};
+ghost use Rattle.step_calls.specs.Ways.{numbered, GoesThrough, GoesSomewhere};
 
 use crate::request::request_of;
 use crate::ways::{call_here, call_over, call_under};
@@ -64,10 +66,10 @@ fn call_by(
     requires slack { length request.caps + 4 ≤ step.old.store.slack }
     requires new { map.get (state_of step.old.store).calls id.0 ≡ None }
     requires counted { id.0 < step.old.store.next_call }
-    requires next_refs { step.old.store.next_ref + length request.caps < number_limit }
-    requires next_task { step.old.store.next_task + 1 < number_limit }
     requires prepared { IsPrepared (length request.caps) lists }
     ensures called { OnOk result (CallsBy (progress_of step.old) id.0 request head (settle (state_of step.old.store) head) (progress_of step.new)) }
+    ensures fits { step.old.store.waits.taken ≡ [] → IsOpenThere (state_of step.old.store) (settle (state_of step.old.store) head) → lacks_room_at (state_of step.old.store) request.caps (settle (state_of step.old.store) head) ≡ false → IsOk result }
+    ensures left { OnOk result (step.old.store.slack ≤ step.new.store.slack + (length request.caps + 4)) }
     ensures taken { OnOk result (step.new.store.waits.taken ≡ step.old.store.waits.taken) }
     ensures noted { OnOk result (noted_of step.new.store.names ≡ noted_of step.old.store.names) }
     ensures ready { OnOk result (IsReady step.new) }
@@ -93,10 +95,10 @@ fn call_through(
     requires slack { length request.caps + 4 ≤ step.old.store.slack }
     requires new { map.get (state_of step.old.store).calls id.0 ≡ None }
     requires counted { id.0 < step.old.store.next_call }
-    requires next_refs { step.old.store.next_ref + length request.caps < number_limit }
-    requires next_task { step.old.store.next_task + 1 < number_limit }
     requires prepared { IsPrepared (length request.caps) lists }
     ensures called { OnOk result (CallsThrough (progress_of step.old) id.0 request head embargo (progress_of step.new)) }
+    ensures fits { step.old.store.waits.taken ≡ [] → GoesThrough (state_of step.old.store) head embargo → lacks_room_through (state_of step.old.store) request.caps head embargo ≡ false → IsOk result }
+    ensures left { OnOk result (step.old.store.slack ≤ step.new.store.slack + (length request.caps + 4)) }
     ensures taken { OnOk result (step.new.store.waits.taken ≡ step.old.store.waits.taken) }
     ensures noted { OnOk result (noted_of step.new.store.names ≡ noted_of step.old.store.names) }
     ensures ready { OnOk result (IsReady step.new) }
@@ -109,8 +111,10 @@ fn call_through(
 
 /// Makes a call of the application through a reference, and gives its number: it waits under the reference's embargo, goes
 /// to a node of this vat, or over a wire. The list of nodes is empty and has room for one of each capability. `Full` where
-/// a limit of the waiting calls, the questions or the exports is passed, `Memory` where there is no such reference; the
-/// step is only to be dropped then. Takes no memory, but at most one of the slack for each capability, and four.
+/// a limit of the numbers, the waiting calls, the questions or the exports is passed, `Memory` where there is no such
+/// reference, or what the call would wait for is not there; the step is only to be dropped then. A call for which there is
+/// room, while no call is taken out, never fails. Takes no memory, but at most one of the slack for each capability, and
+/// four.
 pub fn call_kept(
     step: &mut Step,
     lists: Lists,
@@ -121,12 +125,12 @@ pub fn call_kept(
     requires slack { length call.refs + 4 ≤ step.old.store.slack }
     requires number { step.old.store.next_call + 1 < number_limit }
     requires made { made_through (map.get (state_of step.old.store).refs call.reference.0) + 1 < number_limit }
-    requires next_refs { step.old.store.next_ref + length call.refs < number_limit }
-    requires next_task { step.old.store.next_task + 1 < number_limit }
     requires prepared { IsPrepared (length call.refs) lists }
     requires no_nodes { nodes.items ≡ [] }
     requires room { length call.refs ≤ vec_capacity nodes }
     ensures acts { IfOk result (λ c. Acts (progress_of step.old) (command.Call call) (granted.Call c) (progress_of step.new)) }
+    ensures fits { step.old.store.waits.taken ≡ [] → GoesSomewhere (state_of step.old.store) call.reference.0 → call_lacks_room (state_of step.old.store) (heads (state_of step.old.store) call.refs) (map.get (state_of step.old.store).refs call.reference.0) ≡ false → IsOk result }
+    ensures left { OnOk result (step.old.store.slack ≤ step.new.store.slack + (length call.refs + 4)) }
     ensures taken { OnOk result (step.new.store.waits.taken ≡ step.old.store.waits.taken) }
     ensures noted { OnOk result (noted_of step.new.store.names ≡ noted_of step.old.store.names) }
     ensures ready { OnOk result (IsReady step.new) }

@@ -2,7 +2,7 @@ ghost use Rattle.std.specs.Prelude.{◌≡◌, ◌-◌, ◌≤◌, []};
 ghost use Rattle.vat_machine.specs.Settling.{Drains};
 ghost use Rattle.vat_store.specs.Noted.{noted_of};
 ghost use Rattle.step_base.specs.InProgress.{progress_of, IsReady};
-ghost use Rattle.step_calls.specs.AtOnce.{EndsAtOnce, noted_with};
+ghost use Rattle.step_calls.specs.AtOnce.{EndsAtOnce, HasEnded, noted_with};
 
 use rpc_msg::{CallId, Exception, Items};
 use std::alloc::Global;
@@ -10,14 +10,16 @@ use step_base::Step;
 use vat_journal::{Ended, Outcome};
 
 /// The application is told of a call of its own that ended at once, by the one exception that arose: the outcome keeps that,
-/// and the application is told the same, which is given over. All that arose is settled then. Takes no memory, but two of
-/// the slack.
+/// and the application is told the same, which is given over. All that arose is settled then, and all else is as it was.
+/// Takes no memory, but two of the slack.
 pub fn settle_ended(step: &mut Step, alloc: Global, call: CallId, told: Exception)
     requires ready { IsReady step.old }
     requires slack { 2 ≤ step.old.store.slack }
     requires none_taken { step.old.store.waits.taken ≡ [] }
     requires ends { EndsAtOnce (progress_of step.old) call told }
     ensures drains { Drains (progress_of step.new) (progress_of step.old) }
+    ensures ended { HasEnded (progress_of step.old) (progress_of step.new) call told }
+    ensures settled { (progress_of step.new).arisen ≡ [] }
     ensures taken { step.new.store.waits.taken ≡ [] }
     ensures left { step.new.store.slack ≡ step.old.store.slack - 2 }
     ensures noted { noted_of step.new.store.names ≡ noted_with (noted_of step.old.store.names) (progress_of step.old).arisen }

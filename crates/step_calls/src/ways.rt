@@ -1,10 +1,13 @@
-ghost use Rattle.std.specs.Prelude.{◌≡◌, ◌+◌, ◌<◌, ◌≤◌, None, length, OnOk};
+ghost use Rattle.std.specs.Prelude.{◌≡◌, ◌≢◌, ◌+◌, ◌<◌, ◌≤◌, None, [], false, nat_le, length, IsOk, IsSome, OnOk};
 ghost use Rattle.std.specs.FinMap as map;
 ghost use Rattle.vat_machine.specs.Commands.{CallsHere, CallsDirect};
-ghost use Rattle.vat_machine.specs.Limits.{number_limit};
+ghost use Rattle.vat_machine.specs.Fullness.{exports_lack_room, going_out, lacks_room_at};
+ghost use Rattle.vat_machine.specs.Limits.{held, held_limit, table_limit};
+ghost use Rattle.vat_machine.specs.Nodes.{settle};
 ghost use Rattle.vat_store.specs.Holding.{state_of};
 ghost use Rattle.vat_store.specs.Noted.{noted_of};
 ghost use Rattle.step_base.specs.InProgress.{progress_of, IsReady};
+ghost use Rattle.step_routes.specs.Fitting.{IsOpenThere};
 ghost use Rattle.step_routes.specs.Prepared.{IsPrepared};
 ghost use Rattle.step_calls.specs.Ways.{CallsUnder};
 
@@ -17,8 +20,9 @@ use vat_machine::{Node, Request, WaitingCall};
 use vat_tables::TableFault;
 
 /// A call of the application, which has its number and no entry yet, waits under an embargo, and its outcome is kept here.
-/// `Full` at 65,536 calls, and `Memory` where there is no such embargo; the step is only to be dropped then. Takes no
-/// memory, but one of the slack for each capability, and three.
+/// `Full` at 65,536 calls, and `Memory` where there is no such embargo; the step is only to be dropped then. Where the
+/// embargo is there, one more call may wait and none is taken out, it never fails. Takes no memory, but one of the slack for
+/// each capability, and three.
 pub fn call_under(
     step: &mut Step,
     id: CallId,
@@ -30,6 +34,8 @@ pub fn call_under(
     requires new { map.get (state_of step.old.store).calls id.0 ≡ None }
     requires counted { id.0 < step.old.store.next_call }
     ensures called { OnOk result (CallsUnder (progress_of step.old) id.0 request embargo.0 (progress_of step.new)) }
+    ensures fits { step.old.store.waits.taken ≡ [] → IsSome (map.get (state_of step.old.store).embargoes embargo.0) → nat_le held_limit (held (state_of step.old.store)) ≡ false → IsOk result }
+    ensures left { OnOk result (step.old.store.slack ≤ step.new.store.slack + (length request.caps + 3)) }
     ensures taken { step.new.store.waits.taken ≡ step.old.store.waits.taken }
     ensures noted { noted_of step.new.store.names ≡ noted_of step.old.store.names }
     ensures ready { IsReady step.new }
@@ -39,8 +45,10 @@ pub fn call_under(
 }
 
 /// A call of the application, which has its number and no entry yet, goes to where a node of this vat settles, and its
-/// outcome is kept here. `Full` where a limit of the waiting calls, the questions or the exports is passed; the step is
-/// only to be dropped then. Takes no memory, but at most one of the slack for each capability, and four.
+/// outcome is kept here. `Full` where a limit of the numbers, the waiting calls, the questions or the exports is passed,
+/// `Memory` where it settles to a promise or an outcome that is not there; the step is only to be dropped then. It never
+/// fails where there is room and no call is taken out. Takes no memory, but at most one of the slack for each capability,
+/// and four.
 pub fn call_here(
     step: &mut Step,
     lists: Lists,
@@ -52,10 +60,10 @@ pub fn call_here(
     requires slack { length request.caps + 4 ≤ step.old.store.slack }
     requires new { map.get (state_of step.old.store).calls id.0 ≡ None }
     requires counted { id.0 < step.old.store.next_call }
-    requires next_refs { step.old.store.next_ref + length request.caps < number_limit }
-    requires next_task { step.old.store.next_task + 1 < number_limit }
     requires prepared { IsPrepared (length request.caps) lists }
     ensures called { OnOk result (CallsHere (progress_of step.old) id.0 request head (progress_of step.new)) }
+    ensures fits { step.old.store.waits.taken ≡ [] → IsOpenThere (state_of step.old.store) (settle (state_of step.old.store) head) → lacks_room_at (state_of step.old.store) request.caps (settle (state_of step.old.store) head) ≡ false → IsOk result }
+    ensures left { OnOk result (step.old.store.slack ≤ step.new.store.slack + (length request.caps + 4)) }
     ensures taken { OnOk result (step.new.store.waits.taken ≡ step.old.store.waits.taken) }
     ensures noted { OnOk result (noted_of step.new.store.names ≡ noted_of step.old.store.names) }
     ensures ready { OnOk result (IsReady step.new) }
@@ -65,8 +73,8 @@ pub fn call_here(
 }
 
 /// A call of the application, which has its number and no entry yet, goes over a wire, as a question of its own. `Full`
-/// where a limit of the questions or the exports is passed; the step is only to be dropped then. Takes no memory, but at
-/// most one of the slack for each capability, and two.
+/// where a limit of the questions or the exports is passed, and there alone; the step is only to be dropped then. Takes no
+/// memory, but at most one of the slack for each capability, and two.
 pub fn call_over(
     step: &mut Step,
     lists: Lists,
@@ -80,6 +88,8 @@ pub fn call_over(
     requires counted { id.0 < step.old.store.next_call }
     requires prepared { IsPrepared (length request.caps) lists }
     ensures called { OnOk result (CallsDirect (progress_of step.old) id.0 request target (progress_of step.new)) }
+    ensures fits { map.len (state_of step.old.store).questions ≢ table_limit → exports_lack_room (state_of step.old.store) (going_out (state_of step.old.store) request.caps) ≡ false → IsOk result }
+    ensures left { OnOk result (step.old.store.slack ≤ step.new.store.slack + (length request.caps + 2)) }
     ensures taken { OnOk result (step.new.store.waits.taken ≡ step.old.store.waits.taken) }
     ensures noted { OnOk result (noted_of step.new.store.names ≡ noted_of step.old.store.names) }
     ensures ready { OnOk result (IsReady step.new) }

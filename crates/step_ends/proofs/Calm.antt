@@ -3,7 +3,7 @@ use Rattle.std.proofs.Common.{◌≡◌, ℕ, ◌<◌, [], ◌∷◌, Option, No
 use Rattle.std.proofs.Math.Nat.{lt_of_not-le}
 use Rattle.std.specs.FinMap as map
 use Rattle.finite_maps.specs.Tally.{Map}
-use Rattle.finite_maps.proofs.Gets.{put_back, remove_inserted}
+use Rattle.finite_maps.proofs.Gets.{put_back}
 use Rattle.vat_machine.specs.declared.node.Node.{Node}
 use Rattle.vat_machine.specs.declared.command.Granted.{Granted}
 use Rattle.vat_machine.specs.declared.command.Granted.TheVariants as granted
@@ -18,7 +18,6 @@ use Rattle.step_base.specs.Queue.{Queue}
 use Rattle.vat_store.specs.Holding.{IsSound, IsFresh}
 use Rattle.step_base.specs.declared.step.Step.{Step}
 use Rattle.step_base.specs.InProgress.{progress_of, IsReady, IsIdle}
-use Rattle.step_ends.specs.Undoing.{HasNewRef}
 
 -- What is there has a number that was given out.
 pub given_out : {X : Type 0} (m : Map X) (next k : ℕ) (x : X) → IsFresh m next → map.get m k ≡ Some x → k < next
@@ -63,12 +62,3 @@ new_ref s n g d new began acts = (
   acts.0 ∙ ap (λ (p : Progress). granted.Reference (record { 0 = p.state.next_ref })) began,
   acts.1 ∙ ap (λ (p : Progress). with_state p (with_refs p.state (n ∷ []))) began,
 )
-
--- The newest reference is taken back.
-pub unmade : (s t u : State) (r : ℕ) → map.get s.refs r ≡ None → HasNewRef s r t → u ≡ record t { refs = map.remove t.refs r; next_ref = r } → u ≡ s
-unmade s t u r free made back =
-    let y : Reference = record { head = made.1.0; embargo = None; made = 0 } in
-    back ∙ ap (λ (x : State). record x { refs = map.remove x.refs r; next_ref = r }) made.1.1
-    ∙ ap (λ (k : ℕ). record s { refs = map.remove (map.insert s.refs k y) r; next_ref = r }) (sym made.0)
-    ∙ ap (λ (m : Map Reference). record s { refs = m; next_ref = r }) (remove_inserted s.refs r y free)
-    ∙ ap (λ (k : ℕ). record s { next_ref = k }) made.0

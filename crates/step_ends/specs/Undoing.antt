@@ -1,13 +1,11 @@
 -- What `advance` does to a reference, so that it can be put back.
-use Rattle.std.specs.Prelude.{◌≡◌, ◌⊎◌, ℕ, Option, None, Some, List, [], ◌∷◌}
+use Rattle.std.specs.Prelude.{◌≡◌, ◌⊎◌, ℕ, Option, None, Some, List, []}
 use Rattle.std.specs.FinMap as map
 use Rattle.rpc_msg.specs.declared.ids.EmbargoId.{EmbargoId}
 use Rattle.vat_machine.specs.declared.calls.HeldCall.{HeldCall}
 use Rattle.vat_machine.specs.declared.entries.Reference.{Reference}
 use Rattle.vat_machine.specs.declared.entries.Embargo.{Embargo}
 use Rattle.vat_machine.specs.State.{State}
-use Rattle.vat_machine.specs.declared.node.Node.{Node}
-use Rattle.vat_machine.specs.Progress.{with_refs}
 
 -- The reference leads elsewhere.
 abbrev pub IsLed : State → ℕ → State → Type 0
@@ -50,7 +48,3 @@ WasAdvancedFrom s r None new = WasLed s r new
 abbrev pub WasAdvanced : State → ℕ → Option Reference → State → Type 0
 WasAdvanced s r None new = ⊥
 WasAdvanced s r (Some x) new = (map.get s.refs r ≡ Some x) × WasAdvancedFrom s r x.embargo new
-
--- There is one reference more, with the next number.
-abbrev pub HasNewRef : State → ℕ → State → Type 0
-HasNewRef s r new = (r ≡ s.next_ref) × ((n : Node) × (new ≡ with_refs s (n ∷ [])))

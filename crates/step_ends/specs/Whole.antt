@@ -11,7 +11,6 @@ use Rattle.vat_machine.specs.Steps.{Obeys}
 use Rattle.vat_store.specs.Holding.{state_of, IsSound}
 use Rattle.step_base.specs.InProgress.{IsIdle}
 use Rattle.step_ends.specs.declared.machine.Machine.{Machine}
-use Rattle.step_ends.specs.declared.machine.Done.{Done}
 use Rattle.step_ends.specs.declared.machine.Named.{Named}
 
 -- A vat that is up: no step is in progress, no call is taken out to be routed, and the memory of an Abort is there.
@@ -29,15 +28,16 @@ pub record IsResting (x : Machine) : Type 0 where
 abbrev pub fallen_as : Named → ℕ → State
 fallen_as x n = record (start x.vat x.level x.bootstrap) { down = Some n }
 
+-- What a command answers, where it isn't refused: what it gives, or that it is refused for want of memory.
+abbrev pub given : {A E : Type 0} → (A → Granted) → Result A E → Result Granted Refusal
+given granted_by (Ok x) = Ok (granted_by x)
+given granted_by (Err e) = Err refusal.Memory
+
+-- What it says: nothing where it is refused.
+abbrev pub said : {A E : Type 0} → (A → Effects) → Result A E → Effects
+said effects_by (Ok x) = effects_by x
+said effects_by (Err e) = quiet
+
 -- A command that is not refused is done, or is refused for want of memory, and does nothing then.
-abbrev pub answer_of : {E : Type 0} → Result Done E → Result Granted Refusal
-answer_of (Ok x) = Ok x.granted
-answer_of (Err e) = Err refusal.Memory
-
-abbrev pub effects_of : {E : Type 0} → Result Done E → Effects
-effects_of (Ok x) = x.effects
-effects_of (Err e) = quiet
-
--- The command is obeyed as the machine has it.
-abbrev pub Tries : {E : Type 0} → Machine → Command → Result Done E → Machine → Type 0
-Tries old c result new = Obeys (state_of old.step.store) c (answer_of result) (effects_of result) (state_of new.step.store)
+abbrev pub Tries : {A E : Type 0} → Machine → Command → (A → Granted) → (A → Effects) → Result A E → Machine → Type 0
+Tries old c granted_by effects_by result new = Obeys (state_of old.step.store) c (given granted_by result) (said effects_by result) (state_of new.step.store)

@@ -8,26 +8,23 @@ ghost use Rattle.vat_store.specs.Holding.{state_of};
 ghost use Rattle.step_base.specs.InProgress.{IsIdle};
 ghost use Rattle.step_ends.specs.Whole.{IsResting, Tries};
 
-use crate::machine::{Done, Machine};
+use crate::machine::Machine;
 use rpc_msg::{CallId, Memory, RefId};
 use step_base::{Step, begin};
 use step_commands::finish_call;
 use step_sweeps::{Thought, sweep};
 use store_names::{add_call, put_back_ref};
-use vat_machine::{Effects, Granted};
+use vat_machine::Effects;
 
-/// Has no more use for a reference, where that is not refused. `Err` for want of memory; the vat holds what it held then.
-pub fn drop_ref(machine: &mut Machine, id: RefId) -> Result<Done, Memory>
+/// Has no more use for a reference, where that is not refused, and gives what the step says. `Err` for want of memory; the vat holds what it held then.
+pub fn drop_ref(machine: &mut Machine, id: RefId) -> Result<Effects, Memory>
     requires resting { IsResting machine.old }
     requires allowed { refused (state_of machine.old.step.store) (command.DropRef id) ≡ None }
-    ensures obeys { Tries machine.old (command.DropRef id) result machine.new }
+    ensures obeys { Tries machine.old (command.DropRef id) (λ e. granted.Done) (λ e. e) result machine.new }
     ensures resting { IsResting machine.new }
 {
     let effects = drop_whole(&mut machine.step, &mut machine.thought, id)?;
-    Ok(Done {
-        granted: Granted::Done,
-        effects,
-    })
+    Ok(effects)
 }
 
 // The step of it.
@@ -49,19 +46,16 @@ fn drop_whole(step: &mut Step, thought: &mut Thought, id: RefId) -> Result<Effec
     Ok(effects)
 }
 
-/// Has no more use for a call, where that is not refused. `Err` for want of memory; the vat holds what it held then.
-pub fn finish(machine: &mut Machine, id: CallId) -> Result<Done, Memory>
+/// Has no more use for a call, where that is not refused, and gives what the step says. `Err` for want of memory; the vat holds what it held then.
+pub fn finish(machine: &mut Machine, id: CallId) -> Result<Effects, Memory>
     requires resting { IsResting machine.old }
     requires own { CallsHaveTheirOwn (state_of machine.old.step.store) }
     requires allowed { refused (state_of machine.old.step.store) (command.Finish id) ≡ None }
-    ensures obeys { Tries machine.old (command.Finish id) result machine.new }
+    ensures obeys { Tries machine.old (command.Finish id) (λ e. granted.Done) (λ e. e) result machine.new }
     ensures resting { IsResting machine.new }
 {
     let effects = finish_whole(&mut machine.step, &mut machine.thought, id)?;
-    Ok(Done {
-        granted: Granted::Done,
-        effects,
-    })
+    Ok(effects)
 }
 
 // The step of it.

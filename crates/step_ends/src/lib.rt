@@ -3,6 +3,7 @@
 #![tactic(auto)]
 
 mod adding;
+mod beginning;
 mod ending;
 mod falling;
 mod letting;
@@ -13,11 +14,12 @@ mod shortening;
 mod undoing;
 
 pub use adding::{clone_ref, field, host};
+pub use beginning::begin_quietly;
 pub use ending::end_step;
 pub use falling::{fall_as, fall_silently_as, shut};
 pub use letting::{drop_ref, finish};
-pub use machine::{Done, Machine, Named};
+pub use machine::{Machine, Named};
 pub use receiving::receive;
 pub use settling::{answer, fail, reject, resolve};
 pub use shortening::advance;
-pub use undoing::{lead_back, take_back_ref};
+pub use undoing::lead_back;

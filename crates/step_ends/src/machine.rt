@@ -2,7 +2,7 @@ use rpc_msg::{ObjectId, Vat};
 use std::alloc::Global;
 use step_base::Step;
 use step_sweeps::Thought;
-use vat_machine::{Effects, Granted, Level};
+use vat_machine::Level;
 use vat_outbox::Outbox;
 
 /// A vat between its steps: what it holds, and the memory that is kept for its steps. Its fields are open to the crates of
@@ -14,13 +14,6 @@ pub struct Machine {
     /// It has the memory of the one Abort with which the vat goes down, whatever became of the step.
     pub spare: Outbox,
     pub alloc: Global,
-}
-
-/// What a command that is done answers and does.
-#[derive(Drop)]
-pub struct Done {
-    pub granted: Granted,
-    pub effects: Effects,
 }
 
 /// What stays of a vat that goes down.

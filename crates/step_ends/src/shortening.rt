@@ -11,28 +11,26 @@ ghost use Rattle.step_base.specs.InProgress.{IsIdle, IsReady};
 ghost use Rattle.step_ends.specs.Undoing.{WasAdvanced};
 ghost use Rattle.step_ends.specs.Whole.{IsResting, Tries};
 
-use crate::machine::{Done, Machine};
+use crate::machine::Machine;
 use crate::undoing::lead_back;
 use rpc_msg::{Memory, RefId};
 use step_base::{Step, begin};
 use step_sweeps::{Thought, sweep};
 use vat_journal::Advanced;
-use vat_machine::{Effects, Granted, Reference};
+use vat_machine::{Effects, Reference};
 use vat_store::Store;
 
-/// Lets a reference take the shorter path, if one is known, where that is not refused. `Err` for want of memory; the vat
+/// Lets a reference take the shorter path, if one is known, where that is not refused, and gives what it did and what the
+/// step says. `Err` for want of memory; the vat
 /// holds what it held then.
-pub fn advance(machine: &mut Machine, id: RefId) -> Result<Done, Memory>
+pub fn advance(machine: &mut Machine, id: RefId) -> Result<(Advanced, Effects), Memory>
     requires resting { IsResting machine.old }
     requires allowed { refused (state_of machine.old.step.store) (command.Advance id) ≡ None }
-    ensures obeys { Tries machine.old (command.Advance id) result machine.new }
+    ensures obeys { Tries machine.old (command.Advance id) (λ x. granted.Advanced x.0) (λ x. x.1) result machine.new }
     ensures resting { IsResting machine.new }
 {
     let (advanced, effects) = advance_whole(&mut machine.step, &mut machine.thought, id)?;
-    Ok(Done {
-        granted: Granted::Advanced(advanced),
-        effects,
-    })
+    Ok((advanced, effects))
 }
 
 // The step of it.

@@ -3,7 +3,7 @@ ghost use Rattle.std.specs.FinMap as map;
 ghost use Rattle.vat_machine.specs.State.{State};
 ghost use Rattle.vat_machine.specs.Limits.{number_limit};
 ghost use Rattle.vat_store.specs.Holding.{state_of, IsSound};
-ghost use Rattle.step_ends.specs.Undoing.{WasLed, LiftsOf, HasNewRef};
+ghost use Rattle.step_ends.specs.Undoing.{WasLed, LiftsOf};
 
 use rpc_msg::RefId;
 use store_names::{forget_ref, put_back_ref};
@@ -44,17 +44,4 @@ fn lift_of(store: &mut Store, led: Option<Reference>)
         return;
     };
     let _ = lift(store, embargo);
-}
-
-/// Takes the newest reference out again, whose number is free then as it was before. Takes no memory.
-pub fn take_back_ref(store: &mut Store, id: RefId)
-    requires sound { IsSound store.old }
-    requires newest { store.old.next_ref ≡ id.0 + 1 }
-    ensures back { (s : State) → map.get s.refs id.0 ≡ None → HasNewRef s id.0 (state_of store.old) → state_of store.new ≡ s }
-    ensures left { store.new.slack ≡ store.old.slack }
-    ensures waits { store.new.waits ≡ store.old.waits }
-    ensures sound { IsSound store.new }
-{
-    let _ = forget_ref(store, id);
-    store.next_ref = id.0;
 }

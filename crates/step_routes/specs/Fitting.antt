@@ -1,12 +1,14 @@
--- When the exports have room for a node that is described.
-use Rattle.std.specs.Prelude.{◌≡◌, ℕ, ◌≤◌, true, false, Option, None, Some}
+-- When the exports have room for a node that is described; and when a call that has to wait can.
+use Rattle.std.specs.Prelude.{◌≡◌, ℕ, ◌≤◌, true, false, Option, None, Some, IsSome}
 use Rattle.std.specs.FinMap as map
 use Rattle.finite_maps.specs.Tally.{Map}
 use Rattle.vat_machine.specs.declared.node.Node.{Node}
+use Rattle.vat_machine.specs.declared.node.Node.TheVariants as node
 use Rattle.vat_machine.specs.declared.entries.Export.{Export}
 use Rattle.vat_machine.specs.State.{State}
 use Rattle.vat_machine.specs.Fullness.{is_exportable, name_lacks_room}
 use Rattle.vat_tables.specs.Exports.{IsNotExported}
+use Rattle.vat_waits.specs.Changes.{IsOpen}
 
 -- An export stands for the node, and none with a greater count; or none does.
 abbrev pub IsCount : Map Export → Node → Option ℕ → Type 0
@@ -22,3 +24,12 @@ AreCounts s counts = (n : Node) → is_exportable n ≡ true → IsCount s.expor
 -- If an export is made of the node, or has one more on its count, no limit is passed.
 abbrev pub HasExportRoom : State → (Node → Option ℕ) → Node → Type 0
 HasExportRoom s counts n = is_exportable n ≡ true → name_lacks_room (map.len s.exports) (counts n) ≡ false
+
+-- Where a call waits if it goes to this node, it can: the promise is there and open, or the outcome is there.
+abbrev pub IsOpenThere : State → Node → Type 0
+IsOpenThere s (node.Object o) = Unit {0}
+IsOpenThere s (node.Promise p) = IsOpen (map.get s.promises p)
+IsOpenThere s (node.Field o path) = IsSome (map.get s.outcomes o)
+IsOpenThere s (node.Import e) = Unit {0}
+IsOpenThere s (node.Pipe q path) = Unit {0}
+IsOpenThere s (node.Broken reason) = Unit {0}

@@ -1,9 +1,12 @@
-ghost use Rattle.std.specs.Prelude.{◌≡◌, ◌+◌, ◌<◌, ◌≤◌, [], length, OnOk};
-ghost use Rattle.vat_machine.specs.Limits.{number_limit};
+ghost use Rattle.std.specs.Prelude.{◌≡◌, ◌+◌, ◌≤◌, ◌||◌, not, [], false, length, IsOk, OnOk};
+ghost use Rattle.vat_machine.specs.Fullness.{is_spent, lacks_room_at};
+ghost use Rattle.vat_machine.specs.Nodes.{settle};
 ghost use Rattle.vat_machine.specs.Routing.{Routes, RoutesAll, RoutesHeld};
 ghost use Rattle.vat_waits.specs.Waiting.{calls_of};
+ghost use Rattle.vat_store.specs.Holding.{state_of};
 ghost use Rattle.vat_store.specs.Noted.{noted_of};
 ghost use Rattle.step_base.specs.InProgress.{progress_of, IsReady};
+ghost use Rattle.step_routes.specs.Fitting.{IsOpenThere};
 ghost use Rattle.step_routes.specs.Prepared.{IsPrepared};
 
 use crate::asking::relay_kept;
@@ -15,11 +18,21 @@ use rpc_msg::{Memory, Target};
 use std::alloc::Global;
 use step_base::Step;
 use vat_machine::{HeldCall, Node, WaitingCall};
+use vat_store::Store;
 use vat_tables::TableFault;
 
+// There are numbers left for a task, and for a reference for each of so many capabilities.
+fn has_numbers(store: &Store, caps: usize) -> bool
+    ensures { result ≡ not (is_spent store.now.next_task 1 || is_spent store.now.next_ref caps) }
+{
+    store.next_task.checked_add(1).is_some() && store.next_ref.checked_add(caps as u64).is_some()
+}
+
 /// Routes a call to where the node settles: at an object it is delivered, at an open node it waits, at a wire it is sent,
-/// and at a broken node it ends. `Full` where a limit of the waiting calls, the questions or the exports is passed; the
-/// step is only to be dropped then. Takes no memory, but at most one of the slack for each capability, and two.
+/// and at a broken node it ends. `Full` where a limit of the numbers, the waiting calls, the questions or the exports is
+/// passed, `Memory` where it settles to a promise or an outcome that is not there; the step is only to be dropped then. It
+/// never fails where there is room and no call is taken out. Takes no memory, but at most one of the slack for each
+/// capability, and two.
 pub fn route_kept(
     step: &mut Step,
     lists: Lists,
@@ -28,10 +41,9 @@ pub fn route_kept(
 ) -> Result<(), TableFault>
     requires ready { IsReady step.old }
     requires slack { length call.request.caps + 2 ≤ step.old.store.slack }
-    requires next_refs { step.old.store.next_ref + length call.request.caps < number_limit }
-    requires next_task { step.old.store.next_task + 1 < number_limit }
     requires prepared { IsPrepared (length call.request.caps) lists }
     ensures routed { OnOk result (Routes (progress_of step.old) call node (progress_of step.new)) }
+    ensures fits { step.old.store.waits.taken ≡ [] → IsOpenThere (state_of step.old.store) (settle (state_of step.old.store) node) → lacks_room_at (state_of step.old.store) call.request.caps (settle (state_of step.old.store) node) ≡ false → IsOk result }
     ensures left { OnOk result (step.old.store.slack ≤ step.new.store.slack + (length call.request.caps + 2)) }
     ensures less { OnOk result (step.new.store.slack ≤ step.old.store.slack) }
     ensures taken { OnOk result (step.new.store.waits.taken ≡ step.old.store.waits.taken) }
@@ -47,6 +59,9 @@ pub fn route_kept(
     let at = vat_store::settle(&step.store, node);
     match at {
         Node::Object(object) => {
+            if !has_numbers(&step.store, call.request.caps.len()) {
+                return Err(TableFault::Full);
+            }
             deliver_kept(step, call, object, refs);
             Ok(())
         }
@@ -78,17 +93,8 @@ pub fn route(step: &mut Step, alloc: Global, call: WaitingCall, node: Node) -> R
     ensures ready { OnOk result (IsReady step.new) }
 {
     let count = call.request.caps.len();
-    let Some(_) = step.store.next_ref.checked_add(count as u64) else {
-        return Err(Memory);
-    };
-    let Some(_) = step.store.next_task.checked_add(1) else {
-        return Err(Memory);
-    };
-    let Some(more) = count.checked_add(2) else {
-        return Err(Memory);
-    };
     let lists = Lists::new(alloc, count)?;
-    step_base::reserve(step, more)?;
+    step_base::reserve(step, count + 2)?;
     let Ok(()) = route_kept(step, lists, call, node) else {
         return Err(Memory);
     };

@@ -1,4 +1,4 @@
-ghost use Rattle.std.specs.Prelude.{◌≡◌};
+ghost use Rattle.std.specs.Prelude.{◌≡◌, []};
 
 use rpc_msg::{ObjectId, Vat};
 use std::alloc::Global;
@@ -51,10 +51,11 @@ impl Store {
     ghost use Rattle.vat_machine.specs.State.{start};
     ghost use Rattle.vat_store.specs.Holding.{state_of, IsSound};
 
-    /// What a new vat holds. Takes no memory.
+    /// What a new vat holds: no call is taken out to be routed. Takes no memory.
     pub fn new(vat: Vat, level: Level, bootstrap: Option<ObjectId>, alloc: Global) -> Self
         ensures state { state_of result ≡ start vat level bootstrap }
         ensures sound { IsSound result }
+        ensures none_taken { result.waits.taken ≡ [] }
     {
         Store {
             vat,

@@ -1,5 +1,5 @@
 use Rattle.std.proofs.Common.{ap, ◌∙◌}
-use Rattle.vat_machine.specs.Progress.{caps_of}
+use Rattle.vat_machine.specs.Progress.{Progress, caps_of}
 use Rattle.vat_machine.specs.declared.calls.Value.{Value}
 use Rattle.vat_names.specs.Names.{named_all}
 use Rattle.vat_store.specs.Noted.{noted_of}
@@ -7,11 +7,11 @@ use Rattle.vat_store.specs.declared.store.Store.{Store}
 use Rattle.vat_store.specs.Holding.{state_of}
 use Rattle.store_waits.specs.Noting.{noted_unnamed}
 use Rattle.step_base.specs.InProgress.{progress_of}
-use Rattle.step_calls.proofs.Once.{same_key, same_value, knew, said_so, drains, noted_key}
+use Rattle.step_calls.proofs.Once.{same_key, same_value, knew, said_so, has_ended, drains, noted_key}
 use Rattle.step_calls.proofs.ended.settle_ended.Goals as goal
 
-pub returns-clause-drains : goal.returns-clause-drains
-returns-clause-drains c =
+pub returns-clause-ended : goal.returns-clause-ended
+returns-clause-ended c =
     let d = progress_of c.args.step.now in
     let then = progress_of c.next_arisen.new.step in
     let k = c.in-Some.key in
@@ -22,8 +22,16 @@ returns-clause-drains c =
     let call = c.args.call in
     let told = c.args.told in
     let h = c.requires.ends in
-    drains d call told h new
+    has_ended d call told h new
     (said_so d call told h then k v is t c.new.result new (knew d call told h then k v is t c.in-Ok.ensures.ok) c.new.ensures c.tell_ended.ensures.said)
+
+pub returns-clause-drains : goal.returns-clause-drains
+returns-clause-drains c =
+    let ended = returns-clause-ended c in
+    drains (progress_of c.args.step.now) c.args.call c.args.told ended.ends (progress_of c.tell_ended.new.step) ended.is
+
+pub returns-clause-settled : goal.returns-clause-settled
+returns-clause-settled c = ap (λ (p : Progress). p.arisen) (returns-clause-ended c).is
 
 pub returns-clause-noted : goal.returns-clause-noted
 returns-clause-noted c =

@@ -1,8 +1,11 @@
-use Rattle.std.proofs.Common.{◌+◌, length}
+use Rattle.std.proofs.Common.{◌+◌, length, IsSome, sym, subst, ◌∙◌}
+use Rattle.std.specs.FinMap as map
 use Rattle.std.proofs.lemmas.Result.{on_ok_weaker}
+use Rattle.vat_machine.specs.Progress.{Progress}
 use Rattle.step_base.specs.InProgress.{progress_of}
 use Rattle.step_routes.proofs.Behind.{ready_behind}
 use Rattle.step_calls.proofs.Keeping.{same_under, under_kept}
+use Rattle.step_calls.proofs.Rooms.{not_full}
 use Rattle.step_calls.proofs.ways.call_under.Goals as goal
 
 pub returns-clause-called : goal.returns-clause-called
@@ -17,3 +20,9 @@ returns-clause-ready c =
     let p = progress_of kept.new.step in
     ready_behind c.hold_under.result kept.new.step c.hold_under.new.store (length c.args.request.caps + 1) kept.ensures.ready c.hold_under.ensures.sound
     (on_ok_weaker c.hold_under.result (λ h. same_under p (record { request = c.args.request; outcome = kept.result }) c.args.embargo.0 _ _ (h p)) c.hold_under.ensures.ok) c.hold_under.ensures.left c.hold_under.ensures.same
+
+pub returns-clause-fits : goal.returns-clause-fits
+returns-clause-fits c = λ none there room.
+    let kept = c.keep_outcome-outcome in
+    let there_still = subst (λ (p : Progress). IsSome (map.get p.state.embargoes c.args.embargo.0)) (sym kept.ensures.kept) there in
+    c.hold_under.ensures.never there_still (not_full c.args.step.now kept.new.step c.args.id.0 kept.result kept.ensures.free kept.ensures.kept kept.ensures.ready (kept.ensures.taken ∙ none) room)

@@ -1,9 +1,17 @@
+use Rattle.std.proofs.Common.{refl}
+use Rattle.std.specs.FinMap as map
+use Rattle.vat_machine.specs.declared.node.Node.TheVariants as node
 use Rattle.vat_machine.specs.declared.command.Command.TheVariants as command
 use Rattle.vat_machine.specs.declared.command.Granted.TheVariants as granted
 use Rattle.vat_store.specs.Holding.{state_of}
-use Rattle.step_ends.proofs.Answered.{done}
+use Rattle.step_base.specs.InProgress.{progress_of}
+use Rattle.step_ends.proofs.Made.{hosted, cloned, named}
+use Rattle.step_ends.proofs.Quietly.{named_quietly}
 use Rattle.step_ends.proofs.adding.field.Goals as goal
 
 pub returns-clause-obeys : goal.returns-clause-obeys
 returns-clause-obeys c =
-    done (state_of c.args.machine.now.step.store) (command.Field c.args.id c.args.path.now) (granted.Reference c.in_ok-made.made) c.in_ok-made.effects (state_of c.field_whole.new.step.store) c.requires.allowed c.in_ok-made.ensures.does c.field_whole.ensures.idle.sound.within
+    let s = state_of c.args.machine.now.step.store in
+    named_quietly s _ (command.Field c.args.id c.args.path.now) (granted.Reference c.field.result) _ _ c.requires.allowed c.in_ok-begin_quietly.ensures.begun c.field.ensures.acts
+    (named s c.args.path.now (map.get (state_of c.begin_quietly.new.step.store).calls c.args.id.0) (granted.Reference c.field.result) _ _ c.in_ok-begin_quietly.ensures.begun c.field.ensures.acts)
+    refl c.requires.resting.sound.numbered.refs c.in_ok-begin_quietly.ensures.calm c.field.ensures.ready.sound.within

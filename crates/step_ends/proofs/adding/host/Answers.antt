@@ -1,9 +1,17 @@
+use Rattle.std.proofs.Common.{refl}
+use Rattle.std.specs.FinMap as map
+use Rattle.vat_machine.specs.declared.node.Node.TheVariants as node
 use Rattle.vat_machine.specs.declared.command.Command.TheVariants as command
 use Rattle.vat_machine.specs.declared.command.Granted.TheVariants as granted
 use Rattle.vat_store.specs.Holding.{state_of}
-use Rattle.step_ends.proofs.Answered.{done}
+use Rattle.step_base.specs.InProgress.{progress_of}
+use Rattle.step_ends.proofs.Made.{hosted, cloned, named}
+use Rattle.step_ends.proofs.Quietly.{named_quietly}
 use Rattle.step_ends.proofs.adding.host.Goals as goal
 
 pub returns-clause-obeys : goal.returns-clause-obeys
 returns-clause-obeys c =
-    done (state_of c.args.machine.now.step.store) (command.Host c.args.object) (granted.Reference c.in_ok-id.id) c.in_ok-id.effects (state_of c.host_whole.new.step.store) c.requires.allowed c.in_ok-id.ensures.does c.host_whole.ensures.idle.sound.within
+    let s = state_of c.args.machine.now.step.store in
+    named_quietly s _ (command.Host c.args.object) (granted.Reference c.host.result) _ _ c.requires.allowed c.in_ok-begin_quietly.ensures.begun c.host.ensures.acts
+    (hosted s (node.Object c.args.object) (granted.Reference c.host.result) _ _ c.in_ok-begin_quietly.ensures.begun c.host.ensures.acts)
+    refl c.requires.resting.sound.numbered.refs c.in_ok-begin_quietly.ensures.calm c.host.ensures.ready.sound.within

@@ -1,0 +1,5 @@
+pub mod Both
+pub mod Links
+pub mod Questions
+pub mod Loops
+pub mod Exports

@@ -1,0 +1,175 @@
+-- What links hold, read as the sessions of questions do.
+use Rattle.std.proofs.Common.{◌≡◌, ℕ, Bool, nat_eq, true, false, List, [], ◌∷◌, ◌++◌, refl, ◌∙◌}
+use Rattle.finite_maps.proofs.Tested.{sides}
+use Rattle.rpc_msg.specs.declared.message.Message.{Message}
+use Rattle.rpc_msg.specs.declared.message.Message.TheVariants as message
+use Rattle.rpc_msg.specs.declared.message.PlainMessage.{PlainMessage}
+use Rattle.rpc_msg.specs.declared.message.PlainMessage.TheVariants as plain
+use Rattle.rpc_msg.specs.declared.parts.Descriptor.{Descriptor}
+use Rattle.rpc_msg.specs.declared.parts.Descriptor.TheVariants as descriptor
+use Rattle.rpc_msg.specs.declared.parts.Target.{Target}
+use Rattle.rpc_msg.specs.declared.parts.Target.TheVariants.{ImportedCap, PromisedAnswer}
+use Rattle.rpc_msg.specs.Messages.{descriptors_of_plain}
+use Rattle.laws_acts.specs.Sent.{Ids, Noted, messages}
+use Rattle.laws_sessions.specs.Questions.{Answerer, Answered, Fin, NotOpen, Open, Out, Ret, Strange, Unwanted, Working, hear_one}
+use Rattle.laws_sessions.specs.Names as mark
+use Rattle.laws_sessions.specs.Names.{Mark, Met, Names, Says}
+use Rattle.laws_sessions.specs.Views.{only, out_of, outs, ret_of, rets}
+use Rattle.laws_answers.specs.Named.{each_marks, marks, says, target_marks, targets_marks}
+use Rattle.laws_routes.specs.Named.{EachReturn, ReturnOf}
+use Rattle.laws_routes.specs.Premises.{EachOpen, OpenOf}
+use Rattle.laws_routes.specs.QuietLaws.{AimsElsewherePlain, EachOff, IsOffAnswer, NoneAims, NoneNames, Unless, opens}
+
+-- ---- What asks
+
+abbrev pub NoneOpens : List (Out Ids Ids) → Type 0
+NoneOpens [] = Unit {0}
+NoneOpens (Open x ∷ ms) = ⊥
+NoneOpens (Fin l ∷ ms) = NoneOpens ms
+
+-- ---- What names an answer that is finished
+
+abbrev NoneNamed : List (Mark Ids Ids) → Type 0
+NoneNamed [] = Unit {0}
+NoneNamed (Says m ∷ ms) = NoneNamed ms
+NoneNamed (Names ∷ ms) = ⊥
+
+-- Nothing may name it.
+abbrev pub IsShut : Answerer Ids Ids → Type 0
+IsShut NotOpen = ⊥
+IsShut (Working x) = ⊥
+IsShut (Unwanted x) = Unit {0}
+IsShut (Answered y) = ⊥
+IsShut Strange = Unit {0}
+
+stays_shut : (u : Answerer Ids Ids) (m : Out Ids Ids) → IsShut u → IsShut (hear_one u m)
+stays_shut NotOpen m i = absurd i
+stays_shut (Working x) m i = absurd i
+stays_shut (Unwanted x) m i = tt
+stays_shut (Answered y) m i = absurd i
+stays_shut Strange m i = tt
+
+not_here : (u : Answerer Ids Ids) → IsShut u → mark.IsHere u → ⊥
+not_here NotOpen i h = h
+not_here (Working x) i h = i
+not_here (Unwanted x) i h = h
+not_here (Answered y) i h = i
+not_here Strange i h = h
+
+-- ---- A link
+
+module _ (q : ℕ) where
+  none_opens : (k : ℕ) (x : Ids) (rest : List (Out Ids Ids)) (b : Bool) → nat_eq q k ≡ b → NoneOpens (only b (Open x) ++ rest) → (nat_eq k q ≡ false) × NoneOpens rest
+  none_opens k x rest true e h = absurd h
+  none_opens k x rest false e h = (sides k q ∙ e, h)
+
+  finishes : (l : _) (rest : List (Out Ids Ids)) (b : Bool) → NoneOpens (only b (Fin l) ++ rest) → NoneOpens rest
+  finishes l rest true h = h
+  finishes l rest false h = h
+
+  opens_other : (m : PlainMessage) (l : Ids) (rest : List (Out Ids Ids)) → NoneOpens (out_of q m l ++ rest) → OpenOf (λ k. nat_eq k q ≡ false) (message.Plain m) × NoneOpens rest
+  opens_other (plain.Abort exception) l rest h = (tt, h)
+  opens_other (plain.Bootstrap k) l rest h = none_opens k.0 [] rest (nat_eq q k.0) refl h
+  opens_other (plain.Call c) l rest h = none_opens c.question.0 _ rest (nat_eq q c.question.0) refl h
+  opens_other (plain.Return r) l rest h = (tt, h)
+  opens_other (plain.Finish f) l rest h = (tt, finishes _ rest (nat_eq q f.question.0) h)
+  opens_other (plain.Resolve r) l rest h = (tt, h)
+  opens_other (plain.Release r) l rest h = (tt, h)
+  opens_other (plain.Disembargo d) l rest h = (tt, h)
+  opens_other (plain.Other n) l rest h = (tt, h)
+
+  pub no_open : (ns : List Noted) → NoneOpens (outs q ns) → EachOpen (λ k. nat_eq k q ≡ false) (messages ns)
+  no_open [] h = tt
+  no_open (n ∷ ns) h = let a = opens_other n.message n.lets (outs q ns) h in (a.0, no_open ns a.1)
+
+  -- ---- What returns
+
+  none_returns : (k : ℕ) (r : Ret Ids Ids) (rest : List (Ret Ids Ids)) (b : Bool) → nat_eq q k ≡ b → only b r ++ rest ≡ [] → (nat_eq k q ≡ false) × (rest ≡ [])
+  none_returns k r rest true e h = cc
+  none_returns k r rest false e h = (sides k q ∙ e, h)
+
+  returns_other : (m : PlainMessage) (l : Ids) (rest : List (Ret Ids Ids)) → ret_of q m l ++ rest ≡ [] → ReturnOf (λ k. nat_eq k q ≡ false) m × (rest ≡ [])
+  returns_other (plain.Abort exception) l rest h = (tt, h)
+  returns_other (plain.Bootstrap k) l rest h = (tt, h)
+  returns_other (plain.Call c) l rest h = (tt, h)
+  returns_other (plain.Return r) l rest h = none_returns r.answer.0 _ rest (nat_eq q r.answer.0) refl h
+  returns_other (plain.Finish f) l rest h = (tt, h)
+  returns_other (plain.Resolve r) l rest h = (tt, h)
+  returns_other (plain.Release r) l rest h = (tt, h)
+  returns_other (plain.Disembargo d) l rest h = (tt, h)
+  returns_other (plain.Other n) l rest h = (tt, h)
+
+  pub no_return : (ns : List Noted) → rets q ns ≡ [] → EachReturn (λ k. nat_eq k q ≡ false) (messages ns)
+  no_return [] h = tt
+  no_return (n ∷ ns) h = let a = returns_other n.message n.lets (rets q ns) h in (a.0, no_return ns a.1)
+
+  -- What is left to be met behind these marks.
+  abbrev MetBehind : List (Mark Ids Ids) → Type 0
+  MetBehind ms = (u : Answerer Ids Ids) × IsShut u × Met u ms
+
+  none_named : (u : Answerer Ids Ids) (ms rest : List (Mark Ids Ids)) → IsShut u → Met u (ms ++ rest) → NoneNamed ms × MetBehind rest
+  none_named u [] rest i h = (tt, (u, i, h))
+  none_named u (Says m ∷ ms) rest i h = none_named (hear_one u m) ms rest (stays_shut u m i) h
+  none_named u (Names ∷ ms) rest i h = absurd (not_here u i h.0)
+
+  only_other : (k : ℕ) (b : Bool) → nat_eq q k ≡ b → NoneNamed (only b Names) → nat_eq k q ≡ false
+  only_other k true e h = absurd h
+  only_other k false e h = sides k q ∙ e
+
+  target_off : (t : Target) → NoneNamed (target_marks q t) → IsOffAnswer q t
+  target_off (ImportedCap e) h = tt
+  target_off (PromisedAnswer k path) h = only_other k.0 (nat_eq q k.0) refl h
+
+  targets_off : (m : PlainMessage) → NoneNamed (targets_marks q m) → AimsElsewherePlain q m
+  targets_off (plain.Abort exception) h = tt
+  targets_off (plain.Bootstrap k) h = tt
+  targets_off (plain.Call c) h = target_off c.target h
+  targets_off (plain.Return r) h = tt
+  targets_off (plain.Finish f) h = tt
+  targets_off (plain.Resolve r) h = tt
+  targets_off (plain.Release r) h = tt
+  targets_off (plain.Disembargo d) h = target_off d.target h
+  targets_off (plain.Other n) h = tt
+
+  each_off : (ds : List Descriptor) → NoneNamed (each_marks q ds) → EachOff q ds
+  each_off [] h = tt
+  each_off (descriptor.None ∷ ds) h = (tt, each_off ds h)
+  each_off (descriptor.SenderHosted e ∷ ds) h = (tt, each_off ds h)
+  each_off (descriptor.SenderPromise e ∷ ds) h = (tt, each_off ds h)
+  each_off (descriptor.ReceiverHosted e ∷ ds) h = (tt, each_off ds h)
+  each_off (descriptor.ReceiverAnswer k path ∷ ds) h = by (each_off ds) (nat_eq q k.0) refl h
+    where
+      by : (NoneNamed (each_marks q ds) → EachOff q ds) → (b : Bool) → nat_eq q k.0 ≡ b → NoneNamed (only b Names ++ each_marks q ds) → (nat_eq k.0 q ≡ false) × EachOff q ds
+      by rest true e h = absurd h
+      by rest false e h = (sides k.0 q ∙ e, rest h)
+
+  unless : {P : Type 0} (b : Bool) → P → Unless b P
+  unless true p = tt
+  unless false p = p
+
+  pub shut : (u : Answerer Ids Ids) (ns : List Noted) → IsShut u → Met u (marks q ns) → NoneAims q (messages ns) × NoneNames q (messages ns)
+  shut u [] i h = (tt, tt)
+  shut u (n ∷ ns) i h =
+      let m = n.message in
+      let ds = descriptors_of_plain m in
+      let one = none_named u (targets_marks q m) (each_marks q ds ++ (says (out_of q m n.lets) ++ marks q ns)) i h in
+      let two = none_named one.1.0 (each_marks q ds) (says (out_of q m n.lets) ++ marks q ns) one.1.1 one.1.2 in
+      let three = none_named two.1.0 (says (out_of q m n.lets)) (marks q ns) two.1.1 two.1.2 in
+      let rest = shut three.1.0 ns three.1.1 three.1.2 in
+      ((targets_off m one.0, unless (opens q (message.Plain m)) rest.0), (each_off ds two.0, unless (opens q (message.Plain m)) rest.1))
+
+each : (m : PlainMessage) → ReturnOf (λ q. Unit {0}) m
+each (plain.Abort exception) = tt
+each (plain.Bootstrap q) = tt
+each (plain.Call c) = tt
+each (plain.Return r) = tt
+each (plain.Finish x) = tt
+each (plain.Resolve r) = tt
+each (plain.Release r) = tt
+each (plain.Disembargo x) = tt
+each (plain.Other n) = tt
+
+pub all_returns : (ms : List Message) → EachReturn (λ q. Unit {0}) ms
+all_returns [] = tt
+all_returns (message.Plain m ∷ ms) = (each m, all_returns ms)
+all_returns (message.Unimplemented m ∷ ms) = all_returns ms

@@ -1,0 +1,50 @@
+-- What is so of two vats between steps, with what is on the way to each (docs/protocol.md, "Ids in use").
+use Rattle.std.specs.Prelude.{◌≡◌, ℕ, nat_eq, false, None, Some, IsSome, List}
+use Rattle.std.specs.FinMap as map
+use Rattle.rpc_msg.specs.declared.ids.Vat.{Vat}
+use Rattle.rpc_msg.specs.Vats.{other_vat}
+use Rattle.rpc_msg.specs.declared.message.Message.{Message}
+use Rattle.vat_machine.specs.declared.entries.AnswerEntry.{AnswerEntry}
+use Rattle.vat_machine.specs.declared.entries.Question.{Question}
+use Rattle.vat_machine.specs.State.{State}
+use Rattle.vat_machine.specs.World.{World, core, inbox}
+use Rattle.laws_sessions.specs.Scenes.{InScenes}
+use Rattle.laws_routes.specs.Between.{Across}
+use Rattle.laws_routes.specs.Midway.{IsAwaited}
+use Rattle.laws_routes.specs.Named.{EachReturn, LinksMet}
+use Rattle.laws_routes.specs.Premises.{EachLoop, EachOpen, TargetsAreMet}
+
+-- It is so of each vat of a world, with the other and what is on its way there and back.
+abbrev pub OfBoth : (State → State → List Message → List Message → Type 0) → World → Type 0
+OfBoth P w = (v : Vat) → P (core w v) (core w (other_vat v)) (inbox w (other_vat v)) (inbox w v)
+
+-- What is on the way is of questions and answers as they are (fields of `laws_routes::Across`).
+pub record QuestionsMeet (s other : State) (out back : List Message) : Type 0 where
+  pub awaited : (q : ℕ) (a : AnswerEntry) → map.get s.answers q ≡ Some a → a.returned ≡ None → IsAwaited other back q a.finished
+  pub opens : EachOpen (λ q. IsSome (map.get s.questions q)) out
+  pub returns : EachReturn (λ q. IsSome (map.get s.questions q)) back
+  pub answered : (q : ℕ) (x : Question) → map.get s.questions q ≡ Some x → IsSome x.returned → EachOpen (λ k. nat_eq k q ≡ false) out × EachReturn (λ k. nat_eq k q ≡ false) back
+
+abbrev pub QuestionsMeetInScenes : Type 0
+QuestionsMeetInScenes = InScenes (OfBoth QuestionsMeet)
+
+-- A Disembargo is of an embargo that is there, on its way out and on its way back.
+pub record LoopsMeet (s other : State) (out back : List Message) : Type 0 where
+  pub sent : EachLoop (λ e. IsSome (map.get s.embargoes e)) (λ e. Unit {0}) out
+  pub echoed : EachLoop (λ e. Unit {0}) (λ e. IsSome (map.get s.embargoes e)) back
+
+abbrev pub LoopsMeetInScenes : Type 0
+LoopsMeetInScenes = InScenes (OfBoth LoopsMeet)
+
+-- What is imported is exported, exports at which a message is aimed are there, and those that one names.
+pub record ExportsMeet (s other : State) (out back : List Message) : Type 0 where
+  pub imported : (e : ℕ) → IsSome (map.get s.imports e) → IsSome (map.get other.exports e)
+  pub met : TargetsAreMet s back
+  pub named : LinksMet s other out back
+
+abbrev pub ExportsMeetInScenes : Type 0
+ExportsMeetInScenes = InScenes (OfBoth ExportsMeet)
+
+-- So all that the record of the middle of a step says of a vat with the other one is so in each scene, at each vat.
+abbrev pub AcrossInScenes : Type 0
+AcrossInScenes = InScenes (OfBoth Across)

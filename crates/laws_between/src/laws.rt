@@ -1,0 +1,42 @@
+//! The functions run no code: what each ensures is the law.
+
+ghost use Rattle.laws_between.specs.Meeting.{AcrossInScenes, ExportsMeetInScenes, LoopsMeetInScenes, QuestionsMeetInScenes};
+
+use laws_answers::embargoes_are_about;
+use laws_sessions::counts_agree_in_scenes;
+use vat_machine::sends_raise_counts;
+
+/// In each scene what asks on the way is of a question that is there, and so is what returns; where the Return came the question is
+/// asked no more, and is not returned again; and an answer whose Return was not sent is not asked again, and may close if it is
+/// finished.
+pub fn questions_meet()
+    ensures { QuestionsMeetInScenes }
+{
+    counts_agree_in_scenes();
+}
+
+/// In each scene a Disembargo on its way is of an embargo that is there: on its way to the other vat, and on its way back.
+pub fn loops_meet()
+    ensures { LoopsMeetInScenes }
+{
+    embargoes_are_about();
+}
+
+/// In each scene what a vat imports the other one exports, and so what messages on the way are aimed at or name: exports of their
+/// receiver, and of their sender.
+pub fn exports_meet()
+    ensures { ExportsMeetInScenes }
+{
+    sends_raise_counts();
+    counts_agree_in_scenes();
+}
+
+/// So in each scene all is so that the record of the middle of a step (`laws_routes`) says of a vat with the other one, and with what
+/// is on its way.
+pub fn vats_meet()
+    ensures { AcrossInScenes }
+{
+    questions_meet();
+    loops_meet();
+    exports_meet();
+}

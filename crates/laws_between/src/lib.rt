@@ -1,0 +1,7 @@
+//! Between the steps of two vats, in each scene: what the laws of whole steps (`laws_routes`) take as known of a vat with the other
+//! one and with what is on its way. No code runs here: what each function ensures is the law.
+#![tactic(auto)]
+
+mod laws;
+
+pub use laws::{exports_meet, loops_meet, questions_meet, vats_meet};

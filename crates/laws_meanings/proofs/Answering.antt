@@ -1,0 +1,354 @@
+-- What a Return says, while its question is wanted, is what was answered to the delivery of the call, or that it is broken;
+-- so each call ends so, in each scene.
+use Rattle.std.proofs.Common.{◌≡◌, inl, inr, ℕ, suc, ◌≤◌, true, false, Option, None, Some, List, [], ◌∷◌, ◌++◌, length, map, append_assoc, refl, sym, ap, subst, ◌∙◌, arith}
+use Rattle.std.specs.FinMap as map
+use Rattle.finite_maps.specs.Tally.{Map}
+use Rattle.rpc_msg.specs.declared.ids.Vat.{Vat}
+use Rattle.rpc_msg.specs.declared.ids.Vat.TheVariants.{A, B}
+use Rattle.rpc_msg.specs.declared.ids.RefId.{RefId}
+use Rattle.rpc_msg.specs.declared.ids.Stamp.{Stamp}
+use Rattle.rpc_msg.specs.declared.ids.ObjectId.{ObjectId}
+use Rattle.rpc_msg.specs.declared.message.Message.{Message}
+use Rattle.rpc_msg.specs.declared.message.Message.TheVariants as message
+use Rattle.rpc_msg.specs.declared.message.PlainMessage.{PlainMessage}
+use Rattle.rpc_msg.specs.declared.message.PlainMessage.TheVariants as plain
+use Rattle.rpc_msg.specs.declared.message.Return.{Return}
+use Rattle.rpc_msg.specs.Vats.{other_vat}
+use Rattle.vat_journal.specs.declared.report.Ended.{Ended}
+use Rattle.vat_journal.specs.declared.report.Outcome.TheVariants as outcome
+use Rattle.vat_journal.specs.declared.entry.JournalEntry.{JournalEntry}
+use Rattle.vat_journal.specs.declared.entry.JournalEntry.TheVariants as entry
+use Rattle.vat_journal.specs.History.{or_rest}
+use Rattle.vat_journal.specs.Sources.{Asking, OfBootstrap, OfCall, asking, asking_one}
+use Rattle.vat_machine.specs.declared.node.Reason.{Reason}
+use Rattle.vat_machine.specs.declared.command.Command.{Command}
+use Rattle.vat_machine.specs.declared.command.Granted.{Granted}
+use Rattle.vat_machine.specs.declared.command.Granted.TheVariants as granted
+use Rattle.vat_machine.specs.declared.command.Effects.{Effects}
+use Rattle.vat_machine.specs.declared.entries.AnswerEntry.{AnswerEntry}
+use Rattle.vat_machine.specs.declared.entries.Question.{Question}
+use Rattle.vat_machine.specs.State.{State}
+use Rattle.vat_machine.specs.Commands.{heads}
+use Rattle.vat_machine.specs.Messages.{value_of_results}
+use Rattle.vat_machine.specs.Routing.{failed, reason_text}
+use Rattle.vat_machine.specs.Sweeping.{IsNotSent}
+use Rattle.vat_machine.specs.World.{World, core, inbox, put_inbox, after}
+use Rattle.vat_machine.specs.Journal.{went_down, effect_entries, granted_entries}
+use Rattle.vat_machine.specs.Claims.{Upto, history}
+use Rattle.laws_nodes.specs.Sources.{EachHasOneSource}
+use Rattle.laws_acts.specs.MessageActs.{Back, Brings, returning}
+use Rattle.laws_acts.specs.MessageActs as heard
+use Rattle.laws_sessions.specs.Worlds.{Stand}
+use Rattle.laws_sessions.specs.Between.{HoldsIn}
+use Rattle.laws_sessions.specs.Scenes.{InScenes, OldestAreMet}
+use Rattle.laws_runs.proofs.Counting.{scenes_count}
+use Rattle.laws_runs.proofs.Reading.{still_first}
+use Rattle.laws_runs.specs.Scenes as scenes
+use Rattle.laws_runs.specs.Scenes.{Scene, IsScene, begins}
+use Rattle.laws_meanings.specs.OnePlace.{deliveries_of}
+use Rattle.laws_meanings.specs.Identities.{asked_in, asked_last, last_asked, asked_of, DeliveredIn}
+use Rattle.laws_meanings.specs.AnsweredEnds.{AnsweredOrBroken, IfCallEnds, CallsEndAsAnswered}
+use Rattle.laws_meanings.proofs.Entries.{Claim, EachAfter, each-append, each_always, upto, is_effect, granted_always}
+use Rattle.laws_meanings.proofs.Identified.{last-append}
+use Rattle.laws_meanings.proofs.LastAsked.{of_own}
+use Rattle.laws_meanings.proofs.Awaited.{IsWanted, Waits}
+use Rattle.laws_meanings.proofs.Awaited as awaited
+use Rattle.laws_meanings.proofs.Replies.{answered, still_so}
+use Rattle.laws_meanings.proofs.Returning.{IsReturn, HasReturn, Unwanted, none_asked, it_waits, only_return, is_unwanted, fin_unwanted}
+use Rattle.laws_meanings.proofs.OfCalls.{quiet_mine, same_last}
+use Rattle.laws_meanings.proofs.OfCallsScenes.{root_asked, call_asked, first_last, asks_root, asks_call, es_asks, es_none, twice, begins_so, no_source, mine_in}
+use Rattle.laws_meanings.proofs.Asking.{numbers_asked}
+use Rattle.laws_meanings.proofs.Placed.{entries-append}
+use Rattle.laws_meanings.proofs.Placing.{at_one_place, own_none}
+use Rattle.laws_meanings.proofs.Tasking.{tasks_open}
+use Rattle.laws_meanings.proofs.Walked.{in_each, step_more}
+use Rattle.laws_meanings.proofs.Whose as whose
+use Rattle.laws_meanings.proofs.WhoseFirst as walk
+
+broke : (h : List JournalEntry) (s : Stamp) (why : Reason) → AnsweredOrBroken h (OfCall s) (outcome.Exception (failed (reason_text why))) 0
+broke h s why = inr (why, refl, refl)
+
+-- What the vat u has sent and what is on its way says so, to the vat with these questions.
+abbrev Say : List JournalEntry → Vat → Map Question → List Message → Type 0
+Say h u qs ms = whose.AllSay (asked_of h u) (last_asked h u) (DeliveredIn h u) (AnsweredOrBroken h) (Unwanted qs) (broke h) ms
+
+abbrev SayOne : List JournalEntry → Vat → Map Question → Message → Type 0
+SayOne h u qs m = whose.MessageSays (asked_of h u) (last_asked h u) (DeliveredIn h u) (AnsweredOrBroken h) (Unwanted qs) (broke h) m
+
+say-append : (h : List JournalEntry) (u : Vat) (qs : Map Question) (ms ns : List Message) → Say h u qs ms → Say h u qs ns → Say h u qs (ms ++ ns)
+say-append h u qs [] ns i j = j
+say-append h u qs (m ∷ ms) ns i j = (i.0, say-append h u qs ms ns i.1 j)
+
+-- With more entries, and other questions.
+module _ (h es : List JournalEntry) (u : Vat) (qs rs : Map Question) where
+  abbrev Goes : ℕ → Type 0
+  Goes q = (Unwanted qs q → Unwanted rs q) × (last_asked es (other_vat u) q ≡ None)
+
+  one_more : (m : Message) → ((q : ℕ) → IsReturn q m → Goes q) → SayOne h u qs m → SayOne (h ++ es) u rs m
+  one_more (message.Plain (plain.Return r)) f i = by (f r.answer.0 refl) i
+    where
+      by : Goes r.answer.0 → whose.SaysIt (asked_of h u) (last_asked h u) (DeliveredIn h u) (AnsweredOrBroken h) (Unwanted qs) (broke h) r.answer.0 r.body
+          → whose.SaysIt (asked_of (h ++ es) u) (last_asked (h ++ es) u) (DeliveredIn (h ++ es) u) (AnsweredOrBroken (h ++ es)) (Unwanted rs) (broke (h ++ es)) r.answer.0 r.body
+      by g (inl w) = inl (g.0 w)
+      by g (inr y) = inr (y.0, same_last h es (other_vat u) r.answer.0 y.0 g.1 y.1, λ s. still_so h es y.0 _ _ (y.2 s))
+  one_more (message.Plain (plain.Abort x)) f i = tt
+  one_more (message.Plain (plain.Bootstrap p)) f i = tt
+  one_more (message.Plain (plain.Call c)) f i = tt
+  one_more (message.Plain (plain.Finish x)) f i = tt
+  one_more (message.Plain (plain.Resolve x)) f i = tt
+  one_more (message.Plain (plain.Release x)) f i = tt
+  one_more (message.Plain (plain.Disembargo x)) f i = tt
+  one_more (message.Plain (plain.Other n)) f i = tt
+  one_more (message.Unimplemented m) f i = tt
+
+  say_more : (ms : List Message) → ((q : ℕ) → HasReturn q ms → Goes q) → Say h u qs ms → Say (h ++ es) u rs ms
+  say_more [] f i = tt
+  say_more (m ∷ ms) f i = (one_more m (λ q r. f q (inl r)) i.0, say_more ms (λ q r. f q (inr r)) i.1)
+
+-- ---- Ends
+
+abbrev IfSo : Claim
+IfSo h e = IfCallEnds (record { journal = h; root_a = None; root_b = None }) e
+
+no_end : (l : List JournalEntry) (e : JournalEntry) → is_effect e ≡ false → IfSo l e
+no_end l (entry.Ended v x) f = absurd (let g : true ≡ false = f in cc)
+no_end l e f = tt
+
+abbrev Ends : List JournalEntry → Vat → Map Question → List Ended → Type 0
+Ends h v qs xs = whose.EndsAre (asked_of h v) (last_asked h v) (DeliveredIn h v) (AnsweredOrBroken h) (Unwanted qs) (broke h) xs
+
+ends_fine : (v : Vat) (h more : List JournalEntry) (qs : Map Question) (xs : List Ended) → Ends h v qs xs → EachAfter IfSo (h ++ more) (map (entry.Ended v) xs)
+ends_fine v h more qs [] i = tt
+ends_fine v h more qs (x ∷ xs) i =
+    let y = i.0 in (
+      λ a e.
+          let s : asking (h ++ more) v x.call.0 ≡ Some y.0 = still_first (asking_one v x.call.0) h more y.0 y.1 in
+          let same : y.0 ≡ a = let z : Some y.0 ≡ Some a = sym s ∙ e in cc in
+          subst (λ (k : Asking). AnsweredOrBroken (h ++ more) k x.outcome (length x.refs)) same (still_so h more y.0 x.outcome (length x.refs) y.2),
+      subst (λ (l : List JournalEntry). EachAfter IfSo l (map (entry.Ended v) xs)) (sym (append_assoc h more (entry.Ended v x ∷ []))) (ends_fine v h (more ++ entry.Ended v x ∷ []) qs xs i.1),
+    )
+
+none_down : (v : Vat) (h : List JournalEntry) (o : Option ℕ) → EachAfter IfSo h (went_down v o)
+none_down v h None = tt
+none_down v h (Some n) = (tt, tt)
+
+effects_fine : (v : Vat) (h : List JournalEntry) (qs : Map Question) (x : Effects) → Ends h v qs x.answers → EachAfter IfSo h (effect_entries v x)
+effects_fine v h qs x f =
+    let ms = map (entry.Sent v) x.sends in
+    let ds = map (entry.Delivered v) x.deliveries in
+    let es = map (entry.Ended v) x.answers in
+    each-append IfSo h (ms ++ ds ++ es) (went_down v x.down)
+    (each-append IfSo h (ms ++ ds) es
+    (each-append IfSo h ms ds (each_always IfSo (entry.Sent v) (λ l y. tt) h x.sends) (each_always IfSo (entry.Delivered v) (λ l y. tt) (h ++ ms) x.deliveries))
+    (ends_fine v h (ms ++ ds) qs x.answers f))
+    (none_down v (h ++ (ms ++ ds ++ es)) x.down)
+
+-- ---- Steps of worlds
+
+fewer : (q : ℕ) (to ms : List Message) → asked_last q (to ++ ms) ≡ None → asked_last q ms ≡ None
+fewer q to ms e = by (asked_last q ms) (sym (last-append q to ms) ∙ e)
+  where
+    by : (x : Option Asking) → or_rest x (asked_last q to) ≡ None → x ≡ None
+    by None g = refl
+    by (Some b) g = absurd (let bad : Some b ≡ None = g in cc)
+
+silent_after : (v : Vat) (w : World) (told : Effects) (t : State) → HoldsIn Stand (after w v told t) → (q : ℕ) → HasReturn q (inbox w v) → asked_last q told.sends ≡ None
+silent_after A w told t k q r = fewer q w.b.inbox told.sends (none_asked A (after w A told t) k q r)
+silent_after B w told t k q r = fewer q w.a.inbox told.sends (none_asked B (after w B told t) k q r)
+
+silent_taken : (v : Vat) (w : World) (ms : List Message) (told : Effects) (t : State) → HoldsIn Stand (after (put_inbox w v ms) v told t) → (q : ℕ) → HasReturn q ms → asked_last q told.sends ≡ None
+silent_taken A w ms told t k q r = fewer q w.b.inbox told.sends (none_asked A (after (put_inbox w A ms) A told t) k q r)
+silent_taken B w ms told t k q r = fewer q w.a.inbox told.sends (none_asked B (after (put_inbox w B ms) B told t) k q r)
+
+wanted_was : (W : Type 0) (o : Option Question) → Waits W o → IsWanted o → W
+wanted_was W None i w = absurd i
+wanted_was W (Some x) i w = i.1 w.1
+
+heads_length : (s : State) (refs : List RefId) → length (heads s refs) ≡ length refs
+heads_length s [] = refl
+heads_length s (r ∷ rs) = ap suc (heads_length s rs)
+
+-- ---- Scenes
+
+module _ (law : EachHasOneSource) (sessions : InScenes (HoldsIn Stand)) (oldest : InScenes OldestAreMet) (a b : Option ObjectId) where
+  abbrev Good : Scene → Type 0
+  Good x = Say x.journal A x.world.b.core.questions x.world.b.inbox × Say x.journal B x.world.a.core.questions x.world.a.inbox × EachAfter IfSo [] x.journal
+
+  from_me : (v : Vat) (x : Scene) → Good x → Say x.journal v (core x.world (other_vat v)).questions (inbox x.world (other_vat v))
+  from_me A x k = k.0
+  from_me B x k = k.1
+
+  to_me : (v : Vat) (x : Scene) → Good x → Say x.journal (other_vat v) (core x.world v).questions (inbox x.world v)
+  to_me A x k = k.1
+  to_me B x k = k.0
+
+  abbrev Moves : Vat → Scene → List Message → Effects → State → List JournalEntry → Type 0
+  Moves v x rest told t es =
+      Say (x.journal ++ es) v (core x.world (other_vat v)).questions (inbox x.world (other_vat v) ++ told.sends) × Say (x.journal ++ es) (other_vat v) t.questions rest × EachAfter IfSo [] (x.journal ++ es)
+
+  went_on : (v : Vat) (x : Scene) (told : Effects) (t : State) (es : List JournalEntry) → Moves v x (inbox x.world v) told t es → Good (scenes.goes_on x (after x.world v told t) es)
+  went_on A x told t es m = (m.0, m.1, m.2)
+  went_on B x told t es m = (m.1, m.0, m.2)
+
+  took : (v : Vat) (x : Scene) (ms : List Message) (told : Effects) (t : State) (es : List JournalEntry) → Moves v x ms told t es → Good (scenes.goes_on x (after (put_inbox x.world v ms) v told t) es)
+  took A x ms told t es m = (m.0, m.1, m.2)
+  took B x ms told t es m = (m.1, m.0, m.2)
+
+  abbrev Left : List JournalEntry → Vat → Map Question → State → Effects → Type 0
+  Left h v qs t x = walk.Leaves (asked_of h v) (last_asked h v) (DeliveredIn h v) (AnsweredOrBroken h) (Unwanted qs) (broke h) t x
+
+  moves : (v : Vat) (x : Scene) (rest : List Message) (told : Effects) (t : State) (own : List JournalEntry) → ((u : Vat) (q : ℕ) → last_asked own u q ≡ None) → EachAfter IfSo x.journal own → Good x
+      → Say x.journal (other_vat v) (core x.world v).questions rest → ((q : ℕ) → HasReturn q rest → (asked_last q told.sends ≡ None) × Waits (IsWanted (map.get (core x.world v).questions q)) (map.get t.questions q))
+      → Left (x.journal ++ own) v (core x.world (other_vat v)).questions t told → Moves v x rest told t (own ++ effect_entries v told)
+  moves v x rest told t own n f k old r left =
+      let h = x.journal in
+      let eff = effect_entries v told in
+      let es = own ++ eff in
+      let u = other_vat v in
+      let qs = (core x.world u).questions in
+      let none : (q : ℕ) → last_asked es u q ≡ None = λ q. es_none own v told q (n u q) in
+      let none_eff : (q : ℕ) → last_asked eff u q ≡ None = λ q. es_none [] v told q refl in
+      let kept = say_more h es v qs qs (inbox x.world u) (λ q y. (λ w. w, none q)) (from_me v x k) in
+      let sent = subst (λ (l : List JournalEntry). Say l v qs told.sends) (append_assoc h own eff) (say_more (h ++ own) eff v qs qs told.sends (λ q y. (λ w. w, none_eff q)) left.1) in
+      let asks : (q : ℕ) → asked_last q told.sends ≡ None → last_asked es (other_vat u) q ≡ None =
+      λ q e. subst (λ (w : Vat). last_asked es w q ≡ None) (sym (twice v)) (es_asks own v told q (n v q) ∙ e)
+      in
+      let mine = say_more h es u (core x.world v).questions t.questions rest (λ q y. let z = r q y in (λ no_more w. no_more (wanted_was (IsWanted (map.get (core x.world v).questions q)) (map.get t.questions q) z.1 w), asks q z.0)) old in
+      (say-append (h ++ es) v qs (inbox x.world u) told.sends kept sent, mine, each-append IfSo [] h es k.2 (each-append IfSo h own eff f (effects_fine v (h ++ own) qs told left.2)))
+
+  -- What a vat stops with.
+  stopped : (v : Vat) (x : Scene) (es : List JournalEntry) → ((u : Vat) (q : ℕ) → last_asked es u q ≡ None) → EachAfter IfSo x.journal es → Good x → Good (scenes.stopped x v es)
+  stopped A x es n f k = (say_more x.journal es A x.world.b.core.questions x.world.b.core.questions x.world.b.inbox (λ q y. (λ w. w, n B q)) k.0, say_more x.journal es B x.world.a.core.questions x.world.a.core.questions x.world.a.inbox (λ q y. (λ w. w, n A q)) k.1, each-append IfSo [] x.journal es k.2 f)
+  stopped B x es n f k = (say_more x.journal es A x.world.b.core.questions x.world.b.core.questions x.world.b.inbox (λ q y. (λ w. w, n B q)) k.0, say_more x.journal es B x.world.a.core.questions x.world.a.core.questions x.world.a.inbox (λ q y. (λ w. w, n A q)) k.1, each-append IfSo [] x.journal es k.2 f)
+
+  all_answers : (h : List JournalEntry) (v : Vat) (x : Scene) → IsScene a b x → whose.Answers (asked_of h v) (last_asked h v) (DeliveredIn h v) (AnsweredOrBroken h) (Unwanted (core x.world (other_vat v)).questions) (broke h) (core x.world v).answers
+  all_answers h v x i q = by (map.get (core x.world v).answers q) refl
+    where
+      by : (o : Option AnswerEntry) → map.get (core x.world v).answers q ≡ o → whose.AnswerIs (asked_of h v) (last_asked h v) (DeliveredIn h v) (AnsweredOrBroken h) (Unwanted (core x.world (other_vat v)).questions) (broke h) q o
+      by None e = tt
+      by (Some y) e = λ f. is_unwanted v x.world (sessions a b x i) q y e f
+
+  abbrev Begins : List JournalEntry → Vat → Scene → Type 0
+  Begins h v x = walk.Begins (asked_of h v) (last_asked h v) (DeliveredIn h v) (AnsweredOrBroken h) (Unwanted (core x.world (other_vat v)).questions) (broke h) (core x.world v)
+
+  begun : (v : Vat) (x : Scene) (own : List JournalEntry) → IsScene a b x → ((u : Vat) (q : ℕ) → last_asked own u q ≡ None) → Begins (x.journal ++ own) v x
+  begun v x own i n =
+      let h = x.journal ++ own in
+      (begins_so h v (core x.world v) (quiet_mine x.journal own v (core x.world v) n (mine_in law sessions a b v x i).0), all_answers h v x i, no_source law sessions a b v x i)
+
+  -- One delivery of each call.
+  delivered_one : (v : Vat) (x : Scene) (c : Command) (g : Granted) (z : Stamp) → IsScene a b x → deliveries_of z (x.journal ++ granted_entries x.journal v c g) ≤ 1
+  delivered_one v x c g z i =
+      let e = entries-append z x.journal (granted_entries x.journal v c g) in
+      let f = own_none z x.journal v c g in
+      let p = at_one_place a b x i z in
+      omega arith
+
+  -- ---- What a message brings
+
+  module _ (v : Vat) (x : Scene) (i : IsScene a b x) (k : Good x) (m : Message) (ms : List Message) (j : inbox x.world v ≡ m ∷ ms) where
+    not_echo : (p : PlainMessage) → ¬ (m ≡ message.Unimplemented p)
+    not_echo p e = let z = oldest a b x i v m ms j in let w : message.Plain z.0 ≡ message.Unimplemented p = sym z.1 ∙ e in absurd (let y = w in cc)
+
+    -- It brings nothing for a question whose Return is behind.
+    free : (q : ℕ) → HasReturn q ms → (y : Back) → Brings (core x.world v) m y → ¬ (y.question ≡ q)
+    free q r y (heard.ByReturn z e f) g =
+        let same : z.answer.0 ≡ q = ap (λ (w : Back). w.question) (sym f) ∙ g in
+        only_return v x.world m ms (sessions a b x i) j q (subst (IsReturn q) (sym e) same) r
+    free q r y (heard.ByEchoedRoot p e f) g = absurd (not_echo (plain.Bootstrap p) e)
+    free q r y (heard.ByEchoedCall c e f) g = absurd (not_echo (plain.Call c) e)
+
+    module _ (own : List JournalEntry) (n : (u : Vat) (q : ℕ) → last_asked own u q ≡ None) where
+      abbrev h : List JournalEntry
+      h = x.journal ++ own
+
+      abbrev For : Asking → Back → Type 0
+      For y z = whose.IsFor (asked_of h v) (last_asked h v) (DeliveredIn h v) (AnsweredOrBroken h) (Unwanted (core x.world (other_vat v)).questions) (broke h) y (value_of_results z.said)
+
+      first_one : SayOne x.journal (other_vat v) (core x.world v).questions m
+      first_one = (subst (Say x.journal (other_vat v) (core x.world v).questions) j (to_me v x k)).0
+
+      by_return : (r : Return) (y : Question) (e : Asking) → m ≡ message.Plain (plain.Return r) → map.get (core x.world v).questions r.answer.0 ≡ Some y → y.returned ≡ None → IsNotSent y.finish → last_asked (x.journal ++ own) v r.answer.0 ≡ Some e
+          → For e (returning (core x.world v) r)
+      by_return r y e f g l w z = by (subst (SayOne x.journal (other_vat v) (core x.world v).questions) f first_one)
+        where
+          by : whose.SaysIt (asked_of x.journal (other_vat v)) (last_asked x.journal (other_vat v)) (DeliveredIn x.journal (other_vat v)) (AnsweredOrBroken x.journal) (Unwanted (core x.world v).questions) (broke x.journal) r.answer.0 r.body → For e (returning (core x.world v) r)
+          by (inl never) = absurd (never (subst IsWanted (sym g) (l, w)))
+          by (inr o) =
+              let asked_now : last_asked x.journal v r.answer.0 ≡ Some o.0 = subst (λ (u : Vat). last_asked x.journal u r.answer.0 ≡ Some o.0) (twice v) o.1 in
+              let later : last_asked (x.journal ++ own) v r.answer.0 ≡ Some o.0 = same_last x.journal own v r.answer.0 o.0 (n v r.answer.0) asked_now in
+              let same : o.0 ≡ e = let q : Some o.0 ≡ Some e = sym later ∙ z in cc in
+              subst (λ (u : Asking). For u (returning (core x.world v) r)) same (still_so x.journal own o.0 _ _ (o.2 (core x.world v)))
+
+      says : (y : Back) (z : Question) (e : Asking) → Brings (core x.world v) m y → map.get (core x.world v).questions y.question ≡ Some z → z.returned ≡ None → IsNotSent z.finish → last_asked (x.journal ++ own) v y.question ≡ Some e → For e y
+      says y z e (heard.ByReturn r f g) get l w o =
+          subst (For e) (sym g)
+          (by_return r z e f (subst (λ (u : Back). map.get (core x.world v).questions u.question ≡ Some z) g get) l w (subst (λ (u : Back). last_asked (x.journal ++ own) v u.question ≡ Some e) g o))
+      says y z e (heard.ByEchoedRoot p f g) get l w o = absurd (not_echo (plain.Bootstrap p) f)
+      says y z e (heard.ByEchoedCall c f g) get l w o = absurd (not_echo (plain.Call c) f)
+
+  stepped : (x mid : Scene) → IsScene a b x → scenes.Steps x mid → Good x → Good mid
+  stepped x mid i (scenes.Commanded v c g told s o up r d w e) k =
+      let h = x.journal in
+      let own = granted_entries h v c g in
+      let t = core x.world v in
+      let u = other_vat v in
+      let qs = (core x.world u).questions in
+      let n : (u : Vat) (q : ℕ) → last_asked own u q ≡ None = λ u q. of_own u q v h c g in
+      let later = (numbers_asked a b x i v).later t.next_call (omega arith) in
+      let now : walk.Commanded (asked_of (h ++ own) v) (last_asked (h ++ own) v) (DeliveredIn (h ++ own) v) (AnsweredOrBroken (h ++ own)) (Unwanted qs) (broke (h ++ own)) t c g = record {
+        root = λ y z. root_asked h v t c g later y z;
+        call = λ y z f j l. call_asked h v t c g later (scenes_count a b x i v) y z f j l;
+        answers = λ y p rs z l f q j.
+            let same : own ≡ entry.Answered v y (outcome.Results p) rs ∷ [] = ap (λ (m : Command). granted_entries h v m g) f in
+            let got = answered h own v y z (outcome.Results p) rs same j (delivered_one v x c g z i) (tasks_open a b x i v o y.0 l q).1 in
+            inl (got.0, got.1, got.2, heads_length t rs ∙ got.3);
+        fails = λ y p z l f q j.
+            let same : own ≡ entry.Answered v y (outcome.Exception p) [] ∷ [] = ap (λ (m : Command). granted_entries h v m g) f in
+            inl (answered h own v y z (outcome.Exception p) [] same j (delivered_one v x c g z i) (tasks_open a b x i v o y.0 l q).1);
+      } in
+      let left = walk.commands (asked_of (h ++ own) v) (last_asked (h ++ own) v) (DeliveredIn (h ++ own) v) (AnsweredOrBroken (h ++ own)) (Unwanted qs) (broke (h ++ own)) t c g told s now (begun v x own i n) d in
+      let next : HoldsIn Stand (after x.world v told s) = sessions a b _ (subst (IsScene a b) e (step_more x mid (begins a b) i (scenes.Commanded v c g told s o up r d w e))) in
+      let returns : (q : ℕ) → HasReturn q (inbox x.world v) → (asked_last q told.sends ≡ None) × Waits (IsWanted (map.get t.questions q)) (map.get s.questions q) =
+      λ q y. (silent_after v x.world told s next q y, awaited.commands q (IsWanted (map.get t.questions q)) t (it_waits v x.world (sessions a b x i) q y) c g told s d)
+      in
+      rw e (went_on v x told s (own ++ effect_entries v told) (moves v x (inbox x.world v) told s own n (granted_always IfSo no_end v h h c g) k (to_me v x k) returns left))
+  stepped x mid i (scenes.Received v m ms told s o up j f d w e) k =
+      let h = x.journal in
+      let own = entry.Got v ∷ [] in
+      let t = core x.world v in
+      let u = other_vat v in
+      let qs = (core x.world u).questions in
+      let n : (u : Vat) (q : ℕ) → last_asked own u q ≡ None = λ u q. refl in
+      let stands = sessions a b x i in
+      let asked_now : (q : ℕ) (y : Asking) → asked_in q m ≡ Some y → last_asked (h ++ own) (other_vat v) q ≡ Some y =
+      λ q y z. same_last h own (other_vat v) q y refl (first_last h (other_vat v) v x.world m ms stands j (mine_in law sessions a b v x i).1 q y z)
+      in
+      let now : walk.Hears (asked_of (h ++ own) v) (last_asked (h ++ own) v) (DeliveredIn (h ++ own) v) (AnsweredOrBroken (h ++ own)) (Unwanted qs) (broke (h ++ own)) t m = record {
+        root = λ q z. asked_now q.0 OfBootstrap (asks_root q m z);
+        roots = tt;
+        call = λ c z. asked_now c.question.0 (OfCall c.stamp) (asks_call c m z);
+        says = λ y z l p q p0 p1 p2. says v x i k m ms j own n y z l p q p0 p1 p2;
+        finish = λ y z l p q. fin_unwanted v x.world y ms stands (j ∙ ap (λ (p0 : Message). p0 ∷ ms) l) z p q;
+      } in
+      let left = walk.messages (asked_of (h ++ own) v) (last_asked (h ++ own) v) (DeliveredIn (h ++ own) v) (AnsweredOrBroken (h ++ own)) (Unwanted qs) (broke (h ++ own)) t m told s f now (begun v x own i n) d in
+      let next : HoldsIn Stand (after (put_inbox x.world v ms) v told s) = sessions a b _ (subst (IsScene a b) e (step_more x mid (begins a b) i (scenes.Received v m ms told s o up j f d w e))) in
+      let returns : (q : ℕ) → HasReturn q ms → (asked_last q told.sends ≡ None) × Waits (IsWanted (map.get t.questions q)) (map.get s.questions q) =
+      λ q y. (silent_taken v x.world ms told s next q y, awaited.messages q (IsWanted (map.get t.questions q)) t (it_waits v x.world stands q (subst (HasReturn q) (sym j) (inr y))) m told s f (free v x i k m ms j q y) d)
+      in
+      rw e (took v x ms told s (own ++ effect_entries v told) (moves v x ms told s own n (tt, tt) k (subst (Say h u t.questions) j (to_me v x k)).1 returns left))
+  stepped x mid i (scenes.GivesUp v c o r f e) k = rw e (stopped v x (granted_entries x.journal v c granted.Done) (λ u q. of_own u q v x.journal c granted.Done) (granted_always IfSo no_end v x.journal x.journal c granted.Done) k)
+  stepped x mid i (scenes.Stops v o e) k = rw e (stopped v x [] (λ u q. refl) tt k)
+
+  good : (x : Scene) → IsScene a b x → Good x
+  good x k = in_each a b Good stepped (tt, tt, tt) x k
+
+  as_said : (h : List JournalEntry) (e : JournalEntry) → IfSo h e → IfCallEnds (history a b h) e
+  as_said h (entry.Ended v x) f = f
+  as_said h e f = tt
+
+  pub ends_in : (x : Scene) → IsScene a b x → Upto IfCallEnds (history a b x.journal)
+  ends_in x k before behind e f = as_said before e (upto IfSo [] x.journal before behind e (good x k).2 f)
+
+pub calls_end : EachHasOneSource → InScenes (HoldsIn Stand) → InScenes OldestAreMet → CallsEndAsAnswered
+calls_end law sessions oldest a b x k = ends_in law sessions oldest a b x k

@@ -1,0 +1,4 @@
+//! Lines, names, and scripts of many lines.
+mod lines;
+mod long;
+mod names;

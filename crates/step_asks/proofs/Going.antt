@@ -1,0 +1,69 @@
+-- A call through a reference of a vat that is reached finds where it goes.
+use Rattle.std.proofs.Common.{◌≡◌, ℕ, Option, None, Some, IsSome, inl, refl, subst}
+use Rattle.std.specs.FinMap as map
+use Rattle.vat_machine.specs.declared.node.Node.{Node}
+use Rattle.vat_machine.specs.declared.node.Node.TheVariants as node
+use Rattle.vat_machine.specs.declared.calls.Promise.{Promise}
+use Rattle.vat_machine.specs.declared.calls.Promise.TheVariants as promise
+use Rattle.vat_machine.specs.declared.entries.Reference.{Reference}
+use Rattle.vat_machine.specs.declared.entries.Embargo.{Embargo}
+use Rattle.rpc_msg.specs.declared.ids.EmbargoId.{EmbargoId}
+use Rattle.vat_machine.specs.State.{State}
+use Rattle.vat_machine.specs.Nodes.{promise_link, link, settle}
+use Rattle.vat_machine.specs.Places.{named_by_reference}
+use Rattle.vat_waits.specs.Changes.{IsOpen}
+use Rattle.laws_steps.specs.Settled.{IsThere, AreThere}
+use Rattle.laws_steps.specs.NodesThere.{Stands, IsWhole}
+use Rattle.laws_steps.proofs.Among.{named, in_refs}
+use Rattle.laws_steps.proofs.LeadsOn.{there_where_it_settles}
+use Rattle.laws_nodes.specs.Settling.{AllStop, Settling}
+use Rattle.laws_nodes.specs.Embargoes.{ArePaired, HasIts, IsOf, embargo_of}
+use Rattle.step_routes.specs.Fitting.{IsOpenThere}
+use Rattle.step_calls.specs.Ways.{GoesThrough, GoesBy, GoesSomewhere}
+
+there_that_stands : (s : State) (n : Node) → Stands s n → IsThere s n
+there_that_stands s (node.Object o) h = tt
+there_that_stands s (node.Promise p) h = h
+there_that_stands s (node.Field o path) h = h
+there_that_stands s (node.Import e) h = tt
+there_that_stands s (node.Pipe q path) h = tt
+there_that_stands s (node.Broken reason) h = tt
+
+open_promise : (o : Option Promise) → IsSome o → promise_link o ≡ None → IsOpen o
+open_promise None there h = cc
+open_promise (Some (promise.Open calls)) there h = tt
+open_promise (Some (promise.Fixed to)) there h = let bad : Some to ≡ None = h in cc
+
+open_there : (s : State) (n : Node) → IsThere s n → link s n ≡ None → IsOpenThere s n
+open_there s (node.Object o) h none = tt
+open_there s (node.Promise p) h none = open_promise (map.get s.promises p) h none
+open_there s (node.Field o path) h none = h
+open_there s (node.Import e) h none = tt
+open_there s (node.Pipe q path) h none = tt
+open_there s (node.Broken reason) h none = tt
+
+embargo_there : (r : ℕ) (b : Option Embargo) → IsOf r b → IsSome b
+embargo_there r None h = absurd h
+embargo_there r (Some b) h = refl
+
+module _ (s : State) (whole : IsWhole s) (stops : AllStop s) (settles : Settling) (paired : ArePaired s) where
+  all_there : AreThere s
+  all_there n among = there_that_stands s n (whole.there n among)
+
+  head_there : (r : ℕ) (x : Reference) → map.get s.refs r ≡ Some x → IsOpenThere s (settle s x.head)
+  head_there r x is =
+      let there = all_there x.head (in_refs s x.head (named named_by_reference r x x.head s.refs is (inl refl))) in
+      open_there s (settle s x.head) (there_where_it_settles s all_there x.head there) (settles.ends s stops x.head)
+
+  through : (r : ℕ) (x : Reference) → map.get s.refs r ≡ Some x → (o : Option EmbargoId) → x.embargo ≡ o → GoesThrough s x.head o
+  through r x is None e = head_there r x is
+  through r x is (Some k) e =
+      embargo_there r (map.get s.embargoes k.0)
+      (subst (λ (o : Option EmbargoId). HasIts s.embargoes r o) e (subst (λ (o : Option Reference). HasIts s.embargoes r (embargo_of o)) is (paired.theirs r)))
+
+  by : (r : ℕ) (o : Option Reference) → map.get s.refs r ≡ o → IsSome o → GoesBy s o
+  by r None is there = cc
+  by r (Some x) is there = through r x is x.embargo refl
+
+  pub goes_somewhere : (r : ℕ) → IsSome (map.get s.refs r) → GoesSomewhere s r
+  goes_somewhere r there = by r (map.get s.refs r) refl there

@@ -1,0 +1,5 @@
+pub mod Allowed
+pub mod Breaking
+pub mod Ended
+pub mod Going
+pub mod Opened

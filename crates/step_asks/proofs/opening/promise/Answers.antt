@@ -1,0 +1,10 @@
+use Rattle.std.proofs.Common.{refl}
+use Rattle.vat_machine.specs.declared.command.Granted.TheVariants as granted
+use Rattle.vat_store.specs.Holding.{state_of}
+use Rattle.step_asks.proofs.Opened.{promised}
+use Rattle.step_asks.proofs.opening.promise.Goals as goal
+
+pub returns-clause-obeys : goal.returns-clause-obeys
+returns-clause-obeys c =
+    promised (state_of c.args.machine.now.step.store) _ (granted.Promise c.promise.result.0 c.promise.result.1) _ _ c.requires.allowed c.in_ok-begin_quietly.ensures.begun c.promise.ensures.acts
+    refl c.requires.resting.sound.numbered.refs c.in_ok-begin_quietly.ensures.calm c.promise.ensures.ready.sound.within

@@ -1,0 +1,52 @@
+ghost use Rattle.std.specs.Prelude.{◌≡◌};
+ghost use Rattle.vat_script.specs.Acting.{act_for};
+ghost use Rattle.vat_script.specs.Bindings.{Gives};
+
+use crate::fault::GiveFault;
+use crate::line::Line;
+use crate::name::Name;
+use crate::names::Names;
+use rpc_msg::{RefId, Vat};
+use std::alloc::Global;
+use vat_machine::Event;
+
+/// What a line does when its turn comes.
+#[derive(Drop)]
+pub enum Act {
+    Nothing,
+    /// The counts of both vats are written down.
+    Tables,
+    /// That vat takes turns until one frame was taken.
+    Turn(Vat),
+    /// The name stands for that reference of the vat from now on.
+    Name(Vat, Name, RefId),
+    /// A vat is commanded, or receives a message.
+    Happens(Event),
+}
+
+impl Names {
+    /// What a line does. `Name` with the first thing that it names and that is not bound or not there, where there is
+    /// one; `Memory` where a growth was refused.
+    pub fn act(&self, alloc: Global, line: &Line) -> Result<Act, GiveFault>
+        ensures { Gives (act_for self.now line.now) result }
+    {
+        match line {
+            Line::Skip => Ok(Act::Nothing),
+            Line::Deliver(vat) => Ok(Act::Happens(Event::Deliver(*vat))),
+            Line::Turn(vat) => Ok(Act::Turn(*vat)),
+            Line::Tables => Ok(Act::Tables),
+            Line::Take(vat, line) => {
+                let reference = self.taken(*vat, *line)?;
+                Ok(Act::Name(*vat, line.name, reference))
+            }
+            Line::Got(vat, line) => {
+                let reference = self.got(*vat, *line)?;
+                Ok(Act::Name(*vat, line.name, reference))
+            }
+            Line::Command(vat, said) => {
+                let command = self.command(alloc, *vat, said)?;
+                Ok(Act::Happens(Event::Command(*vat, command)))
+            }
+        }
+    }
+}

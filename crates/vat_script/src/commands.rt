@@ -1,0 +1,229 @@
+ghost use Rattle.std.specs.Prelude.{◌≡◌, map};
+ghost use Rattle.vat_script.specs.Lines.{Reads, command_of, plain_of, ending_of, host_of, bootstrap_of, field_of, field_line, call_of, call_line, answer_of, fail_of, promise_of, resolve_of, reject_of, clone_of, drop_of, finish_of, advance_of};
+
+use crate::fault::{LineFault, ReadFault};
+use crate::line::{CallLine, FieldLine, LineCommand};
+use crate::name::Name;
+use crate::words::{read_caps, read_path, read_u16, read_u64};
+use rpc_msg::{ObjectId, TaskId};
+use std::alloc::Global;
+
+/// The word that says what is asked of a vat, and what follows it.
+pub(crate) fn read_command(
+    alloc: Global,
+    word: &str,
+    rest: &[&str],
+) -> Result<LineCommand, ReadFault>
+    ensures { Reads (command_of word.now (map (λ word. word.now) rest.now)) result }
+{
+    match word {
+        "field" => read_field(alloc, rest),
+        "call" => read_call(alloc, rest),
+        "answer" => read_answer(alloc, rest),
+        _ => {
+            let command = read_plain(word, rest)?;
+            Ok(command)
+        }
+    }
+}
+
+fn read_field(alloc: Global, rest: &[&str]) -> Result<LineCommand, ReadFault>
+    ensures { Reads (field_of (map (λ word. word.now) rest.now)) result }
+{
+    match rest {
+        [name, call, path] => read_field_line(alloc, name, call, path),
+        _ => Err(ReadFault::Line(LineFault::Count)),
+    }
+}
+
+fn read_field_line(
+    alloc: Global,
+    name: &str,
+    call: &str,
+    path: &str,
+) -> Result<LineCommand, ReadFault>
+    ensures { Reads (field_line name.now call.now path.now) result }
+{
+    let name = Name::read(name)?;
+    let call = Name::read(call)?;
+    let path = read_path(alloc, path)?;
+    Ok(LineCommand::Field(FieldLine { name, call, path }))
+}
+
+fn read_call(alloc: Global, rest: &[&str]) -> Result<LineCommand, ReadFault>
+    ensures { Reads (call_of (map (λ word. word.now) rest.now)) result }
+{
+    match rest {
+        [call, reference, interface, method, caps] => {
+            read_call_line(alloc, call, reference, interface, method, caps)
+        }
+        _ => Err(ReadFault::Line(LineFault::Count)),
+    }
+}
+
+fn read_call_line(
+    alloc: Global,
+    call: &str,
+    reference: &str,
+    interface: &str,
+    method: &str,
+    caps: &str,
+) -> Result<LineCommand, ReadFault>
+    ensures { Reads (call_line call.now reference.now interface.now method.now caps.now) result }
+{
+    let call = Name::read(call)?;
+    let reference = Name::read(reference)?;
+    let interface = read_u64(interface)?;
+    let method = read_u16(method)?;
+    let caps = read_caps(alloc, caps)?;
+    Ok(LineCommand::Call(CallLine {
+        call,
+        reference,
+        interface,
+        method,
+        caps,
+    }))
+}
+
+fn read_answer(alloc: Global, rest: &[&str]) -> Result<LineCommand, ReadFault>
+    ensures { Reads (answer_of (map (λ word. word.now) rest.now)) result }
+{
+    let [task, caps] = rest else {
+        return Err(ReadFault::Line(LineFault::Count));
+    };
+    let task = read_u64(task)?;
+    let caps = read_caps(alloc, caps)?;
+    Ok(LineCommand::Answer(TaskId(task), caps))
+}
+
+/// The commands whose words are names and numbers.
+fn read_plain(word: &str, rest: &[&str]) -> Result<LineCommand, LineFault>
+    ensures { result ≡ plain_of word.now (map (λ word. word.now) rest.now) }
+{
+    match word {
+        "host" => read_host(rest),
+        "bootstrap" => read_bootstrap(rest),
+        "promise" => read_promise(rest),
+        "clone" => read_clone(rest),
+        _ => read_ending(word, rest),
+    }
+}
+
+/// Those of them that end something, or change what a reference leads to.
+fn read_ending(word: &str, rest: &[&str]) -> Result<LineCommand, LineFault>
+    ensures { result ≡ ending_of word.now (map (λ word. word.now) rest.now) }
+{
+    match word {
+        "fail" => read_fail(rest),
+        "resolve" => read_resolve(rest),
+        "reject" => read_reject(rest),
+        "drop" => read_drop(rest),
+        "finish" => read_finish(rest),
+        "advance" => read_advance(rest),
+        _ => Err(LineFault::Word),
+    }
+}
+
+fn read_bootstrap(rest: &[&str]) -> Result<LineCommand, LineFault>
+    ensures { result ≡ bootstrap_of (map (λ word. word.now) rest.now) }
+{
+    let [call] = rest else {
+        return Err(LineFault::Count);
+    };
+    let call = Name::read(call)?;
+    Ok(LineCommand::Bootstrap(call))
+}
+
+fn read_host(rest: &[&str]) -> Result<LineCommand, LineFault>
+    ensures { result ≡ host_of (map (λ word. word.now) rest.now) }
+{
+    let [name, object] = rest else {
+        return Err(LineFault::Count);
+    };
+    let name = Name::read(name)?;
+    let object = read_u64(object)?;
+    Ok(LineCommand::Host(name, ObjectId(object)))
+}
+
+fn read_promise(rest: &[&str]) -> Result<LineCommand, LineFault>
+    ensures { result ≡ promise_of (map (λ word. word.now) rest.now) }
+{
+    let [promise, name] = rest else {
+        return Err(LineFault::Count);
+    };
+    let promise = Name::read(promise)?;
+    let name = Name::read(name)?;
+    Ok(LineCommand::Promise(promise, name))
+}
+
+fn read_clone(rest: &[&str]) -> Result<LineCommand, LineFault>
+    ensures { result ≡ clone_of (map (λ word. word.now) rest.now) }
+{
+    let [name, from] = rest else {
+        return Err(LineFault::Count);
+    };
+    let name = Name::read(name)?;
+    let from = Name::read(from)?;
+    Ok(LineCommand::CloneRef(name, from))
+}
+
+fn read_fail(rest: &[&str]) -> Result<LineCommand, LineFault>
+    ensures { result ≡ fail_of (map (λ word. word.now) rest.now) }
+{
+    let [task] = rest else {
+        return Err(LineFault::Count);
+    };
+    let task = read_u64(task)?;
+    Ok(LineCommand::Fail(TaskId(task)))
+}
+
+fn read_resolve(rest: &[&str]) -> Result<LineCommand, LineFault>
+    ensures { result ≡ resolve_of (map (λ word. word.now) rest.now) }
+{
+    let [promise, name] = rest else {
+        return Err(LineFault::Count);
+    };
+    let promise = Name::read(promise)?;
+    let name = Name::read(name)?;
+    Ok(LineCommand::Resolve(promise, name))
+}
+
+fn read_reject(rest: &[&str]) -> Result<LineCommand, LineFault>
+    ensures { result ≡ reject_of (map (λ word. word.now) rest.now) }
+{
+    let [promise] = rest else {
+        return Err(LineFault::Count);
+    };
+    let promise = Name::read(promise)?;
+    Ok(LineCommand::Reject(promise))
+}
+
+fn read_drop(rest: &[&str]) -> Result<LineCommand, LineFault>
+    ensures { result ≡ drop_of (map (λ word. word.now) rest.now) }
+{
+    let [name] = rest else {
+        return Err(LineFault::Count);
+    };
+    let name = Name::read(name)?;
+    Ok(LineCommand::DropRef(name))
+}
+
+fn read_finish(rest: &[&str]) -> Result<LineCommand, LineFault>
+    ensures { result ≡ finish_of (map (λ word. word.now) rest.now) }
+{
+    let [call] = rest else {
+        return Err(LineFault::Count);
+    };
+    let call = Name::read(call)?;
+    Ok(LineCommand::Finish(call))
+}
+
+fn read_advance(rest: &[&str]) -> Result<LineCommand, LineFault>
+    ensures { result ≡ advance_of (map (λ word. word.now) rest.now) }
+{
+    let [name] = rest else {
+        return Err(LineFault::Count);
+    };
+    let name = Name::read(name)?;
+    Ok(LineCommand::Advance(name))
+}
