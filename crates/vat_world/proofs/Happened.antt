@@ -1,5 +1,5 @@
 -- An event of a world, from the step of the one vat.
-use Rattle.std.proofs.Common.{◌≡◌, ℕ, Bool, true, false, ◌||◌, ◌&&◌, cond, append-nil, Option, None, Some, is_some, Result, Ok, Err, List, [], ◌∷◌, ◌++◌, refl, sym, ap, subst, ◌∙◌}
+use Rattle.std.proofs.Common.{◌≡◌, ℕ, Bool, true, false, ◌||◌, ◌&&◌, append-nil, Option, None, Some, is_some, Result, List, [], ◌∷◌, ◌++◌, refl, sym, ap, subst, ◌∙◌}
 use Rattle.rpc_msg.specs.declared.ids.Vat.{Vat}
 use Rattle.rpc_msg.specs.declared.ids.Vat.TheVariants.{A, B}
 use Rattle.rpc_msg.specs.declared.message.Message.{Message}
@@ -16,14 +16,14 @@ use Rattle.vat_machine.specs.declared.event.Event.TheVariants as event
 use Rattle.vat_machine.specs.State.{State}
 use Rattle.vat_machine.specs.Progress.{quiet}
 use Rattle.vat_machine.specs.Refusals.{is_shut}
-use Rattle.vat_machine.specs.World.{World, Side, side, core, inbox, put_inbox, after, StepAnswer, Answered, Handled, Empty, MessageTold, CommandsAt, ReceivesAt, ReceivesUp, shut_with}
+use Rattle.vat_machine.specs.World.{World, side, core, inbox, put_inbox, after, Answered, Handled, Empty, MessageTold, CommandsAt, ReceivesAt, shut_with}
 use Rattle.vat_machine.specs.Journal.{effect_entries}
 use Rattle.vat_machine.proofs.StaysDown.{command_down}
 use Rattle.laws_runs.proofs.QuietRuns.{commanded_tells}
 use Rattle.vat_core.specs.declared.obey.Answer.{Answer}
 use Rattle.vat_world.specs.declared.answer.StepAnswer.{StepAnswer as Given}
 use Rattle.vat_world.specs.declared.answer.StepAnswer.TheVariants as given
-use Rattle.vat_world.specs.Stages.{Stage, stepped, taken, takes_down, without_sends, ObeysUp, ObeysDown, ObeysBy, HandlesUp, DeliversBy}
+use Rattle.vat_world.specs.Stages.{Stage, stepped, taken, takes_down, ObeysUp, ObeysDown, ObeysBy, HandlesUp, DeliversBy}
 use Rattle.vat_world.specs.World.{Seen, shut, Steps}
 
 -- A world as its vat v sees it.

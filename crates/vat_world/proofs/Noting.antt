@@ -1,8 +1,7 @@
 -- What a command was noted to write is what it writes.
-use Rattle.std.proofs.Common.{◌≡◌, ℕ, ◌≤◌, Bool, true, false, nat_lt, Option, None, Some, Result, Ok, Err, IfOk, List, [], ◌∷◌, ◌++◌, length, refl, sym, ap, subst, ◌∙◌, arith}
+use Rattle.std.proofs.Common.{◌≡◌, ℕ, ◌≤◌, true, false, nat_lt, Option, None, Some, Result, Ok, Err, IfOk, List, [], ◌∷◌, length, refl, ap, ◌∙◌, arith}
 use Rattle.std.proofs.lemmas.Bool.Decides.{nat_tests}
 use Rattle.std.specs.FinMap as map
-use Rattle.std.specs.Option.{option_to_list}
 use Rattle.capn_wire.specs.declared.faults.Memory.{Memory}
 use Rattle.rpc_msg.specs.declared.ids.Vat.{Vat}
 use Rattle.rpc_msg.specs.declared.ids.CallId.{CallId}
@@ -19,9 +18,9 @@ use Rattle.vat_machine.specs.declared.command.Refusal.TheVariants as refusal
 use Rattle.vat_machine.specs.declared.command.Effects.{Effects}
 use Rattle.vat_machine.specs.declared.entries.Reference.{Reference}
 use Rattle.vat_machine.specs.State.{State}
-use Rattle.vat_machine.specs.Progress.{Progress, begin}
+use Rattle.vat_machine.specs.Progress.{begin}
 use Rattle.vat_machine.specs.Commands.{MakesCall}
-use Rattle.vat_machine.specs.Refusals.{refused, refusals, while_down, unknown_call, without_room}
+use Rattle.vat_machine.specs.Refusals.{refused, while_down, unknown_call, without_room}
 use Rattle.vat_machine.specs.Steps.{Obeys, Refuses, LacksMemory, GoesDown, Shuts, IsDone}
 use Rattle.vat_machine.specs.Journal.{index_in, granted_entries, made_entries as made_written}
 use Rattle.laws_acts.proofs.Checks.{first, rest, not_so}

@@ -1,13 +1,12 @@
 -- A run of two new vats leads to a world, and goes on by each event.
 use Rattle.std.proofs.Common.{◌≡◌, ℕ, Bool, true, false, ◌||◌, cond, map, append-nil, Option, None, Some, is_some, Result, Ok, Err, List, [], ◌∷◌, ◌++◌, length, refl, sym, ap, subst, ◌∙◌}
-use Rattle.std.specs.FinMap as table
 use Rattle.rpc_msg.specs.declared.ids.Vat.{Vat}
 use Rattle.rpc_msg.specs.declared.ids.Vat.TheVariants.{A, B}
 use Rattle.rpc_msg.specs.declared.ids.ObjectId.{ObjectId}
 use Rattle.vat_journal.specs.declared.entry.Origin.{Origin}
 use Rattle.vat_journal.specs.declared.entry.JournalEntry.{JournalEntry}
 use Rattle.vat_journal.specs.declared.entry.JournalEntry.TheVariants as entry
-use Rattle.vat_journal.specs.History.{Ref, in_front, all_that, made_stamp, made, or_rest}
+use Rattle.vat_journal.specs.History.{Ref, in_front, made_stamp, made, or_rest}
 use Rattle.vat_machine.specs.declared.command.CallCommand.{CallCommand}
 use Rattle.vat_machine.specs.declared.command.Command.{Command}
 use Rattle.vat_machine.specs.declared.command.Command.TheVariants as command
@@ -16,10 +15,8 @@ use Rattle.vat_machine.specs.declared.command.Granted.TheVariants as granted
 use Rattle.vat_machine.specs.declared.command.Refusal.{Refusal}
 use Rattle.vat_machine.specs.declared.command.Refusal.TheVariants as refusal
 use Rattle.vat_machine.specs.declared.command.Effects.{Effects}
-use Rattle.vat_machine.specs.declared.entries.Reference.{Reference}
 use Rattle.vat_machine.specs.declared.event.Event.{Event}
 use Rattle.vat_machine.specs.declared.event.Event.TheVariants as event
-use Rattle.vat_machine.specs.State.{State}
 use Rattle.vat_machine.specs.World.{World, core, Happening, Happens, Run, StepAnswer, Answered, Handled, Empty, shut_with, shut_number, was_shut, tables_entry}
 use Rattle.vat_machine.specs.Journal.{born, born_promise, asked_entries, made_entries, advanced_entries, refused_entries, granted_entries, own_entries, went_down, effect_entries, event_entries, index_in, journal_from, journal}
 use Rattle.laws_runs.specs.MadeCalls.{NumbersItsCalls, RunsCount}

@@ -1,5 +1,5 @@
 -- What the world's code keeps, through an event at either vat.
-use Rattle.std.proofs.Common.{◌≡◌, ℕ, ◌+◌, ◌≤◌, Bool, ◌||◌, Option, None, Some, List, [], ◌∷◌, ◌++◌, sym, ap, subst, ◌∙◌, arith}
+use Rattle.std.proofs.Common.{◌≡◌, ℕ, ◌≤◌, ◌||◌, Option, None, Some, List, [], ◌∷◌, ◌++◌, sym, ap, subst, ◌∙◌, arith}
 use Rattle.rpc_msg.specs.declared.ids.Vat.{Vat}
 use Rattle.rpc_msg.specs.declared.ids.Vat.TheVariants.{A, B}
 use Rattle.vat_journal.specs.declared.entry.JournalEntry.{JournalEntry}
@@ -15,7 +15,7 @@ use Rattle.vat_world.specs.declared.answer.StepAnswer.{StepAnswer as Given}
 use Rattle.vat_world.specs.declared.answer.StepAnswer.TheVariants as given
 use Rattle.vat_world.specs.Stages.{takes_down, ObeysBy, DeliversBy}
 use Rattle.vat_world.specs.Rooms.{stage_of, seen_of, owed, HasRoom}
-use Rattle.vat_world.specs.World.{Seen, Steps, IsReached}
+use Rattle.vat_world.specs.World.{Steps, IsReached}
 use Rattle.vat_world.proofs.Reaching.{counts_so, reached_noted}
 use Rattle.vat_world.proofs.Happened.{command_steps, deliver_steps}
 

@@ -1,5 +1,5 @@
 -- The step of one vat, from its core's step and how that was told.
-use Rattle.std.proofs.Common.{◌≡◌, inl, inr, ℕ, Bool, true, false, cond, Option, None, Some, is_some, IfSome, Result, Ok, Err, List, [], ◌∷◌, ◌++◌, refl, sym, ap, subst, ◌∙◌}
+use Rattle.std.proofs.Common.{◌≡◌, inl, inr, ℕ, Bool, true, false, cond, Option, None, Some, is_some, IfSome, Result, Ok, Err, List, [], ◌∷◌, refl, sym, ap, subst, ◌∙◌}
 use Rattle.std.specs.Option.{option_to_list}
 use Rattle.capn_wire.specs.declared.faults.Memory.{Memory}
 use Rattle.rpc_msg.specs.declared.ids.Vat.{Vat}
@@ -17,7 +17,7 @@ use Rattle.vat_machine.specs.Progress.{quiet}
 use Rattle.vat_machine.specs.Down.{falling_by, IsUnchanged, Falls, ShutsFrom}
 use Rattle.vat_machine.specs.Steps.{Obeys, Refuses, LacksMemory, GoesDown, Shuts, IsDone, Receives, WasDown, FaultsBy, LacksRoom, IsHandled}
 use Rattle.vat_machine.specs.World.{given_up}
-use Rattle.vat_machine.specs.Journal.{own_entries, refused_entries, granted_entries}
+use Rattle.vat_machine.specs.Journal.{own_entries, refused_entries}
 use Rattle.vat_machine.proofs.StaysDown.{command_down}
 use Rattle.laws_steps.proofs.UsedOnce.{command_leaves_up, message_leaves_up}
 use Rattle.laws_runs.specs.MadeCalls.{NumbersItsCalls}
@@ -26,7 +26,7 @@ use Rattle.vat_core.specs.declared.obey.Answer.TheVariants.{Done, Refused}
 use Rattle.vat_core.specs.Answers.{AnswersTo, answer_in, effects_in}
 use Rattle.vat_world.specs.declared.notes.Note.{Note}
 use Rattle.vat_world.specs.Notes.{index_of}
-use Rattle.vat_world.specs.Stages.{Stage, stepped, without_sends, given_of, got_entries, entries_of, IsFall, IsOwn, HadOwn, Logs, ObeysUp, ObeysDown, ObeysBy, HandlesUp}
+use Rattle.vat_world.specs.Stages.{Stage, stepped, without_sends, given_of, entries_of, IsFall, IsOwn, HadOwn, Logs, ObeysUp, ObeysDown, ObeysBy, HandlesUp}
 use Rattle.vat_world.proofs.Noting.{IsNoteOf, own_so}
 
 -- ---- A step that takes a vat down says no more than an Abort

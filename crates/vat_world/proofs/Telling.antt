@@ -1,5 +1,5 @@
 -- How a step is told, from how its parts are.
-use Rattle.std.proofs.Common.{◌≡◌, ℕ, Bool, true, false, Option, None, Some, Result, Ok, Err, List, [], ◌∷◌, ◌++◌, refl, sym, subst}
+use Rattle.std.proofs.Common.{◌≡◌, ℕ, Bool, true, false, Option, None, Some, Result, Ok, List, ◌++◌, refl, sym, subst}
 use Rattle.std.specs.Option.{option_to_list}
 use Rattle.capn_wire.specs.declared.faults.Memory.{Memory}
 use Rattle.rpc_msg.specs.declared.ids.Vat.{Vat}
@@ -11,7 +11,7 @@ use Rattle.vat_machine.specs.State.{State}
 use Rattle.vat_machine.specs.Down.{ShutsFrom, Falls}
 use Rattle.vat_machine.specs.World.{overflow_effects, overflown}
 use Rattle.vat_machine.specs.Journal.{effect_entries}
-use Rattle.vat_world.specs.Stages.{Stage, stepped, without_sends, got_entries, entries_of, Logs, Overflows}
+use Rattle.vat_world.specs.Stages.{Stage, stepped, without_sends, got_entries, Logs, Overflows}
 
 pub overflow_down : (v : Vat) (g : Stage) (effects : Effects) (got : Bool) (given : Effects) (new : Stage) (n : ℕ) (own : List JournalEntry) → g.acting.core.down ≡ Some n → own ≡ got_entries v got → new ≡ stepped v g g.acting.core effects own → given ≡ without_sends effects → Overflows v g effects got given new
 overflow_down v g effects got given new n own down o e f = record {

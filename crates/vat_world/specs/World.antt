@@ -1,5 +1,5 @@
 -- Two vats with their journal: what an event does, and what every such world is.
-use Rattle.std.specs.Prelude.{◌≡◌, Bool, ◌||◌, false, is_some, Option, None, Some, Result, Ok, Err, List, [], ◌∷◌, ◌++◌, refl}
+use Rattle.std.specs.Prelude.{◌≡◌, Bool, ◌||◌, false, is_some, Option, None, Some, List, [], ◌∷◌, ◌++◌, refl}
 use Rattle.std.specs.Coded.{Coded, code_by, coded×, coded_bool, coded_list}
 use Rattle.rpc_msg.specs.contracts.message.Message as message_row
 use Rattle.rpc_msg.specs.declared.ids.Vat.{Vat}

@@ -1,4 +1,3 @@
-use Rattle.std.proofs.Common.{refl}
 use Rattle.vat_world.proofs.Reaching.{runs_more}
 use Rattle.vat_world.proofs.world.World.run.Goals as goal
 
