@@ -202,7 +202,7 @@ fn steps(path: &Items<Op>) -> [u64; 2] {
     [path.len() as u64, sum]
 }
 
-fn told_command(vat: Vat, said: &LineCommand) -> Told {
+fn outline_command(vat: Vat, said: &LineCommand) -> Told {
     let at = Some(vat);
     let none = [None, None];
     match said {
@@ -245,7 +245,7 @@ fn told_command(vat: Vat, said: &LineCommand) -> Told {
     }
 }
 
-fn told(line: &Line) -> Told {
+fn outline(line: &Line) -> Told {
     let none = [None, None];
     match line {
         Line::Skip => brief("skip", None, none, [0, 0]),
@@ -264,7 +264,7 @@ fn told(line: &Line) -> Told {
             [Some(line.name), Some(line.call)],
             [u64::from(line.index), 0],
         ),
-        Line::Command(vat, said) => told_command(*vat, said),
+        Line::Command(vat, said) => outline_command(*vat, said),
     }
 }
 
@@ -276,7 +276,9 @@ fn says(alloc: Global, wanted: Wanted) -> bool {
     let (program, text, word, vat, names, numbers) = wanted;
     let [first, second] = names;
     match Line::read(alloc, program, text) {
-        Ok(line) => { told(&line) == brief(word, vat, [name_of(first), name_of(second)], numbers) }
+        Ok(line) => {
+            outline(&line) == brief(word, vat, [name_of(first), name_of(second)], numbers)
+        }
         Err(_) => false,
     }
 }
