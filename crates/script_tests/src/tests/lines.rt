@@ -29,7 +29,7 @@ const RUN: Program = Program::Run;
 
 const PAIR: Program = Program::Pair;
 
-const LINES: [Wanted; 25] = [
+const LINES: &[Wanted] = &[
     (RUN, "", "skip", None, ["", ""], [0, 0]),
     (PAIR, "# a drop x\r", "skip", None, ["", ""], [0, 0]),
     (RUN, "deliver b", "deliver", Some(Vat::B), ["", ""], [0, 0]),
@@ -286,7 +286,7 @@ fn says(alloc: Global, wanted: Wanted) -> bool {
 #[test]
 fn lines_are_read(rt: HostRuntime) {
     for wanted in LINES {
-        assert!(rt; says(rt.alloc(), wanted), "{}", wanted.1);
+        assert!(rt; says(rt.alloc(), *wanted), "{}", wanted.1);
     }
 }
 
@@ -387,7 +387,7 @@ fn the_first_fault_of_a_line_is_named(rt: HostRuntime) {
 }
 
 /// How many lines scripts have.
-const SCRIPTS: [(&[u8], usize); 4] = [
+const SCRIPTS: &[(&[u8], usize)] = &[
     (b"", 1),
     (b"a drop x", 1),
     (b"a drop x\n", 2),
@@ -395,7 +395,7 @@ const SCRIPTS: [(&[u8], usize); 4] = [
 ];
 
 /// Scripts that are none.
-const NO_SCRIPTS: [(&[u8], ScriptFault); 5] = [
+const NO_SCRIPTS: &[(&[u8], ScriptFault)] = &[
     (b"a drop x\n\xff", ScriptFault::NotText),
     (b"a drop\n\xff", ScriptFault::NotText),
     (b"\n#\na drop\nlift", ScriptFault::Line(3, LineFault::Count)),
@@ -413,10 +413,10 @@ const NO_SCRIPTS: [(&[u8], ScriptFault); 5] = [
 fn scripts_are_read_whole(rt: HostRuntime) {
     for (text, lines) in SCRIPTS {
         let read = read_script(rt.alloc(), Program::Run, text);
-        assert!(rt; read.is_ok_and(|read| read.len() == lines), "{lines}");
+        assert!(rt; read.is_ok_and(|read| read.len() == *lines), "{lines}");
     }
     for (text, fault) in NO_SCRIPTS {
         let read = read_script(rt.alloc(), Program::Run, text);
-        assert!(rt; read.is_err_and(|found| found == fault), "{fault}");
+        assert!(rt; read.is_err_and(|found| found == *fault), "{fault}");
     }
 }
