@@ -4,3 +4,5 @@ pub mod Questions
 pub mod Loops
 pub mod Exports
 pub mod Oldest
+pub mod Lowered
+pub mod TakenWell
