@@ -1,8 +1,7 @@
-ghost use Rattle.std.specs.Prelude.{◌≡◌, [], IfOk};
+ghost use Rattle.std.specs.Prelude.{◌≡◌, IfOk};
 ghost use Rattle.vat_machine.specs.Down.{ShutsFrom};
 ghost use Rattle.vat_machine.specs.State.{start};
 ghost use Rattle.vat_machine.specs.Steps.{Receives};
-ghost use Rattle.vat_store.specs.Holding.{state_of, IsSound};
 
 use rpc_msg::{Memory, Message, ObjectId, Vat};
 use std::alloc::Global;
@@ -11,10 +10,8 @@ use step_base::{Arisen, Step};
 use step_ends::Machine;
 use step_sweeps::Thought;
 use vat_machine::{Effects, Level};
-use vat_names::Names;
 use vat_outbox::Outbox;
 use vat_store::Store;
-use vat_waits::Waits;
 
 /// The core of a vat: all that it holds for its connection, and the memory that it keeps for its steps. Contracts see it as
 /// the state of the machine of `docs/protocol.md`, and each of its calls is a step of that machine.
@@ -51,7 +48,7 @@ impl Core {
         let outbox = Outbox::new(alloc)?;
         let spare = Outbox::new(alloc)?;
         let step = Step {
-            store: empty_store(alloc, vat, level, bootstrap),
+            store: Store::new(vat, level, bootstrap, alloc),
             outbox,
             arisen: Arisen::new(alloc),
         };
@@ -101,20 +98,4 @@ impl Core {
     {
         step_ends::shut(&mut self.machine, number)
     }
-}
-
-// What a new vat holds. `Store::new` says nothing of calls that are taken out to be routed, so what tells of them is made
-// here.
-fn empty_store(alloc: Global, vat: Vat, level: Level, bootstrap: Option<ObjectId>) -> Store
-    ensures state { state_of result ≡ start vat level bootstrap }
-    ensures sound { IsSound result }
-    ensures none_taken { result.waits.taken ≡ [] }
-{
-    let mut store = Store::new(vat, level, bootstrap, alloc);
-    store.waits = Waits::new(alloc);
-    store.names = Names::new(alloc);
-    store.slack = 0;
-    store.added = 1;
-    store.links = 1;
-    store
 }
