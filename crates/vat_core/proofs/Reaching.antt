@@ -1,5 +1,5 @@
 -- Each step of a core leads to a state to which a vat comes.
-use Rattle.std.proofs.Common.{◌≡◌, ℕ, true, [], Option, Result, refl, sym, ap, subst}
+use Rattle.std.proofs.Common.{◌≡◌, [], Option, Result, sym, ap, subst}
 use Rattle.rpc_msg.specs.declared.ids.Vat.{Vat}
 use Rattle.rpc_msg.specs.declared.ids.ObjectId.{ObjectId}
 use Rattle.rpc_msg.specs.declared.message.Message.{Message}
