@@ -3,3 +3,4 @@ pub mod Links
 pub mod Questions
 pub mod Loops
 pub mod Exports
+pub mod Oldest

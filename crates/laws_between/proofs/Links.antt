@@ -1,5 +1,5 @@
 -- What links hold, read as the sessions of questions do.
-use Rattle.std.proofs.Common.{◌≡◌, ℕ, Bool, nat_eq, true, false, List, [], ◌∷◌, ◌++◌, refl, ◌∙◌}
+use Rattle.std.proofs.Common.{◌≡◌, ◌⊎◌, inl, inr, sym, ℕ, Bool, nat_eq, true, false, List, [], ◌∷◌, ◌++◌, refl, ◌∙◌}
 use Rattle.finite_maps.proofs.Tested.{sides}
 use Rattle.rpc_msg.specs.declared.message.Message.{Message}
 use Rattle.rpc_msg.specs.declared.message.Message.TheVariants as message
@@ -18,7 +18,7 @@ use Rattle.laws_sessions.specs.Views.{only, out_of, outs, ret_of, rets}
 use Rattle.laws_answers.specs.Named.{each_marks, marks, says, target_marks, targets_marks}
 use Rattle.laws_routes.specs.Named.{EachReturn, ReturnOf}
 use Rattle.laws_routes.specs.Premises.{EachOpen, OpenOf}
-use Rattle.laws_routes.specs.QuietLaws.{AimsElsewherePlain, EachOff, IsOffAnswer, NoneAims, NoneNames, Unless, opens}
+use Rattle.laws_routes.specs.QuietLaws.{AimsElsewherePlain, EachOff, IsAsked, IsOffAnswer, NoneAims, NoneNames, Unless, opens}
 
 -- ---- What asks
 
@@ -173,3 +173,141 @@ pub all_returns : (ms : List Message) → EachReturn (λ q. Unit {0}) ms
 all_returns [] = tt
 all_returns (message.Plain m ∷ ms) = (each m, all_returns ms)
 all_returns (message.Unimplemented m ∷ ms) = all_returns ms
+
+-- ---- What is asked again
+
+abbrev pub HasOpen : List (Out Ids Ids) → Type 0
+HasOpen [] = ⊥
+HasOpen (Open x ∷ ms) = Unit {0}
+HasOpen (Fin l ∷ ms) = HasOpen ms
+
+module _ (q : ℕ) where
+  opens_or_later : (x : Ids) (k : ℕ) (rest : List (Out Ids Ids)) (b : Bool) → nat_eq q k ≡ b → HasOpen (only b (Open x) ++ rest) → (nat_eq k q ≡ true) ⊎ HasOpen rest
+  opens_or_later x k rest true e h = inl (sides k q ∙ e)
+  opens_or_later x k rest false e h = inr h
+
+  finish_or_later : (l : _) (rest : List (Out Ids Ids)) (b : Bool) → HasOpen (only b (Fin l) ++ rest) → HasOpen rest
+  finish_or_later l rest true h = h
+  finish_or_later l rest false h = h
+
+  asked_or_later : (m : PlainMessage) (l : Ids) (rest : List (Out Ids Ids)) → HasOpen (out_of q m l ++ rest) → (opens q (message.Plain m) ≡ true) ⊎ HasOpen rest
+  asked_or_later (plain.Abort exception) l rest h = inr h
+  asked_or_later (plain.Bootstrap k) l rest h = opens_or_later [] k.0 rest (nat_eq q k.0) refl h
+  asked_or_later (plain.Call c) l rest h = opens_or_later _ c.question.0 rest (nat_eq q c.question.0) refl h
+  asked_or_later (plain.Return r) l rest h = inr h
+  asked_or_later (plain.Finish f) l rest h = inr (finish_or_later _ rest (nat_eq q f.question.0) h)
+  asked_or_later (plain.Resolve r) l rest h = inr h
+  asked_or_later (plain.Release r) l rest h = inr h
+  asked_or_later (plain.Disembargo d) l rest h = inr h
+  asked_or_later (plain.Other n) l rest h = inr h
+
+  pub is_asked : (ns : List Noted) → HasOpen (outs q ns) → IsAsked q (messages ns)
+  is_asked [] h = absurd h
+  is_asked (n ∷ ns) h = by (is_asked ns) (asked_or_later n.message n.lets (outs q ns) h)
+    where
+      by : (HasOpen (outs q ns) → IsAsked q (messages ns)) → (opens q (message.Plain n.message) ≡ true) ⊎ HasOpen (outs q ns) → IsAsked q (messages (n ∷ ns))
+      by rest (inl e) = inl e
+      by rest (inr k) = inr (rest k)
+
+-- ---- What names an answer behind its Finish
+
+abbrev pub IsOut : Answerer Ids Ids → Type 0
+IsOut NotOpen = Unit {0}
+IsOut (Working x) = ⊥
+IsOut (Unwanted x) = Unit {0}
+IsOut (Answered y) = ⊥
+IsOut Strange = Unit {0}
+
+pub out_behind : (u : Answerer Ids Ids) (l : _) → IsOut (hear_one u (Fin l))
+out_behind NotOpen l = tt
+out_behind (Working x) l = tt
+out_behind (Unwanted x) l = tt
+out_behind (Answered y) l = tt
+out_behind Strange l = tt
+
+out_not_here : (u : Answerer Ids Ids) → IsOut u → mark.IsHere u → ⊥
+out_not_here NotOpen i h = h
+out_not_here (Working x) i h = i
+out_not_here (Unwanted x) i h = h
+out_not_here (Answered y) i h = i
+out_not_here Strange i h = h
+
+-- These marks are names alone.
+abbrev NamesAlone : List (Mark Ids Ids) → Type 0
+NamesAlone [] = Unit {0}
+NamesAlone (Says m ∷ ms) = ⊥
+NamesAlone (Names ∷ ms) = NamesAlone ms
+
+none_out : (u : Answerer Ids Ids) (ms rest : List (Mark Ids Ids)) → NamesAlone ms → IsOut u → Met u (ms ++ rest) → NoneNamed ms × Met u rest
+none_out u [] rest a i h = (tt, h)
+none_out u (Says m ∷ ms) rest a i h = absurd a
+none_out u (Names ∷ ms) rest a i h = absurd (out_not_here u i h.0)
+
+only_names : (b : Bool) → NamesAlone (only b Names)
+only_names true = tt
+only_names false = tt
+
+more_names : (b : Bool) (ms : List (Mark Ids Ids)) → NamesAlone ms → NamesAlone (only b Names ++ ms)
+more_names true ms h = h
+more_names false ms h = h
+
+module _ (q : ℕ) where
+  target_names : (t : Target) → NamesAlone (target_marks q t)
+  target_names (ImportedCap e) = tt
+  target_names (PromisedAnswer k path) = only_names (nat_eq q k.0)
+
+  targets_names : (m : PlainMessage) → NamesAlone (targets_marks q m)
+  targets_names (plain.Abort exception) = tt
+  targets_names (plain.Bootstrap k) = tt
+  targets_names (plain.Call c) = target_names c.target
+  targets_names (plain.Return r) = tt
+  targets_names (plain.Finish f) = tt
+  targets_names (plain.Resolve r) = tt
+  targets_names (plain.Release r) = tt
+  targets_names (plain.Disembargo d) = target_names d.target
+  targets_names (plain.Other n) = tt
+
+  each_names : (ds : List Descriptor) → NamesAlone (each_marks q ds)
+  each_names [] = tt
+  each_names (descriptor.None ∷ ds) = each_names ds
+  each_names (descriptor.SenderHosted e ∷ ds) = each_names ds
+  each_names (descriptor.SenderPromise e ∷ ds) = each_names ds
+  each_names (descriptor.ReceiverHosted e ∷ ds) = each_names ds
+  each_names (descriptor.ReceiverAnswer k path ∷ ds) = more_names (nat_eq q k.0) (each_marks q ds) (each_names ds)
+
+  abbrev OutBehind : List (Mark Ids Ids) → Type 0
+  OutBehind ms = (u : Answerer Ids Ids) × IsOut u × Met u ms
+
+  opened_not : (x : Ids) (u : Answerer Ids Ids) (k : ℕ) (rest : List (Mark Ids Ids)) (b : Bool) → nat_eq q k ≡ b → nat_eq k q ≡ false → IsOut u → Met u (says (only b (Open x)) ++ rest) → OutBehind rest
+  opened_not x u k rest true e f i h = absurd (let bad : true ≡ false = sym e ∙ (sides q k ∙ f) in cc)
+  opened_not x u k rest false e f i h = (u, i, h)
+
+  finished_out : (l : _) (u : Answerer Ids Ids) (rest : List (Mark Ids Ids)) (b : Bool) → IsOut u → Met u (says (only b (Fin l)) ++ rest) → OutBehind rest
+  finished_out l u rest true i h = (hear_one u (Fin l), out_behind u l, h)
+  finished_out l u rest false i h = (u, i, h)
+
+  out_after : (m : PlainMessage) (l : Ids) (u : Answerer Ids Ids) (rest : List (Mark Ids Ids)) → opens q (message.Plain m) ≡ false → IsOut u → Met u (says (out_of q m l) ++ rest) → OutBehind rest
+  out_after (plain.Abort exception) l u rest e i h = (u, i, h)
+  out_after (plain.Bootstrap k) l u rest e i h = opened_not [] u k.0 rest (nat_eq q k.0) refl e i h
+  out_after (plain.Call c) l u rest e i h = opened_not _ u c.question.0 rest (nat_eq q c.question.0) refl e i h
+  out_after (plain.Return r) l u rest e i h = (u, i, h)
+  out_after (plain.Finish f) l u rest e i h = finished_out _ u rest (nat_eq q f.question.0) i h
+  out_after (plain.Resolve r) l u rest e i h = (u, i, h)
+  out_after (plain.Release r) l u rest e i h = (u, i, h)
+  out_after (plain.Disembargo d) l u rest e i h = (u, i, h)
+  out_after (plain.Other n) l u rest e i h = (u, i, h)
+
+  pub left_alone : (u : Answerer Ids Ids) (ns : List Noted) → IsOut u → Met u (marks q ns) → NoneAims q (messages ns) × NoneNames q (messages ns)
+  left_alone u [] i h = (tt, tt)
+  left_alone u (n ∷ ns) i h =
+      let m = n.message in
+      let ds = descriptors_of_plain m in
+      let one = none_out u (targets_marks q m) (each_marks q ds ++ (says (out_of q m n.lets) ++ marks q ns)) (targets_names m) i h in
+      let two = none_out u (each_marks q ds) (says (out_of q m n.lets) ++ marks q ns) (each_names ds) i one.1 in
+      let rest = behind (λ w j k. left_alone w ns j k) (opens q (message.Plain m)) refl two.1 in
+      ((targets_off q m one.0, rest.0), (each_off q ds two.0, rest.1))
+    where
+      behind : ((w : Answerer Ids Ids) → IsOut w → Met w (marks q ns) → NoneAims q (messages ns) × NoneNames q (messages ns)) → (b : Bool) → opens q (message.Plain n.message) ≡ b → Met u (says (out_of q n.message n.lets) ++ marks q ns)
+          → Unless b (NoneAims q (messages ns)) × Unless b (NoneNames q (messages ns))
+      behind f true e k = (tt, tt)
+      behind f false e k = let o = out_after n.message n.lets u (marks q ns) e i k in f o.0 o.1 o.2

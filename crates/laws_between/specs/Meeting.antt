@@ -1,9 +1,12 @@
 -- What is so of two vats between steps, with what is on the way to each (docs/protocol.md, "Ids in use").
-use Rattle.std.specs.Prelude.{◌≡◌, ℕ, nat_eq, false, None, Some, IsSome, List}
+use Rattle.std.specs.Prelude.{◌≡◌, ℕ, nat_eq, false, Option, None, Some, IsSome, List, ◌∷◌}
 use Rattle.std.specs.FinMap as map
 use Rattle.rpc_msg.specs.declared.ids.Vat.{Vat}
 use Rattle.rpc_msg.specs.Vats.{other_vat}
 use Rattle.rpc_msg.specs.declared.message.Message.{Message}
+use Rattle.rpc_msg.specs.declared.message.Message.TheVariants as message
+use Rattle.rpc_msg.specs.declared.message.PlainMessage.{PlainMessage}
+use Rattle.rpc_msg.specs.declared.message.PlainMessage.TheVariants as plain
 use Rattle.vat_machine.specs.declared.entries.AnswerEntry.{AnswerEntry}
 use Rattle.vat_machine.specs.declared.entries.Question.{Question}
 use Rattle.vat_machine.specs.State.{State}
@@ -12,6 +15,7 @@ use Rattle.laws_sessions.specs.Scenes.{InScenes}
 use Rattle.laws_routes.specs.Between.{Across}
 use Rattle.laws_routes.specs.Midway.{IsAwaited}
 use Rattle.laws_routes.specs.Named.{EachReturn, LinksMet}
+use Rattle.laws_routes.specs.QuietLaws.{MayClose}
 use Rattle.laws_routes.specs.Premises.{EachLoop, EachOpen, TargetsAreMet}
 
 -- It is so of each vat of a world, with the other and what is on its way there and back.
@@ -48,3 +52,25 @@ ExportsMeetInScenes = InScenes (OfBoth ExportsMeet)
 -- So all that the record of the middle of a step says of a vat with the other one is so in each scene, at each vat.
 abbrev pub AcrossInScenes : Type 0
 AcrossInScenes = InScenes (OfBoth Across)
+
+-- ---- The oldest message on its way
+
+-- Of the session of its question: a Bootstrap or a Call asks once; behind a Return the question is asked and returned no more;
+-- and behind a Finish nothing is aimed at the answer, or names it, until the question is asked again.
+abbrev pub IsLastOfIts : State → List Message → List Message → PlainMessage → Type 0
+IsLastOfIts other out rest (plain.Abort exception) = Unit {0}
+IsLastOfIts other out rest (plain.Bootstrap q) = EachOpen (λ k. nat_eq k q.0 ≡ false) rest
+IsLastOfIts other out rest (plain.Call c) = EachOpen (λ k. nat_eq k c.question.0 ≡ false) rest
+IsLastOfIts other out rest (plain.Return r) = EachOpen (λ k. nat_eq k r.answer.0 ≡ false) out × EachReturn (λ k. nat_eq k r.answer.0 ≡ false) rest
+IsLastOfIts other out rest (plain.Finish x) = MayClose other rest x.question.0
+IsLastOfIts other out rest (plain.Resolve r) = Unit {0}
+IsLastOfIts other out rest (plain.Release r) = Unit {0}
+IsLastOfIts other out rest (plain.Disembargo x) = Unit {0}
+IsLastOfIts other out rest (plain.Other n) = Unit {0}
+
+-- It is so of the oldest message on its way to each vat of a world.
+abbrev pub OfOldest : (State → State → List Message → List Message → PlainMessage → Type 0) → World → Type 0
+OfOldest P w = (v : Vat) (x : PlainMessage) (rest : List Message) → inbox w v ≡ message.Plain x ∷ rest → P (core w v) (core w (other_vat v)) (inbox w (other_vat v)) rest x
+
+abbrev pub OldestAreLast : Type 0
+OldestAreLast = InScenes (OfOldest (λ s other out rest x. IsLastOfIts other out rest x))

@@ -1,6 +1,6 @@
 //! The functions run no code: what each ensures is the law.
 
-ghost use Rattle.laws_between.specs.Meeting.{AcrossInScenes, ExportsMeetInScenes, LoopsMeetInScenes, QuestionsMeetInScenes};
+ghost use Rattle.laws_between.specs.Meeting.{AcrossInScenes, ExportsMeetInScenes, LoopsMeetInScenes, OldestAreLast, QuestionsMeetInScenes};
 
 use laws_answers::embargoes_are_about;
 use laws_sessions::counts_agree_in_scenes;
@@ -39,4 +39,13 @@ pub fn vats_meet()
     questions_meet();
     loops_meet();
     exports_meet();
+}
+
+/// In each scene the oldest message on its way to a vat is the last of its kind for its question: a Bootstrap or a Call asks once,
+/// behind a Return the question is asked and returned no more, and behind a Finish nothing names the answer until the question is
+/// asked again.
+pub fn oldest_are_last()
+    ensures { OldestAreLast }
+{
+    counts_agree_in_scenes();
 }

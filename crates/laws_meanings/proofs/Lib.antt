@@ -29,3 +29,5 @@ pub mod Awaited
 pub mod Replies
 pub mod Returning
 pub mod Answering
+pub mod Broken
+pub mod Unanswered

@@ -9,7 +9,7 @@ ghost use Rattle.laws_meanings.specs.Bootstraps.{NumbersAreAsked, RootsAreReturn
 ghost use Rattle.laws_meanings.specs.Identities.{OutcomesAreOfCalls};
 ghost use Rattle.laws_meanings.specs.AnsweredEnds.{CallsEndAsAnswered};
 ghost use Rattle.laws_meanings.specs.Tasks.{TasksAreOpen, TasksAreAnsweredOnce};
-ghost use Rattle.laws_meanings.specs.WhatIsLeft.{ObjectsAreLeft, AnswersAreLeft, CallsAreLeft};
+ghost use Rattle.laws_meanings.specs.WhatIsLeft.{ObjectsAreLeft, AnswersAreLeft, CallsAreLeft, BrokenCallsAreLeft};
 
 use laws_answers::named_answers_are_there;
 use laws_nodes::outcomes_have_sources;
@@ -98,8 +98,8 @@ pub fn outcomes_are_of_calls()
     counts_agree_in_scenes();
 }
 
-/// In each scene a call ends with what was answered to its delivery, with as many capabilities, or with the exception of a
-/// broken capability.
+/// In each scene a call ends with what was answered to its delivery, with as many capabilities; or, where it was not
+/// answered, with the exception of a broken capability.
 pub fn calls_end_as_answered()
     ensures { CallsEndAsAnswered }
 {
@@ -114,4 +114,13 @@ pub fn ends_of_calls_are_left()
     ends_were_asked();
     bootstraps_end_with_roots();
     meanings_are_left();
+}
+
+/// Where in a scene the reference of each call that ends without an answer stands for broken, all that is promised of its
+/// ends holds.
+pub fn broken_calls_are_left()
+    ensures { BrokenCallsAreLeft }
+{
+    calls_end_as_answered();
+    ends_of_calls_are_left();
 }

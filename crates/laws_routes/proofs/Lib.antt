@@ -78,3 +78,4 @@ pub mod CallsReceived
 pub mod ReturnsReceived
 pub mod EachReceived
 pub mod MessagesFollow
+pub mod EmbargoesKept

@@ -184,7 +184,7 @@ one_same s k i = at_put (λ j o. resolution_of o ≡ resolution_of (map.get s.im
     by None = refl
     by (Some x) = refl
 
-same_each : (ds : List Descriptor) (s : State) (e : ℕ) → resolution_of (map.get (take_each s ds).imports e) ≡ resolution_of (map.get s.imports e)
+pub same_each : (ds : List Descriptor) (s : State) (e : ℕ) → resolution_of (map.get (take_each s ds).imports e) ≡ resolution_of (map.get s.imports e)
 same_each [] s e = refl
 same_each (descriptor.None ∷ ds) s e = same_each ds s e
 same_each (descriptor.SenderHosted i ∷ ds) s e = same_each ds (import_one s kind.Hosted i.0) e ∙ one_same s kind.Hosted i.0 e

@@ -22,3 +22,4 @@ pub mod WholeSteps
 pub mod Between
 pub mod FirstActs
 pub mod Received
+pub mod Embargoes

@@ -53,8 +53,8 @@ pub record FinishIsMet (s other : State) (out rest : List Message) (x : Finish) 
   pub lowers : MayLower (obey s x.release_result_caps (gave a.returned)) other out rest
   pub closes : MayClose other rest x.question.0
 
--- Of an echo, of the embargo b. One Disembargo of it is about (`laws_answers`); that a reference has one embargo at most, and that
--- embargoes are of own nodes, is still to be proved of every run.
+-- Of an echo, of the embargo b. One Disembargo of it is about (`laws_answers`); that its reference has no other, and that it is of an
+-- own node, each step keeps (`embargoes_are_right`).
 pub record EchoIsMet (s : State) (out rest : List Message) (e : ℕ) (b : Embargo) : Type 0 where
   pub only : IsOnlyEmbargo s e b.reference.0
   pub last : IsLastLoop e out rest

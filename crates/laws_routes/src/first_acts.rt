@@ -1,5 +1,6 @@
 //! The first act of each command and of each received message keeps what is so in the middle of a step. No code runs here.
 
+ghost use Rattle.laws_routes.specs.Embargoes.{CommandsKeepEmbargoes, MessagesKeepEmbargoes, NewEmbargoesAreRight, RightEmbargoesAreOnly};
 ghost use Rattle.laws_routes.specs.FirstActs.{AllCommandsFollow, OtherCommandsKeepIt, TiedEmbargoesAreNamed};
 ghost use Rattle.laws_routes.specs.Received.{MessagesFollow, MessagesMayBeTaken};
 
@@ -14,7 +15,8 @@ pub fn embargoes_are_named()
     ensures { TiedEmbargoesAreNamed }
 {}
 
-/// A received message that is no fault may be taken, whatever it is, and keeps what is so in the middle of a step.
+/// A received message that is no fault may be taken, whatever it is, by a vat of level 1, and keeps what is so in the middle of a
+/// step. Of messages that came back as not understood nothing is said.
 pub fn messages_may_be_taken()
     ensures { MessagesMayBeTaken }
 {}
@@ -24,4 +26,13 @@ pub fn messages_may_be_taken()
 pub fn steps_may_be_done()
     ensures commands { AllCommandsFollow }
     ensures messages { MessagesFollow }
+{}
+
+/// Each embargo of a vat is the only one of its reference, and is of a node of that vat itself: it is so of a new vat, and each command
+/// that is done keeps it, and each message that is taken, where exports are own nodes.
+pub fn embargoes_are_right()
+    ensures new { NewEmbargoesAreRight }
+    ensures commands { CommandsKeepEmbargoes }
+    ensures messages { MessagesKeepEmbargoes }
+    ensures only { RightEmbargoesAreOnly }
 {}

@@ -15,7 +15,8 @@ mod steps;
 mod taking;
 
 pub use first_acts::{
-    embargoes_are_named, messages_may_be_taken, other_commands_keep_it, steps_may_be_done,
+    embargoes_are_named, embargoes_are_right, messages_may_be_taken, other_commands_keep_it,
+    steps_may_be_done,
 };
 pub use laws::{
     calls_are_made, calls_are_routed, calls_come, embargoes_end, gone_is_no_move,
