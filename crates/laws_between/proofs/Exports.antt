@@ -43,7 +43,7 @@ NoneMentioned [] = Unit {0}
 NoneMentioned (Mention ∷ bs) = ⊥
 NoneMentioned (Take k ∷ bs) = NoneMentioned bs
 
-none_mentioned : (n : ℕ) (bs : List Back) (m : ℕ) → n ≡ 0 → Leaves n bs m → NoneMentioned bs
+pub none_mentioned : (n : ℕ) (bs : List Back) (m : ℕ) → n ≡ 0 → Leaves n bs m → NoneMentioned bs
 none_mentioned n [] m e h = tt
 none_mentioned n (Mention ∷ bs) m e h = let a = h.0 in absurd (omega (arith, a, e))
 none_mentioned n (Take k ∷ bs) m e h = let a = h.1 in let b = h.2 in absurd (omega (arith, a, b, e))
@@ -65,7 +65,7 @@ module _ (e : ℕ) where
   EachOther [] = Unit {0}
   EachOther (d ∷ ds) = IsOther d × EachOther ds
 
-  abbrev AllOther : List Message → Type 0
+  abbrev pub AllOther : List Message → Type 0
   AllOther [] = Unit {0}
   AllOther (message.Plain m ∷ ms) = EachOther (descriptors_of_plain m) × AllOther ms
   AllOther (message.Unimplemented m ∷ ms) = AllOther ms
@@ -97,7 +97,7 @@ module _ (e : ℕ) where
   each_other (descriptor.ReceiverHosted i ∷ ds) h = let a = split (only (nat_eq e i.0) Mention) (named_in e ds) h in (only_other i.0 (nat_eq e i.0) refl a.0, each_other ds a.1)
   each_other (descriptor.ReceiverAnswer q path ∷ ds) h = (tt, each_other ds h)
 
-  all_other : (ns : List Noted) → NoneMentioned (backs_for e ns) → EachTargetCap (λ k. nat_eq k e ≡ false) (messages ns) × AllOther (messages ns)
+  pub all_other : (ns : List Noted) → NoneMentioned (backs_for e ns) → EachTargetCap (λ k. nat_eq k e ≡ false) (messages ns) × AllOther (messages ns)
   all_other [] h = (tt, tt)
   all_other (n ∷ ns) h =
       let m = n.message in
@@ -115,7 +115,7 @@ module _ (P : ℕ → Type 0) where
   abbrev Either : List Message → Type 0
   Either ms = (k : ℕ) → P k ⊎ EachTargetCap (λ j. nat_eq j k ≡ false) ms
 
-  targets_there : (ms : List Message) → Either ms → EachTargetCap P ms
+  pub targets_there : (ms : List Message) → Either ms → EachTargetCap P ms
   targets_there [] f = tt
   targets_there (m ∷ ms) f = (one m f, targets_there ms (λ k. behind k (f k)))
     where
@@ -212,7 +212,7 @@ module _ (E F : Map Export) where
   resolve_met has (plain.Disembargo x) f = tt
   resolve_met has (plain.Other n) f = tt
 
-  all_named : (has : Has) (ms : List Message) → Gives has ms → ((e : ℕ) → IsSome (map.get F e) ⊎ AllOther e ms) → AllMet E F has ms
+  pub all_named : (has : Has) (ms : List Message) → Gives has ms → ((e : ℕ) → IsSome (map.get F e) ⊎ AllOther e ms) → AllMet E F has ms
   all_named has [] f g = tt
   all_named has (message.Unimplemented m ∷ ms) f g = all_named has ms (λ e. by e (f e)) g
     where
@@ -253,13 +253,13 @@ module _ (E F : Map Export) where
 
 -- ---- Two vats
 
-none_counted : (o : Option Import) → ImportCounts o → import_count o ≡ 0 → is_some o ≡ false
+pub none_counted : (o : Option Import) → ImportCounts o → import_count o ≡ 0 → is_some o ≡ false
 none_counted None h e = refl
 none_counted (Some x) h e = absurd (omega (arith, h, e))
 
 module _ (s t : State) (to_s to_t : List Noted) (k : Found s to_s t to_t) where
   -- An export of s that is not there is held by nobody, and none gives it.
-  given_or_there : (e : ℕ) → IsSome (map.get s.exports e) ⊎ ((giving e (messages to_t) ≡ 0) × (is_some (map.get t.imports e) ≡ false))
+  pub given_or_there : (e : ℕ) → IsSome (map.get s.exports e) ⊎ ((giving e (messages to_t) ≡ 0) × (is_some (map.get t.imports e) ≡ false))
   given_or_there e = by (map.get s.exports e) (let a = k.agree in a.of_s e)
     where
       by : (o : Option Export) → export_count o ≡ count e t + (giving e (messages to_t) + letting e to_s) → IsSome o ⊎ ((giving e (messages to_t) ≡ 0) × (is_some (map.get t.imports e) ≡ false))
@@ -267,22 +267,22 @@ module _ (s t : State) (to_s to_t : List Noted) (k : Found s to_s t to_t) where
       by None h = inr (omega (arith, h), none_counted (map.get t.imports e) (let a = k.agree in let c = a.counted_t in c.imports e) (omega (arith, h)))
 
   -- Nor is any message aimed at one, or gives one back.
-  named_or_there : (e : ℕ) → IsSome (map.get s.exports e) ⊎ (EachTargetCap (λ j. nat_eq j e ≡ false) (messages to_s) × AllOther e (messages to_s))
+  pub named_or_there : (e : ℕ) → IsSome (map.get s.exports e) ⊎ (EachTargetCap (λ j. nat_eq j e ≡ false) (messages to_s) × AllOther e (messages to_s))
   named_or_there e = by (map.get s.exports e) (k.met_s e)
     where
       by : (o : Option Export) → Leaves (export_count o) (backs_for e to_s) (count e t + giving e (messages to_t)) → IsSome o ⊎ (EachTargetCap (λ j. nat_eq j e ≡ false) (messages to_s) × AllOther e (messages to_s))
       by (Some x) h = inl refl
       by None h = inr (all_other e to_s (none_mentioned 0 (backs_for e to_s) _ refl h))
 
-first : {A B C : Type 0} → A ⊎ (B × C) → A ⊎ B
+pub first : {A B C : Type 0} → A ⊎ (B × C) → A ⊎ B
 first (inl a) = inl a
 first (inr b) = inr b.0
 
-second : {A B C : Type 0} → A ⊎ (B × C) → A ⊎ C
+pub second : {A B C : Type 0} → A ⊎ (B × C) → A ⊎ C
 second (inl a) = inl a
 second (inr b) = inr b.1
 
-link_met : (s t : State) (to_s to_t : List Noted) → Found s to_s t to_t → AllMet s.exports t.exports (has_of [] t.imports t.questions) (messages to_t)
+pub link_met : (s t : State) (to_s to_t : List Noted) → Found s to_s t to_t → AllMet s.exports t.exports (has_of [] t.imports t.questions) (messages to_t)
 link_met s t to_s to_t k = all_named s.exports t.exports (has_of [] t.imports t.questions) (messages to_t) (given_or_there s t to_s to_t k) (λ e. second (named_or_there t s to_t to_s (turned_about s t to_s to_t k) e))
 
 pub meet : (s t : State) (to_s to_t : List Noted) → Found s to_s t to_t → ExportsMeet s t (messages to_t) (messages to_s)

@@ -4,3 +4,4 @@ pub mod Questions
 pub mod Loops
 pub mod Exports
 pub mod Oldest
+pub mod Lowered

@@ -10,12 +10,17 @@ use Rattle.rpc_msg.specs.declared.message.PlainMessage.TheVariants as plain
 use Rattle.vat_machine.specs.declared.entries.AnswerEntry.{AnswerEntry}
 use Rattle.vat_machine.specs.declared.entries.Question.{Question}
 use Rattle.vat_machine.specs.State.{State}
+use Rattle.rpc_msg.specs.Messages.{descriptors_of_body}
+use Rattle.vat_machine.specs.Descriptors.{take_all}
+use Rattle.vat_machine.specs.Faults.{gave}
+use Rattle.vat_machine.specs.Flags.{obey}
+use Rattle.vat_machine.specs.Progress.{numbers}
 use Rattle.vat_machine.specs.World.{World, core, inbox}
 use Rattle.laws_sessions.specs.Scenes.{InScenes}
 use Rattle.laws_routes.specs.Between.{Across}
 use Rattle.laws_routes.specs.Midway.{IsAwaited}
 use Rattle.laws_routes.specs.Named.{EachReturn, LinksMet}
-use Rattle.laws_routes.specs.QuietLaws.{MayClose}
+use Rattle.laws_routes.specs.QuietLaws.{MayClose, MayLower, lowering}
 use Rattle.laws_routes.specs.Premises.{EachLoop, EachOpen, TargetsAreMet}
 
 -- It is so of each vat of a world, with the other and what is on its way there and back.
@@ -74,3 +79,23 @@ OfOldest P w = (v : Vat) (x : PlainMessage) (rest : List Message) → inbox w v 
 
 abbrev pub OldestAreLast : Type 0
 OldestAreLast = InScenes (OfOldest (λ s other out rest x. IsLastOfIts other out rest x))
+
+abbrev pub IfThere : {X : Type 0} → (X → Type 0) → Option X → Type 0
+IfThere P None = Unit {0}
+IfThere P (Some x) = P x
+
+-- By the counts of two vats: what the oldest message lets go of exports is held by nobody any more, and nothing on the way is aimed
+-- at it, gives it or names it.
+abbrev pub LetsGoWell : State → State → List Message → List Message → PlainMessage → Type 0
+LetsGoWell s other out rest (plain.Abort exception) = Unit {0}
+LetsGoWell s other out rest (plain.Bootstrap q) = Unit {0}
+LetsGoWell s other out rest (plain.Call c) = Unit {0}
+LetsGoWell s other out rest (plain.Return r) = IfThere (λ (x : Question). MayLower (obey (take_all s (descriptors_of_body r.body)) r.release_param_caps (numbers x.given)) other out rest) (map.get s.questions r.answer.0)
+LetsGoWell s other out rest (plain.Finish f) = IfThere (λ (a : AnswerEntry). MayLower (obey s f.release_result_caps (gave a.returned)) other out rest) (map.get s.answers f.question.0)
+LetsGoWell s other out rest (plain.Resolve r) = Unit {0}
+LetsGoWell s other out rest (plain.Release r) = MayLower (lowering s r.export.0 r.count) other out rest
+LetsGoWell s other out rest (plain.Disembargo d) = Unit {0}
+LetsGoWell s other out rest (plain.Other n) = Unit {0}
+
+abbrev pub OldestLetGoWell : Type 0
+OldestLetGoWell = InScenes (OfOldest LetsGoWell)

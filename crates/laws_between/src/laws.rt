@@ -1,6 +1,6 @@
 //! The functions run no code: what each ensures is the law.
 
-ghost use Rattle.laws_between.specs.Meeting.{AcrossInScenes, ExportsMeetInScenes, LoopsMeetInScenes, OldestAreLast, QuestionsMeetInScenes};
+ghost use Rattle.laws_between.specs.Meeting.{AcrossInScenes, ExportsMeetInScenes, LoopsMeetInScenes, OldestAreLast, OldestLetGoWell, QuestionsMeetInScenes};
 
 use laws_answers::embargoes_are_about;
 use laws_sessions::counts_agree_in_scenes;
@@ -47,5 +47,14 @@ pub fn vats_meet()
 pub fn oldest_are_last()
     ensures { OldestAreLast }
 {
+    counts_agree_in_scenes();
+}
+
+/// In each scene what the oldest message on its way to a vat lets go of exports, by its flag or by its count, is held by nobody any
+/// more, and nothing that is on the way behind it is aimed at it, gives it or names it.
+pub fn oldest_let_go_well()
+    ensures { OldestLetGoWell }
+{
+    sends_raise_counts();
     counts_agree_in_scenes();
 }
