@@ -5,3 +5,4 @@ pub mod Loops
 pub mod Exports
 pub mod Oldest
 pub mod Lowered
+pub mod TakenWell

@@ -1,8 +1,11 @@
 -- A Disembargo on its way is of an embargo that is there.
 use Rattle.std.specs.FinMap as map
-use Rattle.std.proofs.Common.{◌≡◌, ◌⊎◌, inl, inr, ℕ, ◌+◌, suc, Bool, nat_eq, true, false, cond, List, [], ◌∷◌, Option, None, Some, IsSome, refl, sym, ap, ◌∙◌, arith}
-use Rattle.finite_maps.proofs.Tested.{itself}
+use Rattle.std.proofs.Common.{◌≡◌, ◌⊎◌, ◌≤◌, subst, inl, inr, ℕ, ◌+◌, suc, Bool, nat_eq, true, false, cond, List, [], ◌∷◌, Option, None, Some, IsSome, refl, sym, ap, ◌∙◌, arith}
+use Rattle.finite_maps.proofs.Tested.{equal, itself}
+use Rattle.rpc_msg.specs.declared.ids.Vat.{Vat}
 use Rattle.rpc_msg.specs.Vats.{other_vat}
+use Rattle.rpc_msg.specs.declared.ids.EmbargoId.{EmbargoId}
+use Rattle.rpc_msg.specs.declared.parts.Target.{Target}
 use Rattle.rpc_msg.specs.declared.message.DisembargoContext.{DisembargoContext}
 use Rattle.rpc_msg.specs.declared.message.DisembargoContext.TheVariants.{SenderLoopback, ReceiverLoopback}
 use Rattle.rpc_msg.specs.declared.message.Message.{Message}
@@ -12,7 +15,7 @@ use Rattle.vat_machine.specs.declared.entries.Embargo.{Embargo}
 use Rattle.vat_machine.specs.World.{World, core, inbox}
 use Rattle.laws_nodes.specs.Embargoes.{back, here, is_back, is_out, out}
 use Rattle.laws_answers.specs.Loopbacks.{OneIsAbout}
-use Rattle.laws_routes.specs.Premises.{EachLoop, LoopOf}
+use Rattle.laws_routes.specs.Premises.{EachLoop, IsLastLoop, LoopOf}
 use Rattle.laws_between.specs.Meeting.{LoopsMeet, OfBoth}
 
 module _ (P : ℕ → Type 0) where
@@ -83,3 +86,24 @@ in_world w h v =
     let to_v = inbox w v in
     let all : (e : ℕ) → IsSome (map.get s.embargoes e) ⊎ ((out e to_other ≡ 0) × (back e to_v ≡ 0)) = λ e. about (map.get s.embargoes e) (out e to_other) (back e to_v) (h.there v e) in
     record { sent = sent_there (λ e. IsSome (map.get s.embargoes e)) to_other (λ e. first (all e)); echoed = back_there (λ e. IsSome (map.get s.embargoes e)) to_v (λ e. second (all e)) }
+
+-- ---- While one comes back, no other of its embargo is about
+
+module _ (e : ℕ) where
+  other_or_none : (f : ℕ → ℕ) → f e ≡ 0 → (k : ℕ) → (nat_eq k e ≡ false) ⊎ (f k ≡ 0)
+  other_or_none f h k = by (nat_eq k e) refl
+    where
+      by : (b : Bool) → nat_eq k e ≡ b → (nat_eq k e ≡ false) ⊎ (f k ≡ 0)
+      by false g = inl g
+      by true g = inr (ap f (equal k e g) ∙ h)
+
+  pub last_loop : (ms ns : List Message) → out e ms ≡ 0 → back e ns ≡ 0 → IsLastLoop e ms ns
+  last_loop ms ns h g = record { sent = sent_there (λ k. nat_eq k e ≡ false) ms (other_or_none (λ k. out k ms) h); echoed = back_there (λ k. nat_eq k e ≡ false) ns (other_or_none (λ k. back k ns) g) }
+
+pub last_of : (w : World) → OneIsAbout w → (v : Vat) (t : Target) (x : EmbargoId) (rest : List Message) → inbox w v ≡ message.Plain (plain.Disembargo (record { target = t; context = ReceiverLoopback x })) ∷ rest
+    → IsLastLoop x.0 (inbox w (other_vat v)) rest
+last_of w h v t x rest e =
+    let m = message.Plain (plain.Disembargo (record { target = t; context = ReceiverLoopback x })) in
+    let one : out x.0 (inbox w (other_vat v)) + back x.0 (m ∷ rest) ≤ 1 = subst (λ (ms : List Message). out x.0 (inbox w (other_vat v)) + back x.0 ms ≤ 1) e (h.one v x.0) in
+    let two : out x.0 (inbox w (other_vat v)) + suc (back x.0 rest) ≤ 1 = subst (λ (b : Bool). out x.0 (inbox w (other_vat v)) + cond b (suc (back x.0 rest)) (back x.0 rest) ≤ 1) (itself x.0) one in
+    last_loop x.0 (inbox w (other_vat v)) rest (omega (arith, two)) (omega (arith, two))

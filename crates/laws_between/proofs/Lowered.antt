@@ -1,10 +1,9 @@
 -- What the oldest message lets go of exports.
 use Rattle.std.specs.FinMap as map
-use Rattle.std.proofs.Common.{◌≡◌, ◌⊎◌, inl, inr, ℕ, suc, ◌+◌, ◌-◌, ◌≤◌, Bool, nat_eq, nat_le, true, false, cond, is_some, List, [], ◌∷◌, Option, None, Some, IsSome, refl, sym, ap, subst, ◌∙◌, arith}
+use Rattle.std.proofs.Common.{◌≡◌, ◌⊎◌, inl, inr, ℕ, suc, ◌+◌, ◌-◌, ◌≤◌, Bool, nat_eq, nat_le, true, false, cond, is_some, List, [], ◌∷◌, Option, None, Some, IsSome, refl, sym, subst, ◌∙◌, arith}
 use Rattle.std.proofs.lemmas.Bool.Decides.{nat_tests}
 use Rattle.finite_maps.specs.Tally.{Map}
 use Rattle.finite_maps.proofs.Tested.{at_cut, at_put, itself}
-use Rattle.rpc_msg.specs.declared.ids.Vat.{Vat}
 use Rattle.rpc_msg.specs.declared.ids.Vat.TheVariants.{A, B}
 use Rattle.rpc_msg.specs.declared.message.Message.{Message}
 use Rattle.rpc_msg.specs.declared.message.Message.TheVariants as message
@@ -17,15 +16,13 @@ use Rattle.vat_machine.specs.declared.command.Level.{Level}
 use Rattle.vat_machine.specs.declared.command.Level.TheVariants.{Zero, One}
 use Rattle.vat_machine.specs.declared.entries.AnswerEntry.{AnswerEntry}
 use Rattle.vat_machine.specs.declared.entries.Export.{Export}
-use Rattle.vat_machine.specs.declared.entries.Import.{Import}
 use Rattle.vat_machine.specs.declared.entries.Question.{Question}
-use Rattle.vat_machine.specs.declared.entries.SenderKind.{SenderKind}
 use Rattle.vat_machine.specs.State.{State}
 use Rattle.vat_machine.specs.World.{World}
 use Rattle.vat_machine.specs.Descriptors.{giving, take_all, take_at, take_each, take_one}
 use Rattle.vat_machine.specs.Faults.{gave}
 use Rattle.vat_machine.specs.Flags.{lower_by, lower_each, lowered, obey}
-use Rattle.vat_machine.specs.Laws.{given_out, SendsRaiseCounts}
+use Rattle.vat_machine.specs.Laws.{given_out}
 use Rattle.vat_machine.specs.Limits.{export_count}
 use Rattle.vat_machine.specs.Lists.{how_many}
 use Rattle.vat_machine.specs.Progress.{numbers}

@@ -1,8 +1,7 @@
 -- What the oldest message on its way says of its session.
 use Rattle.std.specs.FinMap as map
-use Rattle.std.proofs.Common.{◌≡◌, ◌⊎◌, inl, inr, ℕ, Bool, nat_eq, true, false, List, [], ◌∷◌, ◌++◌, Option, None, Some, refl, sym, ap, subst, ◌∙◌}
+use Rattle.std.proofs.Common.{◌≡◌, ◌⊎◌, inl, inr, ℕ, Bool, nat_eq, List, [], ◌∷◌, ◌++◌, Option, None, Some, sym, ap, subst, ◌∙◌}
 use Rattle.finite_maps.proofs.Tested.{itself}
-use Rattle.rpc_msg.specs.declared.ids.Vat.{Vat}
 use Rattle.rpc_msg.specs.declared.ids.Vat.TheVariants.{A, B}
 use Rattle.rpc_msg.specs.declared.message.Message.{Message}
 use Rattle.rpc_msg.specs.declared.message.Message.TheVariants as message
@@ -19,13 +18,13 @@ use Rattle.vat_machine.specs.Progress.{numbers}
 use Rattle.vat_machine.specs.Sweeping.{IsNotSent}
 use Rattle.laws_acts.specs.Sent.{Ids, Noted, messages}
 use Rattle.laws_sessions.specs.Between.{HoldsIn}
-use Rattle.laws_sessions.specs.Names.{Mark, Met}
+use Rattle.laws_sessions.specs.Names.{Met}
 use Rattle.laws_sessions.specs.Questions as session
 use Rattle.laws_sessions.specs.Questions.{Answerer, Asker, Closing, EarlyBehind, EarlyCrossed, EarlyHeld, EarlyReturning, EarlySent, EarlyWaits, Fin, Held, Idle, Open, Out, Ret, Return, Returned as IsReturned, Returning, Row, Sent, SentBehind, hear_one}
 use Rattle.laws_sessions.specs.Views.{answerer_of, asked_by, asker_of, if_flag, only, out_of, outs, ret_of, rets}
 use Rattle.laws_answers.specs.Named.{each_marks, marks, says, targets_marks}
 use Rattle.laws_answers.proofs.FindingNamed.{Found, are_kept}
-use Rattle.laws_routes.specs.QuietLaws.{IsAsked, IsFinished, MayClose}
+use Rattle.laws_routes.specs.QuietLaws.{IsAsked, IsFinished}
 use Rattle.laws_between.specs.Meeting.{IsLastOfIts, OfOldest}
 use Rattle.laws_between.proofs.Links.{HasOpen, NoneOpens, is_asked, left_alone, no_open, no_return, out_behind}
 

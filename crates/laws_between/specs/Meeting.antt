@@ -8,7 +8,12 @@ use Rattle.rpc_msg.specs.declared.message.Message.TheVariants as message
 use Rattle.rpc_msg.specs.declared.message.PlainMessage.{PlainMessage}
 use Rattle.rpc_msg.specs.declared.message.PlainMessage.TheVariants as plain
 use Rattle.vat_machine.specs.declared.entries.AnswerEntry.{AnswerEntry}
+use Rattle.rpc_msg.specs.declared.message.DisembargoContext.{DisembargoContext}
+use Rattle.rpc_msg.specs.declared.message.DisembargoContext.TheVariants.{SenderLoopback, ReceiverLoopback}
+use Rattle.vat_machine.specs.declared.entries.Embargo.{Embargo}
 use Rattle.vat_machine.specs.declared.entries.Question.{Question}
+use Rattle.vat_machine.specs.Nodes.{is_wire}
+use Rattle.vat_machine.specs.Sweeping.{IsNotSent}
 use Rattle.vat_machine.specs.State.{State}
 use Rattle.rpc_msg.specs.Messages.{descriptors_of_body}
 use Rattle.vat_machine.specs.Descriptors.{take_all}
@@ -21,7 +26,9 @@ use Rattle.laws_routes.specs.Between.{Across}
 use Rattle.laws_routes.specs.Midway.{IsAwaited}
 use Rattle.laws_routes.specs.Named.{EachReturn, LinksMet}
 use Rattle.laws_routes.specs.QuietLaws.{MayClose, MayLower, lowering}
-use Rattle.laws_routes.specs.Premises.{EachLoop, EachOpen, TargetsAreMet}
+use Rattle.laws_routes.specs.Received.{IsMet}
+use Rattle.laws_routes.specs.SayingLaws.{IsNotCanceled}
+use Rattle.laws_routes.specs.Premises.{EachLoop, EachOpen, IsOnlyEmbargo, TargetsAreMet}
 
 -- It is so of each vat of a world, with the other and what is on its way there and back.
 abbrev pub OfBoth : (State → State → List Message → List Message → Type 0) → World → Type 0
@@ -99,3 +106,26 @@ LetsGoWell s other out rest (plain.Other n) = Unit {0}
 
 abbrev pub OldestLetGoWell : Type 0
 OldestLetGoWell = InScenes (OfOldest LetsGoWell)
+
+-- ---- What the laws of whole steps take as known of the oldest message
+
+-- What is not shown of scenes yet: that a Return of a question whose Finish was not sent is not canceled; and that a reference has
+-- one embargo at most, also once it was dropped, which is of an own node.
+abbrev pub LoopIsLeft : State → DisembargoContext → Type 0
+LoopIsLeft s (SenderLoopback e) = Unit {0}
+LoopIsLeft s (ReceiverLoopback e) = IfThere (λ (b : Embargo). IsOnlyEmbargo s e.0 b.reference.0 × (is_wire b.node ≡ false)) (map.get s.embargoes e.0)
+
+abbrev pub IsLeft : State → PlainMessage → Type 0
+IsLeft s (plain.Abort exception) = Unit {0}
+IsLeft s (plain.Bootstrap q) = Unit {0}
+IsLeft s (plain.Call c) = Unit {0}
+IsLeft s (plain.Return r) = IfThere (λ (x : Question). IsNotSent x.finish → IsNotCanceled r.body) (map.get s.questions r.answer.0)
+IsLeft s (plain.Finish f) = Unit {0}
+IsLeft s (plain.Resolve r) = Unit {0}
+IsLeft s (plain.Release r) = Unit {0}
+IsLeft s (plain.Disembargo d) = LoopIsLeft s d.context
+IsLeft s (plain.Other n) = Unit {0}
+
+-- All else is so in each scene.
+abbrev pub OldestAreMet : Type 0
+OldestAreMet = InScenes (OfOldest (λ s other out rest x. IsLeft s x → IsMet s other out rest x))

@@ -1,6 +1,6 @@
 //! The functions run no code: what each ensures is the law.
 
-ghost use Rattle.laws_between.specs.Meeting.{AcrossInScenes, ExportsMeetInScenes, LoopsMeetInScenes, OldestAreLast, OldestLetGoWell, QuestionsMeetInScenes};
+ghost use Rattle.laws_between.specs.Meeting.{AcrossInScenes, ExportsMeetInScenes, LoopsMeetInScenes, OldestAreLast, OldestAreMet, OldestLetGoWell, QuestionsMeetInScenes};
 
 use laws_answers::embargoes_are_about;
 use laws_sessions::counts_agree_in_scenes;
@@ -57,4 +57,14 @@ pub fn oldest_let_go_well()
 {
     sends_raise_counts();
     counts_agree_in_scenes();
+}
+
+/// So in each scene all is so that the laws of whole steps take as known of the oldest message on its way to a vat, but for what is
+/// left: that no Return of a question that is not given up is canceled, and that a reference has one embargo at most, of an own node.
+pub fn oldest_are_met()
+    ensures { OldestAreMet }
+{
+    embargoes_are_about();
+    oldest_are_last();
+    oldest_let_go_well();
 }

@@ -4,4 +4,7 @@
 
 mod laws;
 
-pub use laws::{exports_meet, loops_meet, oldest_are_last, oldest_let_go_well, questions_meet, vats_meet};
+pub use laws::{
+    exports_meet, loops_meet, oldest_are_last, oldest_are_met, oldest_let_go_well, questions_meet,
+    vats_meet,
+};
