@@ -1,0 +1,2 @@
+pub mod CanceledSent
+pub mod CanceledKept
