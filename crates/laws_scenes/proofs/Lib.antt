@@ -1,2 +1,4 @@
 pub mod CanceledSent
 pub mod CanceledKept
+pub mod Histories
+pub mod Walking

@@ -1,1 +1,2 @@
 pub mod Canceled
+pub mod Ordered
