@@ -155,6 +155,7 @@ module _ (held bs : Map AnswerEntry) (all : List Noted) (f : (q : ℕ) → map.g
     still_one n.message n.lets (λ q i. g q (first (ret_of q n.message n.lets) (rets q ns) i)) h.0,
     still ns (λ q i. g q (one_more (ret_of q n.message n.lets) (rets q ns) i)) h.1,
   )
+
 -- ---- Two vats
 
 pub record Given (s : State) (to_s : List Noted) (t : State) (to_t : List Noted) : Type 0 where

@@ -31,16 +31,9 @@ use Rattle.laws_routes.specs.Points.{routes}
 use Rattle.laws_routes.specs.Ghosts.{ref_at}
 use Rattle.laws_routes.specs.Ties.{Around, all_at}
 use Rattle.laws_routes.specs.StepLaws.{made_by}
+use Rattle.laws_scenes.specs.Walked.{Counts, all_told, told_one}
 
 -- ---- What is delivered
-
-abbrev pub told_one : JournalEntry → Option DeliveredAt
-told_one (entry.Delivered v d) = Some (record { vat = v; delivery = d })
-told_one e = None
-
--- All deliveries, of whatever reference.
-abbrev pub all_told : List JournalEntry → List DeliveredAt
-all_told h = all_that told_one h
 
 abbrev pub TellsNone : List JournalEntry → Type 0
 TellsNone es = all_told es ≡ []
@@ -114,10 +107,6 @@ messages_tell h v x = all_that-append told_one h (deliver_entries v (Handled x))
 
 -- ---- What is made
 
--- The function counts the calls made through each reference.
-abbrev pub Counts : (Ref → ℕ) → List JournalEntry → Type 0
-Counts f h = (r : Ref) → f r ≡ length (made h r)
-
 pub none_counts : (f : Ref → ℕ) (h es : List JournalEntry) → MakesNone es → Counts f h → Counts f (h ++ es)
 none_counts f h es n k r = k r ∙ ap (λ (l : List Stamp). length l) (sym (none_behind h es n r))
 
@@ -130,7 +119,7 @@ pub only_made : (w : Around) (c : Command) → made_by w c ≡ record w { made =
 only_made w (command.Call k) = refl
 only_made w c = refl
 
-same_ref_itself : (v : Vat) (n : ℕ) → same_ref (ref_at v n) (ref_at v n) ≡ true
+pub same_ref_itself : (v : Vat) (n : ℕ) → same_ref (ref_at v n) (ref_at v n) ≡ true
 same_ref_itself v n = ap (λ (b : Bool). b && nat_eq n n) (itself v) ∙ tested.itself n
 
 module _ (h : List JournalEntry) (w : Around) (c : CallCommand) (id : CallId) (told : Effects) (k : Counts w.made h) where

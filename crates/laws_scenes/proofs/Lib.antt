@@ -2,3 +2,5 @@ pub mod CanceledSent
 pub mod CanceledKept
 pub mod Histories
 pub mod Walking
+pub mod Gathered
+pub mod Orders

@@ -46,7 +46,8 @@ use Rattle.laws_routes.specs.StepLaws.{made_by}
 use Rattle.laws_routes.specs.Ties.{Around, all_at}
 use Rattle.laws_between.specs.Meeting.{IfThere, IsLeft, LoopIsLeft, OfBoth, OfOldest}
 use Rattle.laws_scenes.specs.Canceled as canceled
-use Rattle.laws_scenes.proofs.Histories.{Counts, TellsNone, all_told, commands_count, commands_tell, granted_tell, messages_count, messages_tell, none_behind_all, none_counts, only_made}
+use Rattle.laws_scenes.specs.Walked.{Counts, IsBetweenSteps, Leads, all_told, seen}
+use Rattle.laws_scenes.proofs.Histories.{TellsNone, commands_count, commands_tell, granted_tell, messages_count, messages_tell, none_behind_all, none_counts, only_made}
 
 -- ---- What is known of each scene, and of each step
 
@@ -69,19 +70,11 @@ pub record Laws : Type 0 where
   pub messages_right : MessagesKeepEmbargoes
   pub only : RightEmbargoesAreOnly
 
--- The two vats, seen from v.
-abbrev pub seen : World → (Ref → ℕ) → List DeliveredAt → Vat → Around
-seen w made told v = record { vat = v; other = core w (other_vat v); out = inbox w (other_vat v); back = inbox w v; made = made; delivered = told }
-
 more : {last : Around} {new : State} {mid : Around} {between : State} {w : Around} {s : State} → chain.Steps mid between w s → chain.Step mid between last new → chain.Steps last new w s
 more chain.Done h = chain.Next h chain.Done
 more (chain.Next k rest) h = chain.Next k (more rest h)
 
 module _ (root_a root_b : Option ObjectId) where
-  -- Such steps lead there from two new vats.
-  abbrev pub Leads : Around → State → Type 0
-  Leads w s = chain.Steps w s (beginning A One root_b) (start A One root_a)
-
   pub record Ready (w : World) (h : List JournalEntry) : Type 0 where
     pub inside : (v : Vat) → Inside (core w v)
     pub right : (v : Vat) → EmbargoesAreRight (core w v)
@@ -90,7 +83,7 @@ module _ (root_a root_b : Option ObjectId) where
     pub told : List DeliveredAt
     pub made_is : Counts made h
     pub told_is : told ≡ all_told h
-    pub steps : (v : Vat) → Leads (seen w made told v) (core w v)
+    pub steps : (v : Vat) → Leads root_a root_b (seen w made told v) (core w v)
 
   -- ---- Of a scene
 
@@ -131,7 +124,7 @@ module _ (root_a root_b : Option ObjectId) where
       made : Ref → ℕ
       made_is : Counts made k
       told_is : ready.told ++ all_at v x.deliveries ≡ all_told k
-      steps : Leads (record { vat = v; other = core w (other_vat v); out = inbox w (other_vat v) ++ x.sends; back = back; made = made; delivered = ready.told ++ all_at v x.deliveries }) t
+      steps : Leads root_a root_b (record { vat = v; other = core w (other_vat v); out = inbox w (other_vat v) ++ x.sends; back = back; made = made; delivered = ready.told ++ all_at v x.deliveries }) t
 
     vat_stays : (s t : State) (c : Command) (g : Granted) (x : Effects) → Does s c g x t → t.vat ≡ s.vat
     vat_stays s t c g x d = by (call_or_not c)
@@ -203,7 +196,7 @@ module _ (root_a root_b : Option ObjectId) where
         vat A = m.vat
         vat B = ready.vat B
 
-        steps : (v : Vat) → Leads (seen new m.made (ready.told ++ all_at A x.deliveries) v) (core new v)
+        steps : (v : Vat) → Leads root_a root_b (seen new m.made (ready.told ++ all_at A x.deliveries) v) (core new v)
         steps A = m.steps
         steps B = more m.steps (chain.Turns refl refl)
     went_on B ms x t k m = record {
@@ -232,7 +225,7 @@ module _ (root_a root_b : Option ObjectId) where
         vat A = ready.vat A
         vat B = m.vat
 
-        steps : (v : Vat) → Leads (seen new m.made (ready.told ++ all_at B x.deliveries) v) (core new v)
+        steps : (v : Vat) → Leads root_a root_b (seen new m.made (ready.told ++ all_at B x.deliveries) v) (core new v)
         steps A = more m.steps (chain.Turns refl refl)
         steps B = m.steps
 
@@ -322,9 +315,23 @@ module _ (root_a root_b : Option ObjectId) where
         vat A = refl
         vat B = refl
 
-        steps : (v : Vat) → Leads (seen w (λ r. 0) [] v) (core w v)
+        steps : (v : Vat) → Leads root_a root_b (seen w (λ r. 0) [] v) (core w v)
         steps A = chain.Done
         steps B = more chain.Done (chain.Turns refl refl)
 
-    pub of_scene : (x : Scene) → IsScene root_a root_b x → IsReady x
+    of_scene : (x : Scene) → IsScene root_a root_b x → IsReady x
     of_scene x i = walk x (begins root_a root_b) NoMore starts i
+
+    pub between : (x : Scene) → IsScene root_a root_b x → IsBetweenSteps root_a root_b x
+    between x i =
+        let k = of_scene x i in
+        let f = facts x i in
+        record {
+          inside = k.inside;
+          right = k.right;
+          midway = midway l x.world f x.journal k;
+          met = is_met l x.world f x.journal k;
+          made = k.made;
+          counts = k.made_is;
+          steps = λ v. subst (λ (ds : List DeliveredAt). Leads root_a root_b (seen x.world k.made ds v) (core x.world v)) k.told_is (k.steps v);
+        }

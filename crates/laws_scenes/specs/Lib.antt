@@ -1,2 +1,3 @@
 pub mod Canceled
+pub mod Walked
 pub mod Ordered

@@ -1,8 +1,16 @@
 //! The functions run no code: what each ensures is the law.
 
 ghost use Rattle.laws_scenes.specs.Canceled.{CanceledWereGivenUp};
+ghost use Rattle.laws_scenes.specs.Ordered.{RunsAreOrdered, ScenesAreOrdered};
+ghost use Rattle.laws_scenes.specs.Walked.{ScenesAreBetweenSteps};
 
+use laws_between::{oldest_are_met, vats_meet};
+use laws_routes::{
+    embargoes_are_right, steps_begin_and_end_with_it, steps_keep_order, steps_may_be_done,
+};
+use laws_runs::{calls_are_numbered, every_run_is_shown};
 use laws_sessions::{counts_agree_in_scenes, sessions_stand};
+use laws_steps::nodes_are_there;
 
 /// In each scene no Return is canceled of a question whose Finish was not sent.
 pub fn canceled_were_given_up()
@@ -10,4 +18,32 @@ pub fn canceled_were_given_up()
 {
     sessions_stand();
     counts_agree_in_scenes();
+}
+
+/// In each scene all is so of both vats, between two steps, that the laws of whole steps take as known, of commands and of the
+/// oldest message on its way; and steps in which that was so lead there, with the calls that the journal tells.
+pub fn vats_are_between_steps()
+    ensures { ScenesAreBetweenSteps }
+{
+    vats_meet();
+    nodes_are_there();
+    every_run_is_shown();
+    counts_agree_in_scenes();
+    oldest_are_met();
+    canceled_were_given_up();
+    steps_begin_and_end_with_it();
+    steps_may_be_done();
+    embargoes_are_right();
+}
+
+/// In each scene, and in every run of two vats, the calls delivered of a reference are a beginning of those made through it, in order,
+/// each once, and all at one object.
+pub fn calls_keep_their_order()
+    ensures scenes { ScenesAreOrdered }
+    ensures runs { RunsAreOrdered }
+{
+    vats_are_between_steps();
+    steps_keep_order();
+    calls_are_numbered();
+    every_run_is_shown();
 }

@@ -3,4 +3,4 @@
 
 mod laws;
 
-pub use laws::canceled_were_given_up;
+pub use laws::{calls_keep_their_order, canceled_were_given_up, vats_are_between_steps};
