@@ -12,7 +12,7 @@ use Rattle.vat_journal.specs.declared.entry.Origin.{Origin}
 use Rattle.vat_journal.specs.declared.entry.Origin.TheVariants as origin
 use Rattle.vat_journal.specs.declared.entry.JournalEntry.{JournalEntry}
 use Rattle.vat_journal.specs.declared.entry.JournalEntry.TheVariants as entry
-use Rattle.vat_journal.specs.History.{DeliveredAt, Ref, all_that, if_so, in_front, made, same_ref, same_vat}
+use Rattle.vat_journal.specs.History.{DeliveredAt, Ref, if_so, in_front, made, same_ref}
 use Rattle.vat_machine.specs.declared.command.CallCommand.{CallCommand}
 use Rattle.vat_machine.specs.declared.command.Command.{Command}
 use Rattle.vat_machine.specs.declared.command.Command.TheVariants as command

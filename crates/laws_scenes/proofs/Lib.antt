@@ -4,3 +4,4 @@ pub mod Histories
 pub mod Walking
 pub mod Gathered
 pub mod Orders
+pub mod Turning

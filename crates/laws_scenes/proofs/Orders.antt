@@ -2,13 +2,12 @@
 use Rattle.std.specs.List.{All, AllByRecursion}
 use Rattle.std.proofs.lemmas.List.{map-append}
 use Rattle.std.proofs.lemmas.List.Elements.{All-nil, All-cons}
-use Rattle.std.proofs.Common.{◌≡◌, ℕ, zero, suc, ◌+◌, Bool, true, false, Option, None, Some, cond, List, [], ◌∷◌, ◌++◌, map, length, refl, sym, ap, subst, ◌∙◌, arith}
-use Rattle.rpc_msg.specs.declared.ids.ObjectId.{ObjectId}
+use Rattle.std.proofs.Common.{◌≡◌, ℕ, zero, suc, ◌+◌, Bool, true, false, Option, None, cond, List, [], ◌∷◌, ◌++◌, map, length, refl, sym, ap, subst, ◌∙◌, arith}
 use Rattle.rpc_msg.specs.declared.ids.Stamp.{Stamp}
 use Rattle.rpc_msg.specs.declared.ids.Vat.TheVariants.{A}
 use Rattle.vat_journal.specs.declared.entry.JournalEntry.{JournalEntry}
 use Rattle.vat_journal.specs.declared.entry.JournalEntry.TheVariants as entry
-use Rattle.vat_journal.specs.History.{DeliveredAt, Ref, all_that, caller, deliveries, delivered, delivered_one, if_so, in_front, made, same_ref, stamps}
+use Rattle.vat_journal.specs.History.{DeliveredAt, Ref, caller, deliveries, delivered, delivered_one, if_so, in_front, made, same_ref, stamps}
 use Rattle.vat_machine.specs.declared.command.Level.TheVariants.{One}
 use Rattle.vat_machine.specs.Claims.{AreNumbered, IsBeginning, IsInOrder, IsNumbered}
 use Rattle.vat_machine.specs.Journal.{journal}
@@ -17,16 +16,15 @@ use Rattle.call_order.specs.Machine.{choose}
 use Rattle.call_order.specs.Machine as routing
 use Rattle.call_order.specs.Order.{AtOne, IsAt, IsBeginningOf, below, indexes}
 use Rattle.laws_runs.specs.MadeCalls.{CallsAreNumbered}
-use Rattle.laws_runs.specs.Scenes.{Scene, IsScene}
 use Rattle.laws_runs.specs.Shown.{EveryRunIsShown, EverySceneShowsARun}
 use Rattle.laws_runs.specs.Telling.{telling, tells}
 use Rattle.laws_runs.proofs.Reading.{same_ref_is}
 use Rattle.laws_runs.proofs.ToldAlike.{same_delivered, same_made}
-use Rattle.laws_routes.specs.Points.{Point, AnObject, routes}
+use Rattle.laws_routes.specs.Points.{AnObject, routes}
 use Rattle.laws_routes.specs.Ties.{deliveries_of, delivery_of}
 use Rattle.laws_routes.specs.ChainLaws.{DeliveredInOrder}
 use Rattle.laws_scenes.specs.Ordered.{AreAtOne, IsOrdered, IsWhere, RunsAreOrdered, ScenesAreOrdered}
-use Rattle.laws_scenes.specs.Walked.{IsBetweenSteps, ScenesAreBetweenSteps, all_told, seen}
+use Rattle.laws_scenes.specs.Walked.{ScenesAreBetweenSteps, all_told, seen}
 use Rattle.laws_scenes.proofs.Histories.{same_ref_itself}
 
 -- ---- Stamps by their numbers

@@ -21,25 +21,23 @@ use Rattle.vat_machine.specs.declared.command.Granted.{Granted}
 use Rattle.vat_machine.specs.declared.command.Granted.TheVariants as granted
 use Rattle.vat_machine.specs.declared.command.Level.TheVariants.{One}
 use Rattle.vat_machine.specs.declared.entries.Embargo.{Embargo}
-use Rattle.vat_machine.specs.State.{State, start}
+use Rattle.vat_machine.specs.State.{State}
 use Rattle.vat_machine.specs.Faults.{fault_of}
 use Rattle.vat_machine.specs.Nodes.{is_wire}
-use Rattle.vat_machine.specs.Progress.{begin}
 use Rattle.vat_machine.specs.Refusals.{refused}
 use Rattle.vat_machine.specs.Steps.{Does, Handles}
 use Rattle.vat_machine.specs.World.{World, after, core, inbox, new_world, put_inbox, Answered, Handled}
 use Rattle.vat_machine.specs.Journal.{command_entries, deliver_entries, granted_entries}
 use Rattle.laws_steps.specs.NodesThere.{IsWhole}
-use Rattle.laws_runs.specs.Scenes.{Scene, IsScene, begins, goes_on, stopped, Steps, Commanded, Received, GivesUp, Stops, LeadsTo, NoMore, Then}
+use Rattle.laws_runs.specs.Scenes.{Scene, IsScene, begins, stopped, Steps, Commanded, Received, GivesUp, Stops, LeadsTo, NoMore, Then}
 use Rattle.laws_runs.proofs.MakesNone.{MakesNone, call_or_not, falls_no_call, granted_none}
 use Rattle.laws_runs.proofs.KeptCounts as counts
 use Rattle.laws_routes.specs.Between.{Across, Inside, JoinsFollow, NewVatsAreSo, SplitsFollow}
 use Rattle.laws_routes.specs.ChainLaws as chain
 use Rattle.laws_routes.specs.Embargoes.{CommandsKeepEmbargoes, EmbargoesAreRight, MessagesKeepEmbargoes, NewEmbargoesAreRight, RightEmbargoesAreOnly}
 use Rattle.laws_routes.specs.FirstActs.{AllCommandsFollow, EmbargoesAreNamed}
-use Rattle.laws_routes.specs.Laws.{with_back}
 use Rattle.laws_routes.specs.Midway.{Midway}
-use Rattle.laws_routes.specs.PairLaws.{beginning, behind, turned}
+use Rattle.laws_routes.specs.PairLaws.{behind}
 use Rattle.laws_routes.specs.Premises.{IsOnlyEmbargo}
 use Rattle.laws_routes.specs.Received.{IsMet, MessagesFollow}
 use Rattle.laws_routes.specs.StepLaws.{made_by}

@@ -1,7 +1,5 @@
 -- A Return is canceled only where its question was given up before (rpc.capnp, Return; docs/protocol.md, "Sessions of ids").
-use Rattle.std.specs.Prelude.{◌≡◌, Option, List}
 use Rattle.std.specs.FinMap as map
-use Rattle.rpc_msg.specs.declared.message.Message.{Message}
 use Rattle.rpc_msg.specs.declared.message.PlainMessage.{PlainMessage}
 use Rattle.rpc_msg.specs.declared.message.PlainMessage.TheVariants as plain
 use Rattle.vat_machine.specs.declared.entries.Question.{Question}

@@ -2,11 +2,14 @@
 
 ghost use Rattle.laws_scenes.specs.Canceled.{CanceledWereGivenUp};
 ghost use Rattle.laws_scenes.specs.Ordered.{RunsAreOrdered, ScenesAreOrdered};
+ghost use Rattle.laws_scenes.specs.Refused.{AllFallsAreKnown, DisembargosTurn, RunsRefuseNothing, ScenesRefuseNothing};
 ghost use Rattle.laws_scenes.specs.Walked.{ScenesAreBetweenSteps};
 
+use laws_answers::{named_answers_are_there, no_message_is_refused};
 use laws_between::{oldest_are_met, vats_meet};
 use laws_routes::{
-    embargoes_are_right, steps_begin_and_end_with_it, steps_keep_order, steps_may_be_done,
+    calls_may_go, disembargos_meet_wires, embargoes_are_right, steps_begin_and_end_with_it,
+    steps_keep_order, steps_may_be_done, vats_are_tied,
 };
 use laws_runs::{calls_are_numbered, every_run_is_shown};
 use laws_sessions::{counts_agree_in_scenes, sessions_stand};
@@ -46,4 +49,28 @@ pub fn calls_keep_their_order()
     steps_keep_order();
     calls_are_numbered();
     every_run_is_shown();
+}
+
+/// In each scene a Disembargo that is to turn back is aimed at what leads back, over the wire on which it came.
+pub fn disembargos_turn_back()
+    ensures { DisembargosTurn }
+{
+    vats_are_between_steps();
+    vats_are_tied();
+    steps_keep_order();
+    calls_may_go();
+    named_answers_are_there();
+    disembargos_meet_wires();
+}
+
+/// So in each scene, and in every run while it is up, a vat refuses no message of the other one, but for a Call where no more calls
+/// may wait, and for the Abort of a vat that is down; and a vat goes down only by a shut, for want of room or memory, for that limit,
+/// or by the Abort of the other vat, which went down before.
+pub fn nothing_is_refused()
+    ensures scenes { ScenesRefuseNothing }
+    ensures runs { RunsRefuseNothing }
+    ensures falls { AllFallsAreKnown }
+{
+    disembargos_turn_back();
+    no_message_is_refused();
 }

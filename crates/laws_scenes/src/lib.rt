@@ -3,4 +3,7 @@
 
 mod laws;
 
-pub use laws::{calls_keep_their_order, canceled_were_given_up, vats_are_between_steps};
+pub use laws::{
+    calls_keep_their_order, canceled_were_given_up, disembargos_turn_back, nothing_is_refused,
+    vats_are_between_steps,
+};
