@@ -1,0 +1,4 @@
+pub mod Canceled
+pub mod Walked
+pub mod Ordered
+pub mod Refused

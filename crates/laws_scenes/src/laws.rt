@@ -1,0 +1,76 @@
+//! The functions run no code: what each ensures is the law.
+
+ghost use Rattle.laws_scenes.specs.Canceled.{CanceledWereGivenUp};
+ghost use Rattle.laws_scenes.specs.Ordered.{RunsAreOrdered, ScenesAreOrdered};
+ghost use Rattle.laws_scenes.specs.Refused.{AllFallsAreKnown, DisembargosTurn, RunsRefuseNothing, ScenesRefuseNothing};
+ghost use Rattle.laws_scenes.specs.Walked.{ScenesAreBetweenSteps};
+
+use laws_answers::{named_answers_are_there, no_message_is_refused};
+use laws_between::{oldest_are_met, vats_meet};
+use laws_routes::{
+    calls_may_go, disembargos_meet_wires, embargoes_are_right, steps_begin_and_end_with_it,
+    steps_keep_order, steps_may_be_done, vats_are_tied,
+};
+use laws_runs::{calls_are_numbered, every_run_is_shown};
+use laws_sessions::{counts_agree_in_scenes, sessions_stand};
+use laws_steps::nodes_are_there;
+
+/// In each scene no Return is canceled of a question whose Finish was not sent.
+pub fn canceled_were_given_up()
+    ensures { CanceledWereGivenUp }
+{
+    sessions_stand();
+    counts_agree_in_scenes();
+}
+
+/// In each scene all is so of both vats, between two steps, that the laws of whole steps take as known, of commands and of the
+/// oldest message on its way; and steps in which that was so lead there, with the calls that the journal tells.
+pub fn vats_are_between_steps()
+    ensures { ScenesAreBetweenSteps }
+{
+    vats_meet();
+    nodes_are_there();
+    every_run_is_shown();
+    counts_agree_in_scenes();
+    oldest_are_met();
+    canceled_were_given_up();
+    steps_begin_and_end_with_it();
+    steps_may_be_done();
+    embargoes_are_right();
+}
+
+/// In each scene, and in every run of two vats, the calls delivered of a reference are a beginning of those made through it, in order,
+/// each once, and all at one object.
+pub fn calls_keep_their_order()
+    ensures scenes { ScenesAreOrdered }
+    ensures runs { RunsAreOrdered }
+{
+    vats_are_between_steps();
+    steps_keep_order();
+    calls_are_numbered();
+    every_run_is_shown();
+}
+
+/// In each scene a Disembargo that is to turn back is aimed at what leads back, over the wire on which it came.
+pub fn disembargos_turn_back()
+    ensures { DisembargosTurn }
+{
+    vats_are_between_steps();
+    vats_are_tied();
+    steps_keep_order();
+    calls_may_go();
+    named_answers_are_there();
+    disembargos_meet_wires();
+}
+
+/// So in each scene, and in every run while it is up, a vat refuses no message of the other one, but for a Call where no more calls
+/// may wait, and for the Abort of a vat that is down; and a vat goes down only by a shut, for want of room or memory, for that limit,
+/// or by the Abort of the other vat, which went down before.
+pub fn nothing_is_refused()
+    ensures scenes { ScenesRefuseNothing }
+    ensures runs { RunsRefuseNothing }
+    ensures falls { AllFallsAreKnown }
+{
+    disembargos_turn_back();
+    no_message_is_refused();
+}

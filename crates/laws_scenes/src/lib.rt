@@ -1,0 +1,9 @@
+//! In each scene of two vats of level 1 calls keep their order. No code runs here: what each function ensures is the law.
+#![tactic(auto)]
+
+mod laws;
+
+pub use laws::{
+    calls_keep_their_order, canceled_were_given_up, disembargos_turn_back, nothing_is_refused,
+    vats_are_between_steps,
+};
