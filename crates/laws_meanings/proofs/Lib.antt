@@ -31,3 +31,4 @@ pub mod Returning
 pub mod Answering
 pub mod Broken
 pub mod Unanswered
+pub mod Links

@@ -8,3 +8,4 @@ pub mod Bootstraps
 pub mod Tasks
 pub mod Identities
 pub mod AnsweredEnds
+pub mod NodeMeanings

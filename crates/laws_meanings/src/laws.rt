@@ -10,6 +10,7 @@ ghost use Rattle.laws_meanings.specs.Identities.{OutcomesAreOfCalls};
 ghost use Rattle.laws_meanings.specs.AnsweredEnds.{CallsEndAsAnswered};
 ghost use Rattle.laws_meanings.specs.Tasks.{TasksAreOpen, TasksAreAnsweredOnce};
 ghost use Rattle.laws_meanings.specs.WhatIsLeft.{ObjectsAreLeft, AnswersAreLeft, CallsAreLeft, BrokenCallsAreLeft};
+ghost use Rattle.laws_meanings.specs.NodeMeanings.{LinksLast, LedToObjects, LedToBroken, LinksToObjectsAreLeft, LinksToBrokenAreLeft};
 
 use laws_answers::named_answers_are_there;
 use laws_nodes::outcomes_have_sources;
@@ -123,4 +124,24 @@ pub fn broken_calls_are_left()
 {
     calls_end_as_answered();
     ends_of_calls_are_left();
+}
+
+/// A reference stands for the object to which the history leads it link by link, where each delivery was to what its
+/// reference stands for; it stands for broken, where it leads to that; and later entries change no link.
+pub fn links_are_meanings()
+    ensures last { LinksLast }
+    ensures objects { LedToObjects }
+    ensures broken { LedToBroken }
+{}
+
+/// Where in a scene the history leads the reference of each delivered call to the object of the delivery, all that is
+/// promised of deliveries holds; where it leads the reference of each call that ends without an answer to broken, all that
+/// is promised of ends.
+pub fn links_are_left()
+    ensures objects { LinksToObjectsAreLeft }
+    ensures broken { LinksToBrokenAreLeft }
+{
+    calls_are_as_made();
+    given_references_are_new();
+    broken_calls_are_left();
 }
