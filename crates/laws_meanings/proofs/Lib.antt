@@ -32,3 +32,6 @@ pub mod Answering
 pub mod Broken
 pub mod Unanswered
 pub mod Links
+pub mod Labelled
+pub mod Fitting
+pub mod ActsMean

@@ -9,3 +9,4 @@ pub mod Tasks
 pub mod Identities
 pub mod AnsweredEnds
 pub mod NodeMeanings
+pub mod NodeLabels

@@ -11,6 +11,7 @@ ghost use Rattle.laws_meanings.specs.AnsweredEnds.{CallsEndAsAnswered};
 ghost use Rattle.laws_meanings.specs.Tasks.{TasksAreOpen, TasksAreAnsweredOnce};
 ghost use Rattle.laws_meanings.specs.WhatIsLeft.{ObjectsAreLeft, AnswersAreLeft, CallsAreLeft, BrokenCallsAreLeft};
 ghost use Rattle.laws_meanings.specs.NodeMeanings.{LinksLast, LedToObjects, LedToBroken, LinksToObjectsAreLeft, LinksToBrokenAreLeft};
+ghost use Rattle.laws_meanings.specs.NodeLabels.{ActsKeepMeanings};
 
 use laws_answers::named_answers_are_there;
 use laws_nodes::outcomes_have_sources;
@@ -145,3 +146,10 @@ pub fn links_are_left()
     given_references_are_new();
     broken_calls_are_left();
 }
+
+/// Where at a moment of a step the history leads each reference of a vat, and each call that waits, to what its node means,
+/// it is so after each small act of the step: where a node leads, it means. So each call that is delivered is to the object
+/// to which the history leads its reference, and each call that ends was answered, or its reference leads to broken.
+pub fn acts_keep_meanings()
+    ensures { ActsKeepMeanings }
+{}
