@@ -31,3 +31,7 @@ pub mod Returning
 pub mod Answering
 pub mod Broken
 pub mod Unanswered
+pub mod Links
+pub mod Labelled
+pub mod Fitting
+pub mod ActsMean
