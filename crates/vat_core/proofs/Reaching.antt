@@ -1,6 +1,5 @@
 -- Each step of a core leads to a state to which a vat comes.
-use Rattle.std.proofs.Common.{◌≡◌, ℕ, true, [], Option, Result, refl, sym, ap, subst}
-use Rattle.std.specs.FinMap as map
+use Rattle.std.proofs.Common.{◌≡◌, [], Option, Result, sym, ap, subst}
 use Rattle.rpc_msg.specs.declared.ids.Vat.{Vat}
 use Rattle.rpc_msg.specs.declared.ids.ObjectId.{ObjectId}
 use Rattle.rpc_msg.specs.declared.message.Message.{Message}
@@ -13,7 +12,6 @@ use Rattle.vat_machine.specs.State.{State, start}
 use Rattle.vat_machine.specs.Steps.{Obeys, Receives}
 use Rattle.laws_steps.specs.NodesThere.{ComesTo, Stays, Commanded, Received, Fell, IsReached}
 use Rattle.vat_outbox.specs.Outgoing.{Outgoing, nothing_said}
-use Rattle.vat_waits.specs.Waiting.{Waiting}
 use Rattle.vat_store.specs.Holding.{state_of, IsSound}
 use Rattle.step_ends.specs.declared.machine.Machine.{Machine}
 use Rattle.step_ends.specs.Whole.{IsResting}
@@ -65,8 +63,3 @@ begins_standing vat level bootstrap x state sound none_taken said arisen spare =
   };
   reached = subst IsReached (sym state) (begins vat level bootstrap);
 }
-
--- With nothing waiting, the state of a new vat is that of a new vat.
-pub new_state : (s : State) (w : Waiting) (vat : Vat) (level : Level) (bootstrap : Option ObjectId) → s ≡ start vat level bootstrap → w ≡ record { promises = map.empty; outcomes = map.empty; embargoes = map.empty; taken = []; held = 0; room = 0 }
-    → record s { promises = w.promises; outcomes = w.outcomes; embargoes = w.embargoes } ≡ start vat level bootstrap
-new_state s w vat level bootstrap is none = λ i. record (is i) { promises = ap (λ (x : Waiting). x.promises) none i; outcomes = ap (λ (x : Waiting). x.outcomes) none i; embargoes = ap (λ (x : Waiting). x.embargoes) none i }

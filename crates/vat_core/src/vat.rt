@@ -2,7 +2,6 @@ ghost use Rattle.std.specs.Prelude.{◌≡◌, IfOk};
 ghost use Rattle.vat_machine.specs.Down.{ShutsFrom};
 ghost use Rattle.vat_machine.specs.State.{start};
 ghost use Rattle.vat_machine.specs.Steps.{Receives};
-ghost use Rattle.vat_store.specs.Holding.{state_of};
 
 use rpc_msg::{Memory, Message, ObjectId, Vat};
 use std::alloc::Global;
