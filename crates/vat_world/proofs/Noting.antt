@@ -25,7 +25,7 @@ use Rattle.vat_machine.specs.Steps.{Obeys, Refuses, LacksMemory, GoesDown, Shuts
 use Rattle.vat_machine.specs.Journal.{index_in, granted_entries, made_entries as made_written}
 use Rattle.laws_acts.proofs.Checks.{first, rest, not_so}
 use Rattle.laws_runs.specs.MadeCalls.{NumbersItsCalls}
-use Rattle.vat_core.specs.Asking.{made_of as count_of}
+use Rattle.vat_core.specs.Counting.{made_of as count_of}
 use Rattle.vat_world.specs.declared.notes.Note.{Note}
 use Rattle.vat_world.specs.Notes.{or_zero, index_of, made_of, made_entries, note_entries, granted_by, IsShort}
 use Rattle.vat_world.specs.Stages.{IsOwn, HadOwn, entries_of}

@@ -12,7 +12,7 @@ use Rattle.vat_machine.specs.declared.command.Granted.{Granted}
 use Rattle.vat_machine.specs.declared.command.Granted.TheVariants as granted
 use Rattle.vat_machine.specs.State.{State}
 use Rattle.vat_machine.specs.Journal.{born, born_promise, asked_entries, advanced_entries, granted_entries}
-use Rattle.vat_core.specs.Asking.{made_of as count_of}
+use Rattle.vat_core.specs.Counting.{made_of as count_of}
 use Rattle.vat_world.specs.declared.notes.Note.{Note}
 use Rattle.vat_world.specs.declared.notes.Note.TheVariants as note
 
