@@ -11,18 +11,23 @@ use rpc_msg::{ObjectId, Vat};
 use side::Side;
 
 const REGISTRY: ObjectId = ObjectId(0);
+
 const PRINTER: ObjectId = ObjectId(1);
 
 // The methods of the registry, and that of a printer.
 const GET: u16 = 0;
+
 const PUBLISH: u16 = 1;
+
 const PRINT: u16 = 2;
 
 fn main(rt: HostRuntime) -> Result<()> {
     let mut a = Side::new(rt.alloc(), "a", Vat::A, None)?;
     let mut b = Side::new(rt.alloc(), "b", Vat::B, Some(REGISTRY))?;
 
-    println!(rt; "a asks for the registry, gets a printer from it, and prints, all before b has received anything")?;
+    println!(rt;
+        "a asks for the registry, gets a printer from it, and prints, all before b has received anything"
+    )?;
     let (bootstrap, effects) = a.core.bootstrap()?;
     a.follow(&rt, effects)?;
     let registry = a.result_of(&rt, bootstrap)?;
@@ -31,12 +36,16 @@ fn main(rt: HostRuntime) -> Result<()> {
     let _ = a.call(&rt, printer, PRINT, &[])?;
     exchange(&rt, &mut a, &mut b)?;
 
-    println!(rt; "a publishes a printer of its own: b resolves its promise to that, and what waited at b comes back")?;
+    println!(rt;
+        "a publishes a printer of its own: b resolves its promise to that, and what waited at b comes back"
+    )?;
     let own = a.core.host(PRINTER)?;
     let _ = a.call(&rt, registry, PUBLISH, &[own])?;
     exchange(&rt, &mut a, &mut b)?;
 
-    println!(rt; "a prints by way of b, shortens the path, and prints again: that waits for what was sent before")?;
+    println!(rt;
+        "a prints by way of b, shortens the path, and prints again: that waits for what was sent before"
+    )?;
     let _ = a.call(&rt, printer, PRINT, &[])?;
     a.shorten(&rt, printer)?;
     a.shorten(&rt, printer)?;

@@ -115,7 +115,10 @@ impl Side {
     /// Does what a method does, answers, and lets go of what came with the call and what it gave.
     fn serve(&mut self, rt: &HostRuntime, task: Delivery) -> Result<()> {
         let (object, method, index) = (task.object.0, task.method, task.stamp.index);
-        println!(rt; "  {}: object {object} serves method {method}, call {index} of its reference", self.name)?;
+        println!(rt;
+            "  {}: object {object} serves method {method}, call {index} of its reference",
+            self.name
+        )?;
         let given = match (task.method, self.promised, task.refs.as_slice()) {
             (GET, _, _) => Some(self.promise()?),
             (PUBLISH, Some(promise), [printer]) => {
