@@ -1,7 +1,6 @@
 -- The parts of a step as acts, of which each says what is there.
-use Rattle.std.proofs.Common.{◌≡◌, inl, inr, ℕ, List, [], ◌∷◌, Option, None, Some, IsSome, refl, sym, ap, subst, ◌∙◌}
+use Rattle.std.proofs.Common.{◌≡◌, inl, inr, ℕ, List, [], ◌∷◌, Option, None, Some, refl, sym, ap, subst, ◌∙◌}
 use Rattle.std.specs.FinMap as map
-use Rattle.finite_maps.specs.Tally.{Map}
 use Rattle.rpc_msg.specs.declared.parts.Target.TheVariants.{ImportedCap, PromisedAnswer}
 use Rattle.rpc_msg.specs.declared.exception.Exception.{Exception}
 use Rattle.vat_machine.specs.declared.node.Node.{Node}
@@ -12,23 +11,14 @@ use Rattle.vat_machine.specs.declared.calls.Promise.{Promise}
 use Rattle.vat_machine.specs.declared.calls.Promise.TheVariants as promise
 use Rattle.vat_machine.specs.declared.calls.KeptOutcome.{KeptOutcome}
 use Rattle.vat_machine.specs.declared.calls.Value.{Value}
-use Rattle.vat_machine.specs.declared.calls.Value.TheVariants as value
-use Rattle.vat_machine.specs.declared.entries.Question.{Question}
-use Rattle.vat_machine.specs.declared.entries.Role.{Role}
-use Rattle.vat_machine.specs.declared.entries.Role.TheVariants as role
-use Rattle.vat_machine.specs.declared.entries.Finishing.{Finishing}
-use Rattle.vat_machine.specs.declared.entries.Finishing.TheVariants as finishing
 use Rattle.vat_machine.specs.State.{State}
 use Rattle.vat_machine.specs.Nodes.{settle}
 use Rattle.vat_machine.specs.Progress.{Progress, with_state, caps_of}
 use Rattle.vat_machine.specs.Routing.{WaitsForPromise, WaitsForField, RoutedTo, Routes, RoutesAll, RoutesHeld}
 use Rattle.vat_machine.specs.Settling.{known, ResolvesEach, SendsResolves, SettlesOpen, SettlesFrom, SettlesOutcome, FixesFrom, FixesPromise, Drains, NoneLeft, OneMore}
-use Rattle.laws_steps.specs.Callers.{IsOpenFor, AnswersWith, IsAskedFor, peer}
-use Rattle.laws_steps.specs.NodesThere.{Stands}
-use Rattle.finite_maps.proofs.Gets.{get-insert_same}
-use Rattle.laws_steps.proofs.Exceptions.{IsException, AllExceptions, first_arises}
-use Rattle.laws_steps.proofs.NamedNodes.{Present, Asked, asker, asker_by, AllIn, all_none, all_one, all_append, all_left, all_right, each_at, HereIn, Fine, settle_here, grows_promise, grows_outcome, set_promise, set_outcome}
-use Rattle.vat_machine.specs.Places.{named_by_promise, named_by_outcome, named_by_export, named_by_value, named_by_held, named_by_calls}
+use Rattle.laws_steps.proofs.Exceptions.{AllExceptions, first_arises}
+use Rattle.laws_steps.proofs.NamedNodes.{Present, Asked, AllIn, all_left, all_right, HereIn, Fine, settle_here}
+use Rattle.vat_machine.specs.Places.{named_by_export, named_by_held, named_by_calls}
 use Rattle.laws_steps.proofs.NamedPieces.{EachHere, each_here, where_here, all_of_map, all_grow, fix, parts, routes as routed_on, routes_all as all_routed_on, routes_held as held_routed_on, resolved_to as resolved_on}
 use Rattle.laws_steps.proofs.NamedSteps.{settles as settled_on}
 use Rattle.laws_steps.proofs.NamedMessages.{no_caps, first_value}

@@ -12,7 +12,6 @@ use Rattle.rpc_msg.specs.declared.exception.Exception.{Exception}
 use Rattle.vat_machine.specs.declared.node.Node.{Node}
 use Rattle.vat_machine.specs.declared.node.Node.TheVariants as node
 use Rattle.vat_machine.specs.declared.calls.Request.{Request}
-use Rattle.vat_machine.specs.declared.calls.KeptOutcome.{KeptOutcome}
 use Rattle.vat_machine.specs.declared.calls.OwnCall.{OwnCall}
 use Rattle.vat_machine.specs.declared.calls.Value.{Value}
 use Rattle.vat_machine.specs.declared.calls.Value.TheVariants as value
@@ -55,10 +54,10 @@ use Rattle.rpc_msg.specs.declared.message.Finish.{Finish}
 use Rattle.std.specs.FinMap.Entries as entries
 use Rattle.std.specs.Ordering.{nat_cmp}
 use Rattle.std.proofs.Common.{◌≡◌, inl, inr, ◌⊎◌, ℕ, Bool, is_some, T, List, [], ◌∷◌, Option, None, Some, refl, sym, ap, subst, ◌∙◌}
-use Rattle.laws_steps.proofs.Taken.{took, taken as taken_fine, taken_here, all_read, taken_grows, present}
+use Rattle.laws_steps.proofs.Taken.{present}
 use Rattle.laws_steps.specs.Callers.{peer, HasOutcome}
 use Rattle.vat_machine.specs.declared.entries.Export.{Export}
-use Rattle.vat_machine.specs.Descriptors.{read_all, export_node, answer_node}
+use Rattle.vat_machine.specs.Descriptors.{export_node, answer_node}
 use Rattle.vat_machine.specs.Messages.{TakesBootstrap, TakesCall}
 use Rattle.rpc_msg.specs.declared.ids.QuestionId.{QuestionId}
 use Rattle.rpc_msg.specs.declared.ids.ObjectId.{ObjectId}
@@ -67,14 +66,14 @@ use Rattle.vat_machine.specs.Settling.{TellsCall}
 use Rattle.vat_machine.specs.Lists.{update}
 use Rattle.finite_maps.proofs.Sorted.{first_entry, sorted_tail}
 use Rattle.laws_steps.proofs.Exceptions.{AllExceptions, act_arises}
-use Rattle.laws_steps.proofs.NamedNodes.{set_refs, set_embargoes, each_cut, Asked, AllIn, all_none, all_one, each_at, HereIn, Fine, settle_here, grows_outcome}
-use Rattle.laws_steps.proofs.NamedPieces.{set_rest, all_grow}
+use Rattle.laws_steps.proofs.NamedNodes.{Asked, AllIn, all_none, all_one, each_at, HereIn, Fine, settle_here, grows_outcome}
+use Rattle.laws_steps.proofs.NamedPieces.{set_rest}
 use Rattle.laws_steps.proofs.NamedSteps.{heads_here, kept_here, grown, acts as acted_on}
 use Rattle.laws_steps.proofs.NamedMessages.{Begun, lift, opens_call, opens_answer, takes as takes_on}
 use Rattle.laws_steps.proofs.Reached.{reached, stands}
 use Rattle.laws_steps.proofs.Swept.{Whole}
 use Rattle.laws_steps.specs.NodesThere.{IsReached, Stands}
-use Rattle.vat_machine.specs.Places.{named_by_reference, named_by_embargo, named_by_export}
+use Rattle.vat_machine.specs.Places.{named_by_reference, named_by_export}
 use Rattle.vat_machine.specs.Numbers.{question_in_use, unknown_question, unknown_answer}
 use Rattle.laws_acts.proofs.Checks.{first as first_check, not_so, none_there}
 use Rattle.laws_acts.proofs.Ends.{Rest, withers_from, col_end, after_rest}
