@@ -1,7 +1,6 @@
 -- The parts of a step as acts, of which each says what is there.
-use Rattle.std.proofs.Common.{◌≡◌, inl, inr, ℕ, List, [], ◌∷◌, Option, None, Some, IsSome, refl, sym, ap, subst, ◌∙◌}
+use Rattle.std.proofs.Common.{◌≡◌, inl, inr, ℕ, List, [], ◌∷◌, Option, None, Some, refl, sym, ap, subst, ◌∙◌}
 use Rattle.std.specs.FinMap as map
-use Rattle.finite_maps.specs.Tally.{Map}
 use Rattle.rpc_msg.specs.declared.parts.Target.TheVariants.{ImportedCap, PromisedAnswer}
 use Rattle.rpc_msg.specs.declared.exception.Exception.{Exception}
 use Rattle.vat_machine.specs.declared.node.Node.{Node}
@@ -12,59 +11,24 @@ use Rattle.vat_machine.specs.declared.calls.Promise.{Promise}
 use Rattle.vat_machine.specs.declared.calls.Promise.TheVariants as promise
 use Rattle.vat_machine.specs.declared.calls.KeptOutcome.{KeptOutcome}
 use Rattle.vat_machine.specs.declared.calls.Value.{Value}
-use Rattle.vat_machine.specs.declared.calls.Value.TheVariants as value
-use Rattle.vat_machine.specs.declared.entries.Question.{Question}
-use Rattle.vat_machine.specs.declared.entries.Role.{Role}
-use Rattle.vat_machine.specs.declared.entries.Role.TheVariants as role
-use Rattle.vat_machine.specs.declared.entries.Finishing.{Finishing}
-use Rattle.vat_machine.specs.declared.entries.Finishing.TheVariants as finishing
 use Rattle.vat_machine.specs.State.{State}
 use Rattle.vat_machine.specs.Nodes.{settle}
 use Rattle.vat_machine.specs.Progress.{Progress, with_state, caps_of}
 use Rattle.vat_machine.specs.Routing.{WaitsForPromise, WaitsForField, RoutedTo, Routes, RoutesAll, RoutesHeld}
-use Rattle.vat_machine.specs.Settling.{ResolvesEach, SendsResolves, SettlesOpen, SettlesFrom, SettlesOutcome, FixesFrom, FixesPromise, Drains, NoneLeft, OneMore}
-use Rattle.laws_steps.specs.Callers.{IsOpenFor, AnswersWith, IsAskedFor, peer}
-use Rattle.laws_steps.specs.NodesThere.{Stands}
-use Rattle.finite_maps.proofs.Gets.{get-insert_same}
-use Rattle.laws_steps.proofs.Exceptions.{IsException, AllExceptions, first_arises}
-use Rattle.laws_steps.proofs.NamedNodes.{Present, Asked, asker, asker_by, AllIn, all_none, all_one, all_append, all_left, all_right, each_at, HereIn, Fine, settle_here, grows_promise, grows_outcome, set_promise, set_outcome}
-use Rattle.vat_machine.specs.Places.{named_by_promise, named_by_outcome, named_by_export, named_by_value, named_by_held, named_by_calls}
-use Rattle.laws_steps.proofs.NamedPieces.{EachHere, each_here, where_here, all_of_map, by_value, same_caller, all_grow, routes as routed_on, routes_all as all_routed_on, routes_held as held_routed_on, resolved_to as resolved_on, fitted, tells}
+use Rattle.vat_machine.specs.Settling.{known, ResolvesEach, SendsResolves, SettlesOpen, SettlesFrom, SettlesOutcome, FixesFrom, FixesPromise, Drains, NoneLeft, OneMore}
+use Rattle.laws_steps.proofs.Exceptions.{AllExceptions, first_arises}
+use Rattle.laws_steps.proofs.NamedNodes.{Present, Asked, AllIn, all_left, all_right, HereIn, Fine, settle_here}
+use Rattle.vat_machine.specs.Places.{named_by_export, named_by_held, named_by_calls}
+use Rattle.laws_steps.proofs.NamedPieces.{EachHere, each_here, where_here, all_of_map, all_grow, fix, parts, routes as routed_on, routes_all as all_routed_on, routes_held as held_routed_on, resolved_to as resolved_on}
 use Rattle.laws_steps.proofs.NamedSteps.{settles as settled_on}
+use Rattle.laws_steps.proofs.NamedMessages.{no_caps, first_value}
+use Rattle.laws_steps.proofs.Reached.{stands}
 use Rattle.laws_acts.specs.Acts.{Act, Delivers, Waits, Holds, Relays, Fails, Fixes, Settles, Resolves, NextArisen, Acts, NoMore, Then}
 use Rattle.laws_exports.specs.Mentions.{AllStand, Names, AllName}
 
 -- ---- What is here stands
 
-is_some : {X : Type 0} (o : Option X) → Present o → IsSome o
-is_some None h = absurd h
-is_some (Some x) h = refl
-
-asked_for : (c : ℕ) (o : Option Question) → asker o ≡ Some c → IsAskedFor c o
-asked_for c None e = absurd (let bad : None ≡ Some c = e in cc)
-asked_for c (Some x) e = by x.finish x.role refl refl e
-  where
-    by : (f : Finishing) (r : Role) → x.finish ≡ f → x.role ≡ r → asker_by f r ≡ Some c → IsAskedFor c (Some x)
-    by finishing.Owed (role.Direct k) g h e = rw (g, h) (let j : k.0 ≡ c = cc in j, tt)
-    by finishing.Owed (role.Relay o) g h e = absurd (let bad : None ≡ Some c = e in cc)
-    by finishing.Sent (role.Direct k) g h e = absurd (let bad : None ≡ Some c = e in cc)
-    by finishing.Sent (role.Relay o) g h e = absurd (let bad : None ≡ Some c = e in cc)
-    by finishing.Waived (role.Direct k) g h e = rw (g, h) (let j : k.0 ≡ c = cc in j, tt)
-    by finishing.Waived (role.Relay o) g h e = absurd (let bad : None ≡ Some c = e in cc)
-
 module _ {w : Asked} where
-  pub stands : (s : State) (n : Node) → Fine w s → HereIn w s n → Stands s n
-  stands s (node.Object o) i h = tt
-  stands s (node.Promise p) i h = is_some (map.get s.promises p) h
-  stands s (node.Field o path) i h = is_some (map.get s.outcomes o) h
-  stands s (node.Import e) i h = is_some (map.get s.imports e.0) h
-  stands s (node.Pipe q path) i h = by (w q.0) refl h
-    where
-      by : (o : Option ℕ) → w q.0 ≡ o → Present o → (c : ℕ) × IsAskedFor c (map.get s.questions q.0)
-      by None e k = absurd k
-      by (Some c) e k = (c, asked_for c (map.get s.questions q.0) (i.asked q.0 c e))
-  stands s (node.Broken reason) i h = tt
-
   pub all_stand : (s : State) (ns : List Node) → Fine w s → AllIn (HereIn w s) ns → AllStand s ns
   all_stand s [] i h = tt
   all_stand s (n ∷ ns) i h = (stands s (settle s n) i (settle_here s i n (h n (inl refl))), all_stand s ns i (λ m j. h m (inr j)))
@@ -89,14 +53,6 @@ none d new h = rw h (NoMore, tt)
 
 pub first : (d mid new : Progress) (a : Act d mid) → Names a → Said mid new → Said d new
 first d mid new a h k = (Then a k.0, (h, k.1))
-
-no_caps : (P : Node → Type 0) (v : Value) → IsException v → AllIn P (caps_of v)
-no_caps P (value.Results payload caps) i = absurd i
-no_caps P (value.Exception exception) i = all_none P
-
-abbrev first_value : Value → List (ℕ × Value) → Value
-first_value v [] = v
-first_value v (x ∷ xs) = x.1
 
 -- ---- Routing
 
@@ -160,60 +116,22 @@ module _ {w : Asked} where
       from (Some (promise.Fixed before)) e h = absurd h
       from (Some (promise.Open calls)) e h =
           let s = d.state in
-          let y = promise.Fixed to in
-          let mid = with_state d (record s { promises = map.insert s.promises p y }) in
-          let g = grows_promise w s p y in
-          let names = i.names in
-          let old = each_at (HereIn w s) named_by_promise s.promises p (promise.Open calls) names.2 e in
-          let fine : Fine w mid.state = set_promise s p y i (all_one (HereIn w mid.state) to (g to k)) in
-          let calls_here : AllIn (HereIn w mid.state) (named_by_calls calls) = λ n a. g n (old n (inr a)) in
-          let here : HereIn w mid.state (node.Promise p) = subst (λ (z : Option Promise). Present z) (sym (get-insert_same s.promises p y)) tt in
-          let after = all_routed_on mid calls (node.Promise p) h.0 fine calls_here h.1 in
-          first d mid new (Fixes p calls to e refl) tt (then mid h.0 new (routes_all mid calls (node.Promise p) h.0 fine here calls_here h.1) (resolves h.0 x _ new after.0 h.2))
+          let mid = with_state d (record s { promises = map.insert s.promises p (promise.Fixed to) }) in
+          let a = fix s p to calls e i k in
+          let after = all_routed_on mid calls (node.Promise p) h.0 a.0 a.2 h.1 in
+          first d mid new (Fixes p calls to e refl) tt (then mid h.0 new (routes_all mid calls (node.Promise p) h.0 a.0 a.1 a.2 h.1) (resolves h.0 x _ new after.0 h.2))
 
   -- ---- Outcomes
 
   settled : (d : Progress) (o : ℕ) (v : Value) (x : KeptOutcome) (new : Progress) → map.get d.state.outcomes o ≡ Some x → x.value ≡ None → Fine w d.state → AllIn (HereIn w d.state) (caps_of v) → SettlesOpen d o v x None new → Said d new
   settled d o v x new e f i k h =
-      let fit = h.0 in
-      let s = h.1 in
       let told = h.3 in
       let rest = told.2 in
-      let a = fitted d.state o x.caller x.waiting v fit s i k h.2 in
-      let caps = a.1 in
-      let os = a.2 in
-      let ans = a.3 in
-      let grow = a.4 in
-      let there : map.get s.outcomes o ≡ Some x = ap (λ (m : Map KeptOutcome). map.get m o) os ∙ e in
-      let y : KeptOutcome = record { caller = x.caller; value = Some fit; waiting = x.waiting } in
-      let z : KeptOutcome = record { caller = x.caller; value = Some fit; waiting = [] } in
-      let t : State = record s { outcomes = map.insert s.outcomes o y } in
-      let names = a.0.names in
-      let old = all_right (HereIn w s) (named_by_value x.value) (named_by_held x.waiting) (each_at (HereIn w s) named_by_outcome s.outcomes o x names.3 there) in
-      let g = grows_outcome w s o y in
-      let caps_here : AllIn (HereIn w t) (caps_of fit) = all_grow w s t (caps_of fit) g caps in
-      let named = all_append (HereIn w t) (named_by_value (Some fit)) (named_by_held x.waiting) (by_value (HereIn w t) fit caps_here) (all_grow w s t (named_by_held x.waiting) g old) in
-      let never : (q : ℕ) → IsOpenFor q (Some y) → AnswersWith o (map.get s.answers q) = λ q j. absurd (not_open fit j.0) in
-      let fine : Fine w t = set_outcome s o y a.0 named (same_caller s o x there) never in
-      let waits : (q : ℕ) → x.caller ≡ peer q → AnswersWith o (map.get s.answers q) = λ q j. a.0.pending o q (subst (IsOpenFor q) (sym there) (f, j)) in
-      let two = tells (with_state d t) x.caller o y fit told.0 fine caps_here refl refl (get-insert_same s.outcomes o y) waits told.1 in
-      let u = told.0.state in
-      let after = two.0.names in
-      let names_now = each_at (HereIn w u) named_by_outcome u.outcomes o y after.3 two.1 in
-      let clear : State = record u { outcomes = map.insert u.outcomes o z } in
-      let gw = grows_outcome w u o z in
-      let value_now = all_left (HereIn w u) (named_by_value (Some fit)) (named_by_held x.waiting) names_now in
-      let held_now = all_right (HereIn w u) (named_by_value (Some fit)) (named_by_held x.waiting) names_now in
-      let three : Fine w clear = set_outcome u o z two.0 (all_append (HereIn w clear) (named_by_value (Some fit)) [] (all_grow w u clear (named_by_value (Some fit)) gw value_now) (all_none (HereIn w clear))) (same_caller u o y two.1) (λ q j. absurd (not_open fit j.0)) in
-      let here : Present (map.get clear.outcomes o) = subst (λ (b : Option KeptOutcome). Present b) (sym (get-insert_same u.outcomes o z)) tt in
-      let held_here = all_grow w u clear (named_by_held x.waiting) gw held_now in
-      let p = with_state told.0 clear in
-      let four = held_routed_on p o x.waiting rest.0 three held_here rest.1 in
-      first d p new (Settles o x v fit s told.0 e f h.2 told.1 refl) (all_stand t (caps_of fit) fine caps_here)
-      (then p rest.0 new (routes_held p o x.waiting rest.0 three here held_here rest.1) (resolves rest.0 None _ new four.0 rest.2))
-    where
-      not_open : (v : Value) → Some v ≡ None → ⊥
-      not_open v j = cc
+      let a = parts d o v h.0 x h.1 told.0 e f i k h.2 told.1 in
+      let p = with_state told.0 (known told.0.state o x.caller [] h.0) in
+      let four = held_routed_on p o x.waiting rest.0 a.2 a.4 rest.1 in
+      first d p new (Settles o x v h.0 h.1 told.0 e f h.2 told.1 refl) (all_stand (known h.1 o x.caller x.waiting h.0) (caps_of h.0) a.0 a.1)
+      (then p rest.0 new (routes_held p o x.waiting rest.0 a.2 a.3 a.4 rest.1) (resolves rest.0 None _ new four.0 rest.2))
 
   pub settles : (d : Progress) (o : ℕ) (v : Value) (new : Progress) → Fine w d.state → AllIn (HereIn w d.state) (caps_of v) → SettlesOutcome d o v new → Said d new
   settles d o v new i k h = from (map.get d.state.outcomes o) refl h

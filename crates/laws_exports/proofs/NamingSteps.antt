@@ -12,7 +12,6 @@ use Rattle.rpc_msg.specs.declared.exception.Exception.{Exception}
 use Rattle.vat_machine.specs.declared.node.Node.{Node}
 use Rattle.vat_machine.specs.declared.node.Node.TheVariants as node
 use Rattle.vat_machine.specs.declared.calls.Request.{Request}
-use Rattle.vat_machine.specs.declared.calls.KeptOutcome.{KeptOutcome}
 use Rattle.vat_machine.specs.declared.calls.OwnCall.{OwnCall}
 use Rattle.vat_machine.specs.declared.calls.Value.{Value}
 use Rattle.vat_machine.specs.declared.calls.Value.TheVariants as value
@@ -55,26 +54,26 @@ use Rattle.rpc_msg.specs.declared.message.Finish.{Finish}
 use Rattle.std.specs.FinMap.Entries as entries
 use Rattle.std.specs.Ordering.{nat_cmp}
 use Rattle.std.proofs.Common.{◌≡◌, inl, inr, ◌⊎◌, ℕ, Bool, is_some, T, List, [], ◌∷◌, Option, None, Some, refl, sym, ap, subst, ◌∙◌}
-use Rattle.laws_steps.proofs.Taken.{took, taken as taken_fine, taken_here, all_read, taken_grows, present}
+use Rattle.laws_steps.proofs.Taken.{present}
 use Rattle.laws_steps.specs.Callers.{peer, HasOutcome}
 use Rattle.vat_machine.specs.declared.entries.Export.{Export}
-use Rattle.vat_machine.specs.Descriptors.{read_all, export_node, answer_node}
+use Rattle.vat_machine.specs.Descriptors.{export_node, answer_node}
 use Rattle.vat_machine.specs.Messages.{TakesBootstrap, TakesCall}
 use Rattle.rpc_msg.specs.declared.ids.QuestionId.{QuestionId}
 use Rattle.rpc_msg.specs.declared.ids.ObjectId.{ObjectId}
 use Rattle.rpc_msg.specs.declared.message.Call.{Call}
 use Rattle.vat_machine.specs.Settling.{TellsCall}
-use Rattle.vat_machine.specs.Lists.{updated}
+use Rattle.vat_machine.specs.Lists.{update}
 use Rattle.finite_maps.proofs.Sorted.{first_entry, sorted_tail}
 use Rattle.laws_steps.proofs.Exceptions.{AllExceptions, act_arises}
-use Rattle.laws_steps.proofs.NamedNodes.{set_refs, set_embargoes, each_cut, Asked, AllIn, all_none, all_one, each_at, HereIn, Fine, settle_here, grows_outcome}
-use Rattle.laws_steps.proofs.NamedPieces.{set_rest, all_grow}
+use Rattle.laws_steps.proofs.NamedNodes.{Asked, AllIn, all_none, all_one, each_at, HereIn, Fine, settle_here, grows_outcome}
+use Rattle.laws_steps.proofs.NamedPieces.{set_rest}
 use Rattle.laws_steps.proofs.NamedSteps.{heads_here, kept_here, grown, acts as acted_on}
-use Rattle.laws_steps.proofs.NamedMessages.{Begun, lifted_refs, opens_answer, takes as takes_on}
-use Rattle.laws_steps.proofs.Reached.{reached}
+use Rattle.laws_steps.proofs.NamedMessages.{Begun, lift, opens_call, opens_answer, takes as takes_on}
+use Rattle.laws_steps.proofs.Reached.{reached, stands}
 use Rattle.laws_steps.proofs.Swept.{Whole}
 use Rattle.laws_steps.specs.NodesThere.{IsReached, Stands}
-use Rattle.vat_machine.specs.Places.{named_by_reference, named_by_embargo, named_by_export}
+use Rattle.vat_machine.specs.Places.{named_by_reference, named_by_export}
 use Rattle.vat_machine.specs.Numbers.{question_in_use, unknown_question, unknown_answer}
 use Rattle.laws_acts.proofs.Checks.{first as first_check, not_so, none_there}
 use Rattle.laws_acts.proofs.Ends.{Rest, withers_from, col_end, after_rest}
@@ -84,7 +83,7 @@ use Rattle.laws_acts.specs.MessageActs.{returning}
 use Rattle.laws_acts.specs.Acts.{Makes, Drops, AsksRoot, CallsOut, Keeps, Joins, Promises, Unsettles, Answers, Finishes, Heads, Turns, Fails, Reports, Gone, Ends, Releases, came, ComesTo, Consumes, NoMore}
 use Rattle.laws_exports.specs.Mentions.{wire, TargetStands, NamesAtOnce}
 use Rattle.laws_exports.specs.Mentions.{NamingActs}
-use Rattle.laws_exports.proofs.Naming.{stands, all_stand, Said, then, one, none, first, routes, routes_all, fixed, settles, drained, drained_first}
+use Rattle.laws_exports.proofs.Naming.{all_stand, Said, then, one, none, first, routes, routes_all, fixed, settles, drained, drained_first}
 
 -- ---- The end of a step
 
@@ -317,19 +316,10 @@ module _ {w : Asked} where
 
   takes_call : (d : Progress) (c : Call) (new : Progress) → Fine w d.state → map.get d.state.answers c.question.0 ≡ None → TakesCall d c new → Took (plain.Call c) d new
   takes_call d c new i f h =
-      let s = take_all d.state c.descriptors in
-      let o = h.0 in
-      let a = taken_fine d.state c.descriptors i in
-      let same = took d.state c.descriptors in
-      let free : map.get s.outcomes o ≡ None = ap (λ (m : Map KeptOutcome). map.get m o) same.0 ∙ h.1 in
-      let fresh : map.get s.answers c.question.0 ≡ None = ap (λ (m : Map AnswerEntry). map.get m c.question.0) same.1 ∙ f in
-      let ids = taken_of d.state c.descriptors in
-      let t = opened s c.question.0 o ids in
-      let fine : Fine w t = opens_answer w s c.question.0 o ids a (taken_here w d.state c.descriptors) free fresh in
-      let grow = grows_outcome w s o (record { caller = peer c.question.0; value = None; waiting = [] }) in
-      let caps : AllIn (HereIn w t) (read_all d.state c.descriptors) = all_grow w s t (read_all d.state c.descriptors) grow (all_read d.state c.descriptors i) in
-      let at : HereIn w t (target_node d.state c.target) = grow (target_node d.state c.target) (taken_grows w d.state c.descriptors (target_node d.state c.target) (target_here d.state c.target i)) in
-      (with_state d t, (o, f, h.1, refl), tt, routes (with_state d t) (record { request = received_request d.state c; outcome = o }) (target_node d.state c.target) new fine at caps h.2)
+      let t = opened (take_all d.state c.descriptors) c.question.0 h.0 (taken_of d.state c.descriptors) in
+      let a = opens_call d.state c h.0 h.1 f i in
+      let more = a.2 in
+      (with_state d t, (h.0, f, h.1, refl), tt, routes (with_state d t) (record { request = received_request d.state c; outcome = h.0 }) (target_node d.state c.target) new a.0 (more (target_node d.state c.target) (target_here d.state c.target i)) a.1 h.2)
 
   bounced : (s : State) (n : Node) (u : Target) → Fine w s → HereIn w s n → wire_target n ≡ Some u → Stands s (wire u)
   bounced s n u i m e = subst (λ (o : Option Target). TargetStands s o) e (target_stands s n i m)
@@ -341,16 +331,9 @@ module _ {w : Asked} where
   lifts : (d : Progress) (t : Target) (x : EmbargoId) (o : Option Embargo) (new : Progress) → map.get d.state.embargoes x.0 ≡ o → Fine w d.state → LiftsOne d x.0 o new → Took (plain.Disembargo (record { target = t; context = ReceiverLoopback x })) d new
   lifts d t x None new f i h = absurd h
   lifts d t x (Some b) new f i h =
-      let s = d.state in
-      let n = i.names in
-      let m = updated s.refs b.reference.0 unembargoed (map.get s.refs b.reference.0) in
-      let u : State = record s { refs = m } in
-      let v : State = record u { embargoes = map.remove s.embargoes x.0 } in
-      let fine : Fine w u = set_refs s m i (lifted_refs (HereIn w s) s.refs b.reference.0 (map.get s.refs b.reference.0) refl n.0) in
-      let k = fine.names in
-      let two : Fine w v = set_embargoes u (map.remove s.embargoes x.0) fine (each_cut (HereIn w u) named_by_embargo u.embargoes x.0 k.1) in
-      let old = each_at (HereIn w s) named_by_embargo s.embargoes x.0 b n.1 f in
-      (with_state d v, (b, f, refl), tt, routes_all (with_state d v) b.waiting b.node new two (old b.node (inl refl)) (λ y j. old y (inr j)) h)
+      let v : State = record (d.state) { refs = update d.state.refs b.reference.0 unembargoed; embargoes = map.remove d.state.embargoes x.0 } in
+      let a = lift d.state x.0 b f i in
+      (with_state d v, (b, f, refl), tt, routes_all (with_state d v) b.waiting b.node new a.0 a.1 a.2 h)
 
   disembargo : (d : Progress) (t : Target) (c : DisembargoContext) (new : Progress) → Fine w d.state → TakesDisembargo d t c new → Took (plain.Disembargo (record { target = t; context = c })) d new
   disembargo d t (SenderLoopback x) new i h = bounces d t x _ new refl i h

@@ -48,24 +48,24 @@ use Rattle.vat_machine.specs.declared.entries.Export.{Export}
 use Rattle.vat_machine.specs.declared.entries.Reference.{Reference}
 use Rattle.vat_machine.specs.declared.entries.Embargo.{Embargo}
 use Rattle.vat_machine.specs.State.{State}
-use Rattle.vat_machine.specs.Lists.{updated}
-use Rattle.vat_machine.specs.Places.{imports_of, named_by_reference, named_by_embargo, named_by_outcome, named_by_returned, named_by_question, named_by_resolution, named_by_import, named_by_export, named_by_answer}
+use Rattle.vat_machine.specs.Lists.{update, updated}
+use Rattle.vat_machine.specs.Places.{named_by_calls, imports_of, named_by_reference, named_by_embargo, named_by_outcome, named_by_returned, named_by_question, named_by_resolution, named_by_import, named_by_export, named_by_answer}
 use Rattle.vat_machine.specs.Progress.{Progress, begin, with_state, numbers, caps_of, export_ids}
 use Rattle.vat_machine.specs.Descriptors.{read, read_all, take_all, taken_of}
 use Rattle.vat_machine.specs.Flags.{lowered, lower_by, lower_each, obey}
 use Rattle.vat_machine.specs.Settling.{Drains, NoneLeft, OneMore}
-use Rattle.vat_machine.specs.Messages.{opened, bootstrap_value, received_request, results_of, value_of_results, waived, not_understood, ComesFor, ComesBack, TakesReturn, TakesEchoed, finished_map, TakesFinish, set_resolution, resolve_import, take_resolve, unembargoed, Bounces, Lifts, TakesDisembargo, TakesPlain, TakesUnimplemented, TakesUnless, Takes}
+use Rattle.vat_machine.specs.Messages.{opened, bootstrap_value, received_request, results_of, value_of_results, waived, not_understood, ComesFor, ComesBack, TakesCall, TakesReturn, TakesEchoed, finished_map, TakesFinish, set_resolution, resolve_import, take_resolve, unembargoed, Bounces, Lifts, TakesDisembargo, TakesPlain, TakesUnimplemented, TakesUnless, Takes}
 use Rattle.vat_machine.specs.Faults.{gave, given_by, target_node, is_foreign, plain_fault, fault_of, unless_foreign}
 use Rattle.vat_machine.specs.Steps.{Ends, Does, Handles}
 use Rattle.finite_maps.proofs.Gets.{get-insert_same}
 use Rattle.finite_maps.proofs.Tested.{equal, get_other}
 use Rattle.laws_steps.proofs.Exceptions.{IsException, AllExceptions, act_arises, call_arises, first_arises, disembargo_arises, told_arises}
 use Rattle.laws_steps.specs.Callers.{IsFor, peer, IsOpenFor, AnswersWith, HasOutcome}
-use Rattle.laws_steps.proofs.NamedNodes.{Asked, asker, asker_by, Here, AllIn, EachIn, all_none, all_one, at_put, at_cut, each_put, each_cut, each_at, Brought, Counted, positive_put, has_outcome, has_kept, renamed, HereIn, Fine, set_refs, set_embargoes, set_questions, set_imports, set_exports, set_answers, grows_outcome, grows_import}
+use Rattle.laws_steps.proofs.NamedNodes.{Grows, Asked, asker, asker_by, Here, AllIn, EachIn, all_none, all_one, at_put, at_cut, each_put, each_cut, each_at, Brought, Counted, positive_put, has_outcome, has_kept, renamed, HereIn, Fine, set_refs, set_embargoes, set_questions, set_imports, set_exports, set_answers, grows_outcome, grows_import}
 use Rattle.laws_steps.proofs.HeldQuestions.{tied_put, brought_put}
 use Rattle.laws_steps.proofs.NamedPieces.{Same, same_parts, grows_same, all_grow, routes, routes_all, tells_call}
 use Rattle.laws_steps.proofs.Swept.{Whole, without_question, swept}
-use Rattle.laws_steps.proofs.Taken.{took, taken, taken_here, all_read, beside_read, brought_results}
+use Rattle.laws_steps.proofs.Taken.{taken_grows, took, taken, taken_here, all_read, beside_read, brought_results}
 use Rattle.laws_steps.proofs.NamedSteps.{settles, acts}
 
 -- ---- An answer opens
@@ -171,15 +171,15 @@ results_brought s x body.Canceled = brought_exception s.level x _
 abbrev pub Begun : Asked → Progress → Type 0
 Begun w new = Fine w new.state × (AllExceptions new.arisen ⊎ ((o : ℕ) × (v : Value) × (new.arisen ≡ (o, v) ∷ []) × AllIn (HereIn w new.state) (caps_of v)))
 
-no_caps : (P : Node → Type 0) (v : Value) → IsException v → AllIn P (caps_of v)
+pub no_caps : (P : Node → Type 0) (v : Value) → IsException v → AllIn P (caps_of v)
 no_caps P (value.Results payload caps) i = absurd i
 no_caps P (value.Exception exception) i = all_none P
 
-abbrev first_value : Value → List (ℕ × Value) → Value
+abbrev pub first_value : Value → List (ℕ × Value) → Value
 first_value v [] = v
 first_value v (x ∷ xs) = x.1
 
-pub lifted_refs : (P : Node → Type 0) (m : Map Reference) (r : ℕ) (o : Option Reference) → map.get m r ≡ o → EachIn P named_by_reference m → EachIn P named_by_reference (updated m r unembargoed o)
+lifted_refs : (P : Node → Type 0) (m : Map Reference) (r : ℕ) (o : Option Reference) → map.get m r ≡ o → EachIn P named_by_reference m → EachIn P named_by_reference (updated m r unembargoed o)
 lifted_refs P m r None e h = h
 lifted_refs P m r (Some x) e h = each_put P named_by_reference m r (unembargoed x) (each_at P named_by_reference m r x h e) h
 
@@ -205,20 +205,21 @@ module _ {w : Asked} where
       by None = all_none (HereIn w (opened d.state q h.0 []))
       by (Some o) = all_one (HereIn w (opened d.state q h.0 [])) (node.Object o) tt
 
-  takes_call : (d : Progress) (c : Call) (new : Progress) → d.arisen ≡ [] → Fine w d.state → map.get d.state.answers c.question.0 ≡ None → TakesPlain d (plain.Call c) new → Begun w new
+  -- A Call opens its answer, and its capabilities are there.
+  pub opens_call : (s : State) (c : Call) (o : ℕ) → map.get s.outcomes o ≡ None → map.get s.answers c.question.0 ≡ None → Fine w s → (let t = opened (take_all s c.descriptors) c.question.0 o (taken_of s c.descriptors) in Fine w t × AllIn (HereIn w t) (read_all s c.descriptors) × Grows w s t)
+  opens_call s c o free fresh i =
+      let ds = c.descriptors in
+      let u = take_all s ds in
+      let same = took s ds in
+      let g = grows_outcome w u o (record { caller = peer c.question.0; value = None; waiting = [] }) in
+      let one = opens_answer w u c.question.0 o (taken_of s ds) (taken s ds i) (taken_here w s ds) (ap (λ (m : Map KeptOutcome). map.get m o) same.0 ∙ free) (ap (λ (m : Map AnswerEntry). map.get m c.question.0) same.1 ∙ fresh) in
+      (one, λ n j. g n (all_read s ds i n j), λ n j. g n (taken_grows w s ds n j))
+
+  takes_call : (d : Progress) (c : Call) (new : Progress) → d.arisen ≡ [] → Fine w d.state → map.get d.state.answers c.question.0 ≡ None → TakesCall d c new → Begun w new
   takes_call d c new e i f h =
-      let s = take_all d.state c.descriptors in
-      let o = h.0 in
-      let a = taken d.state c.descriptors i in
-      let same = took d.state c.descriptors in
-      let free : map.get s.outcomes o ≡ None = ap (λ (m : Map KeptOutcome). map.get m o) same.0 ∙ h.1 in
-      let fresh : map.get s.answers c.question.0 ≡ None = ap (λ (m : Map AnswerEntry). map.get m c.question.0) same.1 ∙ f in
-      let ids = taken_of d.state c.descriptors in
-      let t = opened s c.question.0 o ids in
-      let one : Fine w t = opens_answer w s c.question.0 o ids a (taken_here w d.state c.descriptors) free fresh in
-      let here : AllIn (HereIn w s) (read_all d.state c.descriptors) = all_read d.state c.descriptors i in
-      let caps : AllIn (HereIn w t) (read_all d.state c.descriptors) = all_grow w s t (read_all d.state c.descriptors) (grows_outcome w s o (record { caller = peer c.question.0; value = None; waiting = [] })) here in
-      let r = routes (with_state d t) (record { request = received_request d.state c; outcome = o }) (target_node d.state c.target) new one caps h.2 in
+      let t = opened (take_all d.state c.descriptors) c.question.0 h.0 (taken_of d.state c.descriptors) in
+      let a = opens_call d.state c h.0 h.1 f i in
+      let r = routes (with_state d t) (record { request = received_request d.state c; outcome = h.0 }) (target_node d.state c.target) new a.0 a.1 h.2 in
       begun d new e r.0 (call_arises d c new h)
 
   comes_for : (d : Progress) (r : Role) (v : Value) (new : Progress) → d.arisen ≡ [] → Fine w d.state → AllIn (HereIn w d.state) (caps_of v) → ComesFor d r v new → Begun w new
@@ -316,19 +317,23 @@ module _ {w : Asked} where
   takes_resolve s e (resolved.Cap d) h =
       resolved_import (take_all s (d ∷ [])) e (resolution.To d (read s d)) (map.get s.imports e) (taken s (d ∷ []) h) (all_read s (d ∷ []) h)
 
+  -- An embargo is lifted: its node is there, and so are the capabilities of its calls.
+  pub lift : (s : State) (e : ℕ) (b : Embargo) → map.get s.embargoes e ≡ Some b → Fine w s → Fine w (record s { refs = update s.refs b.reference.0 unembargoed; embargoes = map.remove s.embargoes e }) × HereIn w s b.node × AllIn (HereIn w s) (named_by_calls b.waiting)
+  lift s e b f i =
+      let n = i.names in
+      let m = update s.refs b.reference.0 unembargoed in
+      let t : State = record s { refs = m } in
+      let one : Fine w t = set_refs s m i (lifted_refs (HereIn w s) s.refs b.reference.0 (map.get s.refs b.reference.0) refl n.0) in
+      let k = one.names in
+      let old = each_at (HereIn w s) named_by_embargo s.embargoes e b n.1 f in
+      (set_embargoes t (map.remove s.embargoes e) one (each_cut (HereIn w t) named_by_embargo t.embargoes e k.1), old b.node (inl refl), λ x j. old x (inr j))
+
   lifts : (d : Progress) (e : ℕ) (o : Option Embargo) (new : Progress) → map.get d.state.embargoes e ≡ o → Fine w d.state → Lifts d e o new → Fine w new.state
   lifts d e None new f i h = absurd h
   lifts d e (Some b) new f i h =
-      let s = d.state in
-      let n = i.names in
-      let m = updated s.refs b.reference.0 unembargoed (map.get s.refs b.reference.0) in
-      let t : State = record s { refs = m } in
-      let u : State = record t { embargoes = map.remove s.embargoes e } in
-      let one : Fine w t = set_refs s m i (lifted_refs (HereIn w s) s.refs b.reference.0 (map.get s.refs b.reference.0) refl n.0) in
-      let k = one.names in
-      let two : Fine w u = set_embargoes t (map.remove s.embargoes e) one (each_cut (HereIn w t) named_by_embargo t.embargoes e k.1) in
-      let old = each_at (HereIn w s) named_by_embargo s.embargoes e b n.1 f in
-      let r = routes_all (with_state d u) b.waiting b.node new two (λ x j. old x (inr j)) h in
+      let u : State = record (d.state) { refs = update d.state.refs b.reference.0 unembargoed; embargoes = map.remove d.state.embargoes e } in
+      let a = lift d.state e b f i in
+      let r = routes_all (with_state d u) b.waiting b.node new a.0 a.2 h in
       r.0
 
   bounces : (d : Progress) (x : EmbargoId) (o : Option Target) (new : Progress) → Fine w d.state → Bounces d x o new → Fine w new.state

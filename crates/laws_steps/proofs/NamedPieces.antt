@@ -37,7 +37,7 @@ use Rattle.vat_machine.specs.Descriptors.{ExportedAs, Described, DescribesAll}
 use Rattle.vat_machine.specs.Routing.{Asks, Relays, WaitsForPromise, WaitsForField, RoutedTo, Routes, RoutesAll, RoutesHeld}
 use Rattle.vat_machine.specs.Collecting.{AnswerIsOther, IsLooseOutcome, IsLooseValue, CallerIsDone, Goes, PromiseGoes, OutcomeGoes, ImportGoes, Collects, Tight, Loose}
 use Rattle.vat_machine.specs.Flags.{give_if, give_back, flag_for}
-use Rattle.vat_machine.specs.Settling.{returned_map, PutsIn, Untangles, Fits, TellsCall, SaysBack, Returns, TellsPeer, Tells, ResolvesTo, ResolvesBy, ResolvesEach, exports_where, SendsResolves, SettlesOpen, FixesFrom, FixesPromise}
+use Rattle.vat_machine.specs.Settling.{known, returned_map, PutsIn, Untangles, Fits, TellsCall, SaysBack, Returns, TellsPeer, Tells, ResolvesTo, ResolvesBy, ResolvesEach, exports_where, SendsResolves, SettlesOpen, FixesFrom, FixesPromise}
 use Rattle.finite_maps.proofs.Gets.{get-insert_same}
 use Rattle.finite_maps.proofs.Tested.{equal, get_other, get_left}
 use Rattle.laws_steps.proofs.Among.{by_entry}
@@ -86,6 +86,13 @@ by_value P (value.Exception exception) h = h
 -- Of an outcome of the peer that is known, while its answer waits for it.
 abbrev Standing : ℕ → ℕ → KeptOutcome → AnswerEntry → State → Type 0
 Standing o q x a s = (map.get s.outcomes o ≡ Some x) × (map.get s.answers q ≡ Some a)
+
+-- Of an outcome that is settled: it is known, with a value that is there; and its caller was told.
+abbrev pub Parts : Asked → ℕ → KeptOutcome → Value → State → State → Type 0
+Parts w o x fit s told =
+    let t = known s o x.caller x.waiting fit in
+    let clear = known told o x.caller [] fit in
+    Fine w t × AllIn (HereIn w t) (caps_of fit) × Fine w clear × Present (map.get clear.outcomes o) × AllIn (HereIn w clear) (named_by_held x.waiting)
 
 -- What is left of the outcome once its caller was told.
 abbrev pub Told : Asked → ℕ → KeptOutcome → State → Type 0
@@ -269,6 +276,16 @@ module _ {w : Asked} where
       let names = i.names in
       resolves_each d x _ new i (where_here (HereIn w d.state) test (map.entries d.state.exports) (all_of_map (HereIn w d.state) named_by_export d.state.exports names.6)) h
 
+  -- A promise is fixed: it stands, and so do the capabilities of its calls.
+  pub fix : (s : State) (p : ℕ) (to : Node) (calls : List WaitingCall) → map.get s.promises p ≡ Some (promise.Open calls) → Fine w s → HereIn w s to → (let t : State = record s { promises = map.insert s.promises p (promise.Fixed to) } in Fine w t × HereIn w t (node.Promise p) × AllIn (HereIn w t) (named_by_calls calls) × Grows w s t)
+  fix s p to calls e i k =
+      let y = promise.Fixed to in
+      let t : State = record s { promises = map.insert s.promises p y } in
+      let g = grows_promise w s p y in
+      let names = i.names in
+      let old = each_at (HereIn w s) named_by_promise s.promises p (promise.Open calls) names.2 e in
+      (set_promise s p y i (all_one (HereIn w t) to (g to k)), g (node.Promise p) (old (node.Promise p) (inl refl)), λ n a. g n (old n (inr a)), g)
+
   pub fixed : (d : Progress) (p : ℕ) (to : Node) (x : Option Exception) (new : Progress) → Fine w d.state → HereIn w d.state to → FixesPromise d p to x new → Out w (Tied w) d.state new.state
   fixed d p to x new i k h = from (map.get d.state.promises p) refl h
     where
@@ -277,14 +294,11 @@ module _ {w : Asked} where
       from (Some (promise.Fixed before)) e h = absurd h
       from (Some (promise.Open calls)) e h =
           let s = d.state in
-          let y = promise.Fixed to in
-          let mid = with_state d (record s { promises = map.insert s.promises p y }) in
-          let g = grows_promise w s p y in
-          let names = i.names in
-          let old = each_at (HereIn w s) named_by_promise s.promises p (promise.Open calls) names.2 e in
-          let one : Out w (Tied w) s mid.state = (set_promise s p y i (all_one (HereIn w mid.state) to (g to k)), g) in
-          out_then s mid.state new.state one (λ j. out_then mid.state h.0.state new.state (routes_all mid calls (node.Promise p) h.0 j (λ n a. g n (old n (inr a))) h.1) (λ l. resolves h.0 x _ new l h.2))
-      -- ---- Collecting
+          let mid = with_state d (record s { promises = map.insert s.promises p (promise.Fixed to) }) in
+          let a = fix s p to calls e i k in
+          out_then s mid.state new.state (a.0, a.3) (λ j. out_then mid.state h.0.state new.state (routes_all mid calls (node.Promise p) h.0 j a.2 h.1) (λ l. resolves h.0 x _ new l h.2))
+
+-- ---- Collecting
 
 module _ {w : Asked} {T : Map Question → Type 0} where
   goes : (d new : Progress) → Sound w T d.state → Goes d new → Sound w T new.state
@@ -431,17 +445,10 @@ module _ {w : Asked} where
   fitted s o who hs (value.Exception exception) out new i k h = rw (h.0, h.1) (i, all_none (HereIn w s), refl, refl, λ m a. a)
   fitted s o who hs (value.Results payload caps) out new i k h = rw h.1 (untangled s o who hs payload 0 caps h.0 new i k h.2)
 
-  pub settled : (d : Progress) (o : ℕ) (v : Value) (x : KeptOutcome) (new : Progress) → map.get d.state.outcomes o ≡ Some x → x.value ≡ None → Fine w d.state → AllIn (HereIn w d.state) (caps_of v) → SettlesOpen d o v x None new → Fine w new.state
-  settled d o v x new e f i k h =
-      let fit = h.0 in
-      let s = h.1 in
-      let told = h.3 in
-      let rest = told.2 in
-      let a = fitted d.state o x.caller x.waiting v fit s i k h.2 in
-      let caps = a.1 in
+  pub parts : (d : Progress) (o : ℕ) (v fit : Value) (x : KeptOutcome) (s : State) (told : Progress) → map.get d.state.outcomes o ≡ Some x → x.value ≡ None → Fine w d.state → AllIn (HereIn w d.state) (caps_of v) → Fits d.state o x.caller x.waiting v fit s → Tells (with_state d (known s o x.caller x.waiting fit)) x.caller fit told → Parts w o x fit s told.state
+  parts d o v fit x s told e f i k fits tell =
+      let a = fitted d.state o x.caller x.waiting v fit s i k fits in
       let os = a.2 in
-      let ans = a.3 in
-      let grow = a.4 in
       let there : map.get s.outcomes o ≡ Some x = ap (λ (m : Map KeptOutcome). map.get m o) os ∙ e in
       let y : KeptOutcome = record { caller = x.caller; value = Some fit; waiting = x.waiting } in
       let z : KeptOutcome = record { caller = x.caller; value = Some fit; waiting = [] } in
@@ -449,22 +456,29 @@ module _ {w : Asked} where
       let names = a.0.names in
       let old = all_right (HereIn w s) (named_by_value x.value) (named_by_held x.waiting) (each_at (HereIn w s) named_by_outcome s.outcomes o x names.3 there) in
       let g = grows_outcome w s o y in
-      let named = all_append (HereIn w t) (named_by_value (Some fit)) (named_by_held x.waiting) (by_value (HereIn w t) fit (all_grow w s t (caps_of fit) g caps)) (all_grow w s t (named_by_held x.waiting) g old) in
-      let never : (q : ℕ) → IsOpenFor q (Some y) → AnswersWith o (map.get s.answers q) = λ q j. absurd (not_open fit j.0) in
-      let one : Fine w t = set_outcome s o y a.0 named (same_caller s o x there) never in
+      let caps_here : AllIn (HereIn w t) (caps_of fit) = all_grow w s t (caps_of fit) g a.1 in
+      let named = all_append (HereIn w t) (named_by_value (Some fit)) (named_by_held x.waiting) (by_value (HereIn w t) fit caps_here) (all_grow w s t (named_by_held x.waiting) g old) in
+      let one : Fine w t = set_outcome s o y a.0 named (same_caller s o x there) (λ q j. absurd (not_open fit j.0)) in
       let waits : (q : ℕ) → x.caller ≡ peer q → AnswersWith o (map.get s.answers q) = λ q j. a.0.pending o q (subst (IsOpenFor q) (sym there) (f, j)) in
-      let two = tells (with_state d t) x.caller o y fit told.0 one (all_grow w s t (caps_of fit) g caps) refl refl (get-insert_same s.outcomes o y) waits told.1 in
-      let u = told.0.state in
+      let two = tells (with_state d t) x.caller o y fit told one caps_here refl refl (get-insert_same s.outcomes o y) waits tell in
+      let u = told.state in
       let after = two.0.names in
       let names_now = each_at (HereIn w u) named_by_outcome u.outcomes o y after.3 two.1 in
-      let after_told : State = record u { outcomes = map.insert u.outcomes o z } in
+      let clear : State = record u { outcomes = map.insert u.outcomes o z } in
       let gw = grows_outcome w u o z in
-      let value_now = all_left (HereIn w u) (named_by_value (Some fit)) (named_by_held x.waiting) names_now in
-      let held_now = all_right (HereIn w u) (named_by_value (Some fit)) (named_by_held x.waiting) names_now in
-      let three : Fine w after_told = set_outcome u o z two.0 (all_append (HereIn w after_told) (named_by_value (Some fit)) [] (all_grow w u after_told (named_by_value (Some fit)) gw value_now) (all_none (HereIn w after_told))) (same_caller u o y two.1) (λ q j. absurd (not_open fit j.0)) in
-      let four = routes_held (with_state told.0 after_told) o x.waiting rest.0 three (all_grow w u after_told (named_by_held x.waiting) gw held_now) rest.1 in
-      let five = resolves rest.0 None _ new four.0 rest.2 in
-      five.0
+      let value_now = all_grow w u clear (named_by_value (Some fit)) gw (all_left (HereIn w u) (named_by_value (Some fit)) (named_by_held x.waiting) names_now) in
+      let three : Fine w clear = set_outcome u o z two.0 (all_append (HereIn w clear) (named_by_value (Some fit)) [] value_now (all_none (HereIn w clear))) (same_caller u o y two.1) (λ q j. absurd (not_open fit j.0)) in
+      let here : Present (map.get clear.outcomes o) = subst (λ (b : Option KeptOutcome). Present b) (sym (get-insert_same u.outcomes o z)) tt in
+      (one, caps_here, three, here, all_grow w u clear (named_by_held x.waiting) gw (all_right (HereIn w u) (named_by_value (Some fit)) (named_by_held x.waiting) names_now))
     where
       not_open : (v : Value) → Some v ≡ None → ⊥
       not_open v j = cc
+
+  pub settled : (d : Progress) (o : ℕ) (v : Value) (x : KeptOutcome) (new : Progress) → map.get d.state.outcomes o ≡ Some x → x.value ≡ None → Fine w d.state → AllIn (HereIn w d.state) (caps_of v) → SettlesOpen d o v x None new → Fine w new.state
+  settled d o v x new e f i k h =
+      let told = h.3 in
+      let rest = told.2 in
+      let p = parts d o v h.0 x h.1 told.0 e f i k h.2 told.1 in
+      let four = routes_held (with_state told.0 (known told.0.state o x.caller [] h.0)) o x.waiting rest.0 p.2 p.4 rest.1 in
+      let five = resolves rest.0 None _ new four.0 rest.2 in
+      five.0

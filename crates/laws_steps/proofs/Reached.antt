@@ -34,7 +34,7 @@ use Rattle.laws_steps.specs.NodesThere.{ComesTo, Stays, Commanded, Received, Fel
 use Rattle.laws_steps.proofs.Among.{by_entry, where_named}
 use Rattle.finite_maps.proofs.Tested.{equal}
 use Rattle.laws_steps.specs.Callers.{IsDirectFor, IsAskedFor, HasSource, HasOutcome, IsOpenFor, AnswersWith}
-use Rattle.laws_steps.proofs.NamedNodes.{Present, asker, asker_by, askers, AllIn, entry, EachIn, each_at, all_none, HasKept, Brought, Counted, HereIn, Fine}
+use Rattle.laws_steps.proofs.NamedNodes.{Present, Asked, asker, asker_by, askers, AllIn, entry, EachIn, each_at, all_none, HasKept, Brought, Counted, HereIn, Fine}
 use Rattle.laws_steps.proofs.HeldQuestions.{brings_nothing}
 use Rattle.laws_steps.proofs.Swept.{Whole}
 use Rattle.laws_steps.proofs.NamedMessages.{does, handles}
@@ -129,41 +129,39 @@ held_for c (Some x) h = by x.role x.finish h
     by (role.Relay o) finishing.Waived h = absurd (let bad : None ≡ Some c = h in cc)
     by (role.Relay o) finishing.Sent h = absurd (let bad : None ≡ Some c = h in cc)
 
-held : (o : Option Question) → Present (asker o) → (c : ℕ) × IsAskedFor c o
-held o h = by (asker o) refl h
+-- What is here stands.
+pub stands : {w : Asked} (s : State) (n : Node) → Fine w s → HereIn w s n → Stands s n
+stands s (node.Object o) i h = tt
+stands s (node.Promise p) i h = is_some_of (map.get s.promises p) h
+stands s (node.Field o path) i h = is_some_of (map.get s.outcomes o) h
+stands s (node.Import e) i h = is_some_of (map.get s.imports e.0) h
+stands {w} s (node.Pipe q path) i h = by (w q.0) refl h
   where
-    by : (p : Option ℕ) → asker o ≡ p → Present p → (c : ℕ) × IsAskedFor c o
+    by : (o : Option ℕ) → w q.0 ≡ o → Present o → (c : ℕ) × IsAskedFor c (map.get s.questions q.0)
     by None e k = absurd k
-    by (Some c) e k = (c, held_for c o e)
+    by (Some c) e k = (c, held_for c (map.get s.questions q.0) (i.asked q.0 c e))
+stands s (node.Broken reason) i h = tt
 
-stands : (s : State) (n : Node) → HereIn (askers s.questions) s n → Stands s n
-stands s (node.Object o) h = tt
-stands s (node.Promise p) h = is_some_of (map.get s.promises p) h
-stands s (node.Field o path) h = is_some_of (map.get s.outcomes o) h
-stands s (node.Import e) h = is_some_of (map.get s.imports e.0) h
-stands s (node.Pipe q path) h = held (map.get s.questions q.0) h
-stands s (node.Broken reason) h = tt
-
-of_part : {X : Type 0} (s : State) (f : ℕ → X → _) (m : Map X) (n : Node) → EachIn (HereIn (askers s.questions) s) f m → IsAmong n (of_map f m) → Stands s n
-of_part s f m n h i =
+of_part : {X : Type 0} (s : State) (f : ℕ → X → _) (m : Map X) (n : Node) → Whole s → EachIn (HereIn (askers s.questions) s) f m → IsAmong n (of_map f m) → Stands s n
+of_part s f m n whole h i =
     let r = by_entry f n m i in
     let k = r.0 in
     let x = r.1 in
     let e = r.2 in
-    stands s n (each_at (HereIn (askers s.questions) s) f m k x h e n r.3)
+    stands s n whole.fine (each_at (HereIn (askers s.questions) s) f m k x h e n r.3)
 
 all_stand : (s : State) → Whole s → (n : Node) → IsAmong n (places s) → Stands s n
 all_stand s h n i =
     let a = h.fine.names in
     where_named s n
-    (of_part s named_by_reference s.refs n a.0)
-    (of_part s named_by_embargo s.embargoes n a.1)
-    (of_part s named_by_promise s.promises n a.2)
-    (of_part s named_by_outcome s.outcomes n a.3)
-    (of_part s named_by_question s.questions n a.4)
-    (of_part s named_by_import s.imports n a.5)
-    (of_part s named_by_export s.exports n a.6)
-    (of_part s named_by_answer s.answers n a.7)
+    (of_part s named_by_reference s.refs n h a.0)
+    (of_part s named_by_embargo s.embargoes n h a.1)
+    (of_part s named_by_promise s.promises n h a.2)
+    (of_part s named_by_outcome s.outcomes n h a.3)
+    (of_part s named_by_question s.questions n h a.4)
+    (of_part s named_by_import s.imports n h a.5)
+    (of_part s named_by_export s.exports n h a.6)
+    (of_part s named_by_answer s.answers n h a.7)
     i
 
 -- A node that is counted is among them.
