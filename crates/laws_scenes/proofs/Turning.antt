@@ -29,6 +29,7 @@ use Rattle.laws_routes.specs.TakingLaws.{DisembargoMeetsWire, IsAnswered, MayBou
 use Rattle.laws_routes.proofs.MessagesTaken.{target_held}
 use Rattle.laws_scenes.specs.Refused.{DisembargosTurn}
 use Rattle.laws_scenes.specs.Walked.{ScenesAreBetweenSteps, all_told, seen}
+use Rattle.laws_scenes.proofs.TiedScenes.{tied_in}
 
 is_answered : (s : State) (t : Target) → FindsTarget s t → IsAnswered s t
 is_answered s (ImportedCap e) h = tt
@@ -45,14 +46,12 @@ turns between starts stay rests named meets a b x i = record { turns = turn }
         let out = inbox x.world (other_vat v) in
         let m = plain.Disembargo (record { target = t; context = SenderLoopback e }) in
         let w = seen x.world k.made (all_told x.journal) v in
-        let z = starts A One One a b in
-        let y = stay (beginning A One b) w (start A One a) s z.0 z.1 z.2 z.3 (k.steps v) in
-        let inv = moves_keep y.1 [] z.1 [] y.2 z.3 in
-        let tied : TiedAt (with_back w (message.Plain m ∷ o.0)) s y.0 y.1 = subst (λ (ms : List Message). TiedAt (with_back w ms) s y.0 y.1) o.1 y.3 in
+        let y = tied_in starts stay a b x k v in
+        let tied : TiedAt (with_back w (message.Plain m ∷ o.0)) s y.ghosts y.net = subst (λ (ms : List Message). TiedAt (with_back w ms) s y.ghosts y.net) o.1 y.tied in
         let mid = k.midway v in
         let found = named a b x i v (message.Plain m) o.0 o.1 in
         let same : found.0 ≡ m = (let f : message.Plain m ≡ message.Plain found.0 = found.1 in cc) in
         let answered : FindsTargets s m = subst (λ (p : PlainMessage). FindsTargets s p) same found.2 in
         let held = target_held s other out (inbox x.world v) mid t in
         let may : MayBounce w s t = record { answered = is_answered s t answered; own = λ j c f. (let n = mid.exports j c f in n.0); rest = rests s other out (inbox x.world v) mid; there = held.0 } in
-        meets w (begin s) y.0 y.1 e t o.0 tied inv may
+        meets w (begin s) y.ghosts y.net e t o.0 tied y.holds may

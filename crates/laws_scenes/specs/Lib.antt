@@ -2,3 +2,4 @@ pub mod Canceled
 pub mod Walked
 pub mod Ordered
 pub mod Refused
+pub mod InFull

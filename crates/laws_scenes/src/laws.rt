@@ -1,6 +1,7 @@
 //! The functions run no code: what each ensures is the law.
 
 ghost use Rattle.laws_scenes.specs.Canceled.{CanceledWereGivenUp};
+ghost use Rattle.laws_scenes.specs.InFull.{RunsArriveInFull, ScenesArriveInFull};
 ghost use Rattle.laws_scenes.specs.Ordered.{RunsAreOrdered, ScenesAreOrdered};
 ghost use Rattle.laws_scenes.specs.Refused.{AllFallsAreKnown, DisembargosTurn, RunsRefuseNothing, ScenesRefuseNothing};
 ghost use Rattle.laws_scenes.specs.Walked.{ScenesAreBetweenSteps};
@@ -46,6 +47,19 @@ pub fn calls_keep_their_order()
     ensures runs { RunsAreOrdered }
 {
     vats_are_between_steps();
+    steps_keep_order();
+    calls_are_numbered();
+    every_run_is_shown();
+}
+
+/// Once a call of a reference was delivered, none is lost: where none of its calls is held or on its way, all of them were delivered.
+/// So it is in each scene, and in every run while neither vat is down.
+pub fn calls_arrive_in_full()
+    ensures scenes { ScenesArriveInFull }
+    ensures runs { RunsArriveInFull }
+{
+    vats_are_between_steps();
+    vats_are_tied();
     steps_keep_order();
     calls_are_numbered();
     every_run_is_shown();
