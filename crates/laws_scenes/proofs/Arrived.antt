@@ -1,12 +1,9 @@
 -- Where a call of a reference was delivered its route ends at an object. So all are delivered once none is pending.
 use Rattle.std.specs.List.{AllByRecursion}
-use Rattle.std.proofs.Common.{◌≡◌, ℕ, List, [], ◌∷◌, Option, map, append-nil, sym, ap, subst, ◌∙◌}
-use Rattle.rpc_msg.specs.declared.ids.ObjectId.{ObjectId}
+use Rattle.std.proofs.Common.{◌≡◌, ℕ, List, [], ◌∷◌, map, append-nil, sym, ap, subst, ◌∙◌}
 use Rattle.rpc_msg.specs.declared.ids.Stamp.{Stamp}
 use Rattle.rpc_msg.specs.declared.ids.Vat.TheVariants.{A}
-use Rattle.vat_journal.specs.declared.entry.JournalEntry.{JournalEntry}
-use Rattle.vat_journal.specs.History.{DeliveredAt, Ref, delivered, made, stamps}
-use Rattle.vat_machine.specs.Claims.{BothUp}
+use Rattle.vat_journal.specs.History.{DeliveredAt, Ref, delivered, stamps}
 use Rattle.vat_machine.specs.Journal.{journal}
 use Rattle.vat_machine.specs.Pending.{pending}
 use Rattle.vat_machine.specs.World.{World}
@@ -15,14 +12,14 @@ use Rattle.call_order.specs.Order.{EndsAt, GoodRoute, InOrder, NonePending, belo
 use Rattle.call_order.specs.Routes.{IsEnd}
 use Rattle.call_order.proofs.Claims.{gives_order}
 use Rattle.laws_runs.specs.MadeCalls.{CallsAreNumbered}
-use Rattle.laws_runs.specs.Scenes.{Scene, IsScene}
+use Rattle.laws_runs.specs.Scenes.{Scene}
 use Rattle.laws_runs.specs.Shown.{EveryRunIsShown, EverySceneShowsARun, ShowsBothUp}
 use Rattle.laws_runs.proofs.ToldAlike.{same_delivered, same_made}
 use Rattle.laws_routes.specs.ChainLaws.{VatsStayTied}
 use Rattle.laws_routes.specs.PairLaws.{StartIsTied}
 use Rattle.laws_routes.specs.Points.{routes}
 use Rattle.laws_routes.specs.Ties.{deliveries_of, delivery_of}
-use Rattle.laws_scenes.specs.InFull.{ArriveInFull, RunsArriveInFull, ScenesArriveInFull}
+use Rattle.laws_scenes.specs.InFull.{RunsArriveInFull, ScenesArriveInFull}
 use Rattle.laws_scenes.specs.Walked.{ScenesAreBetweenSteps, all_told}
 use Rattle.laws_scenes.proofs.Arriving.{none_pending}
 use Rattle.laws_scenes.proofs.Orders.{delivered_is, made_is, numbered_in, only_of, only_told, routed, stamp_at}

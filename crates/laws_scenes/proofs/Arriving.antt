@@ -34,10 +34,10 @@ use Rattle.call_order.specs.Machine.{Kind}
 use Rattle.call_order.specs.Machine as routing
 use Rattle.call_order.specs.Invariant.{InPlace, InvariantWith, WaitsIn}
 use Rattle.call_order.specs.Order.{IsCall, NoCallOf, NonePending, kept_calls}
-use Rattle.laws_routes.specs.Points.{AField, APromise, AnObject, Apart, Group, Nowhere, OfOutcome, OfPromise, Point, end, group_of, routes}
+use Rattle.laws_routes.specs.Points.{AField, APromise, AnObject, Apart, Group, Nowhere, OfOutcome, OfPromise, Point, group_of, routes}
 use Rattle.laws_routes.specs.Ghosts.{Ghost, ref_at}
 use Rattle.laws_routes.specs.Sides.{AllHeld, AllWait, AreCalls, HasEmbargo, HeldFor, IsEmbargoOf, IsOpenOutcome, IsOpenPromise, OutcomeHolds, PromiseWaits, Side}
-use Rattle.laws_routes.specs.Views.{Reader, Shape, disembargo_shape, past_one, shape, shape_of, shapes, shapes_of}
+use Rattle.laws_routes.specs.Views.{Reader, Shape, disembargo_shape, shapes, shapes_of}
 use Rattle.laws_routes.specs.StepLaws.{TiedAt}
 use Rattle.laws_routes.specs.Ties.{Ghosts}
 use Rattle.laws_scenes.specs.Walked.{seen}

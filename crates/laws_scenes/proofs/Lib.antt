@@ -8,3 +8,4 @@ pub mod Turning
 pub mod Arriving
 pub mod TiedScenes
 pub mod Arrived
+pub mod Sound

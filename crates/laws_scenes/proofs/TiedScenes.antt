@@ -9,7 +9,7 @@ use Rattle.vat_machine.specs.World.{core}
 use Rattle.call_order.specs.Machine as routing
 use Rattle.call_order.specs.Invariant.{InvariantWith}
 use Rattle.call_order.proofs.Moves.{moves_keep}
-use Rattle.laws_runs.specs.Scenes.{Scene, IsScene}
+use Rattle.laws_runs.specs.Scenes.{Scene}
 use Rattle.laws_routes.specs.ChainLaws.{VatsStayTied}
 use Rattle.laws_routes.specs.PairLaws.{StartIsTied, beginning}
 use Rattle.laws_routes.specs.Points.{routes}

@@ -1,8 +1,7 @@
 -- In each scene the target of a Disembargo that is to turn back settles to a wire.
-use Rattle.std.proofs.Common.{◌≡◌, true, List, [], ◌∷◌, subst}
+use Rattle.std.proofs.Common.{◌≡◌, true, List, ◌∷◌, subst}
 use Rattle.rpc_msg.specs.declared.ids.EmbargoId.{EmbargoId}
 use Rattle.rpc_msg.specs.declared.ids.Vat.{Vat}
-use Rattle.rpc_msg.specs.declared.ids.Vat.TheVariants.{A}
 use Rattle.rpc_msg.specs.declared.message.DisembargoContext.TheVariants.{SenderLoopback}
 use Rattle.rpc_msg.specs.declared.message.Message.{Message}
 use Rattle.rpc_msg.specs.declared.message.Message.TheVariants as message
@@ -11,19 +10,17 @@ use Rattle.rpc_msg.specs.declared.message.PlainMessage.TheVariants as plain
 use Rattle.rpc_msg.specs.declared.parts.Target.{Target}
 use Rattle.rpc_msg.specs.declared.parts.Target.TheVariants.{ImportedCap, PromisedAnswer}
 use Rattle.rpc_msg.specs.Vats.{other_vat}
-use Rattle.vat_machine.specs.declared.command.Level.TheVariants.{One}
-use Rattle.vat_machine.specs.State.{State, start}
+use Rattle.vat_machine.specs.State.{State}
 use Rattle.vat_machine.specs.Faults.{target_node}
 use Rattle.vat_machine.specs.Nodes.{is_wire, settle}
 use Rattle.vat_machine.specs.Progress.{begin}
 use Rattle.vat_machine.specs.World.{core, inbox}
-use Rattle.call_order.proofs.Moves.{moves_keep}
 use Rattle.laws_answers.specs.Named.{FindsTarget, FindsTargets, NamedAnswersAreThere}
 use Rattle.laws_answers.specs.Taken.{IsOldest}
 use Rattle.laws_routes.specs.ChainLaws.{VatsStayTied}
 use Rattle.laws_routes.specs.Laws.{with_back}
 use Rattle.laws_routes.specs.Midway.{LinksRestFollows}
-use Rattle.laws_routes.specs.PairLaws.{StartIsTied, beginning}
+use Rattle.laws_routes.specs.PairLaws.{StartIsTied}
 use Rattle.laws_routes.specs.StepLaws.{TiedAt}
 use Rattle.laws_routes.specs.TakingLaws.{DisembargoMeetsWire, IsAnswered, MayBounce}
 use Rattle.laws_routes.proofs.MessagesTaken.{target_held}

@@ -3,3 +3,4 @@ pub mod Walked
 pub mod Ordered
 pub mod Refused
 pub mod InFull
+pub mod WhatIsLeft

@@ -4,9 +4,10 @@ ghost use Rattle.laws_scenes.specs.Canceled.{CanceledWereGivenUp};
 ghost use Rattle.laws_scenes.specs.InFull.{RunsArriveInFull, ScenesArriveInFull};
 ghost use Rattle.laws_scenes.specs.Ordered.{RunsAreOrdered, ScenesAreOrdered};
 ghost use Rattle.laws_scenes.specs.Refused.{AllFallsAreKnown, DisembargosTurn, RunsRefuseNothing, ScenesRefuseNothing};
+ghost use Rattle.laws_scenes.specs.WhatIsLeft.{SoundByMeanings};
 ghost use Rattle.laws_scenes.specs.Walked.{ScenesAreBetweenSteps};
 
-use laws_answers::{named_answers_are_there, no_message_is_refused};
+use laws_answers::{named_answers_are_there, no_message_is_refused, sound_by_the_rest};
 use laws_between::{oldest_are_met, vats_meet};
 use laws_routes::{
     calls_may_go, disembargos_meet_wires, embargoes_are_right, steps_begin_and_end_with_it,
@@ -87,4 +88,15 @@ pub fn nothing_is_refused()
 {
     disembargos_turn_back();
     no_message_is_refused();
+}
+
+/// All that is promised of runs holds once this is shown of scenes: each delivery and each end is by what the reference of its call
+/// stands for, and of a reference that stands for an object no call is lost before the first one was delivered.
+pub fn sound_by_meanings()
+    ensures { SoundByMeanings }
+{
+    sound_by_the_rest();
+    calls_keep_their_order();
+    calls_arrive_in_full();
+    disembargos_turn_back();
 }

@@ -3,4 +3,7 @@
 
 mod laws;
 
-pub use laws::{calls_arrive_in_full, calls_keep_their_order, canceled_were_given_up, disembargos_turn_back, nothing_is_refused, vats_are_between_steps};
+pub use laws::{
+    calls_arrive_in_full, calls_keep_their_order, canceled_were_given_up, disembargos_turn_back,
+    nothing_is_refused, sound_by_meanings, vats_are_between_steps,
+};
