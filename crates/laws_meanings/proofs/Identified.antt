@@ -91,9 +91,6 @@ module _ (C : Caller → Option Asking) (os : Map KeptOutcome) where
   pub gone_soft : (u : ℕ) → Soft C os C (map.remove os u)
   gone_soft u o a = at_cut (λ j n. IsOf C a (map.get os j) → IsOf C a n) os u (λ i. tt) (λ j n i. i) o
 
-  pub same_soft : Soft C os C os
-  same_soft o a i = i
-
   pub calls-append : (xs ys : List WaitingCall) → CallsAre C os xs → CallsAre C os ys → CallsAre C os (xs ++ ys)
   calls-append [] ys i j = j
   calls-append (x ∷ xs) ys i j = (i.0, calls-append xs ys i.1 j)

@@ -53,9 +53,6 @@ module _ (v : Vat) (q : ℕ) where
   pub none_more : (h es : List JournalEntry) → last_asked es v q ≡ None → last_asked (h ++ es) v q ≡ last_asked h v q
   none_more h es e = asked-append h es v q ∙ ap (λ (o : Option Asking). or_rest o (last_asked h v q)) e
 
-  none_both : (h es : List JournalEntry) → last_asked h v q ≡ None → last_asked es v q ≡ None → last_asked (h ++ es) v q ≡ None
-  none_both h es e f = none_more h es f ∙ e
-
   of_deliveries : (u : Vat) (ds : List Delivery) → last_asked (map (entry.Delivered u) ds) v q ≡ None
   of_deliveries u [] = refl
   of_deliveries u (d ∷ ds) = ap (λ (o : Option Asking). or_rest o None) (of_deliveries u ds)

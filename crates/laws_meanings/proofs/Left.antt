@@ -8,7 +8,7 @@ use Rattle.laws_meanings.specs.NewReferences.{IfGives, GivenAreNew}
 use Rattle.laws_meanings.specs.FirstEnds.{IfFirst, EndsAreFirst}
 use Rattle.laws_meanings.specs.WhatIsLeft.{IfToObject, IfAnswered, ObjectsAreLeft, AnswersAreLeft}
 
-delivery : (h : History) (e : JournalEntry) → IfToObject h e → IfMade h e → IfGives h e → IfDelivers h e
+pub delivery : (h : History) (e : JournalEntry) → IfToObject h e → IfMade h e → IfGives h e → IfDelivers h e
 delivery h (entry.Delivered v d) t m n = record {
   to_object = t;
   call = m.call;

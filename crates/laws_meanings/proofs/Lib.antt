@@ -29,3 +29,9 @@ pub mod Awaited
 pub mod Replies
 pub mod Returning
 pub mod Answering
+pub mod Broken
+pub mod Unanswered
+pub mod Links
+pub mod Labelled
+pub mod Fitting
+pub mod ActsMean

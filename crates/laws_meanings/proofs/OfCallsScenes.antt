@@ -49,6 +49,9 @@ use Rattle.laws_meanings.proofs.LastAsked.{none_more, of_effects, of_other_effec
 use Rattle.laws_meanings.proofs.Asking.{next_is, numbers_asked}
 use Rattle.laws_meanings.proofs.Walked.{in_each, step_more}
 use Rattle.laws_meanings.proofs.Whose as whose
+use Rattle.laws_meanings.proofs.Whose.{any_break}
+use Rattle.laws_acts.proofs.Commanded.{does}
+use Rattle.laws_acts.proofs.Received.{handles}
 use Rattle.laws_meanings.proofs.Whose.{IsIn}
 use Rattle.laws_meanings.proofs.WhoseFirst as walk
 use Rattle.finite_maps.proofs.Tested.{itself}
@@ -168,8 +171,11 @@ Any q = Unit {0}
 abbrev Free : Asking → Outcome → ℕ → Type 0
 Free a x n = Unit {0}
 
-free : (s : Stamp) (why : Reason) → Unit {0}
-free s why = tt
+abbrev Never : Stamp → Type 0
+Never s = Unit {0}
+
+free : (s : Stamp) (why : Reason) → Unit {0} → Unit {0}
+free s why e = tt
 
 -- Its own entries ask nothing by messages.
 pub es_asks : (own : List JournalEntry) (v : Vat) (x : Effects) (q : ℕ) → last_asked own v q ≡ None → last_asked (own ++ effect_entries v x) v q ≡ asked_last q x.sends
@@ -211,12 +217,12 @@ module _ (law : EachHasOneSource) (sessions : InScenes (HoldsIn Stand)) (a b : O
       omega arith
 
   abbrev Begins : List JournalEntry → Vat → State → Type 0
-  Begins h v s = walk.Begins (asked_of h v) (last_asked h v) (DeliveredIn h v) Free Any free s
+  Begins h v s = walk.Begins (asked_of h v) (last_asked h v) (DeliveredIn h v) Free Any Never free s
 
-  all_answers : (h : List JournalEntry) (v : Vat) (s : State) → whose.Answers (asked_of h v) (last_asked h v) (DeliveredIn h v) Free Any free s.answers
+  all_answers : (h : List JournalEntry) (v : Vat) (s : State) → whose.Answers (asked_of h v) (last_asked h v) (DeliveredIn h v) Free Any Never free s.answers
   all_answers h v s q = by (map.get s.answers q)
     where
-      by : (o : Option AnswerEntry) → whose.AnswerIs (asked_of h v) (last_asked h v) (DeliveredIn h v) Free Any free q o
+      by : (o : Option AnswerEntry) → whose.AnswerIs (asked_of h v) (last_asked h v) (DeliveredIn h v) Free Any Never free q o
       by None = tt
       by (Some x) = λ e. tt
 
@@ -261,14 +267,15 @@ module _ (law : EachHasOneSource) (sessions : InScenes (HoldsIn Stand)) (a b : O
       let t = core x.world v in
       let n : (u : Vat) (q : ℕ) → last_asked own u q ≡ None = λ u q. of_own u q v h c g in
       let later = (numbers_asked a b x i v).later t.next_call (omega arith) in
-      let now : walk.Commanded (asked_of (h ++ own) v) (last_asked (h ++ own) v) (DeliveredIn (h ++ own) v) Free Any free t c g = record {
+      let now : walk.Commanded (asked_of (h ++ own) v) (last_asked (h ++ own) v) (DeliveredIn (h ++ own) v) Free Any Never free t c g = record {
         root = λ y z. root_asked h v t c g later y z;
         call = λ y z f j l. call_asked h v t c g later (scenes_count a b x i v) y z f j l;
         answers = λ y p rs z l f q j. tt;
         fails = λ y p z l f q j. tt;
       } in
       let begun : Begins (h ++ own) v t = (begins_so (h ++ own) v t (quiet_mine h own v t n (at v x k).0), all_answers (h ++ own) v t, no_source v x i) in
-      let left = walk.commands (asked_of (h ++ own) v) (last_asked (h ++ own) v) (DeliveredIn (h ++ own) v) Free Any free t c g told s now begun d in
+      let acts = does t c g told s d in
+      let left = walk.commands (asked_of (h ++ own) v) (last_asked (h ++ own) v) (DeliveredIn (h ++ own) v) Free Any Never free t c g told s now begun acts (any_break (asked_of (h ++ own) v) (last_asked (h ++ own) v) (DeliveredIn (h ++ own) v) Free Any free acts.last acts.started acts.acts) in
       let next : HoldsIn Stand (after x.world v told s) = sessions a b _ (subst (IsScene a b) e (step_more x mid (begins a b) i (scenes.Commanded v c g told s o up r d w e))) in
       rw e (went_on v x told s (own ++ effect_entries v told) (moves v x (inbox x.world v) told s own n (open_after v x.world told s next) k (at v x k).1 left.0))
   stepped x mid i (scenes.Received v m ms told s o up j f d w e) k =
@@ -280,7 +287,7 @@ module _ (law : EachHasOneSource) (sessions : InScenes (HoldsIn Stand)) (a b : O
       let asked_now : (q : ℕ) (y : Asking) → asked_in q m ≡ Some y → last_asked (h ++ own) (other_vat v) q ≡ Some y =
       λ q y z. same_last h own (other_vat v) q y refl (first_last h (other_vat v) v x.world m ms stands j (at v x k).1 q y z)
       in
-      let now : walk.Hears (asked_of (h ++ own) v) (last_asked (h ++ own) v) (DeliveredIn (h ++ own) v) Free Any free t m = record {
+      let now : walk.Hears (asked_of (h ++ own) v) (last_asked (h ++ own) v) (DeliveredIn (h ++ own) v) Free Any Never free t m = record {
         root = λ q z. asked_now q.0 OfBootstrap (asks_root q m z);
         roots = tt;
         call = λ c z. asked_now c.question.0 (OfCall c.stamp) (asks_call c m z);
@@ -288,7 +295,8 @@ module _ (law : EachHasOneSource) (sessions : InScenes (HoldsIn Stand)) (a b : O
         finish = λ y z l p q. tt;
       } in
       let begun : Begins (h ++ own) v t = (begins_so (h ++ own) v t (quiet_mine h own v t n (at v x k).0), all_answers (h ++ own) v t, no_source v x i) in
-      let left = walk.messages (asked_of (h ++ own) v) (last_asked (h ++ own) v) (DeliveredIn (h ++ own) v) Free Any free t m told s f now begun d in
+      let acts = handles t m told s f d in
+      let left = walk.messages (asked_of (h ++ own) v) (last_asked (h ++ own) v) (DeliveredIn (h ++ own) v) Free Any Never free t m told s now begun acts (any_break (asked_of (h ++ own) v) (last_asked (h ++ own) v) (DeliveredIn (h ++ own) v) Free Any free acts.last acts.consumed acts.acts) in
       let next : HoldsIn Stand (after (put_inbox x.world v ms) v told s) = sessions a b _ (subst (IsScene a b) e (step_more x mid (begins a b) i (scenes.Received v m ms told s o up j f d w e))) in
       let rest = rest_last h (other_vat v) m ms (subst (AreAskedLast h (other_vat v)) j (at v x k).1) in
       rw e (took v x ms told s (own ++ effect_entries v told) (moves v x ms told s own n (open_taken v x.world ms told s next) k rest left.0))

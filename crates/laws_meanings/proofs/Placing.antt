@@ -62,7 +62,7 @@ use Rattle.laws_meanings.proofs.Entries.{is_effect, granted_always, Claim, EachA
 use Rattle.laws_meanings.proofs.Walked.{in_each}
 
 -- Where it waits, is to be routed, was sent and was delivered.
-abbrev here : Stamp → Moment → ℕ
+abbrev pub here : Stamp → Moment → ℕ
 here k d = waiting k d.state + in_yet k d.yet + (on_way k d.effects.sends + in_deliveries k d.effects.deliveries)
 
 -- What a command calls has the stamp that is new.
@@ -70,10 +70,10 @@ abbrev IsOwn : State → (Stamp → ℕ) → Command → Type 0
 IsOwn s own c = (x : CallCommand) (y : Reference) → c ≡ command.Call x → map.get s.refs x.reference.0 ≡ Some y → (k : Stamp) → counted (same_stamp k (request s x y).stamp) ≡ own k
 
 module _ (limit : Stamp → ℕ) where
-  abbrev Fine : Moment → Type 0
+  abbrev pub Fine : Moment → Type 0
   Fine d = (k : Stamp) → here k d ≤ limit k
 
-  acted : (d new : Moment) → Fine d → Act d new → Fine new
+  pub acted : (d new : Moment) → Fine d → Act d new → Fine new
   acted d new i (act.Delivers c n rest u e f h) =
       rw h (λ k. let b = i k in let y = ap (in_yet k) e in let x = deliveries-append k d.effects.deliveries (delivery d.state c u ∷ []) in omega arith)
   acted d new i (act.Waits c n rest p calls e f j h) =
@@ -125,7 +125,7 @@ module _ (limit : Stamp → ℕ) where
     nothing_new : (k : Stamp) → here k (beginning s) ≤ limit k
     nothing_new k = let r = room k in omega arith
 
-    started : (c : Command) (g : Granted) (new : Moment) → IsOwn s own c → Starts (beginning s) c g new → Fine new
+    pub started : (c : Command) (g : Granted) (new : Moment) → IsOwn s own c → Starts (beginning s) c g new → Fine new
     started c g new o (first.CallsOut x y q t ds es e f j l m n a u) = rw u (λ k. let r = room k in let z = o x y e f k in omega arith)
     started c g new o (first.CallsHere x y w e f j l m a u) =
         let b : KeptOutcome = record { caller = caller.Application (record { 0 = s.next_call }); value = None; waiting = [] } in
@@ -166,7 +166,7 @@ module _ (limit : Stamp → ℕ) where
     nothing_routed : (k : Stamp) → here k (beginning s) ≤ limit k
     nothing_routed k = let r = room k in omega arith
 
-    consumed : (new : Moment) → Consumes (beginning s) m new → Fine new
+    pub consumed : (new : Moment) → Consumes (beginning s) m new → Fine new
     consumed new (heard.OpensRoot q o e f j u) =
         let b : KeptOutcome = record { caller = caller.Peer q; value = None; waiting = [] } in
         rw u (λ k. let r = room k in let n = tally-new (at_outcome k) s.outcomes o b j in omega arith)
@@ -209,7 +209,7 @@ module _ (limit : Stamp → ℕ) where
 
 -- A call has the stamp under which its entry is written.
 module _ (h : List JournalEntry) (v : Vat) (s : State) (m : NumbersItsCalls v s h) where
-  has_own : (c : Command) (g : Granted) (new : Moment) → Starts (beginning s) c g new → IsOwn s (λ k. times_made k (granted_entries h v c g)) c
+  pub has_own : (c : Command) (g : Granted) (new : Moment) → Starts (beginning s) c g new → IsOwn s (λ k. times_made k (granted_entries h v c g)) c
   has_own c g new st x y e f k =
       let a = grants s c g new x e st in
       subst (λ (d : Command). counted (same_stamp k (request s x y).stamp) ≡ times_made k (granted_entries h v d g)) (sym e)
@@ -234,16 +234,20 @@ module _ (k : Stamp) where
 
 -- ---- Scenes
 
-abbrev AtMost : Scene → Type 0
-AtMost x = (k : Stamp) → places k x ≤ times_made k x.journal
+-- It is at that many places fewer than it was made.
+abbrev pub Fewer : Stamp → ℕ → Scene → Type 0
+Fewer k n x = places k x + n ≤ times_made k x.journal
+
+abbrev pub AtMost : Scene → Type 0
+AtMost x = (k : Stamp) → Fewer k 0 x
+
+abbrev pub Leaves : Stamp → State → Effects → ℕ
+Leaves k t x = waiting k t + (on_way k x.sends + in_deliveries k x.deliveries)
 
 -- One vat has moved: it holds, sent and delivered no more than it held, called and received.
-commanded : (x : Scene) (v : Vat) (told : Effects) (t : State) (own : List JournalEntry) → AtMost x → ((k : Stamp) → deliveries_of k own ≡ 0)
-    → Left (λ k. waiting k (core x.world v) + times_made k own) t told → AtMost (scenes.goes_on x (after x.world v told t) (own ++ effect_entries v told))
-commanded x A told t own p n l k =
-    let a = p k in
-    let b = l k in
-    let c = n k in
+pub commanded : (k : Stamp) (m0 n0 : ℕ) (x : Scene) (v : Vat) (told : Effects) (t : State) (own : List JournalEntry) → Fewer k n0 x → deliveries_of k own ≡ 0
+    → Leaves k t told + m0 ≤ waiting k (core x.world v) + times_made k own → Fewer k (m0 + n0) (scenes.goes_on x (after x.world v told t) (own ++ effect_entries v told))
+commanded k m0 n0 x A told t own p n l =
     let d = entries-append k x.journal (own ++ effect_entries A told) in
     let e = entries-append k own (effect_entries A told) in
     let f = of_effects k A told in
@@ -251,10 +255,7 @@ commanded x A told t own p n l k =
     let i = made-append k own (effect_entries A told) in
     let j = way-append k x.world.b.inbox told.sends in
     omega arith
-commanded x B told t own p n l k =
-    let a = p k in
-    let b = l k in
-    let c = n k in
+commanded k m0 n0 x B told t own p n l =
     let d = entries-append k x.journal (own ++ effect_entries B told) in
     let e = entries-append k own (effect_entries B told) in
     let f = of_effects k B told in
@@ -263,20 +264,16 @@ commanded x B told t own p n l k =
     let j = way-append k x.world.a.inbox told.sends in
     omega arith
 
-received : (x : Scene) (v : Vat) (m : Message) (ms : List Message) (told : Effects) (t : State) → AtMost x → inbox x.world v ≡ m ∷ ms
-    → Left (λ k. waiting k (core x.world v) + in_message k m) t told → AtMost (scenes.goes_on x (after (put_inbox x.world v ms) v told t) (entry.Got v ∷ [] ++ effect_entries v told))
-received x A m ms told t p q l k =
-    let a = p k in
-    let b = l k in
+pub received : (k : Stamp) (m0 n0 : ℕ) (x : Scene) (v : Vat) (m : Message) (ms : List Message) (told : Effects) (t : State) → Fewer k n0 x → inbox x.world v ≡ m ∷ ms
+    → Leaves k t told + m0 ≤ waiting k (core x.world v) + in_message k m → Fewer k (m0 + n0) (scenes.goes_on x (after (put_inbox x.world v ms) v told t) (entry.Got v ∷ [] ++ effect_entries v told))
+received k m0 n0 x A m ms told t p q l =
     let c = ap (on_way k) q in
     let d = entries-append k x.journal (entry.Got A ∷ effect_entries A told) in
     let f = of_effects k A told in
     let g = made-append k x.journal (entry.Got A ∷ effect_entries A told) in
     let j = way-append k x.world.b.inbox told.sends in
     omega arith
-received x B m ms told t p q l k =
-    let a = p k in
-    let b = l k in
+received k m0 n0 x B m ms told t p q l =
     let c = ap (on_way k) q in
     let d = entries-append k x.journal (entry.Got B ∷ effect_entries B told) in
     let f = of_effects k B told in
@@ -284,29 +281,36 @@ received x B m ms told t p q l k =
     let j = way-append k x.world.a.inbox told.sends in
     omega arith
 
-gave_up : (x : Scene) (v : Vat) (es : List JournalEntry) → ((k : Stamp) → deliveries_of k es ≡ 0) → AtMost x → AtMost (scenes.stopped x v es)
-gave_up x A es n p k = let a = p k in let b = n k in let c = entries-append k x.journal es in let d = made-append k x.journal es in omega arith
-gave_up x B es n p k = let a = p k in let b = n k in let c = entries-append k x.journal es in let d = made-append k x.journal es in omega arith
+gave_up : (k : Stamp) (n0 : ℕ) (x : Scene) (v : Vat) (es : List JournalEntry) → deliveries_of k es ≡ 0 → Fewer k n0 x → Fewer k n0 (scenes.stopped x v es)
+gave_up k n0 x A es n p = let c = entries-append k x.journal es in let d = made-append k x.journal es in omega arith
+gave_up k n0 x B es n p = let c = entries-append k x.journal es in let d = made-append k x.journal es in omega arith
 
-stepped : (x mid : Scene) → ((v : Vat) → NumbersItsCalls v (core x.world v) x.journal) → scenes.Steps x mid → AtMost x → AtMost mid
-stepped x mid m (scenes.Commanded v c g told s o up r d w e) p =
+-- No step takes it to more places than it is made more often.
+pub stepped : (k : Stamp) (n0 : ℕ) (x mid : Scene) → ((v : Vat) → NumbersItsCalls v (core x.world v) x.journal) → scenes.Steps x mid → Fewer k n0 x → Fewer k n0 mid
+stepped k n0 x mid m (scenes.Commanded v c g told s o up r d w e) p =
     let own = granted_entries x.journal v c g in
     let t = core x.world v in
-    rw e
-    (commanded x v told s own p (λ k. own_none k x.journal v c g)
-    (commands (λ k. waiting k t + times_made k own) t c g told s (λ k. times_made k own) (has_own x.journal v t (m v) c g) d (λ k. omega arith)))
-stepped x mid m (scenes.Received v y ms told s o up i f d w e) p =
+    let l = commands (λ k. waiting k t + times_made k own) t c g told s (λ k. times_made k own) (has_own x.journal v t (m v) c g) d (λ k. omega arith) k in
+    rw e (let z = commanded k 0 n0 x v told s own p (own_none k x.journal v c g) (omega arith) in omega arith)
+stepped k n0 x mid m (scenes.Received v y ms told s o up i f d w e) p =
     let t = core x.world v in
-    rw e (received x v y ms told s p i (messages (λ k. waiting k t + in_message k y) t y told s f d (λ k. omega arith)))
-stepped x mid m (scenes.GivesUp v c o r f e) p = rw e (gave_up x v (granted_entries x.journal v c granted.Done) (λ k. own_none k x.journal v c granted.Done) p)
-stepped x mid m (scenes.Stops v o e) p = rw e (gave_up x v [] (λ k. refl) p)
+    let l = messages (λ k. waiting k t + in_message k y) t y told s f d (λ k. omega arith) k in
+    rw e (let z = received k 0 n0 x v y ms told s p i (omega arith) in omega arith)
+stepped k n0 x mid m (scenes.GivesUp v c o r f e) p = rw e (gave_up k n0 x v (granted_entries x.journal v c granted.Done) (own_none k x.journal v c granted.Done) p)
+stepped k n0 x mid m (scenes.Stops v o e) p = rw e (gave_up k n0 x v [] refl p)
 
 none : (a b : Option ObjectId) → AtMost (begins a b)
 none a b k = let c = tally-empty (at_promise k) in let d = tally-empty (at_outcome k) in let e = tally-empty (at_embargo k) in omega arith
 
+pub at_most : (a b : Option ObjectId) (x : Scene) → IsScene a b x → AtMost x
+at_most a b x k = in_each a b AtMost (λ y mid i t p s. stepped s 0 y mid (λ v. scenes_count a b y i v) t (p s)) (none a b) x k
+
+pub made_at_most_once : (a b : Option ObjectId) (x : Scene) → IsScene a b x → (s : Stamp) → times_made s x.journal ≤ 1
+made_at_most_once a b x k s = (made_once s x.journal 0 (numbered_in a b x k (callers.caller s))).0
+
 pub at_one_place : CallsAreAtOnePlace
 at_one_place a b x k s =
-    let p = in_each a b AtMost (λ y mid i t p. stepped y mid (λ v. scenes_count a b y i v) t p) (none a b) x k s in
+    let p = at_most a b x k s in
     let q = (made_once s x.journal 0 (numbered_in a b x k (callers.caller s))).0 in
     omega arith
 

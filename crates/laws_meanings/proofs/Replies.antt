@@ -1,5 +1,5 @@
 -- How a call was answered: found by its delivery, and still so with more entries.
-use Rattle.std.proofs.Common.{◌≡◌, inl, inr, ℕ, suc, ◌+◌, ◌≤◌, Bool, true, false, ◌&&◌, nat_eq, Option, None, Some, List, [], ◌∷◌, ◌++◌, length, refl, ap, ◌∙◌, arith}
+use Rattle.std.proofs.Common.{◌≡◌, inl, inr, ℕ, suc, ◌+◌, ◌≤◌, Bool, true, false, ◌&&◌, nat_eq, Option, None, Some, List, [], ◌∷◌, ◌++◌, length, refl, ap, ◌∙◌, arith, ◌⊎◌}
 use Rattle.finite_maps.proofs.Tested.{itself}
 use Rattle.rpc_msg.specs.declared.ids.Vat.{Vat}
 use Rattle.rpc_msg.specs.declared.ids.RefId.{RefId}
@@ -16,7 +16,8 @@ use Rattle.laws_runs.proofs.Reading.{still_first}
 use Rattle.laws_meanings.specs.OnePlace.{counted, deliveries_of}
 use Rattle.laws_meanings.specs.Tasks.{times_answered}
 use Rattle.laws_meanings.specs.Identities.{DeliveredIn}
-use Rattle.laws_meanings.specs.AnsweredEnds.{IsAnswered, AnsweredOrBroken}
+use Rattle.laws_meanings.specs.AnsweredEnds.{IsAnswered, IsBroken, AnsweredOrBroken}
+use Rattle.laws_meanings.proofs.Placed.{not_delivered}
 use Rattle.laws_meanings.proofs.Entries.{nothing_before}
 use Rattle.laws_meanings.proofs.Stamped.{same_itself}
 
@@ -86,7 +87,18 @@ answer_still h es z r e = by (first_that (delivery_one z) h) refl e
     by None f g = absurd (let bad : None ≡ Some r = g in cc)
     by (Some d) f g = ap (reply_to (h ++ es)) (still_first (delivery_one z) h es d f) ∙ still_first (reply_one d.vat d.delivery.task.0) h es r g
 
-pub still_so : (h es : List JournalEntry) (a : Asking) (x : Outcome) (n : ℕ) → AnsweredOrBroken h a x n → AnsweredOrBroken (h ++ es) a x n
-still_so h es OfBootstrap x n i = tt
-still_so h es (OfCall s) x n (inl i) = inl (i.0, answer_still h es s i.0 i.1, i.2, i.3)
-still_so h es (OfCall s) x n (inr i) = inr i
+-- A value is for what was asked: what was answered, or that it is broken; then the call is over, by G.
+abbrev pub For : (Stamp → Type 0) → List JournalEntry → Asking → Outcome → ℕ → Type 0
+For G h OfBootstrap x n = Unit {0}
+For G h (OfCall s) x n = IsAnswered h s x n ⊎ (IsBroken x n × G s)
+
+pub still_so : (G K : Stamp → Type 0) → ((s : Stamp) → G s → K s) → (h es : List JournalEntry) (a : Asking) (x : Outcome) (n : ℕ) → For G h a x n → For K (h ++ es) a x n
+still_so G K g h es OfBootstrap x n i = tt
+still_so G K g h es (OfCall s) x n (inl i) = inl (i.0, answer_still h es s i.0 i.1, i.2, i.3)
+still_so G K g h es (OfCall s) x n (inr i) = inr (i.0, g s i.1)
+
+-- A call that is over was not delivered, so it was not answered.
+pub is_said : (G : Stamp → Type 0) (h : List JournalEntry) → ((s : Stamp) → G s → deliveries_of s h ≡ 0) → (a : Asking) (x : Outcome) (n : ℕ) → For G h a x n → AnsweredOrBroken h a x n
+is_said G h f OfBootstrap x n i = tt
+is_said G h f (OfCall s) x n (inl i) = inl i
+is_said G h f (OfCall s) x n (inr i) = inr (ap (reply_to h) (not_delivered s h (f s i.1)), i.0)

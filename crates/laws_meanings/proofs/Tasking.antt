@@ -230,9 +230,6 @@ module _ (v : Vat) (k : ℕ) where
   abbrev both : List JournalEntry → ℕ
   both h = times_delivered v k h + times_answered v k h
 
-  both-append : (xs ys : List JournalEntry) → both (xs ++ ys) ≡ both xs + both ys
-  both-append xs ys = let e = delivered-append xs ys in let f = answered-append xs ys in omega arith
-
   of_sends : (u : Vat) (ms : List Message) → both (map (entry.Sent u) ms) ≡ 0
   of_sends u [] = refl
   of_sends u (m ∷ ms) = let e = of_sends u ms in omega arith

@@ -41,7 +41,7 @@ use Rattle.vat_machine.specs.Sweeping.{closed_map}
 use Rattle.laws_acts.specs.GoingOut.{Says}
 use Rattle.laws_acts.specs.Moments.{Moment, Saying, held_to}
 use Rattle.laws_acts.specs.FirstActs.{asked, asking}
-use Rattle.laws_acts.specs.SmallActs.{Act, IsStill, kept_known, delivery, release_messages}
+use Rattle.laws_acts.specs.SmallActs.{Act, IsStill, kept_known, delivery, release_messages, Acts, NoMore, Then}
 use Rattle.laws_acts.specs.SmallActs as act
 use Rattle.laws_answers.proofs.Filled.{out_length}
 use Rattle.laws_meanings.specs.Identities.{asked_in, asked_last, IfNone, IsOf, Is, CallIs, CallsAre, HeldAre, PromiseIs, KeptIs, EmbargoIs, TaskIs, QuestionIs}
@@ -66,7 +66,7 @@ at_last k s (y ∷ ys) x e f = inr (at_last k s ys x e f)
 
 -- ---- What is said
 
-module _ (C : Caller → Option Asking) (L : ℕ → Option Asking) (T : ℕ → Stamp → Type 0) (W : Asking → Outcome → ℕ → Type 0) (U : ℕ → Type 0) (broken : (s : Stamp) (why : Reason) → W (OfCall s) (outcome.Exception (failed (reason_text why))) 0) where
+module _ (C : Caller → Option Asking) (L : ℕ → Option Asking) (T : ℕ → Stamp → Type 0) (W : Asking → Outcome → ℕ → Type 0) (U : ℕ → Type 0) (E : Stamp → Type 0) (broken : (s : Stamp) (why : Reason) → E s → W (OfCall s) (outcome.Exception (failed (reason_text why))) 0) where
   -- A value is one for what was asked so.
   abbrev pub IsFor : Asking → Value → Type 0
   IsFor a v = W a (outcome_of v) (length (caps_of v))
@@ -249,8 +249,16 @@ module _ (C : Caller → Option Asking) (L : ℕ → Option Asking) (T : ℕ →
   sent : (d : Moment) (ns : List Message) → AskNothing ns → AllSay ns → Fine d → Questions d.state.outcomes (d.effects.sends ++ ns) d.state.questions × AllSay (d.effects.sends ++ ns)
   sent d ns n s i = (quietly d.state.outcomes d.effects.sends ns d.state.questions n i.0.1, say-append d.effects.sends ns i.7 s)
 
-  pub acted : (d new : Moment) → Fine d → Act d new → Fine new
-  acted d new i (act.Delivers c n rest u e f k) =
+  -- A call that breaks is over.
+  abbrev pub BreaksSo : Moment → Moment → Type 0
+  BreaksSo d new = (c : WaitingCall) (n : Node) (rest : List (WaitingCall × Node)) (x : List (ℕ × Value)) → d.yet ≡ (c, n) ∷ rest → new ≡ record d { arisen = x; yet = rest } → E c.request.stamp
+
+  abbrev pub AllBreak : {last d : Moment} → Acts last d → Type 0
+  AllBreak NoMore = Unit {0}
+  AllBreak (Then {d = d} {mid = mid} a rest) = BreaksSo d mid × AllBreak rest
+
+  acted : (d new : Moment) → BreaksSo d new → Fine d → Act d new → Fine new
+  acted d new br i (act.Delivers c n rest u e f k) =
       let s = d.state in
       let y : CallIs C s.outcomes c × Yet s.outcomes rest = subst (Yet s.outcomes) e i.1 in
       let ds = d.effects.deliveries in
@@ -261,12 +269,12 @@ module _ (C : Caller → Option Asking) (L : ℕ → Option Asking) (T : ℕ →
       more : (l : ℕ) (t : Stamp) → Given d.effects.deliveries l t → Given (d.effects.deliveries ++ delivery d.state c u ∷ []) l t
       more l t (inl g) = inl g
       more l t (inr g) = inr (in_front l t d.effects.deliveries (delivery d.state c u ∷ []) g)
-  acted d new i (act.Waits c n rest p calls e f j k) =
+  acted d new br i (act.Waits c n rest p calls e f j k) =
       let s = d.state in
       let y : CallIs C s.outcomes c × Yet s.outcomes rest = subst (Yet s.outcomes) e i.1 in
       let was : CallsAre C s.outcomes calls = subst (PromiseIs C s.outcomes) j (i.0.2 p) in
       rw k ((i.0.0, i.0.1, at_put (λ l o. PromiseIs C s.outcomes o) s.promises p (promise.Open (calls ++ c ∷ [])) (calls-append C s.outcomes calls (c ∷ []) was (y.0, tt)) (λ l m. i.0.2 l), i.0.3, i.0.4), y.1, i.2, i.3, i.4, i.5, i.6, i.7, i.8)
-  acted d new i (act.Holds c n rest u path x e f j k) =
+  acted d new br i (act.Holds c n rest u path x e f j k) =
       let s = d.state in
       let os = s.outcomes in
       let y : CallIs C os c × Yet os rest = subst (Yet os) e i.1 in
@@ -287,21 +295,21 @@ module _ (C : Caller → Option Asking) (L : ℕ → Option Asking) (T : ℕ →
         i.7,
         i.8,
       )
-  acted d new i (act.Relays c n rest p t ds es e f j k u) =
+  acted d new br i (act.Relays c n rest p t ds es e f j k u) =
       let s = d.state in
       let os = s.outcomes in
       let y : CallIs C os c × Yet os rest = subst (Yet os) e i.1 in
       let m : Message = message.Plain (asking p t c.request ds) in
       let qs = asks os d.effects.sends s.questions p (asked (role.Relay c.outcome) ds) (OfCall c.request.stamp) m (λ l. refl) (λ g. (c.request.stamp, g, y.0)) i.0.1 in
       rw u ((i.0.0, qs, i.0.2, i.0.3, i.0.4), y.1, i.2, i.3, i.4, i.5, i.6, say-append d.effects.sends (m ∷ []) i.7 (tt, tt), i.8)
-  acted d new i (act.Breaks c n rest reason e f u) =
+  acted d new br i (act.Breaks c n rest reason e f u) =
       let os = d.state.outcomes in
       let y : CallIs C os c × Yet os rest = subst (Yet os) e i.1 in
-      rw u (i.0, y.1, coming-append os d.arisen _ i.2 ((OfCall c.request.stamp, y.0, broken c.request.stamp reason), tt), i.3, i.4, i.5, i.6, i.7, i.8)
-  acted d new i (act.NextArisen o w rest e f u) =
+      rw u (i.0, y.1, coming-append os d.arisen _ i.2 ((OfCall c.request.stamp, y.0, broken c.request.stamp reason (br c n rest _ e u)), tt), i.3, i.4, i.5, i.6, i.7, i.8)
+  acted d new br i (act.NextArisen o w rest e f u) =
       let y : Coming d.state.outcomes ((o, w) ∷ rest) = subst (Coming d.state.outcomes) f i.2 in
       rw u (i.0, i.1, y.1, (y.0, tt), i.4, i.5, i.6, i.7, i.8)
-  acted d new i (act.Knows o w fit x ps e f j k u) =
+  acted d new br i (act.Knows o w fit x ps e f j k u) =
       let s = d.state in
       let os = s.outcomes in
       let y : Coming os ((o, w) ∷ []) = subst (λ (m : Moment). Coming m.state.outcomes m.coming) e i.3 in
@@ -324,12 +332,12 @@ module _ (C : Caller → Option Asking) (L : ℕ → Option Asking) (T : ℕ →
         i.7,
         i.8,
       )
-  acted d new i (act.Reports c w from e f u) =
+  acted d new br i (act.Reports c w from e f u) =
       let y : Telling ((caller.Application (record { 0 = c }), w) ∷ []) = subst Telling e i.4 in
       let z = y.0 in
       rw u (i.0, i.1, i.2, i.3, tt, i.5, i.6, i.7, ends-append d.effects.answers _ i.8 ((z.0, z.1, subst (λ (n : ℕ). W z.0 (outcome_of w) n) (sym (new_refs_length d.state.next_ref (caps_of w))) z.2), tt))
-  acted d new i (act.TellsNobody c w e f u) = rw u (i.0, i.1, i.2, i.3, tt, i.5, i.6, i.7, i.8)
-  acted d new i (act.MakesReturn p w x y ds es e f j k u) =
+  acted d new br i (act.TellsNobody c w e f u) = rw u (i.0, i.1, i.2, i.3, tt, i.5, i.6, i.7, i.8)
+  acted d new br i (act.MakesReturn p w x y ds es e f j k u) =
       let t : Telling ((caller.Peer p, w) ∷ []) = subst Telling e i.4 in
       let fin : x.finished ≡ true → U p.0 = subst (AnswerIs p.0) j (i.5 p.0) in
       rw u (i.0, i.1, i.2, i.3, tt, i.5, by x.finished refl fin t.0 k, i.7, i.8)
@@ -337,12 +345,12 @@ module _ (C : Caller → Option Asking) (L : ℕ → Option Asking) (T : ℕ →
       by : (b : Bool) → x.finished ≡ b → (x.finished ≡ true → U p.0) → ((a : Asking) × (C (caller.Peer p) ≡ Some a) × IsFor a w) → Says d.state b w y ds es → SaysIt p.0 y
       by true g fin z h = inl (fin g)
       by false g fin z h = inr (z.0, z.1, says z.0 d.state w y ds es h z.2)
-  acted d new i (act.SendsReturn x y e f j u) =
+  acted d new br i (act.SendsReturn x y e f j u) =
       let s = d.state in
       let said : SaysIt x.answer.0 x.body = subst SayingIs e i.6 in
       let z = sent d _ (λ q. refl) (said, tt) i in
       rw u ((i.0.0, z.0, i.0.2, i.0.3, i.0.4), i.1, i.2, i.3, i.4, answers_still s.answers x.answer.0 y _ f i.5, tt, z.1, i.8)
-  acted d new i (act.Clears x e f u) = by f
+  acted d new br i (act.Clears x e f u) = by f
     where
       by : IsStill d.state x → Fine new
       by g =
@@ -366,16 +374,16 @@ module _ (C : Caller → Option Asking) (L : ℕ → Option Asking) (T : ℕ →
           waiting : IsStill d.state x → HeldAre C d.state.outcomes x.waiting
           waiting (inl l) = subst (KeptIs C d.state.outcomes) l (i.0.3 x.outcome)
           waiting (inr l) = subst (HeldAre C d.state.outcomes) (sym l.1) tt
-  acted d new i (act.Lists x e u) = rw u i
-  acted d new i (act.SendsResolve x rest k es e w f u) =
+  acted d new br i (act.Lists x e u) = rw u i
+  acted d new br i (act.SendsResolve x rest k es e w f u) =
       let z = sent d _ (λ q. refl) (tt, tt) i in
       rw u ((i.0.0, z.0, i.0.2, i.0.3, i.0.4), i.1, i.2, i.3, i.4, i.5, i.6, z.1, i.8)
-  acted d new i (act.SendsBroken x rest reason e f u) =
+  acted d new br i (act.SendsBroken x rest reason e f u) =
       let z = sent d _ (λ q. refl) (tt, tt) i in
       rw u ((i.0.0, z.0, i.0.2, i.0.3, i.0.4), i.1, i.2, i.3, i.4, i.5, i.6, z.1, i.8)
-  acted d new i (act.PromiseGoes p to w e f u) =
+  acted d new br i (act.PromiseGoes p to w e f u) =
       rw u ((i.0.0, i.0.1, at_cut (λ l o. PromiseIs C d.state.outcomes o) d.state.promises p tt (λ l m. i.0.2 l), i.0.3, i.0.4), i.1, i.2, i.3, i.4, i.5, i.6, i.7, i.8)
-  acted d new i (act.OutcomeGoes o x w z e f j k l u) =
+  acted d new br i (act.OutcomeGoes o x w z e f j k l u) =
       let s = d.state in
       let os = s.outcomes in
       let ns = map.remove os o in
@@ -391,17 +399,26 @@ module _ (C : Caller → Option Asking) (L : ℕ → Option Asking) (T : ℕ →
         i.7,
         i.8,
       )
-  acted d new i (act.ImportGoes k x w e f u) = rw u i
-  acted d new i (act.Sweeps over e f j u) = rw u i
-  acted d new i (act.SendsFinish q x rest e f j k l u) =
+  acted d new br i (act.ImportGoes k x w e f u) = rw u i
+  acted d new br i (act.Sweeps over e f j u) = rw u i
+  acted d new br i (act.SendsFinish q x rest e f j k l u) =
       let s = d.state in
       let n = closed_map s.questions q x x.returned in
       let c = closes C s.outcomes (λ k. now k d.effects.sends) s.questions q x x.returned refl f i.0.1 in
       rw u ((i.0.0, quietly s.outcomes d.effects.sends _ n (λ p. refl) c, i.0.2, i.0.3, i.0.4), i.1, i.2, i.3, i.4, i.5, i.6, say-append d.effects.sends _ i.7 (tt, tt), i.8)
-  acted d new i (act.Closes q x rest e f j k l u) =
+  acted d new br i (act.Closes q x rest e f j k l u) =
       let s = d.state in
       let c = closes C s.outcomes (λ k. now k d.effects.sends) s.questions q x x.returned refl f i.0.1 in
       rw u ((i.0.0, c, i.0.2, i.0.3, i.0.4), i.1, i.2, i.3, i.4, i.5, i.6, i.7, i.8)
-  acted d new i (act.Releases w e f u) =
+  acted d new br i (act.Releases w e f u) =
       let z = sent d _ (releases_ask (map.entries d.released)) (releases_say (map.entries d.released)) i in
       rw u ((i.0.0, z.0, i.0.2, i.0.3, i.0.4), i.1, i.2, i.3, i.4, i.5, i.6, z.1, i.8)
+
+  pub all_acted : (last d : Moment) (list : Acts last d) → AllBreak list → Fine d → Fine last
+  all_acted last d NoMore f i = i
+  all_acted last d (Then {mid = mid} a rest) f i = all_acted last mid rest f.1 (acted d mid f.0 i a)
+
+-- Where nothing is asked of it.
+pub any_break : (C : Caller → Option Asking) (L : ℕ → Option Asking) (T : ℕ → Stamp → Type 0) (W : Asking → Outcome → ℕ → Type 0) (U : ℕ → Type 0) (broken : (s : Stamp) (why : Reason) → Unit {0} → W (OfCall s) (outcome.Exception (failed (reason_text why))) 0) (last d : Moment) (list : Acts last d) → AllBreak C L T W U (λ s. Unit {0}) broken list
+any_break C L T W U broken last d NoMore = tt
+any_break C L T W U broken last d (Then {mid = mid} a rest) = (λ c n r x e f. tt, any_break C L T W U broken last mid rest)

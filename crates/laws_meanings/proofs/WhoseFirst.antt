@@ -44,17 +44,16 @@ use Rattle.vat_machine.specs.declared.entries.Finishing.TheVariants as finishing
 use Rattle.vat_machine.specs.declared.entries.Embargo.{Embargo}
 use Rattle.vat_machine.specs.State.{State}
 use Rattle.vat_machine.specs.Commands.{request, heads}
-use Rattle.vat_machine.specs.Faults.{fault_of}
 use Rattle.vat_machine.specs.Messages.{bootstrap_value, value_of_results, finished_map}
 use Rattle.vat_machine.specs.Routing.{failed, reason_text}
-use Rattle.vat_machine.specs.Steps.{Does, Handles}
 use Rattle.vat_machine.specs.Sweeping.{IsNotSent}
 use Rattle.laws_acts.specs.Moments.{Moment, beginning, each_to}
 use Rattle.laws_acts.specs.FirstActs.{Starts}
 use Rattle.laws_acts.specs.FirstActs as first
 use Rattle.laws_acts.specs.MessageActs.{Back, Brings, Consumes}
 use Rattle.laws_acts.specs.MessageActs as heard
-use Rattle.laws_acts.proofs.EachStep.{done, handled, at_end}
+use Rattle.laws_acts.specs.SmallActs.{DoesActs, HandlesActs}
+use Rattle.laws_acts.proofs.EachStep.{at_end}
 use Rattle.laws_nodes.specs.Ones.{one_if}
 use Rattle.laws_nodes.specs.Sources as source
 use Rattle.laws_nodes.specs.Sources.{is_key, sources}
@@ -127,30 +126,30 @@ module _ (C : Caller → Option Asking) (os : Map KeptOutcome) (u : ℕ) (y : Ke
   this_one : (a : Asking) → y.value ≡ None → C y.caller ≡ Some a → Is C ns u a
   this_one a e f = subst (IsOf C a) (sym (get-insert_same os u y)) (subst (λ (o : Option _). IfNone o (C y.caller ≡ Some a)) (sym e) f)
 
-module _ (C : Caller → Option Asking) (L : ℕ → Option Asking) (T : ℕ → Stamp → Type 0) (W : Asking → Outcome → ℕ → Type 0) (U : ℕ → Type 0) (broken : (s : Stamp) (why : Reason) → W (OfCall s) (outcome.Exception (failed (reason_text why))) 0) where
+module _ (C : Caller → Option Asking) (L : ℕ → Option Asking) (T : ℕ → Stamp → Type 0) (W : Asking → Outcome → ℕ → Type 0) (U : ℕ → Type 0) (E : Stamp → Type 0) (broken : (s : Stamp) (why : Reason) → E s → W (OfCall s) (outcome.Exception (failed (reason_text why))) 0) where
   abbrev Fine : Moment → Type 0
-  Fine d = whose.Fine C L T W U broken d
+  Fine d = whose.Fine C L T W U E broken d
 
   abbrev Places : State → Type 0
-  Places s = whose.Places C L T W U broken s [] []
+  Places s = whose.Places C L T W U E broken s [] []
 
   -- Between steps. An outcome that is not there has no source.
   abbrev pub Begins : State → Type 0
-  Begins s = Places s × whose.Answers C L T W U broken s.answers × ((u : ℕ) → map.get s.outcomes u ≡ None → sources u s ≡ 0)
+  Begins s = Places s × whose.Answers C L T W U E broken s.answers × ((u : ℕ) → map.get s.outcomes u ≡ None → sources u s ≡ 0)
 
   opens : (s : State) (u : ℕ) (y : KeptOutcome) → y.waiting ≡ [] → map.get s.outcomes u ≡ None → Begins s → Places (record s { outcomes = map.insert s.outcomes u y })
   opens s u y w f i =
       let e = i.2 u f in
       let os = s.outcomes in
       let z = i.0 in (
-        other_tasks C os u y (whose.Given C L T W U broken []) s.tasks (omega arith) z.0,
+        other_tasks C os u y (whose.Given C L T W U E broken []) s.tasks (omega arith) z.0,
         other_questions C os u y L s.questions (omega arith) z.1,
         other_promises C os u y s.promises (omega arith) z.2,
         at_put (λ l o. KeptIs C (map.insert os u y) o) os u y (subst (HeldAre C (map.insert os u y)) (sym w) tt) (λ l m. other_kepts C os u y os (omega arith) z.3 l),
         other_embargoes C os u y s.embargoes (omega arith) z.4,
       )
 
-  yet_each : (os : Map KeptOutcome) (n : Node) (cs : List WaitingCall) → CallsAre C os cs → whose.Yet C L T W U broken os (each_to n cs)
+  yet_each : (os : Map KeptOutcome) (n : Node) (cs : List WaitingCall) → CallsAre C os cs → whose.Yet C L T W U E broken os (each_to n cs)
   yet_each os n [] i = tt
   yet_each os n (c ∷ cs) i = (i.0, yet_each os n cs i.1)
 
@@ -167,13 +166,13 @@ module _ (C : Caller → Option Asking) (L : ℕ → Option Asking) (T : ℕ →
   started s c g new n i (first.AsksRoot q e f a u) =
       let m = message.Plain (plain.Bootstrap (record { 0 = q })) in
       let x = first.asked (role.Direct (record { 0 = s.next_call })) [] in
-      let qs = whose.asks C L T W U broken s.outcomes [] s.questions q x OfBootstrap m (λ k. refl) (λ z. (OfBootstrap, n.root e a, z)) i.0.1 in
+      let qs = whose.asks C L T W U E broken s.outcomes [] s.questions q x OfBootstrap m (λ k. refl) (λ z. (OfBootstrap, n.root e a, z)) i.0.1 in
       rw u ((i.0.0, qs, i.0.2, i.0.3, i.0.4), tt, tt, tt, tt, i.1, tt, (tt, tt), tt)
   started s c g new n i (first.CallsOut k x q t ds es e f j w l o a u) =
       let stamp = (request s k x).stamp in
       let m = message.Plain (first.asking q t (request s k x) ds) in
       let y = first.asked (role.Direct (record { 0 = s.next_call })) ds in
-      let qs = whose.asks C L T W U broken s.outcomes [] s.questions q y (OfCall stamp) m (λ k. refl) (λ z. (OfCall stamp, n.call k x e f a, z)) i.0.1 in
+      let qs = whose.asks C L T W U E broken s.outcomes [] s.questions q y (OfCall stamp) m (λ k. refl) (λ z. (OfCall stamp, n.call k x e f a, z)) i.0.1 in
       rw u ((i.0.0, qs, i.0.2, i.0.3, i.0.4), tt, tt, tt, tt, i.1, tt, (tt, tt), tt)
   started s c g new n i (first.CallsHere k x o e f j w l a u) =
       let y : KeptOutcome = record { caller = caller.Application (record { 0 = s.next_call }); value = None; waiting = [] } in
@@ -194,17 +193,17 @@ module _ (C : Caller → Option Asking) (L : ℕ → Option Asking) (T : ℕ →
       let was : CallsAre C s.outcomes calls = subst (PromiseIs C s.outcomes) j (i.0.2 key) in
       rw u ((i.0.0, i.0.1, at_put (λ h o. PromiseIs C s.outcomes o) s.promises key _ tt (λ h o. i.0.2 h), i.0.3, i.0.4), yet_each s.outcomes _ calls was, tt, tt, tt, i.1, tt, tt, tt)
   started s c g new n i (first.Answers t payload refs o e f a u) =
-      let was : TaskIs C s.outcomes (whose.Given C L T W U broken []) t.0 (Some o) = subst (TaskIs C s.outcomes (whose.Given C L T W U broken []) t.0) f (i.0.0 t.0) in
-      rw u ((at_cut (λ h o. TaskIs C s.outcomes (whose.Given C L T W U broken []) h o) s.tasks t.0 tt (λ h l. i.0.0 h), i.0.1, i.0.2, i.0.3, i.0.4), tt, tt, ((OfCall was.0, was.2, by was.0 was.1), tt), tt, i.1, tt, tt, tt)
+      let was : TaskIs C s.outcomes (whose.Given C L T W U E broken []) t.0 (Some o) = subst (TaskIs C s.outcomes (whose.Given C L T W U E broken []) t.0) f (i.0.0 t.0) in
+      rw u ((at_cut (λ h o. TaskIs C s.outcomes (whose.Given C L T W U E broken []) h o) s.tasks t.0 tt (λ h l. i.0.0 h), i.0.1, i.0.2, i.0.3, i.0.4), tt, tt, ((OfCall was.0, was.2, by was.0 was.1), tt), tt, i.1, tt, tt, tt)
     where
-      by : (z : Stamp) → whose.Given C L T W U broken [] t.0 z → W (OfCall z) (outcome.Results payload) (length (heads s refs))
+      by : (z : Stamp) → whose.Given C L T W U E broken [] t.0 z → W (OfCall z) (outcome.Results payload) (length (heads s refs))
       by z (inl h) = n.answers t payload refs z o e f h
       by z (inr h) = absurd h
   started s c g new n i (first.Fails t why o e f a u) =
-      let was : TaskIs C s.outcomes (whose.Given C L T W U broken []) t.0 (Some o) = subst (TaskIs C s.outcomes (whose.Given C L T W U broken []) t.0) f (i.0.0 t.0) in
-      rw u ((at_cut (λ h o. TaskIs C s.outcomes (whose.Given C L T W U broken []) h o) s.tasks t.0 tt (λ h l. i.0.0 h), i.0.1, i.0.2, i.0.3, i.0.4), tt, tt, ((OfCall was.0, was.2, by was.0 was.1), tt), tt, i.1, tt, tt, tt)
+      let was : TaskIs C s.outcomes (whose.Given C L T W U E broken []) t.0 (Some o) = subst (TaskIs C s.outcomes (whose.Given C L T W U E broken []) t.0) f (i.0.0 t.0) in
+      rw u ((at_cut (λ h o. TaskIs C s.outcomes (whose.Given C L T W U E broken []) h o) s.tasks t.0 tt (λ h l. i.0.0 h), i.0.1, i.0.2, i.0.3, i.0.4), tt, tt, ((OfCall was.0, was.2, by was.0 was.1), tt), tt, i.1, tt, tt, tt)
     where
-      by : (z : Stamp) → whose.Given C L T W U broken [] t.0 z → W (OfCall z) (outcome.Exception why) 0
+      by : (z : Stamp) → whose.Given C L T W U E broken [] t.0 z → W (OfCall z) (outcome.Exception why) 0
       by z (inl h) = n.fails t why z o e f h
       by z (inr h) = absurd h
   started s c g new n i (first.Hosts o e a u) = rw u (i.0, tt, tt, tt, tt, i.1, tt, tt, tt)
@@ -225,9 +224,9 @@ module _ (C : Caller → Option Asking) (L : ℕ → Option Asking) (T : ℕ →
   -- What the message asks, says and finishes.
   pub record Hears (s : State) (m : Message) : Type 0 where
     pub root : (q : QuestionId) → m ≡ message.Plain (plain.Bootstrap q) → C (caller.Peer q) ≡ Some OfBootstrap
-    pub roots : whose.IsFor C L T W U broken OfBootstrap (bootstrap_value s.bootstrap)
+    pub roots : whose.IsFor C L T W U E broken OfBootstrap (bootstrap_value s.bootstrap)
     pub call : (c : Call) → m ≡ message.Plain (plain.Call c) → C (caller.Peer c.question) ≡ Some (OfCall c.stamp)
-    pub says : (b : Back) (x : Question) (a : Asking) → Brings s m b → map.get s.questions b.question ≡ Some x → x.returned ≡ None → IsNotSent x.finish → L b.question ≡ Some a → whose.IsFor C L T W U broken a (value_of_results b.said)
+    pub says : (b : Back) (x : Question) (a : Asking) → Brings s m b → map.get s.questions b.question ≡ Some x → x.returned ≡ None → IsNotSent x.finish → L b.question ≡ Some a → whose.IsFor C L T W U E broken a (value_of_results b.said)
     pub finish : (f : Finish) (a : AnswerEntry) → m ≡ message.Plain (plain.Finish f) → map.get s.answers f.question.0 ≡ Some a → a.returned ≡ None → U f.question.0
 
   not_sent : (x : Question) → (x.finish ≡ finishing.Owed) ⊎ (x.finish ≡ finishing.Waived) → IsNotSent x.finish
@@ -243,8 +242,8 @@ module _ (C : Caller → Option Asking) (L : ℕ → Option Asking) (T : ℕ →
       let k : QuestionIs C s.outcomes (L b.question) (Some x) = subst (QuestionIs C s.outcomes (L b.question)) f (i.1 b.question) in
       subst (RoleIs C s.outcomes (L b.question)) l (subst (λ (o : Option Returned). IfNone o (RoleIs C s.outcomes (L b.question) x.role)) j k)
 
-  opened_answers : (s : State) (q : ℕ) (a : AnswerEntry) → a.finished ≡ false → Begins s → whose.Answers C L T W U broken (map.insert s.answers q a)
-  opened_answers s q a e i = at_put (whose.AnswerIs C L T W U broken) s.answers q a (λ g. absurd (let bad : true ≡ false = sym g ∙ e in cc)) (λ k n. i.1 k)
+  opened_answers : (s : State) (q : ℕ) (a : AnswerEntry) → a.finished ≡ false → Begins s → whose.Answers C L T W U E broken (map.insert s.answers q a)
+  opened_answers s q a e i = at_put (whose.AnswerIs C L T W U E broken) s.answers q a (λ g. absurd (let bad : true ≡ false = sym g ∙ e in cc)) (λ k n. i.1 k)
 
   consumed : (s : State) (m : Message) (new : Moment) → Hears s m → Begins s → Consumes (beginning s) m new → Fine new
   consumed s m new n i (heard.OpensRoot q o e f j u) =
@@ -263,9 +262,9 @@ module _ (C : Caller → Option Asking) (L : ℕ → Option Asking) (T : ℕ →
       rw u ((i.0.0, came s b x i.0, i.0.2, i.0.3, i.0.4), tt, ((OfCall r.0, r.2, n.says b x (OfCall r.0) e f j (not_sent x k) r.1), tt), tt, tt, i.1, tt, tt, tt)
   consumed s m new n i (heard.IsFinished x z e f j u) = rw u (i.0, tt, tt, tt, tt, by z.returned refl, tt, tt, tt)
     where
-      by : (r : Option (List ExportId)) → z.returned ≡ r → whose.Answers C L T W U broken (finished_map s.answers x.question.0 z r)
-      by None g = at_put (whose.AnswerIs C L T W U broken) s.answers x.question.0 _ (λ h. n.finish x z e f g) (λ k o. i.1 k)
-      by (Some ids) g = at_cut (whose.AnswerIs C L T W U broken) s.answers x.question.0 tt (λ k o. i.1 k)
+      by : (r : Option (List ExportId)) → z.returned ≡ r → whose.Answers C L T W U E broken (finished_map s.answers x.question.0 z r)
+      by None g = at_put (whose.AnswerIs C L T W U E broken) s.answers x.question.0 _ (λ h. n.finish x z e f g) (λ k o. i.1 k)
+      by (Some ids) g = at_cut (whose.AnswerIs C L T W U E broken) s.answers x.question.0 tt (λ k o. i.1 k)
   consumed s m new n i (heard.IsResolved x e u) = rw u (i.0, tt, tt, tt, tt, i.1, tt, tt, tt)
   consumed s m new n i (heard.IsReleased x e u) = rw u (i.0, tt, tt, tt, tt, i.1, tt, tt, tt)
   consumed s m new n i (heard.SendsBack t to x e f u) = rw u (i.0, tt, tt, tt, tt, i.1, tt, (tt, tt), tt)
@@ -280,17 +279,13 @@ module _ (C : Caller → Option Asking) (L : ℕ → Option Asking) (T : ℕ →
   -- ---- Steps
 
   abbrev pub Leaves : State → Effects → Type 0
-  Leaves t x = whose.Places C L T W U broken t x.deliveries x.sends × whose.AllSay C L T W U broken x.sends × whose.EndsAre C L T W U broken x.answers
+  Leaves t x = whose.Places C L T W U E broken t x.deliveries x.sends × whose.AllSay C L T W U E broken x.sends × whose.EndsAre C L T W U E broken x.answers
 
-  left : (d : Moment) → Fine d → whose.Places C L T W U broken d.state d.effects.deliveries d.effects.sends × whose.AllSay C L T W U broken d.effects.sends × whose.EndsAre C L T W U broken d.effects.answers
+  left : (d : Moment) → Fine d → whose.Places C L T W U E broken d.state d.effects.deliveries d.effects.sends × whose.AllSay C L T W U E broken d.effects.sends × whose.EndsAre C L T W U E broken d.effects.answers
   left d i = (i.0, i.7, i.8)
 
-  pub commands : (s : State) (c : Command) (g : Granted) (x : Effects) (t : State) → Commanded s c g → Begins s → Does s c g x t → Leaves t x
-  commands s c g x t n i d =
-      let k = done Fine s c g x t (λ new j. started s c g new n i j) (whose.acted C L T W U broken) d in
-      at_end Leaves k.last x t k.ends (left k.last k.holds)
+  pub commands : (s : State) (c : Command) (g : Granted) (x : Effects) (t : State) → Commanded s c g → Begins s → (k : DoesActs s c g x t) → whose.AllBreak C L T W U E broken k.acts → Leaves t x
+  commands s c g x t n i k f = at_end Leaves k.last x t k.ends (left k.last (whose.all_acted C L T W U E broken k.last k.started k.acts f (started s c g k.started n i k.starts)))
 
-  pub messages : (s : State) (m : Message) (x : Effects) (t : State) → fault_of s m ≡ None → Hears s m → Begins s → Handles s m x t → Leaves t x
-  messages s m x t f n i d =
-      let k = handled Fine s m x t f (λ new j. consumed s m new n i j) (whose.acted C L T W U broken) d in
-      at_end Leaves k.last x t k.ends (left k.last k.holds)
+  pub messages : (s : State) (m : Message) (x : Effects) (t : State) → Hears s m → Begins s → (k : HandlesActs s m x t) → whose.AllBreak C L T W U E broken k.acts → Leaves t x
+  messages s m x t n i k f = at_end Leaves k.last x t k.ends (left k.last (whose.all_acted C L T W U E broken k.last k.consumed k.acts f (consumed s m k.consumed n i k.consumes)))

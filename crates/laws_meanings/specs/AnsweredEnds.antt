@@ -1,5 +1,5 @@
--- A call ends as its delivery was answered, or broken with a reason (docs/history.md, "Calls").
-use Rattle.std.specs.Prelude.{◌≡◌, ◌⊎◌, ℕ, Option, Some, List, length}
+-- A call ends as its delivery was answered; where it was not answered, broken with a reason (docs/history.md, "Calls").
+use Rattle.std.specs.Prelude.{◌≡◌, ◌⊎◌, ℕ, Option, None, Some, List, length}
 use Rattle.rpc_msg.specs.declared.ids.Stamp.{Stamp}
 use Rattle.rpc_msg.specs.declared.ids.ObjectId.{ObjectId}
 use Rattle.vat_journal.specs.declared.report.Outcome.{Outcome}
@@ -18,13 +18,13 @@ use Rattle.laws_runs.specs.Scenes.{Scene, IsScene}
 abbrev pub IsAnswered : List JournalEntry → Stamp → Outcome → ℕ → Type 0
 IsAnswered h s x n = (r : Reply) × (answer_of h s ≡ Some r) × (x ≡ r.outcome) × (n ≡ length r.refs)
 
--- It is the exception of a broken capability.
+-- It is the exception of a broken capability, with its reason.
 abbrev pub IsBroken : Outcome → ℕ → Type 0
 IsBroken x n = (why : Reason) × (x ≡ outcome.Exception (failed (reason_text why))) × (n ≡ 0)
 
 abbrev pub AnsweredOrBroken : List JournalEntry → Asking → Outcome → ℕ → Type 0
 AnsweredOrBroken h OfBootstrap x n = Unit {0}
-AnsweredOrBroken h (OfCall s) x n = IsAnswered h s x n ⊎ IsBroken x n
+AnsweredOrBroken h (OfCall s) x n = IsAnswered h s x n ⊎ ((answer_of h s ≡ None) × IsBroken x n)
 
 abbrev pub IfCallEnds : History → JournalEntry → Type 0
 IfCallEnds h (entry.Ended v x) = (a : Asking) → asking h.journal v x.call.0 ≡ Some a → AnsweredOrBroken h.journal a x.outcome (length x.refs)

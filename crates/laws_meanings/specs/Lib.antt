@@ -8,3 +8,5 @@ pub mod Bootstraps
 pub mod Tasks
 pub mod Identities
 pub mod AnsweredEnds
+pub mod NodeMeanings
+pub mod NodeLabels

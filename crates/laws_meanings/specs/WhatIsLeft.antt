@@ -1,12 +1,12 @@
 -- What is promised of deliveries and ends in scenes, but for what references stand for and how calls were answered.
-use Rattle.std.specs.Prelude.{◌≡◌, Option, Some}
+use Rattle.std.specs.Prelude.{◌≡◌, Option, None, Some}
 use Rattle.rpc_msg.specs.declared.ids.ObjectId.{ObjectId}
 use Rattle.vat_journal.specs.declared.entry.JournalEntry.{JournalEntry}
 use Rattle.vat_journal.specs.declared.entry.JournalEntry.TheVariants as entry
 use Rattle.vat_journal.specs.History.{caller}
 use Rattle.rpc_msg.specs.declared.ids.Stamp.{Stamp}
 use Rattle.vat_journal.specs.Sources.{OfCall, asking}
-use Rattle.vat_journal.specs.Meaning.{History}
+use Rattle.vat_journal.specs.Meaning.{History, Broken, StandsFor}
 use Rattle.vat_journal.specs.History.{answer_of}
 use Rattle.vat_machine.specs.Claims.{IsTo, EndsCall, EndsAsked, Upto, IsInTime, EndsAreSo, history}
 use Rattle.laws_runs.specs.Scenes.{Scene, IsScene}
@@ -41,3 +41,13 @@ abbrev pub CallsAreLeft : Type 0
 CallsAreLeft =
     (root_a root_b : Option ObjectId) (x : Scene)
     → IsScene root_a root_b x → Upto IfCallAnswered (history root_a root_b x.journal) → EndsAreSo (history root_a root_b x.journal)
+
+-- And of these, where the call was not answered, that its reference stands for broken.
+abbrev pub IfBroken : History → JournalEntry → Type 0
+IfBroken h (entry.Ended v x) = (s : Stamp) → asking h.journal v x.call.0 ≡ Some (OfCall s) → answer_of h.journal s ≡ None → StandsFor h (caller s) Broken
+IfBroken h e = Unit {0}
+
+abbrev pub BrokenCallsAreLeft : Type 0
+BrokenCallsAreLeft =
+    (root_a root_b : Option ObjectId) (x : Scene)
+    → IsScene root_a root_b x → Upto IfBroken (history root_a root_b x.journal) → EndsAreSo (history root_a root_b x.journal)

@@ -9,7 +9,9 @@ ghost use Rattle.laws_meanings.specs.Bootstraps.{NumbersAreAsked, RootsAreReturn
 ghost use Rattle.laws_meanings.specs.Identities.{OutcomesAreOfCalls};
 ghost use Rattle.laws_meanings.specs.AnsweredEnds.{CallsEndAsAnswered};
 ghost use Rattle.laws_meanings.specs.Tasks.{TasksAreOpen, TasksAreAnsweredOnce};
-ghost use Rattle.laws_meanings.specs.WhatIsLeft.{ObjectsAreLeft, AnswersAreLeft, CallsAreLeft};
+ghost use Rattle.laws_meanings.specs.WhatIsLeft.{ObjectsAreLeft, AnswersAreLeft, CallsAreLeft, BrokenCallsAreLeft};
+ghost use Rattle.laws_meanings.specs.NodeMeanings.{LinksLast, LedToObjects, LedToBroken, LinksToObjectsAreLeft, LinksToBrokenAreLeft};
+ghost use Rattle.laws_meanings.specs.NodeLabels.{ActsKeepMeanings};
 
 use laws_answers::named_answers_are_there;
 use laws_nodes::outcomes_have_sources;
@@ -98,8 +100,8 @@ pub fn outcomes_are_of_calls()
     counts_agree_in_scenes();
 }
 
-/// In each scene a call ends with what was answered to its delivery, with as many capabilities, or with the exception of a
-/// broken capability.
+/// In each scene a call ends with what was answered to its delivery, with as many capabilities; or, where it was not
+/// answered, with the exception of a broken capability.
 pub fn calls_end_as_answered()
     ensures { CallsEndAsAnswered }
 {
@@ -115,3 +117,39 @@ pub fn ends_of_calls_are_left()
     bootstraps_end_with_roots();
     meanings_are_left();
 }
+
+/// Where in a scene the reference of each call that ends without an answer stands for broken, all that is promised of its
+/// ends holds.
+pub fn broken_calls_are_left()
+    ensures { BrokenCallsAreLeft }
+{
+    calls_end_as_answered();
+    ends_of_calls_are_left();
+}
+
+/// A reference stands for the object to which the history leads it link by link, where each delivery was to what its
+/// reference stands for; it stands for broken, where it leads to that; and later entries change no link.
+pub fn links_are_meanings()
+    ensures last { LinksLast }
+    ensures objects { LedToObjects }
+    ensures broken { LedToBroken }
+{}
+
+/// Where in a scene the history leads the reference of each delivered call to the object of the delivery, all that is
+/// promised of deliveries holds; where it leads the reference of each call that ends without an answer to broken, all that
+/// is promised of ends.
+pub fn links_are_left()
+    ensures objects { LinksToObjectsAreLeft }
+    ensures broken { LinksToBrokenAreLeft }
+{
+    calls_are_as_made();
+    given_references_are_new();
+    broken_calls_are_left();
+}
+
+/// Where at a moment of a step the history leads each reference of a vat, and each call that waits, to what its node means,
+/// it is so after each small act of the step: where a node leads, it means. So each call that is delivered is to the object
+/// to which the history leads its reference, and each call that ends was answered, or its reference leads to broken.
+pub fn acts_keep_meanings()
+    ensures { ActsKeepMeanings }
+{}

@@ -1,5 +1,5 @@
 -- The payloads and the exception of a script's commands (docs/script.md, "Lines").
-use Rattle.std.specs.Prelude.{ℕ, zero, suc, List, [], map, codes}
+use Rattle.std.specs.Prelude.{ℕ, zero, suc, [], map, codes}
 use Rattle.std.specs.List.{range_with_len}
 use Rattle.capn_wire.specs.Payloads.{Contents, null_payload}
 use Rattle.capn_wire.specs.Trees.{Tree, struct, capability}

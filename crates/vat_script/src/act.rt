@@ -26,7 +26,7 @@ pub enum Act {
 
 impl Names {
     /// What a line does. `Name` with the first thing that it names and that is not bound or not there, where there is
-    /// one; `Memory` where a growth was refused.
+    /// one; `Memory` as in `command`.
     pub fn act(&self, alloc: Global, line: &Line) -> Result<Act, GiveFault>
         ensures { Gives (act_for self.now line.now) result }
     {

@@ -40,7 +40,8 @@ impl Names {
     }
 
     /// What a line asks of a vat. `Name` with the first thing that the line names and that is not bound there, where
-    /// there is one; `Memory` where a growth was refused.
+    /// there is one; `Memory` where a growth was refused, or more than 65,535 capabilities are named, which no line that
+    /// was read does.
     pub fn command(&self, alloc: Global, vat: Vat, said: &LineCommand) -> Result<Command, GiveFault>
         ensures { Gives (command_for (names_of vat self.now) said.now) result }
     {

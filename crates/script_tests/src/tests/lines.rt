@@ -29,7 +29,7 @@ const RUN: Program = Program::Run;
 
 const PAIR: Program = Program::Pair;
 
-const LINES: [Wanted; 25] = [
+const LINES: &[Wanted] = &[
     (RUN, "", "skip", None, ["", ""], [0, 0]),
     (PAIR, "# a drop x\r", "skip", None, ["", ""], [0, 0]),
     (RUN, "deliver b", "deliver", Some(Vat::B), ["", ""], [0, 0]),
@@ -202,7 +202,7 @@ fn steps(path: &Items<Op>) -> [u64; 2] {
     [path.len() as u64, sum]
 }
 
-fn told_command(vat: Vat, said: &LineCommand) -> Told {
+fn outline_command(vat: Vat, said: &LineCommand) -> Told {
     let at = Some(vat);
     let none = [None, None];
     match said {
@@ -245,7 +245,7 @@ fn told_command(vat: Vat, said: &LineCommand) -> Told {
     }
 }
 
-fn told(line: &Line) -> Told {
+fn outline(line: &Line) -> Told {
     let none = [None, None];
     match line {
         Line::Skip => brief("skip", None, none, [0, 0]),
@@ -264,7 +264,7 @@ fn told(line: &Line) -> Told {
             [Some(line.name), Some(line.call)],
             [u64::from(line.index), 0],
         ),
-        Line::Command(vat, said) => told_command(*vat, said),
+        Line::Command(vat, said) => outline_command(*vat, said),
     }
 }
 
@@ -276,7 +276,9 @@ fn says(alloc: Global, wanted: Wanted) -> bool {
     let (program, text, word, vat, names, numbers) = wanted;
     let [first, second] = names;
     match Line::read(alloc, program, text) {
-        Ok(line) => { told(&line) == brief(word, vat, [name_of(first), name_of(second)], numbers) }
+        Ok(line) => {
+            outline(&line) == brief(word, vat, [name_of(first), name_of(second)], numbers)
+        }
         Err(_) => false,
     }
 }
@@ -284,7 +286,7 @@ fn says(alloc: Global, wanted: Wanted) -> bool {
 #[test]
 fn lines_are_read(rt: HostRuntime) {
     for wanted in LINES {
-        assert!(rt; says(rt.alloc(), wanted), "{}", wanted.1);
+        assert!(rt; says(rt.alloc(), *wanted), "{}", wanted.1);
     }
 }
 
@@ -385,7 +387,7 @@ fn the_first_fault_of_a_line_is_named(rt: HostRuntime) {
 }
 
 /// How many lines scripts have.
-const SCRIPTS: [(&[u8], usize); 4] = [
+const SCRIPTS: &[(&[u8], usize)] = &[
     (b"", 1),
     (b"a drop x", 1),
     (b"a drop x\n", 2),
@@ -393,7 +395,7 @@ const SCRIPTS: [(&[u8], usize); 4] = [
 ];
 
 /// Scripts that are none.
-const NO_SCRIPTS: [(&[u8], ScriptFault); 5] = [
+const NO_SCRIPTS: &[(&[u8], ScriptFault)] = &[
     (b"a drop x\n\xff", ScriptFault::NotText),
     (b"a drop\n\xff", ScriptFault::NotText),
     (b"\n#\na drop\nlift", ScriptFault::Line(3, LineFault::Count)),
@@ -411,10 +413,10 @@ const NO_SCRIPTS: [(&[u8], ScriptFault); 5] = [
 fn scripts_are_read_whole(rt: HostRuntime) {
     for (text, lines) in SCRIPTS {
         let read = read_script(rt.alloc(), Program::Run, text);
-        assert!(rt; read.is_ok_and(|read| read.len() == lines), "{lines}");
+        assert!(rt; read.is_ok_and(|read| read.len() == *lines), "{lines}");
     }
     for (text, fault) in NO_SCRIPTS {
         let read = read_script(rt.alloc(), Program::Run, text);
-        assert!(rt; read.is_err_and(|found| found == fault), "{fault}");
+        assert!(rt; read.is_err_and(|found| found == *fault), "{fault}");
     }
 }

@@ -28,7 +28,7 @@ fn bound(rt: &impl Abort, alloc: Global, lines: &[(&str, Granted)]) -> Names {
     names
 }
 
-const LINES: [(&str, Granted); 8] = [
+const LINES: &[(&str, Granted)] = &[
     ("a bootstrap x", Granted::Call(CallId(3))),
     ("a host x 7", Granted::Reference(RefId(4))),
     ("a promise x y", Granted::Promise(PromiseId(5), RefId(6))),
@@ -52,7 +52,7 @@ fn about(names: &Names, rt: &impl Abort, alloc: Global, text: &str) -> Result<u6
     }
 }
 
-const ABOUT: [(&str, Result<u64, GiveFault>); 14] = [
+const ABOUT: &[(&str, Result<u64, GiveFault>)] = &[
     ("a finish x", Ok(3)),
     ("a drop x", Ok(4)),
     ("a reject x", Ok(5)),
@@ -77,10 +77,10 @@ const ABOUT: [(&str, Result<u64, GiveFault>); 14] = [
 
 #[test]
 fn names_stand_for_what_was_granted(rt: HostRuntime) {
-    let names = bound(&rt, rt.alloc(), LINES.as_slice());
+    let names = bound(&rt, rt.alloc(), LINES);
     for (text, wanted) in ABOUT {
         let found = about(&names, &rt, rt.alloc(), text);
-        assert!(rt; found == wanted, "{text}");
+        assert!(rt; found == *wanted, "{text}");
     }
 }
 
@@ -93,7 +93,7 @@ const ONE_CAP: [u8; 24] = [
 
 #[test]
 fn a_call_carries_the_named_references(rt: HostRuntime) {
-    let mut names = bound(&rt, rt.alloc(), LINES.as_slice());
+    let mut names = bound(&rt, rt.alloc(), LINES);
     let named = Name::read("n").expect(&rt, "a name");
     assert!(rt; names.name(Vat::A, named, RefId(12)).is_ok());
     let call = line(&rt, rt.alloc(), "a call w x 7 1 n");

@@ -1,0 +1,18 @@
+use Rattle.std.proofs.Common.{Ok}
+use Rattle.std.proofs.lemmas.Result.{err_from_is_err_and}
+use Rattle.vat_machine.specs.declared.command.Command.TheVariants as command
+use Rattle.vat_machine.specs.declared.command.Granted.TheVariants as granted
+use Rattle.vat_core.proofs.Answering.{refuses_at, obeys_at}
+use Rattle.vat_core.proofs.Reaching.{stands}
+use Rattle.vat_core.proofs.vat.Core.advance.Goals as goal
+
+pub returns-in_err-check_advance-clause-refused : goal.returns-in_err-check_advance-clause-refused
+returns-in_err-check_advance-clause-refused c =
+    let p = err_from_is_err_and c.from_residual.result c.from_residual.ensures.1 in
+    rw (p.1, p.2) (refuses_at _ _ (command.Advance c.args.id) c.in_err-check_advance.field-0.0 c.self.view_is c.in_err-check_advance.ensures.err)
+
+pub invariant_of-self-2 : goal.invariant_of-self-2
+invariant_of-self-2 c = stands c.self.inside.machine c.advance.new.machine (command.Advance c.args.id) _ _ c.advance.ensures.obeys c.advance.ensures.resting c.self.invariant
+
+pub returns-clause-done : goal.returns-clause-done
+returns-clause-done c = obeys_at _ _ _ (command.Advance c.args.id) (Ok (granted.Advanced c.in-Ok.done.0)) c.in-Ok.done.1 c.self.view_is c.in-Ok.ensures.obeys

@@ -1,0 +1,19 @@
+use Rattle.std.proofs.Common.{Ok}
+use Rattle.std.proofs.lemmas.Result.{err_from_is_err_and}
+use Rattle.vat_machine.specs.declared.command.Command.TheVariants as command
+use Rattle.vat_machine.specs.declared.command.Granted.TheVariants as granted
+use Rattle.vat_machine.specs.Progress.{quiet}
+use Rattle.vat_core.proofs.Answering.{refuses_at, obeys_at}
+use Rattle.vat_core.proofs.Reaching.{stands}
+use Rattle.vat_core.proofs.vat.Core.host.Goals as goal
+
+pub returns-in_err-check_host-clause-refused : goal.returns-in_err-check_host-clause-refused
+returns-in_err-check_host-clause-refused c =
+    let p = err_from_is_err_and c.from_residual.result c.from_residual.ensures.1 in
+    rw (p.1, p.2) (refuses_at _ _ (command.Host c.args.object) c.in_err-check_host.field-0.0 c.self.view_is c.in_err-check_host.ensures.err)
+
+pub invariant_of-self-2 : goal.invariant_of-self-2
+invariant_of-self-2 c = stands c.self.inside.machine c.host.new.machine (command.Host c.args.object) _ _ c.host.ensures.obeys c.host.ensures.resting c.self.invariant
+
+pub returns-clause-done : goal.returns-clause-done
+returns-clause-done c = obeys_at _ _ _ (command.Host c.args.object) (Ok (granted.Reference c.in-Ok.made)) quiet c.self.view_is c.in-Ok.ensures.obeys

@@ -1,0 +1,18 @@
+use Rattle.std.proofs.Common.{Ok}
+use Rattle.vat_machine.specs.declared.command.Command.TheVariants as command
+use Rattle.vat_machine.specs.declared.command.Granted.TheVariants as granted
+use Rattle.vat_core.proofs.Answering.{refuses_at, obeys_at}
+use Rattle.vat_core.proofs.Reaching.{stands}
+use Rattle.vat_core.proofs.vat.Core.reject.Goals as goal
+
+pub returns-in-Err-clause-refused : goal.returns-in-Err-clause-refused
+returns-in-Err-clause-refused c = refuses_at _ _ (command.Reject c.args.promise c.args.exception) c.in-Err.refusal c.self.view_is (c.in-Err.ensures.err c.args.exception)
+
+pub reject-effects-requires-clause-allowed : goal.reject-effects-requires-clause-allowed
+reject-effects-requires-clause-allowed c = c.in_default.ensures.ok c.args.exception
+
+pub invariant_of-self : goal.invariant_of-self
+invariant_of-self c = stands c.self.inside.machine c.reject-effects.new.machine (command.Reject c.args.promise c.args.exception) _ _ c.reject-effects.ensures.obeys c.reject-effects.ensures.resting c.self.invariant
+
+pub returns-clause-done : goal.returns-clause-done
+returns-clause-done c = obeys_at _ _ _ (command.Reject c.args.promise c.args.exception) (Ok granted.Done) c.reject-effects.result c.self.view_is c.reject-effects.ensures.obeys

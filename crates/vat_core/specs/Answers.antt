@@ -1,0 +1,29 @@
+-- What a command of any kind answers and does.
+use Rattle.std.specs.Prelude.{◌≡◌, Result, Ok, Err}
+use Rattle.vat_machine.specs.declared.command.Command.{Command}
+use Rattle.vat_machine.specs.declared.command.Granted.{Granted}
+use Rattle.vat_machine.specs.declared.command.Refusal.{Refusal}
+use Rattle.vat_machine.specs.declared.command.Effects.{Effects}
+use Rattle.vat_machine.specs.State.{State}
+use Rattle.vat_machine.specs.Progress.{quiet}
+use Rattle.vat_machine.specs.Steps.{Obeys}
+use Rattle.vat_core.specs.declared.obey.Answer.{Answer}
+use Rattle.vat_core.specs.declared.obey.Answer.TheVariants.{Done, Refused}
+
+abbrev pub answer_in : Answer → Result Granted Refusal
+answer_in (Done given effects) = Ok given
+answer_in (Refused r c) = Err r
+
+abbrev pub effects_in : Answer → Effects
+effects_in (Done given effects) = effects
+effects_in (Refused r c) = quiet
+
+-- A command that is refused is handed back whole.
+abbrev pub HandsBack : Command → Answer → Type 0
+HandsBack c (Done given effects) = Unit {0}
+HandsBack c (Refused r back) = back ≡ c
+
+-- It answers what the machine answers to the command.
+pub record AnswersTo (old : State) (c : Command) (answer : Answer) (new : State) : Type 0 where
+  pub obeys : Obeys old c (answer_in answer) (effects_in answer) new
+  pub handed_back : HandsBack c answer

@@ -1,0 +1,47 @@
+ghost use Rattle.std.specs.Prelude.{◌≡◌, Ok, Err, IfOk, IfErr};
+ghost use Rattle.vat_machine.specs.declared.command.Command.TheVariants as command;
+ghost use Rattle.vat_machine.specs.declared.command.Granted.TheVariants as granted;
+ghost use Rattle.vat_machine.specs.Progress.{quiet};
+ghost use Rattle.vat_machine.specs.Steps.{Obeys};
+
+use crate::vat::Core;
+use rpc_msg::CallId;
+use step_checks::{check_bootstrap, check_call_whole};
+use vat_machine::{CallCommand, Effects, Refusal};
+
+impl Core {
+    /// Asks the peer for its bootstrap object: gives the number of the call, and what follows. Refused, with nothing changed:
+    /// `Down`; `Full` at 4,096 questions or the last number of a call; `Memory`.
+    pub fn bootstrap(&mut self) -> Result<(CallId, Effects), Refusal>
+        ensures done { IfOk result (λ done. Obeys self.old command.Bootstrap (Ok (granted.Call done.0)) done.1 self.new) }
+        ensures refused { IfErr result (λ r. Obeys self.old command.Bootstrap (Err r) quiet self.new) }
+    {
+        check_bootstrap(&self.machine.step.store)?;
+        let Ok(done) = step_asks::bootstrap(&mut self.machine) else {
+            return Err(Refusal::Memory);
+        };
+        Ok(done)
+    }
+
+    /// Makes a call through a reference: gives its number, and what follows. The references that it sends stay the caller's.
+    /// Refused, with nothing changed and the call handed back: `Down`; `Level` for references at level 0; `UnknownRef`;
+    /// `CapCount`; `Full` at a limit of what it needs (`docs/protocol.md`, "Refusals"); `Memory`.
+    pub fn call(&mut self, call: CallCommand) -> Result<(CallId, Effects), (Refusal, CallCommand)>
+        ensures done { IfOk result (λ done. Obeys self.old (command.Call call) (Ok (granted.Call done.0)) done.1 self.new) }
+        ensures refused { IfErr result (λ e. Obeys self.old (command.Call call) (Err e.0) quiet self.new) }
+        ensures handed_back { IfErr result (λ e. e.1 ≡ call) }
+    {
+        let store = &self.machine.step.store;
+        let None = store.down else {
+            return Err((Refusal::Down, call));
+        };
+        if let Err(refusal) = check_call_whole(store, &call) {
+            return Err((refusal, call));
+        }
+        let done = match step_asks::call(&mut self.machine, call) {
+            Ok(done) => done,
+            Err(call) => return Err((Refusal::Memory, call)),
+        };
+        Ok(done)
+    }
+}

@@ -1,0 +1,54 @@
+ghost use Rattle.std.specs.Prelude.{◌≡◌, Ok, Err, IfOk, IfErr};
+ghost use Rattle.vat_machine.specs.declared.command.Command.TheVariants as command;
+ghost use Rattle.vat_machine.specs.declared.command.Granted.TheVariants as granted;
+ghost use Rattle.vat_machine.specs.Progress.{quiet};
+ghost use Rattle.vat_machine.specs.Steps.{Obeys};
+
+use crate::vat::Core;
+use laws_nodes::calls_have_their_own;
+use rpc_msg::{CallId, RefId};
+use step_checks::{check_advance, check_drop_ref, check_finish};
+use vat_journal::Advanced;
+use vat_machine::{Effects, Refusal};
+
+impl Core {
+    /// Has no more use for a reference: gives what follows. Refused, with nothing changed: `Down`; `UnknownRef`; `Memory`.
+    pub fn drop_ref(&mut self, id: RefId) -> Result<Effects, Refusal>
+        ensures done { IfOk result (λ effects. Obeys self.old (command.DropRef id) (Ok granted.Done) effects self.new) }
+        ensures refused { IfErr result (λ r. Obeys self.old (command.DropRef id) (Err r) quiet self.new) }
+    {
+        check_drop_ref(&self.machine.step.store, id)?;
+        let Ok(effects) = step_ends::drop_ref(&mut self.machine, id) else {
+            return Err(Refusal::Memory);
+        };
+        Ok(effects)
+    }
+
+    /// Has no more use for a call, of which the application is not told any more: gives what follows. Refused, with nothing
+    /// changed: `Down`; `UnknownCall`; `Memory`.
+    pub fn finish(&mut self, id: CallId) -> Result<Effects, Refusal>
+        ensures done { IfOk result (λ effects. Obeys self.old (command.Finish id) (Ok granted.Done) effects self.new) }
+        ensures refused { IfErr result (λ r. Obeys self.old (command.Finish id) (Err r) quiet self.new) }
+    {
+        check_finish(&self.machine.step.store, id)?;
+        calls_have_their_own();
+        let Ok(effects) = step_ends::finish(&mut self.machine, id) else {
+            return Err(Refusal::Memory);
+        };
+        Ok(effects)
+    }
+
+    /// Lets a reference take the shorter path to which its promise was resolved, if one is known: gives what became of it,
+    /// and what follows. Refused, with nothing changed: `Down`; `Level` at level 0; `UnknownRef`; `Full` at 4,096 embargoes,
+    /// where it would need one; `Memory`.
+    pub fn advance(&mut self, id: RefId) -> Result<(Advanced, Effects), Refusal>
+        ensures done { IfOk result (λ done. Obeys self.old (command.Advance id) (Ok (granted.Advanced done.0)) done.1 self.new) }
+        ensures refused { IfErr result (λ r. Obeys self.old (command.Advance id) (Err r) quiet self.new) }
+    {
+        check_advance(&self.machine.step.store, id)?;
+        let Ok(done) = step_ends::advance(&mut self.machine, id) else {
+            return Err(Refusal::Memory);
+        };
+        Ok(done)
+    }
+}

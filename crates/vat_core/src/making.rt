@@ -1,0 +1,68 @@
+ghost use Rattle.std.specs.Prelude.{◌≡◌, Ok, Err, IfOk, IfErr};
+ghost use Rattle.vat_machine.specs.declared.command.Command.TheVariants as command;
+ghost use Rattle.vat_machine.specs.declared.command.Granted.TheVariants as granted;
+ghost use Rattle.vat_machine.specs.Progress.{quiet};
+ghost use Rattle.vat_machine.specs.Steps.{Obeys};
+
+use crate::vat::Core;
+use rpc_msg::{CallId, Items, ObjectId, Op, PromiseId, RefId};
+use step_checks::{check_clone_ref, check_field, check_host, check_promise};
+use vat_machine::Refusal;
+
+impl Core {
+    /// Makes a reference to an object of the application: gives its number. Nothing is said. Refused, with nothing changed:
+    /// `Down`; `Full` at the last number of a reference; `Memory`.
+    pub fn host(&mut self, object: ObjectId) -> Result<RefId, Refusal>
+        ensures done { IfOk result (λ id. Obeys self.old (command.Host object) (Ok (granted.Reference id)) quiet self.new) }
+        ensures refused { IfErr result (λ r. Obeys self.old (command.Host object) (Err r) quiet self.new) }
+    {
+        check_host(&self.machine.step.store, object)?;
+        let Ok(made) = step_ends::host(&mut self.machine, object) else {
+            return Err(Refusal::Memory);
+        };
+        Ok(made)
+    }
+
+    /// Makes a second reference with the same head as another: gives its number. Nothing is said. Refused, with nothing
+    /// changed: `Down`; `UnknownRef`; `Full` at the last number of a reference; `Memory`.
+    pub fn clone_ref(&mut self, id: RefId) -> Result<RefId, Refusal>
+        ensures done { IfOk result (λ made. Obeys self.old (command.CloneRef id) (Ok (granted.Reference made)) quiet self.new) }
+        ensures refused { IfErr result (λ r. Obeys self.old (command.CloneRef id) (Err r) quiet self.new) }
+    {
+        check_clone_ref(&self.machine.step.store, id)?;
+        let Ok(made) = step_ends::clone_ref(&mut self.machine, id) else {
+            return Err(Refusal::Memory);
+        };
+        Ok(made)
+    }
+
+    /// Makes a reference to what stands at a path of the results of a call, which may not be there yet: gives its number.
+    /// Nothing is said. Refused, with nothing changed and the path handed back: `Down`; `UnknownCall`, finished ones too;
+    /// `LongPath` beyond 16 steps; `Full` at the last number of a reference; `Memory`.
+    pub fn field(&mut self, id: CallId, path: Items<Op>) -> Result<RefId, (Refusal, Items<Op>)>
+        ensures done { IfOk result (λ made. Obeys self.old (command.Field id path) (Ok (granted.Reference made)) quiet self.new) }
+        ensures refused { IfErr result (λ e. Obeys self.old (command.Field id path) (Err e.0) quiet self.new) }
+        ensures handed_back { IfErr result (λ e. e.1 ≡ path) }
+    {
+        if let Err(refusal) = check_field(&self.machine.step.store, id, &path) {
+            return Err((refusal, path));
+        }
+        let Ok(made) = step_ends::field(&mut self.machine, id, &path) else {
+            return Err((Refusal::Memory, path));
+        };
+        Ok(made)
+    }
+
+    /// Makes a promise that is open, and a reference to it: gives their numbers. Nothing is said. Refused, with nothing
+    /// changed: `Down`; `Level` at level 0; `Full` at the last number of a promise or a reference; `Memory`.
+    pub fn promise(&mut self) -> Result<(PromiseId, RefId), Refusal>
+        ensures done { IfOk result (λ made. Obeys self.old command.Promise (Ok (granted.Promise made.0 made.1)) quiet self.new) }
+        ensures refused { IfErr result (λ r. Obeys self.old command.Promise (Err r) quiet self.new) }
+    {
+        check_promise(&self.machine.step.store)?;
+        let Ok(made) = step_asks::promise(&mut self.machine) else {
+            return Err(Refusal::Memory);
+        };
+        Ok(made)
+    }
+}

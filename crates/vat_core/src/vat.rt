@@ -1,0 +1,101 @@
+ghost use Rattle.std.specs.Prelude.{◌≡◌, IfOk};
+ghost use Rattle.vat_machine.specs.Down.{ShutsFrom};
+ghost use Rattle.vat_machine.specs.State.{start};
+ghost use Rattle.vat_machine.specs.Steps.{Receives};
+
+use rpc_msg::{Memory, Message, ObjectId, Vat};
+use std::alloc::Global;
+use std::marker::Model;
+use step_base::{Arisen, Step};
+use step_ends::Machine;
+use step_sweeps::Thought;
+use vat_machine::{Effects, Level};
+use vat_outbox::Outbox;
+use vat_store::Store;
+
+/// The core of a vat: all that it holds for its connection, and the memory that it keeps for its steps. Contracts see it as
+/// the state of the machine of `docs/protocol.md`, and each of its calls is a step of that machine.
+#[derive(Drop)]
+pub struct Core {
+    pub(crate) machine: Machine,
+}
+
+impl Model for Core {
+    ghost use Rattle.vat_machine.specs.State.{State, state_code};
+    ghost use Rattle.vat_store.specs.Holding.{state_of};
+    ghost use Rattle.vat_core.specs.Standing.{IsStanding};
+
+    ghost Value = { State };
+
+    ghost coded = { state_code };
+
+    ghost view = { λ a. state_of a.machine.step.store };
+
+    ghost invariant = { λ a. IsStanding a.machine };
+}
+
+impl Core {
+    /// The core of a new vat, of that level and with that bootstrap object if it has one. `Memory` where the memory of its
+    /// Abort was refused.
+    pub fn new(
+        alloc: Global,
+        vat: Vat,
+        level: Level,
+        bootstrap: Option<ObjectId>,
+    ) -> Result<Core, Memory>
+        ensures { IfOk result (λ core. core ≡ start vat level bootstrap) }
+    {
+        let outbox = Outbox::new(alloc)?;
+        let spare = Outbox::new(alloc)?;
+        let step = Step {
+            store: Store::new(vat, level, bootstrap, alloc),
+            outbox,
+            arisen: Arisen::new(alloc),
+        };
+        Ok(Core {
+            machine: Machine {
+                step,
+                thought: Thought::new(alloc),
+                spare,
+                alloc,
+            },
+        })
+    }
+
+    /// The number with which it went down, if it is down.
+    pub fn down(&self) -> Option<u16>
+        ensures { result ≡ self.now.down }
+    {
+        self.machine.step.store.down
+    }
+
+    /// Which vat it is.
+    pub fn vat(&self) -> Vat
+        ensures { result ≡ self.now.vat }
+    {
+        self.machine.step.store.vat
+    }
+
+    /// How much of the protocol it speaks.
+    pub fn level(&self) -> Level
+        ensures { result ≡ self.now.level }
+    {
+        self.machine.step.store.level
+    }
+
+    /// Takes a message of the other vat, and gives what follows. A vat that is down does nothing. A message that is a fault
+    /// takes the vat down with the fault's number, and so does want of room or of memory (33), which an Abort never needs.
+    pub fn receive(&mut self, message: Message) -> Effects
+        ensures { Receives self.old message result self.new }
+    {
+        step_ends::receive(&mut self.machine, message)
+    }
+
+    /// Takes a vat that is up down with that number: one Abort is sent, and nothing else follows. A vat that is down stays as
+    /// it is, and nothing follows. Takes no memory.
+    pub fn shut(&mut self, number: u16) -> Effects
+        ensures { ShutsFrom self.old number self.old.down result self.new }
+    {
+        step_ends::shut(&mut self.machine, number)
+    }
+}

@@ -1,0 +1,6 @@
+mod Telling
+mod Noting
+mod Stepping
+mod Reaching
+mod Happened
+mod Standing
