@@ -1,7 +1,7 @@
 //! The functions run no code: what each ensures is the law.
 
 ghost use Rattle.laws_scenes.specs.Canceled.{CanceledWereGivenUp};
-ghost use Rattle.laws_scenes.specs.InFull.{RunsArriveInFull, ScenesArriveInFull};
+ghost use Rattle.laws_scenes.specs.InFull.{OwnScenesArriveInFull, RunsArriveInFull, ScenesArriveInFull};
 ghost use Rattle.laws_scenes.specs.Ordered.{RunsAreOrdered, ScenesAreOrdered};
 ghost use Rattle.laws_scenes.specs.Refused.{AllFallsAreKnown, DisembargosTurn, RunsRefuseNothing, ScenesRefuseNothing};
 ghost use Rattle.laws_scenes.specs.WhatIsLeft.{SoundByMeanings};
@@ -62,6 +62,19 @@ pub fn calls_arrive_in_full()
     vats_are_between_steps();
     vats_are_tied();
     steps_keep_order();
+    calls_are_numbered();
+    every_run_is_shown();
+}
+
+/// In each scene none of the calls is lost of a reference that leads, at its own vat, to an object or to what is still open: where none
+/// is held or on its way, all of them were delivered.
+pub fn own_calls_arrive_in_full()
+    ensures { OwnScenesArriveInFull }
+{
+    vats_are_between_steps();
+    vats_are_tied();
+    steps_keep_order();
+    calls_may_go();
     calls_are_numbered();
     every_run_is_shown();
 }

@@ -5,5 +5,5 @@ mod laws;
 
 pub use laws::{
     calls_arrive_in_full, calls_keep_their_order, canceled_were_given_up, disembargos_turn_back,
-    nothing_is_refused, sound_by_meanings, vats_are_between_steps,
+    nothing_is_refused, own_calls_arrive_in_full, sound_by_meanings, vats_are_between_steps,
 };
