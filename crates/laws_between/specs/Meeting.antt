@@ -109,7 +109,7 @@ OldestLetGoWell = InScenes (OfOldest LetsGoWell)
 
 -- ---- What the laws of whole steps take as known of the oldest message
 
--- What is not shown of scenes yet: that a Return of a question whose Finish was not sent is not canceled; and that a reference has
+-- What `laws_scenes` shows of scenes: that a Return of a question whose Finish was not sent is not canceled; and that a reference has
 -- one embargo at most, also once it was dropped, which is of an own node.
 abbrev pub LoopIsLeft : State → DisembargoContext → Type 0
 LoopIsLeft s (SenderLoopback e) = Unit {0}

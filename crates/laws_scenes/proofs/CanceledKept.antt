@@ -35,7 +35,7 @@ use Rattle.laws_sessions.specs.Worlds.{Stand}
 use Rattle.laws_sessions.proofs.Kept.{messages-append}
 use Rattle.laws_routes.specs.SayingLaws.{IsNotCanceled}
 use Rattle.laws_between.specs.Meeting.{IfThere, OfOldest}
-use Rattle.laws_scenes.specs.Canceled.{IsWhole}
+use Rattle.laws_scenes.specs.Canceled.{CancelsOnlyGivenUp}
 use Rattle.laws_scenes.proofs.CanceledSent.{AreClosed, IfCanceled, IsClosed, does, handles, if_canceled, joined}
 
 -- ---- What the rows say
@@ -54,12 +54,12 @@ IsShut (session.Unwanted x) = ⊥
 IsShut (session.Answered y) = ⊥
 IsShut session.Strange = ⊥
 
-abbrev Some_ : {X : Type 0} → List X → Type 0
-Some_ [] = ⊥
-Some_ (x ∷ xs) = Unit {0}
+abbrev HasMore : {X : Type 0} → List X → Type 0
+HasMore [] = ⊥
+HasMore (x ∷ xs) = Unit {0}
 
 -- A Return is on its way of an answer that is closed: then the question was given up, and nothing more of it is on the way.
-given_up : (v : Asker Ids Ids) (os : List (Out Ids Ids)) (u : Answerer Ids Ids) (bs : List (Ret Ids Ids)) → Row v os u bs → IsShut u → Some_ bs → IsGivenUp v × (os ≡ [])
+given_up : (v : Asker Ids Ids) (os : List (Out Ids Ids)) (u : Answerer Ids Ids) (bs : List (Ret Ids Ids)) → Row v os u bs → IsShut u → HasMore bs → IsGivenUp v × (os ≡ [])
 given_up v os u bs Idle i h = absurd h
 given_up v os u bs (Closing y l j) i h = absurd h
 given_up v os u bs (Sent x) i h = absurd h
@@ -75,7 +75,7 @@ given_up v os u bs (EarlyWaits x) i h = absurd h
 given_up v os u bs (EarlyReturning x y l j) i h = (tt, refl)
 
 -- And while that is so, the answer stays closed.
-stays_shut : (v : Asker Ids Ids) (os : List (Out Ids Ids)) (u : Answerer Ids Ids) (bs : List (Ret Ids Ids)) → Row v os u bs → IsGivenUp v → os ≡ [] → Some_ bs → IsShut u
+stays_shut : (v : Asker Ids Ids) (os : List (Out Ids Ids)) (u : Answerer Ids Ids) (bs : List (Ret Ids Ids)) → Row v os u bs → IsGivenUp v → os ≡ [] → HasMore bs → IsShut u
 stays_shut v os u bs Idle i e h = absurd h
 stays_shut v os u bs (Closing y l j) i e h = absurd h
 stays_shut v os u bs (Sent x) i e h = absurd h
@@ -112,33 +112,33 @@ was_sent gave finishing.Waived r i n = i
 
 -- ---- Links
 
-behind : (held bs cs : List (Ret Ids Ids)) → (Some_ bs → Some_ cs) → Some_ (held ++ bs) → Some_ (held ++ cs)
-behind [] bs cs f h = f h
-behind (a ∷ held) bs cs f h = tt
+behind : (xs ys zs : List (Ret Ids Ids)) → (HasMore ys → HasMore zs) → HasMore (xs ++ ys) → HasMore (xs ++ zs)
+behind [] ys zs f h = f h
+behind (x ∷ xs) ys zs f h = tt
 
-more : (q : ℕ) (xs ys : List Noted) → Some_ (rets q xs) → Some_ (rets q (xs ++ ys))
+more : (q : ℕ) (xs ys : List Noted) → HasMore (rets q xs) → HasMore (rets q (xs ++ ys))
 more q [] ys h = absurd h
 more q (n ∷ xs) ys h = behind (ret_of q n.message n.lets) (rets q xs) (rets q (xs ++ ys)) (more q xs ys) h
 
-one_more : (held bs : List (Ret Ids Ids)) → Some_ bs → Some_ (held ++ bs)
-one_more [] bs h = h
-one_more (a ∷ held) bs h = tt
+one_more : (xs ys : List (Ret Ids Ids)) → HasMore ys → HasMore (xs ++ ys)
+one_more [] ys h = h
+one_more (x ∷ xs) ys h = tt
 
-has_one : {X : Type 0} (b : Bool) (x : X) → b ≡ true → Some_ (only b x)
+has_one : {X : Type 0} (b : Bool) (x : X) → b ≡ true → HasMore (only b x)
 has_one true x e = tt
 has_one false x e = cc
 
-first : (xs ys : List (Ret Ids Ids)) → Some_ xs → Some_ (xs ++ ys)
+first : (xs ys : List (Ret Ids Ids)) → HasMore xs → HasMore (xs ++ ys)
 first [] ys i = absurd i
 first (x ∷ xs) ys i = tt
 
-rest_is : (held bs : List (Out Ids Ids)) → held ++ bs ≡ [] → bs ≡ []
-rest_is [] bs e = e
-rest_is (a ∷ held) bs e = cc
+rest_is : (xs ys : List (Out Ids Ids)) → xs ++ ys ≡ [] → ys ≡ []
+rest_is [] ys e = e
+rest_is (x ∷ xs) ys e = cc
 
 -- Canceled Returns on their way, of answers that are closed, find them closed still.
-module _ (held bs : Map AnswerEntry) (all : List Noted) (f : (q : ℕ) → map.get held q ≡ None → Some_ (rets q all) → map.get bs q ≡ None) where
-  still_one : (m : PlainMessage) (lets : Ids) → ((q : ℕ) → Some_ (ret_of q m lets) → Some_ (rets q all)) → IsClosed held m → IsClosed bs m
+module _ (answers later : Map AnswerEntry) (all : List Noted) (f : (q : ℕ) → map.get answers q ≡ None → HasMore (rets q all) → map.get later q ≡ None) where
+  still_one : (m : PlainMessage) (lets : Ids) → ((q : ℕ) → HasMore (ret_of q m lets) → HasMore (rets q all)) → IsClosed answers m → IsClosed later m
   still_one (plain.Abort exception) lets g h = tt
   still_one (plain.Bootstrap q) lets g h = tt
   still_one (plain.Call c) lets g h = tt
@@ -149,7 +149,7 @@ module _ (held bs : Map AnswerEntry) (all : List Noted) (f : (q : ℕ) → map.g
   still_one (plain.Disembargo d) lets g h = tt
   still_one (plain.Other n) lets g h = tt
 
-  still : (ns : List Noted) → ((q : ℕ) → Some_ (rets q ns) → Some_ (rets q all)) → AreClosed held (messages ns) → AreClosed bs (messages ns)
+  still : (ns : List Noted) → ((q : ℕ) → HasMore (rets q ns) → HasMore (rets q all)) → AreClosed answers (messages ns) → AreClosed later (messages ns)
   still [] g h = tt
   still (n ∷ ns) g h = (
     still_one n.message n.lets (λ q i. g q (first (ret_of q n.message n.lets) (rets q ns) i)) h.0,
@@ -170,7 +170,7 @@ stepped s t new to_s left to_t sent x before after less old e now =
     subst (λ (ms : List Message). AreClosed new.answers ms) (sym (messages-append to_t sent))
     (joined new.answers (messages to_t) (messages sent) (still s.answers new.answers to_t closed to_t (λ q i. i) old) (subst (λ (ms : List Message). AreClosed new.answers ms) e now))
   where
-    closed : (q : ℕ) → map.get s.answers q ≡ None → Some_ (rets q to_t) → map.get new.answers q ≡ None
+    closed : (q : ℕ) → map.get s.answers q ≡ None → HasMore (rets q to_t) → map.get new.answers q ≡ None
     closed q i h =
         let a = given_up _ _ _ _ (before.of_t q) (is_shut (map.get s.answers q) i) h in
         is_none (map.get new.answers q) (stays_shut _ _ _ _ (after.of_t q) a.0 (less q a.1) (more q to_t sent h))
@@ -196,7 +196,7 @@ given_kept k = record {
 -- ---- The oldest message
 
 module _ (s t : State) (n : Noted) (to_s to_t : List Noted) (k : Given s (n ∷ to_s) t to_t) where
-  whole : (x : PlainMessage) → n.message ≡ x → IsWhole s x
+  whole : (x : PlainMessage) → n.message ≡ x → CancelsOnlyGivenUp s x
   whole (plain.Abort exception) e = tt
   whole (plain.Bootstrap q) e = tt
   whole (plain.Call c) e = tt
@@ -208,8 +208,8 @@ module _ (s t : State) (n : Noted) (to_s to_t : List Noted) (k : Given s (n ∷ 
       shut : IfCanceled (map.get t.answers q ≡ None) r.body
       shut = subst (λ (m : PlainMessage). IsClosed t.answers m) e (let a = k.of_s in a.0)
 
-      comes : Some_ (rets q (n ∷ to_s))
-      comes = subst (λ (m : PlainMessage). Some_ (ret_of q m n.lets ++ rets q to_s)) (sym e) (first (ret_of q (plain.Return r) n.lets) (rets q to_s) (has_one _ _ (itself q)))
+      comes : HasMore (rets q (n ∷ to_s))
+      comes = subst (λ (m : PlainMessage). HasMore (ret_of q m n.lets ++ rets q to_s)) (sym e) (first (ret_of q (plain.Return r) n.lets) (rets q to_s) (has_one _ _ (itself q)))
 
       by : (o : Option Question) → map.get s.questions q ≡ o → IfThere (λ (x : Question). IsNotSent x.finish → IsNotCanceled r.body) o
       by None e = tt
@@ -226,13 +226,13 @@ module _ (s t : State) (n : Noted) (to_s to_t : List Noted) (k : Given s (n ∷ 
   whole (plain.Disembargo d) e = tt
   whole (plain.Other n) e = tt
 
-oldest : (s t : State) (to_s to_t : List Noted) (x : PlainMessage) (rest : List Message) → Given s to_s t to_t → message.Plain x ∷ rest ≡ messages to_s → IsWhole s x
+oldest : (s t : State) (to_s to_t : List Noted) (x : PlainMessage) (rest : List Message) → Given s to_s t to_t → message.Plain x ∷ rest ≡ messages to_s → CancelsOnlyGivenUp s x
 oldest s t [] to_t x rest k e = absurd (let bad : message.Plain x ∷ rest ≡ [] = e in cc)
 oldest s t (n ∷ ns) to_t x rest k e =
     let first : message.Plain x ≡ message.Plain n.message = cc in
     let same : n.message ≡ x = cc in
     whole s t n ns to_t k x same
 
-pub in_world : IsKept Given → (w : World) → HoldsIn Given w → OfOldest (λ s other out rest x. IsWhole s x) w
+pub in_world : IsKept Given → (w : World) → HoldsIn Given w → OfOldest (λ s other out rest x. CancelsOnlyGivenUp s x) w
 in_world g w h A x rest e = oldest w.a.core w.b.core h.to_a h.to_b x rest h.holds (sym e ∙ h.is_a)
 in_world g w h B x rest e = oldest w.b.core w.a.core h.to_b h.to_a x rest (g.turned w.a.core w.b.core h.to_a h.to_b h.holds) (sym e ∙ h.is_b)

@@ -40,28 +40,28 @@ IfCanceled P body.Canceled = P
 
 -- The answer of a canceled Return is not there.
 abbrev pub IsClosed : Map AnswerEntry → PlainMessage → Type 0
-IsClosed held (plain.Abort exception) = Unit {0}
-IsClosed held (plain.Bootstrap q) = Unit {0}
-IsClosed held (plain.Call c) = Unit {0}
-IsClosed held (plain.Return r) = IfCanceled (map.get held r.answer.0 ≡ None) r.body
-IsClosed held (plain.Finish f) = Unit {0}
-IsClosed held (plain.Resolve r) = Unit {0}
-IsClosed held (plain.Release r) = Unit {0}
-IsClosed held (plain.Disembargo d) = Unit {0}
-IsClosed held (plain.Other n) = Unit {0}
+IsClosed answers (plain.Abort exception) = Unit {0}
+IsClosed answers (plain.Bootstrap q) = Unit {0}
+IsClosed answers (plain.Call c) = Unit {0}
+IsClosed answers (plain.Return r) = IfCanceled (map.get answers r.answer.0 ≡ None) r.body
+IsClosed answers (plain.Finish f) = Unit {0}
+IsClosed answers (plain.Resolve r) = Unit {0}
+IsClosed answers (plain.Release r) = Unit {0}
+IsClosed answers (plain.Disembargo d) = Unit {0}
+IsClosed answers (plain.Other n) = Unit {0}
 
 abbrev pub AreClosed : Map AnswerEntry → List Message → Type 0
-AreClosed held [] = Unit {0}
-AreClosed held (message.Plain m ∷ ms) = IsClosed held m × AreClosed held ms
-AreClosed held (message.Unimplemented m ∷ ms) = AreClosed held ms
+AreClosed answers [] = Unit {0}
+AreClosed answers (message.Plain m ∷ ms) = IsClosed answers m × AreClosed answers ms
+AreClosed answers (message.Unimplemented m ∷ ms) = AreClosed answers ms
 
 pub if_canceled : (P Q : Type 0) (b : ReturnBody) → (P → Q) → IfCanceled P b → IfCanceled Q b
 if_canceled P Q (body.Results payload ds) f h = tt
 if_canceled P Q (body.Exception exception) f h = tt
 if_canceled P Q body.Canceled f h = f h
 
-module _ (held bs : Map AnswerEntry) (f : (q : ℕ) → map.get held q ≡ None → map.get bs q ≡ None) where
-  one_left : (m : PlainMessage) → IsClosed held m → IsClosed bs m
+module _ (answers later : Map AnswerEntry) (f : (q : ℕ) → map.get answers q ≡ None → map.get later q ≡ None) where
+  one_left : (m : PlainMessage) → IsClosed answers m → IsClosed later m
   one_left (plain.Abort exception) h = tt
   one_left (plain.Bootstrap q) h = tt
   one_left (plain.Call c) h = tt
@@ -72,18 +72,18 @@ module _ (held bs : Map AnswerEntry) (f : (q : ℕ) → map.get held q ≡ None 
   one_left (plain.Disembargo d) h = tt
   one_left (plain.Other n) h = tt
 
-  all_left : (ms : List Message) → AreClosed held ms → AreClosed bs ms
+  all_left : (ms : List Message) → AreClosed answers ms → AreClosed later ms
   all_left [] h = tt
   all_left (message.Plain m ∷ ms) h = (one_left m h.0, all_left ms h.1)
   all_left (message.Unimplemented m ∷ ms) h = all_left ms h
 
-module _ (held : Map AnswerEntry) where
-  pub joined : (xs ys : List Message) → AreClosed held xs → AreClosed held ys → AreClosed held (xs ++ ys)
+module _ (answers : Map AnswerEntry) where
+  pub joined : (xs ys : List Message) → AreClosed answers xs → AreClosed answers ys → AreClosed answers (xs ++ ys)
   joined [] ys h k = k
   joined (message.Plain m ∷ xs) ys h k = (h.0, joined xs ys h.1 k)
   joined (message.Unimplemented m ∷ xs) ys h k = joined xs ys h k
 
-  releases : (xs : List (ℕ × ℕ)) → AreClosed held (release_messages xs)
+  releases : (xs : List (ℕ × ℕ)) → AreClosed answers (release_messages xs)
   releases [] = tt
   releases (x ∷ xs) = (tt, releases xs)
 
@@ -94,8 +94,8 @@ IsFinished None = Unit {0}
 IsFinished (Some a) = a.finished ≡ true
 
 abbrev SaysSo : Map AnswerEntry → Option Saying → Type 0
-SaysSo held None = Unit {0}
-SaysSo held (Some x) = IfCanceled (IsFinished (map.get held x.answer.0)) x.body
+SaysSo answers None = Unit {0}
+SaysSo answers (Some x) = IfCanceled (IsFinished (map.get answers x.answer.0)) x.body
 
 abbrev IsSo : Moment → Type 0
 IsSo d = AreClosed d.state.answers d.effects.sends × SaysSo d.state.answers d.saying
@@ -107,23 +107,23 @@ said_so s o a false (value.Exception exception) b ds es e f h = subst (λ (x : R
 said_so s o a false (value.Results payload caps) b ds es e f h = subst (λ (x : ReturnBody). IfCanceled (IsFinished o) x) (sym h.0) tt
 
 -- A Return was sent of that answer.
-module _ (held : Map AnswerEntry) (k : ℕ) (a : AnswerEntry) (there : map.get held k ≡ Some a) (ids : List ℕ) where
-  none_opens : (b : Bool) (q : ℕ) → map.get held q ≡ None → map.get (returned_map held k a b ids) q ≡ None
-  none_opens true q = at_cut (λ j o. map.get held j ≡ None → o ≡ None) held k (λ g. refl) (λ j g i. i) q
-  none_opens false q = at_put (λ j o. map.get held j ≡ None → o ≡ None) held k _ (λ g. absurd (let bad : Some a ≡ None = sym there ∙ g in cc)) (λ j g i. i) q
+module _ (answers : Map AnswerEntry) (k : ℕ) (a : AnswerEntry) (there : map.get answers k ≡ Some a) (ids : List ℕ) where
+  none_opens : (b : Bool) (q : ℕ) → map.get answers q ≡ None → map.get (returned_map answers k a b ids) q ≡ None
+  none_opens true q = at_cut (λ j o. map.get answers j ≡ None → o ≡ None) answers k (λ g. refl) (λ j g i. i) q
+  none_opens false q = at_put (λ j o. map.get answers j ≡ None → o ≡ None) answers k _ (λ g. absurd (let bad : Some a ≡ None = sym there ∙ g in cc)) (λ j g i. i) q
 
-  closes : (b : Bool) → b ≡ true → map.get (returned_map held k a b ids) k ≡ None
-  closes true e = get_cut held k k ∙ ap (λ (c : Bool). cond c None (map.get held k)) (itself k)
+  closes : (b : Bool) → b ≡ true → map.get (returned_map answers k a b ids) k ≡ None
+  closes true e = get_cut answers k k ∙ ap (λ (c : Bool). cond c None (map.get answers k)) (itself k)
   closes false e = cc
 
 -- ---- The acts
 
-returned_so : (held : Map AnswerEntry) (x : Saying) (a : AnswerEntry) (ids : List ℕ) (flag : Bool) (sends : List Message) → map.get held x.answer.0 ≡ Some a → AreClosed held sends → SaysSo held (Some x)
-    → AreClosed (returned_map held x.answer.0 a a.finished ids) (sends ++ message.Plain (plain.Return (record { answer = x.answer; release_param_caps = flag; body = x.body })) ∷ [])
-returned_so held x a ids flag sends e c y =
-    let new : Map AnswerEntry = returned_map held x.answer.0 a a.finished ids in
-    joined new sends _ (all_left held new (none_opens held x.answer.0 a e ids a.finished) sends c)
-    (if_canceled _ _ x.body (λ (i : IsFinished (map.get held x.answer.0)). closes held x.answer.0 a e ids a.finished (subst IsFinished e i)) y, tt)
+returned_so : (answers : Map AnswerEntry) (x : Saying) (a : AnswerEntry) (ids : List ℕ) (flag : Bool) (sends : List Message) → map.get answers x.answer.0 ≡ Some a → AreClosed answers sends → SaysSo answers (Some x)
+    → AreClosed (returned_map answers x.answer.0 a a.finished ids) (sends ++ message.Plain (plain.Return (record { answer = x.answer; release_param_caps = flag; body = x.body })) ∷ [])
+returned_so answers x a ids flag sends e c y =
+    let new : Map AnswerEntry = returned_map answers x.answer.0 a a.finished ids in
+    joined new sends _ (all_left answers new (none_opens answers x.answer.0 a e ids a.finished) sends c)
+    (if_canceled _ _ x.body (λ (i : IsFinished (map.get answers x.answer.0)). closes answers x.answer.0 a e ids a.finished (subst IsFinished e i)) y, tt)
 
 started : (s : State) (c : Command) (g : Granted) (new : Moment) → Starts (beginning s) c g new → IsSo new
 started s c g new (first.Hosts o e a h) = rw h (tt, tt)

@@ -5,3 +5,7 @@ pub mod Walking
 pub mod Gathered
 pub mod Orders
 pub mod Turning
+pub mod Arriving
+pub mod TiedScenes
+pub mod Arrived
+pub mod Sound

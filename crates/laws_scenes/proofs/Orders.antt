@@ -3,6 +3,7 @@ use Rattle.std.specs.List.{All, AllByRecursion}
 use Rattle.std.proofs.lemmas.List.{map-append}
 use Rattle.std.proofs.lemmas.List.Elements.{All-nil, All-cons}
 use Rattle.std.proofs.Common.{◌≡◌, ℕ, zero, suc, ◌+◌, Bool, true, false, Option, None, cond, List, [], ◌∷◌, ◌++◌, map, length, refl, sym, ap, subst, ◌∙◌, arith}
+use Rattle.rpc_msg.specs.declared.ids.ObjectId.{ObjectId}
 use Rattle.rpc_msg.specs.declared.ids.Stamp.{Stamp}
 use Rattle.rpc_msg.specs.declared.ids.Vat.TheVariants.{A}
 use Rattle.vat_journal.specs.declared.entry.JournalEntry.{JournalEntry}
@@ -16,6 +17,7 @@ use Rattle.call_order.specs.Machine.{choose}
 use Rattle.call_order.specs.Machine as routing
 use Rattle.call_order.specs.Order.{AtOne, IsAt, IsBeginningOf, below, indexes}
 use Rattle.laws_runs.specs.MadeCalls.{CallsAreNumbered}
+use Rattle.laws_runs.specs.Scenes.{Scene, IsScene}
 use Rattle.laws_runs.specs.Shown.{EveryRunIsShown, EverySceneShowsARun}
 use Rattle.laws_runs.specs.Telling.{telling, tells}
 use Rattle.laws_runs.proofs.Reading.{same_ref_is}
@@ -29,7 +31,7 @@ use Rattle.laws_scenes.proofs.Histories.{same_ref_itself}
 
 -- ---- Stamps by their numbers
 
-abbrev stamp_at : Ref → ℕ → Stamp
+abbrev pub stamp_at : Ref → ℕ → Stamp
 stamp_at r i = record { vat = r.vat; reference = record { 0 = r.number }; index = i }
 
 abbrev from : ℕ → ℕ → List ℕ
@@ -50,7 +52,7 @@ below_is (suc n) = ap (λ (l : List ℕ). l ++ n ∷ []) (below_is n) ∙ ap (λ
 
 -- ---- Deliveries of one reference
 
-abbrev only_of : Ref → List DeliveredAt → List DeliveredAt
+abbrev pub only_of : Ref → List DeliveredAt → List DeliveredAt
 only_of r [] = []
 only_of r (d ∷ ds) = choose (routes.same_ref (caller d.delivery.stamp) r) (d ∷ only_of r ds) (only_of r ds)
 
@@ -62,12 +64,12 @@ same_or_not r q d ds es e (no n) = by (same_ref r q) refl
     by true f = absurd (n (sym (same_ref_is r q f)))
     by false f = ap (λ (b : Bool). in_front (if_so b d) ds) f ∙ e
 
-only_told : (r : Ref) (h : List JournalEntry) → deliveries h r ≡ only_of r (all_told h)
+pub only_told : (r : Ref) (h : List JournalEntry) → deliveries h r ≡ only_of r (all_told h)
 only_told r [] = refl
 only_told r (entry.Delivered v d ∷ es) = same_or_not r (caller d.stamp) (record { vat = v; delivery = d }) (deliveries es r) (only_of r (all_told es)) (only_told r es) (routes.same_ref (caller d.stamp) r)
 only_told r (e ∷ es) = only_told r es
 
-routed : (r : Ref) (ds : List DeliveredAt) → deliveries_of r ds ≡ map delivery_of (only_of r ds)
+pub routed : (r : Ref) (ds : List DeliveredAt) → deliveries_of r ds ≡ map delivery_of (only_of r ds)
 routed r [] = refl
 routed r (d ∷ ds) = by (routed r ds) (routes.same_ref (caller d.delivery.stamp) r)
   where
@@ -96,6 +98,12 @@ at_one (d ∷ ds) h = all_there d ds h
 
 -- ---- A journal
 
+pub delivered_is : (r : Ref) (h : List JournalEntry) → delivered h r ≡ map (stamp_at r) (indexes (deliveries_of r (all_told h)))
+delivered_is r h = ap stamps (only_told r h) ∙ stamps_are r (all_told h) ∙ ap (λ (l : List (routing.Delivery routes)). map (stamp_at r) (indexes l)) (sym (routed r (all_told h)))
+
+pub made_is : (r : Ref) (h : List JournalEntry) (n : ℕ) → n ≡ length (made h r) → IsNumbered r 0 (made h r) → made h r ≡ map (stamp_at r) (below n)
+made_is r h n e k = numbered_is r 0 (made h r) k ∙ ap (λ (j : ℕ). map (stamp_at r) (from 0 j)) (sym e) ∙ ap (λ (l : List ℕ). map (stamp_at r) l) (sym (below_is n))
+
 is_beginning : (r : Ref) (xs ys : List ℕ) (ss ts : List Stamp) → IsBeginningOf xs ys → ss ≡ map (stamp_at r) xs → ts ≡ map (stamp_at r) ys → IsBeginning ss ts
 is_beginning r xs ys ss ts b e f = (map (stamp_at r) b.0, ap (λ (l : List Stamp). l ++ map (stamp_at r) b.0) e ∙ sym (map-append (stamp_at r) xs b.0) ∙ ap (λ (l : List ℕ). map (stamp_at r) l) b.1 ∙ sym f)
 
@@ -104,25 +112,23 @@ ordered : (h : List JournalEntry) (made_in : Ref → ℕ) → ((r : Ref) → mad
 ordered h made_in counts numbers o = record { in_order = in_order; at_one = one }
   where
     in_order : IsInOrder h
-    in_order r =
-        let ds = only_of r (all_told h) in
-        let xs = indexes (map delivery_of ds) in
-        let b : IsBeginningOf xs (below (made_in r)) = subst (λ (l : List (routing.Delivery routes)). IsBeginningOf (indexes l) (below (made_in r))) (routed r (all_told h)) (o r).0 in
-        is_beginning r xs (below (made_in r)) (delivered h r) (made h r) b
-        (ap stamps (only_told r h) ∙ stamps_are r (all_told h))
-        (numbered_is r 0 (made h r) (numbers r) ∙ ap (λ (n : ℕ). map (stamp_at r) (from 0 n)) (sym (counts r)) ∙ ap (λ (l : List ℕ). map (stamp_at r) l) (sym (below_is (made_in r))))
+    in_order r = is_beginning r (indexes (deliveries_of r (all_told h))) (below (made_in r)) (delivered h r) (made h r) (o r).0 (delivered_is r h) (made_is r h (made_in r) (counts r) (numbers r))
 
     one : (r : Ref) → AreAtOne (deliveries h r)
     one r = subst AreAtOne (sym (only_told r h)) (at_one (only_of r (all_told h)) (subst AtOne (routed r (all_told h)) (o r).1))
 
 -- ---- Scenes
 
+pub numbered_in : CallsAreNumbered → EverySceneShowsARun → (root_a root_b : Option ObjectId) (x : Scene) → IsScene root_a root_b x → AreNumbered x.journal
+numbered_in numbers shows a b x i r =
+    let s = shows a b x i in
+    let told : telling x.journal ≡ telling (journal s.0) = (let u = s.3 in sym u.history) in
+    subst (IsNumbered r 0) (sym (same_made x.journal (journal s.0) told r)) (numbers s.0 r)
+
 pub scenes : ScenesAreBetweenSteps → DeliveredInOrder → CallsAreNumbered → EverySceneShowsARun → ScenesAreOrdered
 scenes between order numbers shows a b x i =
     let k = between a b x i in
-    let s = shows a b x i in
-    let told : telling x.journal ≡ telling (journal s.0) = (let u = s.3 in sym u.history) in
-    ordered x.journal k.made k.counts (λ r. subst (IsNumbered r 0) (sym (same_made x.journal (journal s.0) told r)) (numbers s.0 r)) (order A One One a b (seen x.world k.made (all_told x.journal) A) (core x.world A) (k.steps A))
+    ordered x.journal k.made k.counts (numbered_in numbers shows a b x i) (order A One One a b (seen x.world k.made (all_told x.journal) A) (core x.world A) (k.steps A))
 
 -- ---- Runs
 

@@ -1,8 +1,7 @@
 -- In each scene the target of a Disembargo that is to turn back settles to a wire.
-use Rattle.std.proofs.Common.{◌≡◌, true, List, [], ◌∷◌, subst}
+use Rattle.std.proofs.Common.{◌≡◌, true, List, ◌∷◌, subst}
 use Rattle.rpc_msg.specs.declared.ids.EmbargoId.{EmbargoId}
 use Rattle.rpc_msg.specs.declared.ids.Vat.{Vat}
-use Rattle.rpc_msg.specs.declared.ids.Vat.TheVariants.{A}
 use Rattle.rpc_msg.specs.declared.message.DisembargoContext.TheVariants.{SenderLoopback}
 use Rattle.rpc_msg.specs.declared.message.Message.{Message}
 use Rattle.rpc_msg.specs.declared.message.Message.TheVariants as message
@@ -11,24 +10,23 @@ use Rattle.rpc_msg.specs.declared.message.PlainMessage.TheVariants as plain
 use Rattle.rpc_msg.specs.declared.parts.Target.{Target}
 use Rattle.rpc_msg.specs.declared.parts.Target.TheVariants.{ImportedCap, PromisedAnswer}
 use Rattle.rpc_msg.specs.Vats.{other_vat}
-use Rattle.vat_machine.specs.declared.command.Level.TheVariants.{One}
-use Rattle.vat_machine.specs.State.{State, start}
+use Rattle.vat_machine.specs.State.{State}
 use Rattle.vat_machine.specs.Faults.{target_node}
 use Rattle.vat_machine.specs.Nodes.{is_wire, settle}
 use Rattle.vat_machine.specs.Progress.{begin}
 use Rattle.vat_machine.specs.World.{core, inbox}
-use Rattle.call_order.proofs.Moves.{moves_keep}
 use Rattle.laws_answers.specs.Named.{FindsTarget, FindsTargets, NamedAnswersAreThere}
 use Rattle.laws_answers.specs.Taken.{IsOldest}
 use Rattle.laws_routes.specs.ChainLaws.{VatsStayTied}
 use Rattle.laws_routes.specs.Laws.{with_back}
 use Rattle.laws_routes.specs.Midway.{LinksRestFollows}
-use Rattle.laws_routes.specs.PairLaws.{StartIsTied, beginning}
+use Rattle.laws_routes.specs.PairLaws.{StartIsTied}
 use Rattle.laws_routes.specs.StepLaws.{TiedAt}
 use Rattle.laws_routes.specs.TakingLaws.{DisembargoMeetsWire, IsAnswered, MayBounce}
 use Rattle.laws_routes.proofs.MessagesTaken.{target_held}
 use Rattle.laws_scenes.specs.Refused.{DisembargosTurn}
 use Rattle.laws_scenes.specs.Walked.{ScenesAreBetweenSteps, all_told, seen}
+use Rattle.laws_scenes.proofs.TiedScenes.{tied_in}
 
 is_answered : (s : State) (t : Target) → FindsTarget s t → IsAnswered s t
 is_answered s (ImportedCap e) h = tt
@@ -45,14 +43,12 @@ turns between starts stay rests named meets a b x i = record { turns = turn }
         let out = inbox x.world (other_vat v) in
         let m = plain.Disembargo (record { target = t; context = SenderLoopback e }) in
         let w = seen x.world k.made (all_told x.journal) v in
-        let z = starts A One One a b in
-        let y = stay (beginning A One b) w (start A One a) s z.0 z.1 z.2 z.3 (k.steps v) in
-        let inv = moves_keep y.1 [] z.1 [] y.2 z.3 in
-        let tied : TiedAt (with_back w (message.Plain m ∷ o.0)) s y.0 y.1 = subst (λ (ms : List Message). TiedAt (with_back w ms) s y.0 y.1) o.1 y.3 in
+        let y = tied_in starts stay a b x k v in
+        let tied : TiedAt (with_back w (message.Plain m ∷ o.0)) s y.ghosts y.net = subst (λ (ms : List Message). TiedAt (with_back w ms) s y.ghosts y.net) o.1 y.tied in
         let mid = k.midway v in
         let found = named a b x i v (message.Plain m) o.0 o.1 in
         let same : found.0 ≡ m = (let f : message.Plain m ≡ message.Plain found.0 = found.1 in cc) in
         let answered : FindsTargets s m = subst (λ (p : PlainMessage). FindsTargets s p) same found.2 in
         let held = target_held s other out (inbox x.world v) mid t in
         let may : MayBounce w s t = record { answered = is_answered s t answered; own = λ j c f. (let n = mid.exports j c f in n.0); rest = rests s other out (inbox x.world v) mid; there = held.0 } in
-        meets w (begin s) y.0 y.1 e t o.0 tied inv may
+        meets w (begin s) y.ghosts y.net e t o.0 tied y.holds may

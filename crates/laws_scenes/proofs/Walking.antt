@@ -43,7 +43,7 @@ use Rattle.laws_routes.specs.Received.{IsMet, MessagesFollow}
 use Rattle.laws_routes.specs.StepLaws.{made_by}
 use Rattle.laws_routes.specs.Ties.{Around, all_at}
 use Rattle.laws_between.specs.Meeting.{IfThere, IsLeft, LoopIsLeft, OfBoth, OfOldest}
-use Rattle.laws_scenes.specs.Canceled as canceled
+use Rattle.laws_scenes.specs.Canceled.{CancelsOnlyGivenUp}
 use Rattle.laws_scenes.specs.Walked.{Counts, IsBetweenSteps, Leads, all_told, seen}
 use Rattle.laws_scenes.proofs.Histories.{TellsNone, commands_count, commands_tell, granted_tell, messages_count, messages_tell, none_behind_all, none_counts, only_made}
 
@@ -55,7 +55,7 @@ pub record Facts (w : World) : Type 0 where
   pub level : (v : Vat) → (core w v).level ≡ One
   pub plain : (v : Vat) (m : Message) (ms : List Message) → inbox w v ≡ m ∷ ms → (x : PlainMessage) × (m ≡ message.Plain x)
   pub met : OfOldest (λ s other out rest x. IsLeft s x → IsMet s other out rest x) w
-  pub given_up : OfOldest (λ s other out rest x. canceled.IsWhole s x) w
+  pub given_up : OfOldest (λ s other out rest x. CancelsOnlyGivenUp s x) w
 
 pub record Laws : Type 0 where
   pub joins : JoinsFollow
@@ -97,7 +97,7 @@ module _ (root_a root_b : Option ObjectId) where
         by None f = tt
         by (Some b) f = let a = l.only (core w v) (ready.right v) in a.1 e.0 b f
 
-    left : (v : Vat) (x : PlainMessage) → canceled.IsWhole (core w v) x → IsLeft (core w v) x
+    left : (v : Vat) (x : PlainMessage) → CancelsOnlyGivenUp (core w v) x → IsLeft (core w v) x
     left v (plain.Abort exception) i = tt
     left v (plain.Bootstrap q) i = tt
     left v (plain.Call c) i = tt

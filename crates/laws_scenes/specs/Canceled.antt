@@ -10,16 +10,16 @@ use Rattle.laws_routes.specs.SayingLaws.{IsNotCanceled}
 use Rattle.laws_between.specs.Meeting.{IfThere, OfOldest}
 
 -- Of a question whose Finish was not sent no Return is canceled.
-abbrev pub IsWhole : State → PlainMessage → Type 0
-IsWhole s (plain.Abort exception) = Unit {0}
-IsWhole s (plain.Bootstrap q) = Unit {0}
-IsWhole s (plain.Call c) = Unit {0}
-IsWhole s (plain.Return r) = IfThere (λ (x : Question). IsNotSent x.finish → IsNotCanceled r.body) (map.get s.questions r.answer.0)
-IsWhole s (plain.Finish f) = Unit {0}
-IsWhole s (plain.Resolve r) = Unit {0}
-IsWhole s (plain.Release r) = Unit {0}
-IsWhole s (plain.Disembargo d) = Unit {0}
-IsWhole s (plain.Other n) = Unit {0}
+abbrev pub CancelsOnlyGivenUp : State → PlainMessage → Type 0
+CancelsOnlyGivenUp s (plain.Abort exception) = Unit {0}
+CancelsOnlyGivenUp s (plain.Bootstrap q) = Unit {0}
+CancelsOnlyGivenUp s (plain.Call c) = Unit {0}
+CancelsOnlyGivenUp s (plain.Return r) = IfThere (λ (x : Question). IsNotSent x.finish → IsNotCanceled r.body) (map.get s.questions r.answer.0)
+CancelsOnlyGivenUp s (plain.Finish f) = Unit {0}
+CancelsOnlyGivenUp s (plain.Resolve r) = Unit {0}
+CancelsOnlyGivenUp s (plain.Release r) = Unit {0}
+CancelsOnlyGivenUp s (plain.Disembargo d) = Unit {0}
+CancelsOnlyGivenUp s (plain.Other n) = Unit {0}
 
 abbrev pub CanceledWereGivenUp : Type 0
-CanceledWereGivenUp = InScenes (OfOldest (λ s other out rest x. IsWhole s x))
+CanceledWereGivenUp = InScenes (OfOldest (λ s other out rest x. CancelsOnlyGivenUp s x))

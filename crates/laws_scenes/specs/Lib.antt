@@ -2,3 +2,5 @@ pub mod Canceled
 pub mod Walked
 pub mod Ordered
 pub mod Refused
+pub mod InFull
+pub mod WhatIsLeft

@@ -1,11 +1,13 @@
 //! The functions run no code: what each ensures is the law.
 
 ghost use Rattle.laws_scenes.specs.Canceled.{CanceledWereGivenUp};
+ghost use Rattle.laws_scenes.specs.InFull.{OwnScenesArriveInFull, RunsArriveInFull, ScenesArriveInFull};
 ghost use Rattle.laws_scenes.specs.Ordered.{RunsAreOrdered, ScenesAreOrdered};
 ghost use Rattle.laws_scenes.specs.Refused.{AllFallsAreKnown, DisembargosTurn, RunsRefuseNothing, ScenesRefuseNothing};
+ghost use Rattle.laws_scenes.specs.WhatIsLeft.{SoundByMeanings};
 ghost use Rattle.laws_scenes.specs.Walked.{ScenesAreBetweenSteps};
 
-use laws_answers::{named_answers_are_there, no_message_is_refused};
+use laws_answers::{named_answers_are_there, no_message_is_refused, sound_by_the_rest};
 use laws_between::{oldest_are_met, vats_meet};
 use laws_routes::{
     calls_may_go, disembargos_meet_wires, embargoes_are_right, steps_begin_and_end_with_it,
@@ -51,6 +53,32 @@ pub fn calls_keep_their_order()
     every_run_is_shown();
 }
 
+/// Once a call of a reference was delivered, none is lost: where none of its calls is held or on its way, all of them were delivered.
+/// So it is in each scene, and in every run while neither vat is down.
+pub fn calls_arrive_in_full()
+    ensures scenes { ScenesArriveInFull }
+    ensures runs { RunsArriveInFull }
+{
+    vats_are_between_steps();
+    vats_are_tied();
+    steps_keep_order();
+    calls_are_numbered();
+    every_run_is_shown();
+}
+
+/// In each scene none of the calls is lost of a reference that leads, at its own vat, to an object or to what is still open: where none
+/// is held or on its way, all of them were delivered.
+pub fn own_calls_arrive_in_full()
+    ensures { OwnScenesArriveInFull }
+{
+    vats_are_between_steps();
+    vats_are_tied();
+    steps_keep_order();
+    calls_may_go();
+    calls_are_numbered();
+    every_run_is_shown();
+}
+
 /// In each scene a Disembargo that is to turn back is aimed at what leads back, over the wire on which it came.
 pub fn disembargos_turn_back()
     ensures { DisembargosTurn }
@@ -73,4 +101,15 @@ pub fn nothing_is_refused()
 {
     disembargos_turn_back();
     no_message_is_refused();
+}
+
+/// All that is promised of runs holds once this is shown of scenes: each delivery and each end is by what the reference of its call
+/// stands for, and of a reference that stands for an object no call is lost before the first one was delivered.
+pub fn sound_by_meanings()
+    ensures { SoundByMeanings }
+{
+    sound_by_the_rest();
+    calls_keep_their_order();
+    calls_arrive_in_full();
+    disembargos_turn_back();
 }

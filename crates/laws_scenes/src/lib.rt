@@ -4,6 +4,6 @@
 mod laws;
 
 pub use laws::{
-    calls_keep_their_order, canceled_were_given_up, disembargos_turn_back, nothing_is_refused,
-    vats_are_between_steps,
+    calls_arrive_in_full, calls_keep_their_order, canceled_were_given_up, disembargos_turn_back,
+    nothing_is_refused, own_calls_arrive_in_full, sound_by_meanings, vats_are_between_steps,
 };
