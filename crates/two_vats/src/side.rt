@@ -92,6 +92,13 @@ impl Side {
         self.follow(rt, effects)
     }
 
+    pub(crate) fn tell_counts(&self, rt: &HostRuntime) -> Result<()> {
+        let counts = self.core.counts()?;
+        let (exports, imports) = (counts.exports.len(), counts.imports.len());
+        println!(rt; "  {}: exports {exports}, imports {imports}", self.name)?;
+        Ok(())
+    }
+
     pub(crate) fn take_messages(&mut self, rt: &HostRuntime) -> Vec<Message> {
         mem::replace(&mut self.outbox, Vec::new(rt.alloc()))
     }
@@ -115,7 +122,10 @@ impl Side {
     /// Does what a method does, answers, and lets go of what came with the call and what it gave.
     fn serve(&mut self, rt: &HostRuntime, task: Delivery) -> Result<()> {
         let (object, method, index) = (task.object.0, task.method, task.stamp.index);
-        println!(rt; "  {}: object {object} serves method {method}, call {index} of its reference", self.name)?;
+        println!(rt;
+            "  {}: object {object} serves method {method}, call {index} of its reference",
+            self.name
+        )?;
         let given = match (task.method, self.promised, task.refs.as_slice()) {
             (GET, _, _) => Some(self.promise()?),
             (PUBLISH, Some(promise), [printer]) => {
