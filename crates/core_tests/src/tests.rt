@@ -1,4 +1,7 @@
+mod cores;
 mod exports;
+mod large;
 mod names;
 mod outbox;
+mod refusals;
 mod waits;

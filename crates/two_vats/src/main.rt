@@ -28,6 +28,7 @@ fn main(rt: HostRuntime) -> Result<()> {
     println!(rt;
         "a asks for the registry, gets a printer from it, and prints, all before b has received anything"
     )?;
+    println!(rt; "a asks for the registry, and that for a printer, and prints, at once")?;
     let (bootstrap, effects) = a.core.bootstrap()?;
     a.follow(&rt, effects)?;
     let registry = a.result_of(&rt, bootstrap)?;
@@ -39,6 +40,7 @@ fn main(rt: HostRuntime) -> Result<()> {
     println!(rt;
         "a publishes a printer of its own: b resolves its promise to that, and what waited at b comes back"
     )?;
+    println!(rt; "a publishes its own printer, and what waited at b comes back")?;
     let own = a.core.host(PRINTER)?;
     let _ = a.call(&rt, registry, PUBLISH, &[own])?;
     exchange(&rt, &mut a, &mut b)?;
@@ -46,6 +48,7 @@ fn main(rt: HostRuntime) -> Result<()> {
     println!(rt;
         "a prints by way of b, shortens the path, and prints again: that waits for what was sent before"
     )?;
+    println!(rt; "a prints by way of b, shortens the path, and prints again")?;
     let _ = a.call(&rt, printer, PRINT, &[])?;
     a.shorten(&rt, printer)?;
     a.shorten(&rt, printer)?;
@@ -53,8 +56,12 @@ fn main(rt: HostRuntime) -> Result<()> {
     exchange(&rt, &mut a, &mut b)?;
 
     println!(rt; "a lets go of what it holds")?;
+    a.tell_counts(&rt)?;
+    b.tell_counts(&rt)?;
     a.let_go(&[registry, printer, own])?;
-    exchange(&rt, &mut a, &mut b)
+    exchange(&rt, &mut a, &mut b)?;
+    a.tell_counts(&rt)?;
+    b.tell_counts(&rt)
 }
 
 /// Carries messages both ways, more often than it takes until none is left.

@@ -92,6 +92,13 @@ impl Side {
         self.follow(rt, effects)
     }
 
+    pub(crate) fn tell_counts(&self, rt: &HostRuntime) -> Result<()> {
+        let counts = self.core.counts()?;
+        let (exports, imports) = (counts.exports.len(), counts.imports.len());
+        println!(rt; "  {}: exports {exports}, imports {imports}", self.name)?;
+        Ok(())
+    }
+
     pub(crate) fn take_messages(&mut self, rt: &HostRuntime) -> Vec<Message> {
         mem::replace(&mut self.outbox, Vec::new(rt.alloc()))
     }
