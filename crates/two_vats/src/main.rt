@@ -25,9 +25,6 @@ fn main(rt: HostRuntime) -> Result<()> {
     let mut a = Side::new(rt.alloc(), "a", Vat::A, None)?;
     let mut b = Side::new(rt.alloc(), "b", Vat::B, Some(REGISTRY))?;
 
-    println!(rt;
-        "a asks for the registry, gets a printer from it, and prints, all before b has received anything"
-    )?;
     println!(rt; "a asks for the registry, and that for a printer, and prints, at once")?;
     let (bootstrap, effects) = a.core.bootstrap()?;
     a.follow(&rt, effects)?;
@@ -37,17 +34,11 @@ fn main(rt: HostRuntime) -> Result<()> {
     let _ = a.call(&rt, printer, PRINT, &[])?;
     exchange(&rt, &mut a, &mut b)?;
 
-    println!(rt;
-        "a publishes a printer of its own: b resolves its promise to that, and what waited at b comes back"
-    )?;
     println!(rt; "a publishes its own printer, and what waited at b comes back")?;
     let own = a.core.host(PRINTER)?;
     let _ = a.call(&rt, registry, PUBLISH, &[own])?;
     exchange(&rt, &mut a, &mut b)?;
 
-    println!(rt;
-        "a prints by way of b, shortens the path, and prints again: that waits for what was sent before"
-    )?;
     println!(rt; "a prints by way of b, shortens the path, and prints again")?;
     let _ = a.call(&rt, printer, PRINT, &[])?;
     a.shorten(&rt, printer)?;
