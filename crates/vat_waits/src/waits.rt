@@ -15,8 +15,8 @@ use vat_tables::{HeldPool, ListKey, POOL_LIMIT, Picked, TableFault};
 
 /// The promises of a vat's own, the outcomes that it keeps and its embargoes, each with the calls that wait there; and the
 /// calls that were taken out to be routed. All calls stand in one pool, where each place has a list of its own, so a list
-/// is routed call by call while others grow, and none is moved to be taken out. Each call is constant work, but where
-/// memory grows.
+/// is routed call by call while others grow, and none is moved to be taken out. Each call is constant work, but for
+/// `holds`, and where memory grows.
 #[derive(Drop)]
 pub struct Waits {
     promises: Picked<PromiseEntry>,
@@ -92,7 +92,7 @@ impl Waits {
     }
 
     /// Whether a call that waits for a promise, an outcome or the end of an embargo was made through that reference of that
-    /// vat. Looks at each call that waits. Takes no memory.
+    /// vat. Looks at each entry and each call that waits there. Takes no memory.
     pub fn holds(&self, vat: Vat, reference: RefId) -> bool
         ensures { result ≡ list_any (is_by vat reference) (stamps_waiting self.now) }
     {
