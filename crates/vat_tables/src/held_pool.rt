@@ -1,4 +1,4 @@
-ghost use Rattle.std.specs.Prelude.{◌↔◌, ◌≡◌, ◌==◌, ◌≢◌, ◌≤◌, ◌<◌, ◌+◌, ◌++◌, [], ◌∷◌, length, Some, None, Ok, Err, true, IsTrue, IsOk, IsSome, IfOk, IfErr, IfSome, OnOk, OnErr, MatchBool, Any, All, false};
+ghost use Rattle.std.specs.Prelude.{◌↔◌, ◌≡◌, ◌==◌, ◌≢◌, ◌≤◌, ◌<◌, ◌+◌, ◌++◌, [], ◌∷◌, length, Some, None, Ok, Err, true, IsTrue, IsOk, IsSome, IfOk, IfErr, IfSome, OnOk, OnErr, MatchBool, Any, All, false, unwrap_or};
 ghost use Rattle.std.specs.Borrow.{Bor};
 ghost use Rattle.std.specs.FinMap as map;
 ghost use Rattle.vat_tables.specs.Chains.{walk};
@@ -207,6 +207,21 @@ impl<T> HeldPool<T> {
             last: back.last,
             len: front.len + back.len,
         };
+    }
+
+    /// Whether `f` is true of some call of that list; of none where there is no such list. Takes no memory.
+    pub fn any_in<F: Fn(&T) -> bool>(&self, key: ListKey, f: F) -> bool
+    where
+        F: Drop,
+        requires { F.IsAlwaysCallable f }
+        ensures { MatchBool result
+            (Any (λ call. (shown : Bor T) × (shown.now ≡ call) × F.post f shown true) (unwrap_or (map.get self.now.lists key.0) []))
+            (All (λ call. (shown : Bor T) × (shown.now ≡ call) × F.post f shown false) (unwrap_or (map.get self.now.lists key.0) [])) }
+    {
+        match self.lists.get(key.0) {
+            Some(ends) => any_from(&self.calls, ends.first, ends.len, &f),
+            None => false,
+        }
     }
 
     /// Whether `f` is true of some call in any list. Takes no memory.

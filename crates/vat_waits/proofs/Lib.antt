@@ -2,3 +2,4 @@ pub mod Owning
 pub mod Seeing
 pub mod Seen
 pub mod LookUps
+pub mod Looking

@@ -1,5 +1,5 @@
 -- What a look-up of an entry says of what is seen.
-use Rattle.std.proofs.Common.{◌≡◌, ℕ, Bool, true, false, List, [], ◌∷◌, Option, None, Some, is_some, unwrap_or, MatchBool, refl, sym, ap, subst, ◌∙◌}
+use Rattle.std.proofs.Common.{◌≡◌, ℕ, Bool, List, [], ◌∷◌, Option, None, Some, is_some, unwrap_or, MatchBool, refl, sym, ap, subst, ◌∙◌}
 use Rattle.std.specs.FinMap as map
 use Rattle.finite_maps.specs.Tally.{Map, map_values, option_changed}
 use Rattle.finite_maps.proofs.Values.{get-map_values, len-map_values}
@@ -32,6 +32,12 @@ caller_seen lists os k = ap caller_of (get-map_values (seen_by outcome_list outc
     by : (o : Option OutcomeEntry) → caller_of (option_changed (seen_by outcome_list outcome_with lists) o) ≡ caller_in o
     by None = refl
     by (Some e) = refl
+
+pub promises_seen : (lists : Lists) (ps : Map PromiseEntry) → map.len (map_values (seen_by promise_list promise_with lists) ps) ≡ map.len ps
+promises_seen lists ps = len-map_values (seen_by promise_list promise_with lists) ps
+
+pub outcomes_seen : (lists : Lists) (os : Map OutcomeEntry) → map.len (map_values (seen_by outcome_list outcome_with lists) os) ≡ map.len os
+outcomes_seen lists os = len-map_values (seen_by outcome_list outcome_with lists) os
 
 pub embargoes_seen : (lists : Lists) (es : Map EmbargoEntry) → map.len (map_values (seen_by embargo_list embargo_with lists) es) ≡ map.len es
 embargoes_seen lists es = len-map_values (seen_by embargo_list embargo_with lists) es

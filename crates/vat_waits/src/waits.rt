@@ -1,10 +1,13 @@
 ghost use Rattle.std.specs.Prelude.{◌≡◌, ◌≢◌, ◌↔◌, ◌+◌, ◌≤◌, ◌<◌, ◌-◌, [], None, Some, Err, IsTrue, IsOk, IsSome, IfOk, OnOk, OnErr, MatchBool, option_copied};
 ghost use Rattle.std.specs.FinMap as map;
 ghost use Rattle.vat_machine.specs.declared.calls.Promise.TheVariants as promise;
+ghost use Rattle.std.specs.List.{list_any};
+ghost use Rattle.vat_waits.specs.Through.{is_by, stamps_waiting};
 
 use crate::entries::{EmbargoEntry, OutcomeEntry, PromiseEntry};
 use crate::put::put;
-use rpc_msg::{EmbargoId, Memory, Path, RefId};
+use crate::through::{embargoes_hold, outcomes_hold, promises_hold};
+use rpc_msg::{EmbargoId, Memory, Path, RefId, Vat};
 use std::alloc::Global;
 use std::marker::Model;
 use vat_machine::{Caller, HeldCall, Node, Value, WaitingCall};
@@ -12,8 +15,8 @@ use vat_tables::{HeldPool, ListKey, POOL_LIMIT, Picked, TableFault};
 
 /// The promises of a vat's own, the outcomes that it keeps and its embargoes, each with the calls that wait there; and the
 /// calls that were taken out to be routed. All calls stand in one pool, where each place has a list of its own, so a list
-/// is routed call by call while others grow, and none is moved to be taken out. Each call is constant work, but where
-/// memory grows.
+/// is routed call by call while others grow, and none is moved to be taken out. Each call is constant work, but for
+/// `holds`, and where memory grows.
 #[derive(Drop)]
 pub struct Waits {
     promises: Picked<PromiseEntry>,
@@ -67,11 +70,35 @@ impl Waits {
         self.pool.len()
     }
 
+    /// How many promises there are, open or settled.
+    pub fn promises(&self) -> usize
+        ensures { result ≡ map.len self.now.promises }
+    {
+        self.promises.len()
+    }
+
+    /// How many outcomes there are.
+    pub fn outcomes(&self) -> usize
+        ensures { result ≡ map.len self.now.outcomes }
+    {
+        self.outcomes.len()
+    }
+
     /// How many embargoes there are.
     pub fn embargoes(&self) -> usize
         ensures { result ≡ map.len self.now.embargoes }
     {
         self.embargoes.len()
+    }
+
+    /// Whether a call that waits for a promise, an outcome or the end of an embargo was made through that reference of that
+    /// vat. Looks at each entry and each call that waits there. Takes no memory.
+    pub fn holds(&self, vat: Vat, reference: RefId) -> bool
+        ensures { result ≡ list_any (is_by vat reference) (stamps_waiting self.now) }
+    {
+        promises_hold(&self.promises, &self.pool, vat, reference)
+            || outcomes_hold(&self.outcomes, &self.pool, vat, reference)
+            || embargoes_hold(&self.embargoes, &self.pool, vat, reference)
     }
 
     /// Makes room, so that so many more entries of each kind can be opened and so many calls held, with none refused for
