@@ -35,3 +35,4 @@ pub mod Links
 pub mod Labelled
 pub mod Fitting
 pub mod ActsMean
+pub mod CommandsMean
