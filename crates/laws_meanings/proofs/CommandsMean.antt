@@ -101,7 +101,7 @@ module _ (h : History) (v : Vat) (l : Labels) where
     abbrev this : ℕ → Meant
     this r = OfRef (record { vat = v; number = r })
 
-    head_means : (r : ℕ) (x : Reference) → map.get s.refs r ≡ Some x → Means h v l (this r) x.head
+    pub head_means : (r : ℕ) (x : Reference) → map.get s.refs r ≡ Some x → Means h v l (this r) x.head
     head_means r x e = by (subst (RefMeans h v l quiet r) e (w.0 r))
       where
         by : RefMeans h v l quiet r (Some x) → Means h v l (this r) x.head
@@ -113,7 +113,7 @@ module _ (h : History) (v : Vat) (l : Labels) where
     known_at r x k e f = subst (MeansKnown h v l (this r)) f (of_wire (this r) (settle s x.head) (settles h v l s w.1 w.3 (this r) x.head (head_means r x e)))
 
     -- One reference with another head.
-    headed : (r : ℕ) (x : Reference) → Means h v l (this r) x.head → (k : ℕ) → RefMeans h v l quiet k (map.get (map.insert s.refs r x) k)
+    pub headed : (r : ℕ) (x : Reference) → Means h v l (this r) x.head → (k : ℕ) → RefMeans h v l quiet k (map.get (map.insert s.refs r x) k)
     headed r x m = at_put (λ k o. RefMeans h v l quiet k o) s.refs r x (this r, inl refl, m) (λ k e. w.0 k)
 
     routed : (n : Node) (cs : List WaitingCall) → CallsAt h v l n cs → RoutedMean h v l (each_to n cs)
@@ -147,7 +147,7 @@ module _ (h : History) (v : Vat) (l : Labels) where
 
     -- ---- Answers
 
-    head_at : (refs : List RefId) (i : ℕ) (n : Node) → ((j : ℕ) (r : RefId) → slice_get refs j ≡ Some r → (x : Reference) × (map.get s.refs r.0 ≡ Some x)) → slice_get (heads s refs) i ≡ Some n → (y : Meant) × IsRefAt h (refs_at v refs) i y × Means h v l y n
+    pub head_at : (refs : List RefId) (i : ℕ) (n : Node) → ((j : ℕ) (r : RefId) → slice_get refs j ≡ Some r → (x : Reference) × (map.get s.refs r.0 ≡ Some x)) → slice_get (heads s refs) i ≡ Some n → (y : Meant) × IsRefAt h (refs_at v refs) i y × Means h v l y n
     head_at [] i n f e = let bad : ◌≡◌ {A = Option Node} None (Some n) = e in cc
     head_at (r ∷ rs) zero n f e =
         let x = f 0 r refl in
@@ -249,7 +249,7 @@ module _ (h : History) (v : Vat) (l : Labels) (e : Effects) where
   up_task t None i = tt
   up_task t (Some o) i = i
 
-  up : (s : State) → Places h v l e s → Places h v l (staying_up e) s
+  pub up : (s : State) → Places h v l e s → Places h v l (staying_up e) s
   up s i = (λ k. up_ref k (map.get s.refs k) (i.0 k), i.1, i.2, i.3, i.4, λ t. up_task t (map.get s.tasks t) (i.5 t), i.6, i.7, i.8)
 
 pub commands_mean : CommandsKeepMeanings

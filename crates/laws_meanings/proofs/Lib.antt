@@ -36,3 +36,5 @@ pub mod Labelled
 pub mod Fitting
 pub mod ActsMean
 pub mod CommandsMean
+pub mod Relabelled
+pub mod OpensMean
