@@ -41,8 +41,9 @@ use Rattle.laws_acts.specs.FirstActs.{asked}
 use Rattle.laws_acts.specs.SmallActs.{Act, IsStill, kept_known, delivery, Acts, NoMore, Then}
 use Rattle.laws_acts.specs.SmallActs as act
 use Rattle.laws_meanings.specs.NodeMeanings.{Meant, Itself, OfRef, Leads, Breaks}
-use Rattle.laws_meanings.specs.NodeLabels.{Labels, Means, CallAt, CallsAt, HeldAt, ValueMeans, IsGiven, IsEndOf, RefMeans, PromiseMeans, CallerIs, ValueIs, OutcomeMeans, TaskMeans, QuestionMeans, ImportMeans, RoutedMean, ComingMeans, IsToldOf, TellingMeans, ClearingMeans, MomentMeans, ActsKeepMeanings}
-use Rattle.laws_meanings.proofs.Labelled.{settles, calls-append, held-append, coming-append, led-append, given-before, given-behind, ended-before, ended-behind, ends-append, all_refs, at_new, soft_ref, soft_held, soft_outcome, soft_embargo, soft_task, soft_own, soft_question, soft_import, soft_coming, soft_caller, soft_promises, soft_unsettled, still_unsettled}
+use Rattle.laws_meanings.specs.Identities.{DeliveredIn}
+use Rattle.laws_meanings.specs.NodeLabels.{Labels, IsIn, Means, CallAt, CallsAt, HeldAt, ValueMeans, IsGiven, IsEndOf, RefMeans, PromiseMeans, CallerIs, ValueIs, OutcomeMeans, TaskMeans, QuestionMeans, ImportMeans, RoutedMean, ComingMeans, IsToldOf, TellingMeans, ClearingMeans, MomentMeans, ActsKeepMeanings}
+use Rattle.laws_meanings.proofs.Labelled.{in-before, in-behind, settles, calls-append, held-append, coming-append, led-append, given-before, given-behind, ended-before, ended-behind, ends-append, all_refs, at_new, soft_ref, soft_held, soft_outcome, soft_embargo, soft_task, soft_own, soft_question, soft_import, soft_coming, soft_caller, soft_promises, soft_unsettled, still_unsettled}
 use Rattle.laws_meanings.proofs.Fitting.{Fitted, fitted}
 
 -- ---- Tables that lose entries
@@ -85,6 +86,18 @@ module _ (h : History) (v : Vat) (l : Labels) where
       by (inl a) = inl a
       by (inr (inl a)) = inr (inl (given-before h v k i.0 e.deliveries (d ∷ []) a))
       by (inr (inr a)) = inr (inr a)
+
+  more_tasks : (e : Effects) (d : Delivery) (t : ℕ) (o : Option ℕ) → TaskMeans h v l e t o → TaskMeans h v l (record e { deliveries = e.deliveries ++ d ∷ [] }) t o
+  more_tasks e d t None i = tt
+  more_tasks e d t (Some o) i = (i.0, by i.1, i.2)
+    where
+      by : (DeliveredIn h.journal v t i.0 ⊎ IsIn t i.0 e.deliveries) → DeliveredIn h.journal v t i.0 ⊎ IsIn t i.0 (e.deliveries ++ d ∷ [])
+      by (inl a) = inl a
+      by (inr a) = inr (in-before h v t i.0 e.deliveries (d ∷ []) a)
+
+  still_tasks : (e : Effects) (d : Ended) (t : ℕ) (o : Option ℕ) → TaskMeans h v l e t o → TaskMeans h v l (record e { answers = e.answers ++ d ∷ [] }) t o
+  still_tasks e d t None i = tt
+  still_tasks e d t (Some o) i = i
 
   more_ended : (e : Effects) (d : Ended) (k : ℕ) (o : Option Reference) → RefMeans h v l e k o → RefMeans h v l (record e { answers = e.answers ++ d ∷ [] }) k o
   more_ended e d k None i = tt
@@ -134,7 +147,7 @@ module _ (h : History) (v : Vat) (l : Labels) where
       let refs = all_refs (λ j r. RefMeans h v l more j r) s c.request.caps (λ j. more_given h v l d.effects x j (map.get s.refs j) (i.0.0 j))
       (λ j m g. let b = y.0.1 j m g in (b.0, inr (inl (given-behind h v (s.next_ref + j) b.0 d.effects.deliveries (x ∷ []) (inl (j, at_new s.next_ref c.request.caps j m g, b.1)))), b.2))
       in
-      keeps new (rw k ((refs, i.0.1, i.0.2, i.0.3, i.0.4, at_put (λ j t. TaskMeans h v l t) s.tasks s.next_task c.outcome (c.request.stamp, y.0.0) (λ j g. i.0.5 j), i.0.6, i.0.7, i.0.8), y.1, i.2, i.3, i.4, led-append h v d.effects.deliveries (x ∷ []) i.5 (z.2, tt), i.6, i.7))
+      keeps new (rw k ((refs, i.0.1, i.0.2, i.0.3, i.0.4, at_put (λ j t. TaskMeans h v l more j t) s.tasks s.next_task c.outcome (c.request.stamp, inr (in-behind h v s.next_task c.request.stamp d.effects.deliveries (x ∷ []) (inl (refl, refl))), y.0.0) (λ j g. more_tasks h v l d.effects x j (map.get s.tasks j) (i.0.5 j)), i.0.6, i.0.7, i.0.8), y.1, i.2, i.3, i.4, led-append h v d.effects.deliveries (x ∷ []) i.5 (z.2, tt), i.6, i.7))
   acted d new i (act.Waits c n rest p calls e f j k) =
       let s = d.state in
       let y : CallAt h v l n c × RoutedMean h v l rest = subst (RoutedMean h v l) e i.1 in
@@ -182,7 +195,7 @@ module _ (h : History) (v : Vat) (l : Labels) where
             λ q. soft_unsettled h v l g.means g.weaker s.promises ps g.same q (map.get s.unsettled q) (i.0.2 q),
             outcomes,
             λ q. soft_embargo h v l g.means g.weaker (map.get s.embargoes q) (i.0.4 q),
-            λ q. soft_task h v l g.means g.weaker (map.get s.tasks q) (i.0.5 q),
+            λ q. soft_task h v l g.means g.weaker d.effects q (map.get s.tasks q) (i.0.5 q),
             λ q. soft_own h v l g.means g.weaker q (map.get s.calls q) (i.0.6 q),
             λ q. soft_question h v l g.means g.weaker q (map.get s.questions q) (i.0.7 q),
             λ q. soft_import h v l g.means g.weaker q (map.get s.imports q) (i.0.8 q),
@@ -205,7 +218,7 @@ module _ (h : History) (v : Vat) (l : Labels) where
       let refs = all_refs (λ j r. RefMeans h v l more j r) s (caps_of w) (λ j. more_ended h v l d.effects x j (map.get s.refs j) (i.0.0 j))
       (λ j m g. let b = z.2.1 j m g in (b.0, inr (inr (ended-behind h v (s.next_ref + j) b.0 d.effects.answers (x ∷ []) (inl (j, at_new s.next_ref (caps_of w) j m g, (z.0, z.1, b.1))))), b.2))
       in
-      keeps new (rw u ((refs, i.0.1, i.0.2, i.0.3, i.0.4, i.0.5, i.0.6, i.0.7, i.0.8), i.1, i.2, i.3, tt, i.5, i.6, ends-append h v d.effects.answers (x ∷ []) i.7 ((z.0, z.1, z.2.2), tt)))
+      keeps new (rw u ((refs, i.0.1, i.0.2, i.0.3, i.0.4, (λ j. still_tasks h v l d.effects x j (map.get s.tasks j) (i.0.5 j)), i.0.6, i.0.7, i.0.8), i.1, i.2, i.3, tt, i.5, i.6, ends-append h v d.effects.answers (x ∷ []) i.7 ((z.0, z.1, z.2.2), tt)))
   acted d new i (act.TellsNobody c w e f u) = keeps new (rw u (i.0, i.1, i.2, i.3, tt, i.5, i.6, i.7))
   acted d new i (act.MakesReturn q w a b ds es e f j k u) = keeps new (rw u (i.0, i.1, i.2, i.3, tt, i.5, i.6, i.7))
   acted d new i (act.SendsReturn x a e f j u) =

@@ -6,6 +6,7 @@ use Rattle.finite_maps.specs.Tally.{Map}
 use Rattle.finite_maps.proofs.Tested.{at_put}
 use Rattle.rpc_msg.specs.declared.ids.Vat.{Vat}
 use Rattle.rpc_msg.specs.declared.ids.RefId.{RefId}
+use Rattle.rpc_msg.specs.declared.ids.Stamp.{Stamp}
 use Rattle.capn_wire.specs.declared.path.Op.{Op}
 use Rattle.vat_journal.specs.declared.report.Delivery.{Delivery}
 use Rattle.vat_journal.specs.declared.report.Ended.{Ended}
@@ -38,7 +39,7 @@ use Rattle.vat_machine.specs.Progress.{with_refs, new_refs}
 use Rattle.vat_machine.specs.Advancing.{Known, known_by_resolve, known_by_return}
 use Rattle.vat_machine.specs.Advancing as known
 use Rattle.laws_meanings.specs.NodeMeanings.{Meant, Itself, OfRef, field_meant, Leads, There, Then, Breaks}
-use Rattle.laws_meanings.specs.NodeLabels.{Labels, field_label, LeadsTo, label, Means, MeansKnown, CallAt, CallsAt, HeldAt, ValueMeans, IsGiven, IsEndOf, RefMeans, PromiseMeans, IsUnsettled, CallerIs, ValueIs, OutcomeMeans, EmbargoMeans, TaskMeans, OwnCallMeans, BackMeans, QuestionMeans, ImportMeans, ComingMeans, AreLed, EndsAreLed}
+use Rattle.laws_meanings.specs.NodeLabels.{Labels, IsIn, field_label, LeadsTo, label, Means, MeansKnown, CallAt, CallsAt, HeldAt, ValueMeans, IsGiven, IsEndOf, RefMeans, PromiseMeans, IsUnsettled, CallerIs, ValueIs, OutcomeMeans, EmbargoMeans, TaskMeans, OwnCallMeans, BackMeans, QuestionMeans, ImportMeans, ComingMeans, AreLed, EndsAreLed}
 
 -- ---- Links, one after the other
 
@@ -108,6 +109,15 @@ module _ (h : History) (v : Vat) where
   pub led-append : (xs ys : List Delivery) → AreLed h v xs → AreLed h v ys → AreLed h v (xs ++ ys)
   led-append [] ys i j = j
   led-append (x ∷ xs) ys i j = (i.0, led-append xs ys i.1 j)
+
+  pub in-before : (t : ℕ) (z : Stamp) (ds es : List Delivery) → IsIn t z ds → IsIn t z (ds ++ es)
+  in-before t z [] es i = absurd i
+  in-before t z (d ∷ ds) es (inl i) = inl i
+  in-before t z (d ∷ ds) es (inr i) = inr (in-before t z ds es i)
+
+  pub in-behind : (t : ℕ) (z : Stamp) (ds es : List Delivery) → IsIn t z es → IsIn t z (ds ++ es)
+  in-behind t z [] es i = i
+  in-behind t z (d ∷ ds) es i = inr (in-behind t z ds es i)
 
   pub given-before : (k : ℕ) (x : Meant) (ds es : List Delivery) → IsGiven h v k x ds → IsGiven h v k x (ds ++ es)
   given-before k x [] es i = absurd i
@@ -205,9 +215,9 @@ module _ (h : History) (v : Vat) (l : Labels) (ps : ℕ → Option Meant) (weake
   soft_embargo None i = tt
   soft_embargo (Some b) i = (soft_calls b.node b.waiting i.0, soft (OfRef (record { vat = v; number = b.reference.0 })) b.node i.1)
 
-  pub soft_task : (o : Option ℕ) → TaskMeans h v l o → TaskMeans h v m o
-  soft_task None i = tt
-  soft_task (Some o) i = i
+  pub soft_task : (e : Effects) (t : ℕ) (o : Option ℕ) → TaskMeans h v l e t o → TaskMeans h v m e t o
+  soft_task e t None i = tt
+  soft_task e t (Some o) i = i
 
   pub soft_own : (c : ℕ) (o : Option OwnCall) → OwnCallMeans h v l c o → OwnCallMeans h v m c o
   soft_own c None i = tt
@@ -220,7 +230,7 @@ module _ (h : History) (v : Vat) (l : Labels) (ps : ℕ → Option Meant) (weake
   soft_known x (known.Leads by n) i = soft x n i
 
   pub soft_back : (q : ℕ) (r : Role) (o : Option Returned) → BackMeans h v l q r o → BackMeans h v m q r o
-  soft_back q (role.Direct c) o i = λ a e path. soft_known (field_meant h a.0 a.1 path) (known_by_return path o) (i a e path)
+  soft_back q (role.Direct c) o i = (i.0, i.1, λ path. soft_known (field_meant h i.0.0 i.0.1 path) (known_by_return path o) (i.2 path))
   soft_back q (role.Relay u) o i = i
 
   pub soft_question : (q : ℕ) (o : Option Question) → QuestionMeans h v l q o → QuestionMeans h v m q o
@@ -229,7 +239,7 @@ module _ (h : History) (v : Vat) (l : Labels) (ps : ℕ → Option Meant) (weake
 
   pub soft_import : (e : ℕ) (o : Option Import) → ImportMeans h v l e o → ImportMeans h v m e o
   soft_import e None i = tt
-  soft_import e (Some x) i = λ y f. soft_known y (known_by_resolve x.resolution) (i y f)
+  soft_import e (Some x) i = (i.0, i.1, soft_known i.0 (known_by_resolve x.resolution) i.2)
 
   pub soft_coming : (xs : List (ℕ × Value)) → ComingMeans h v l xs → ComingMeans h v m xs
   soft_coming [] i = tt

@@ -35,3 +35,6 @@ pub mod Links
 pub mod Labelled
 pub mod Fitting
 pub mod ActsMean
+pub mod CommandsMean
+pub mod Relabelled
+pub mod OpensMean

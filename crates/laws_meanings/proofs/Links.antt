@@ -88,7 +88,7 @@ stands h n (OfPromise v p) = by_fate h (within n h) (fate h.journal v p)
 stands h n (OfField s path) = by_answer h (within n h) path s (answer_of h.journal s)
 
 -- Noops lead nowhere.
-walk_fields : (t : Tree) (path : List Op) → walk t (fields path) ≡ walk t path
+pub walk_fields : (t : Tree) (path : List Op) → walk t (fields path) ≡ walk t path
 walk_fields t [] = refl
 walk_fields t (op.Noop ∷ ops) = walk_fields t ops
 walk_fields t (op.Field n ∷ ops) = by (λ u. walk_fields u ops) (field t n)

@@ -10,3 +10,4 @@ pub mod Identities
 pub mod AnsweredEnds
 pub mod NodeMeanings
 pub mod NodeLabels
+pub mod CommandMeanings

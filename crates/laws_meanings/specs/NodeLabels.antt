@@ -37,6 +37,7 @@ use Rattle.vat_machine.specs.Advancing.{Known, known_by_resolve, known_by_return
 use Rattle.vat_machine.specs.Advancing as known
 use Rattle.laws_acts.specs.Moments.{Moment, Clearing}
 use Rattle.laws_acts.specs.SmallActs.{Acts}
+use Rattle.laws_meanings.specs.Identities.{DeliveredIn}
 use Rattle.laws_meanings.specs.NodeMeanings.{Meant, Itself, OfRef, OfPromise, field_meant, ByEnd, BySource, Leads}
 
 -- By keys and ids: what an own promise means, and an import; which call or Bootstrap, of which vat, an outcome is of, and
@@ -46,6 +47,11 @@ pub record Labels : Type 0 where
   pub import : ℕ → Option Meant
   pub outcome : ℕ → Option (Vat × Asking)
   pub question : ℕ → Option (Vat × Asking)
+
+-- The task is of a delivery of that call.
+abbrev pub IsIn : ℕ → Stamp → List Delivery → Type 0
+IsIn t s [] = ⊥
+IsIn t s (d ∷ ds) = ((d.task.0 ≡ t) × (d.stamp ≡ s)) ⊎ IsIn t s ds
 
 module _ (h : History) where
   abbrev pub field_label : Option (Vat × Asking) → List Op → Option Meant
@@ -158,9 +164,10 @@ module _ (h : History) (v : Vat) (l : Labels) where
   EmbargoMeans None = Unit {0}
   EmbargoMeans (Some b) = CallsAt b.node b.waiting × Means (OfRef (record { vat = v; number = b.reference.0 })) b.node
 
-  abbrev pub TaskMeans : Option ℕ → Type 0
-  TaskMeans None = Unit {0}
-  TaskMeans (Some o) = (s : Stamp) × IsOf o s
+  -- A task is of the call whose delivery it was, before the step or in it.
+  abbrev pub TaskMeans : Effects → ℕ → Option ℕ → Type 0
+  TaskMeans e t None = Unit {0}
+  TaskMeans e t (Some o) = (s : Stamp) × (DeliveredIn h.journal v t s ⊎ IsIn t s e.deliveries) × IsOf o s
 
   abbrev pub OwnCallMeans : ℕ → Option OwnCall → Type 0
   OwnCallMeans c None = Unit {0}
@@ -168,7 +175,7 @@ module _ (h : History) (v : Vat) (l : Labels) where
   OwnCallMeans c (Some (own.Kept o)) = (a : Asking) × (asking h.journal v c ≡ Some a) × (l.outcome o ≡ Some (v, a))
 
   abbrev pub BackMeans : ℕ → Role → Option Returned → Type 0
-  BackMeans q (role.Direct c) r = (a : Vat × Asking) → l.question q ≡ Some a → (path : List Op) → MeansKnown (field_meant h a.0 a.1 path) (known_by_return path r)
+  BackMeans q (role.Direct c) r = (a : Vat × Asking) × (l.question q ≡ Some a) × ((path : List Op) → MeansKnown (field_meant h a.0 a.1 path) (known_by_return path r))
   BackMeans q (role.Relay o) r = (s : Stamp) × IsOf o s
 
   abbrev pub QuestionMeans : ℕ → Option Question → Type 0
@@ -177,13 +184,13 @@ module _ (h : History) (v : Vat) (l : Labels) where
 
   abbrev pub ImportMeans : ℕ → Option Import → Type 0
   ImportMeans e None = Unit {0}
-  ImportMeans e (Some x) = (y : Meant) → l.import e ≡ Some y → MeansKnown y (known_by_resolve x.resolution)
+  ImportMeans e (Some x) = (y : Meant) × (l.import e ≡ Some y) × MeansKnown y (known_by_resolve x.resolution)
 
   -- References; promises, and those that are not settled; outcomes; embargoes; tasks; own calls; questions; imports.
   abbrev pub Places : Effects → State → Type 0
   Places e s =
       ((k : ℕ) → RefMeans e k (map.get s.refs k)) × ((p : ℕ) → PromiseMeans p (map.get s.promises p)) × ((k : ℕ) → IsUnsettled (map.get s.promises) k (map.get s.unsettled k))
-      × ((o : ℕ) → OutcomeMeans o (map.get s.outcomes o)) × ((b : ℕ) → EmbargoMeans (map.get s.embargoes b)) × ((t : ℕ) → TaskMeans (map.get s.tasks t))
+      × ((o : ℕ) → OutcomeMeans o (map.get s.outcomes o)) × ((b : ℕ) → EmbargoMeans (map.get s.embargoes b)) × ((t : ℕ) → TaskMeans e t (map.get s.tasks t))
       × ((c : ℕ) → OwnCallMeans c (map.get s.calls c)) × ((q : ℕ) → QuestionMeans q (map.get s.questions q)) × ((e : ℕ) → ImportMeans e (map.get s.imports e))
 
   -- ---- A moment of a step

@@ -12,6 +12,7 @@ ghost use Rattle.laws_meanings.specs.Tasks.{TasksAreOpen, TasksAreAnsweredOnce};
 ghost use Rattle.laws_meanings.specs.WhatIsLeft.{ObjectsAreLeft, AnswersAreLeft, CallsAreLeft, BrokenCallsAreLeft};
 ghost use Rattle.laws_meanings.specs.NodeMeanings.{LinksLast, LedToObjects, LedToBroken, LinksToObjectsAreLeft, LinksToBrokenAreLeft};
 ghost use Rattle.laws_meanings.specs.NodeLabels.{ActsKeepMeanings};
+ghost use Rattle.laws_meanings.specs.CommandMeanings.{CommandsKeepMeanings, OpeningsKeepMeanings};
 
 use laws_answers::named_answers_are_there;
 use laws_nodes::outcomes_have_sources;
@@ -152,4 +153,18 @@ pub fn links_are_left()
 /// to which the history leads its reference, and each call that ends was answered, or its reference leads to broken.
 pub fn acts_keep_meanings()
     ensures { ActsKeepMeanings }
+{}
+
+/// What nodes mean lasts through each step of a command that opens nothing (no call, Bootstrap or promise) and of which the
+/// history has the entry: where before it the head of each reference means what the history leads the reference to, it is so
+/// afterwards. What it delivers is delivered to the object to which the history leads the call's reference; and each call
+/// that it ends was answered, or its reference leads to broken.
+pub fn commands_keep_meanings()
+    ensures { CommandsKeepMeanings }
+{}
+
+/// What nodes mean lasts through each step of a command that opens a call, a Bootstrap or a promise and of which the history
+/// has the entry: what it opens means that call, that Bootstrap or that promise.
+pub fn openings_keep_meanings()
+    ensures { OpeningsKeepMeanings }
 {}
