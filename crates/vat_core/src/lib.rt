@@ -10,6 +10,7 @@ mod obey_asking;
 mod obey_letting;
 mod obey_making;
 mod obey_settling;
+mod queries;
 mod settling;
 mod vat;
 

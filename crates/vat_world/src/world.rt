@@ -1,6 +1,7 @@
 ghost use Rattle.std.specs.Prelude.{◌≡◌, ◌++◌, [], ◌∷◌, IfOk, OnOk, OnErr};
 ghost use Rattle.vat_journal.specs.declared.entry.JournalEntry.{JournalEntry};
 ghost use Rattle.vat_machine.specs.World.{tables_entry};
+ghost use Rattle.vat_machine.specs.Pending.{is_idle};
 ghost use Rattle.vat_machine.specs.declared.event.Event.TheVariants as event;
 ghost use Rattle.vat_world.specs.declared.answer.StepAnswer.TheVariants as given;
 ghost use Rattle.vat_world.specs.World.{IsReached, Steps, Runs, new_seen, shut};
@@ -10,7 +11,7 @@ use crate::journal::Journal;
 use crate::side::Side;
 use crate::step::{deliver, obey};
 use laws_runs::calls_are_counted;
-use rpc_msg::{Memory, ObjectId, Vat};
+use rpc_msg::{Memory, ObjectId, RefId, Vat};
 use std::alloc::Global;
 use std::marker::Model;
 use vat_core::Answer;
@@ -140,6 +141,20 @@ impl World {
         self.journal.prepare(1)?;
         self.journal.push(JournalEntry::Tables(a, b));
         Ok(())
+    }
+
+    /// Whether no call of that reference of that vat is held, embargoed or in a Call message on its way: so all that were
+    /// made through it, and not delivered, have another end. Takes no memory.
+    pub fn idle(&self, vat: Vat, reference: RefId) -> bool
+        ensures { result ≡ is_idle self.now.world (record { vat = vat; number = reference.0 }) }
+    {
+        if self.a.core.holds(vat, reference) || self.b.core.holds(vat, reference) {
+            return false;
+        }
+        if self.a.inbox.has_call(vat, reference) || self.b.inbox.has_call(vat, reference) {
+            return false;
+        }
+        true
     }
 
     /// Whether a shut took that vat down. Takes no memory.
