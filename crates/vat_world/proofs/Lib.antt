@@ -1,6 +1,0 @@
-mod Telling
-mod Noting
-mod Stepping
-mod Reaching
-mod Happened
-mod Standing

@@ -1,4 +1,0 @@
-pub mod Stages
-pub mod Rooms
-pub mod Notes
-pub mod World
