@@ -7,6 +7,7 @@ mod fault;
 mod labels;
 mod options;
 mod program;
+mod refusals;
 #[cfg(test)]
 mod tests;
 mod text;
