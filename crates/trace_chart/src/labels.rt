@@ -1,11 +1,12 @@
 use crate::refusals::refusal_name;
 use rpc_msg::{
-    Call, Descriptor, Disembargo, DisembargoContext, Exception, ExceptionKind, Items, Message, Op,
-    Path, PlainMessage, RefId, Resolve, ResolvedTo, Return, ReturnBody, Stamp, Target, Vat,
+    Call, Descriptor, Disembargo, DisembargoContext, EmbargoId, Exception, ExceptionKind, ExportId,
+    Items, Message, Op, Path, PlainMessage, RefId, Resolve, ResolvedTo, Return, ReturnBody, Stamp,
+    Target, Vat,
 };
 use std::alloc::{AllocError, Global};
 use std::fmt::Write;
-use vat_journal::{Advanced, Delivery, JournalEntry, MadeCall, Origin, Outcome};
+use vat_journal::{Advanced, Counts, Delivery, JournalEntry, MadeCall, Origin, Outcome};
 
 /// What is said of a message, on its arrow.
 pub(crate) fn message_label(alloc: Global, message: &Message) -> Result<String, AllocError> {
@@ -294,4 +295,62 @@ fn write_advanced(
         Advanced::Broke => "broke",
     };
     write!(text, "advances reference {}: {answer}", reference.0)
+}
+
+/// What is said where an embargo begins.
+pub(crate) fn embargo_label(
+    alloc: Global,
+    id: EmbargoId,
+    reference: Option<RefId>,
+) -> Result<String, AllocError> {
+    let mut text = String::new(alloc);
+    write_embargo(&mut text, id, reference)?;
+    Ok(text)
+}
+
+/// What is said where an embargo ends.
+pub(crate) fn lifted_label(
+    alloc: Global,
+    id: EmbargoId,
+    reference: Option<RefId>,
+    waiting: u64,
+) -> Result<String, AllocError> {
+    let mut text = String::new(alloc);
+    write_embargo(&mut text, id, reference)?;
+    write!(text, " is lifted; calls that waited: {waiting}")?;
+    Ok(text)
+}
+
+/// An embargo by its id and its reference, where that is known.
+pub(crate) fn write_embargo(
+    text: &mut String,
+    id: EmbargoId,
+    reference: Option<RefId>,
+) -> Result<(), AllocError> {
+    write!(text, "embargo {}", id.0)?;
+    if let Some(reference) = reference {
+        write!(text, " of reference {}", reference.0)?;
+    }
+    Ok(())
+}
+
+/// What is said of a vat's counts.
+pub(crate) fn counts_label(alloc: Global, counts: &Counts) -> Result<String, AllocError> {
+    let mut text = String::new(alloc);
+    text.push_str("exports: ")?;
+    write_counts(&mut text, &counts.exports)?;
+    text.push_str("; imports: ")?;
+    write_counts(&mut text, &counts.imports)?;
+    Ok(text)
+}
+
+fn write_counts(text: &mut String, counts: &Items<(ExportId, u32)>) -> Result<(), AllocError> {
+    if counts.is_empty() {
+        return text.push_str("none");
+    }
+    for (place, (id, count)) in counts.as_slice().iter().enumerate() {
+        text.push_str(if place == 0 { "" } else { ", " })?;
+        write!(text, "{} by {count}", id.0)?;
+    }
+    Ok(())
 }

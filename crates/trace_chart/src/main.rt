@@ -4,6 +4,7 @@
 mod chart;
 mod draw;
 mod fault;
+mod followed;
 mod labels;
 mod options;
 mod program;
