@@ -90,8 +90,12 @@ abbrev pub message_stands_out : Options → Message → Bool
 message_stands_out o (message.Plain m) = call_stands_out o m
 message_stands_out o m = false
 
--- Of the other entries those stand out in which a call is made or delivered.
+-- Of the other entries those stand out in which a call is made or delivered, and which name the reference by itself.
 abbrev pub entry_stands_out : Options → JournalEntry → Bool
 entry_stands_out o (entry.Made v made) = is_marked o v made.reference
 entry_stands_out o (entry.Delivered v d) = is_marked o d.stamp.vat d.stamp.reference
+entry_stands_out o (entry.Born v r origin) = is_marked o v r
+entry_stands_out o (entry.Resolved v p r) = is_marked o v r
+entry_stands_out o (entry.Advanced v r answer) = is_marked o v r
+entry_stands_out o (entry.Dropped v r) = is_marked o v r
 entry_stands_out o e = false

@@ -1,19 +1,24 @@
 use crate::chart::{Arrow, Bar, Chart, Mark, Note};
-use crate::labels::letter;
+use crate::labels::{letter, write_embargo};
 use crate::text::write_label;
 use rpc_msg::Vat;
 use std::alloc::{AllocError, Global};
 use std::fmt::Write;
 
 /// The picture's width, and where the lifelines of vat A and of vat B stand in it.
-const WIDTH: u64 = 1200;
+const WIDTH: u64 = 1400;
 
-const LIFELINE_A: u64 = 470;
+const LIFELINE_A: u64 = 480;
 
-const LIFELINE_B: u64 = 740;
+const LIFELINE_B: u64 = 960;
 
-/// Labels stand outside the lifelines, that far from them, and arrows between them: so no arrow crosses a label.
+/// What an application does and sees stands outside the lifelines, that far from them. Between them are the messages.
 const ASIDE: u64 = 14;
+
+/// How long an arrow is that is cut, and where its label begins.
+const STUB: u64 = 40;
+
+const BEHIND_STUB: u64 = 48;
 
 /// The entries' numbers end there.
 const NUMBERS: u64 = 42;
@@ -24,6 +29,11 @@ const TOP: u64 = 104;
 const ROW: u64 = 24;
 
 const BOTTOM: u64 = 12;
+
+/// The vats' heads stand again above each row of that number, in a band of that height.
+const PAGE: usize = 30;
+
+const BAND: u64 = 28;
 
 /// The colours of what stands out, of messages, of what an application does and sees, of the rest.
 const MARKED: &str = "#c2410c";
@@ -41,7 +51,7 @@ const DOWN: &str = "#b91c1c";
 /// The picture as SVG.
 pub(crate) fn picture(alloc: Global, chart: &Chart) -> Result<String, AllocError> {
     let mut svg = String::new(alloc);
-    let height = y_of(chart.rows.len()).saturating_add(BOTTOM);
+    let height = end_of(chart).saturating_add(BOTTOM);
     writeln!(
         svg,
         "<svg xmlns=\"http://www.w3.org/2000/svg\" width=\"{WIDTH}\" height=\"{height}\" viewBox=\"0 0 {WIDTH} {height}\" font-family=\"Helvetica, Arial, sans-serif\" font-size=\"12\">"
@@ -59,20 +69,52 @@ pub(crate) fn picture(alloc: Global, chart: &Chart) -> Result<String, AllocError
         write_bar(&mut svg, chart, bar)?;
     }
     write_arrows(&mut svg, chart)?;
+    write_again(&mut svg, chart)?;
+    write_labels(&mut svg, chart, height)?;
     write_notes(&mut svg, chart, height)?;
     svg.push_str("</svg>\n")?;
     Ok(svg)
 }
 
-/// The height of a row's middle; of the row behind the last, where the lifelines end.
+/// The height of a row's middle.
 fn y_of(row: usize) -> u64 {
-    (row as u64).saturating_mul(ROW).saturating_add(TOP)
+    let bands = (row / PAGE) as u64;
+    (row as u64)
+        .saturating_mul(ROW)
+        .saturating_add(bands.saturating_mul(BAND))
+        .saturating_add(TOP)
+}
+
+/// Where the lifelines end.
+fn end_of(chart: &Chart) -> u64 {
+    match chart.rows.len().checked_sub(1) {
+        Some(last) => y_of(last).saturating_add(ROW),
+        None => TOP,
+    }
+}
+
+/// The height of the first drawn entry with that number or a later one; where there is none, of the lifelines' end.
+fn y_from(chart: &Chart, number: u64) -> u64 {
+    for (row, drawn) in chart.rows.iter().enumerate() {
+        if number <= *drawn {
+            return y_of(row);
+        }
+    }
+    end_of(chart)
 }
 
 fn lifeline(vat: Vat) -> u64 {
     match vat {
         Vat::A => LIFELINE_A,
         Vat::B => LIFELINE_B,
+    }
+}
+
+/// That far from a vat's lifeline, towards the other's.
+fn inside(vat: Vat, far: u64) -> u64 {
+    match vat {
+        Vat::A => LIFELINE_A.saturating_add(far),
+        Vat::B => LIFELINE_B.saturating_sub(far),
     }
 }
 
@@ -127,11 +169,13 @@ fn write_legend(svg: &mut String, chart: &Chart) -> Result<(), AllocError> {
         222,
         "begins or ends outside the picture, or was not received",
     )?;
+    write_dot(svg, (566, 43), "white", EVENT)?;
+    write_sign(svg, 576, "waits under an embargo")?;
     if let Some((vat, reference)) = chart.options.reference {
         let name = letter(vat);
         writeln!(
             svg,
-            "<line x1=\"556\" y1=\"43\" x2=\"586\" y2=\"43\" stroke=\"{MARKED}\" stroke-width=\"2\"/>\n<text x=\"592\" y=\"47\" fill=\"{MARKED}\">calls of {name}/{}</text>",
+            "<line x1=\"730\" y1=\"43\" x2=\"760\" y2=\"43\" stroke=\"{MARKED}\" stroke-width=\"2\"/>\n<text x=\"766\" y=\"47\" fill=\"{MARKED}\">reference {name}/{}</text>",
             reference.0
         )?;
     }
@@ -166,27 +210,44 @@ fn write_rows(svg: &mut String, chart: &Chart) -> Result<(), AllocError> {
 }
 
 fn write_lifelines(svg: &mut String, chart: &Chart) -> Result<(), AllocError> {
-    let end = y_of(chart.rows.len());
-    for (vat, name) in [(Vat::A, "vat A"), (Vat::B, "vat B")] {
+    let end = end_of(chart);
+    for vat in [Vat::A, Vat::B] {
         let x = lifeline(vat);
-        writeln!(
-            svg,
-            "<text x=\"{x}\" y=\"76\" text-anchor=\"middle\" font-weight=\"bold\" font-size=\"14\" fill=\"{EVENT}\">{name}</text>"
-        )?;
         writeln!(
             svg,
             "<line x1=\"{x}\" y1=\"84\" x2=\"{x}\" y2=\"{end}\" stroke=\"{FAINT}\"/>"
         )?;
+    }
+    write_names(svg, 76)
+}
+
+fn write_names(svg: &mut String, y: u64) -> Result<(), AllocError> {
+    for (vat, name) in [(Vat::A, "vat A"), (Vat::B, "vat B")] {
+        let x = lifeline(vat);
+        writeln!(
+            svg,
+            "<text x=\"{x}\" y=\"{y}\" text-anchor=\"middle\" font-weight=\"bold\" font-size=\"14\" fill=\"{EVENT}\" stroke=\"white\" stroke-width=\"4\" paint-order=\"stroke\">{name}</text>"
+        )?;
+    }
+    Ok(())
+}
+
+/// The vats' heads again, in the bands of a long picture.
+fn write_again(svg: &mut String, chart: &Chart) -> Result<(), AllocError> {
+    for (row, _) in chart.rows.iter().enumerate() {
+        if row > 0 && row % PAGE == 0 {
+            write_names(svg, y_of(row).saturating_sub(ROW))?;
+        }
     }
     Ok(())
 }
 
 /// An embargo, as a bar along its vat's lifeline, as far as it lies in the picture.
 fn write_bar(svg: &mut String, chart: &Chart, bar: &Bar) -> Result<(), AllocError> {
-    let top = y_of(row_from(chart, bar.began));
+    let top = y_from(chart, bar.began);
     let end = match bar.ended {
-        Some(number) => y_of(row_from(chart, number)),
-        None => y_of(chart.rows.len()),
+        Some(number) => y_from(chart, number),
+        None => end_of(chart),
     };
     if end <= top {
         return Ok(());
@@ -197,21 +258,12 @@ fn write_bar(svg: &mut String, chart: &Chart, bar: &Bar) -> Result<(), AllocErro
         Vat::A => (LIFELINE_A - 4).saturating_add(aside),
         Vat::B => (LIFELINE_B - 4).saturating_sub(aside),
     };
-    writeln!(
+    write!(
         svg,
-        "<rect x=\"{x}\" y=\"{top}\" width=\"8\" height=\"{height}\" fill=\"{EMBARGO}\"><title>embargo {}</title></rect>",
-        bar.id.0
-    )
-}
-
-/// The row of the first drawn entry with that number or a later one; behind the last row where there is none.
-fn row_from(chart: &Chart, number: u64) -> usize {
-    for (row, drawn) in chart.rows.iter().enumerate() {
-        if number <= *drawn {
-            return row;
-        }
-    }
-    chart.rows.len()
+        "<rect x=\"{x}\" y=\"{top}\" width=\"8\" height=\"{height}\" fill=\"{EMBARGO}\"><title>"
+    )?;
+    write_embargo(svg, bar.id, bar.reference)?;
+    writeln!(svg, "; calls that wait: {}</title></rect>", bar.waiting)
 }
 
 /// Those that stand out lie on the others.
@@ -226,21 +278,59 @@ fn write_arrows(svg: &mut String, chart: &Chart) -> Result<(), AllocError> {
 }
 
 fn write_arrow(svg: &mut String, arrow: &Arrow) -> Result<(), AllocError> {
+    let to = arrow.from.other();
     let start = lifeline(arrow.from);
-    let end = lifeline(arrow.from.other());
-    let middle = (LIFELINE_A + LIFELINE_B) / 2;
+    let end = lifeline(to);
     match (arrow.sent, arrow.got) {
         (Some(sent), Some(got)) => { write_line(svg, arrow, (start, y_of(sent)), (end, y_of(got))) }
         (Some(sent), None) => {
             let y = y_of(sent);
-            write_line(svg, arrow, (start, y), (middle, y.saturating_add(ROW / 2)))
+            let cut = (inside(arrow.from, STUB), y.saturating_add(ROW / 2));
+            write_line(svg, arrow, (start, y), cut)
         }
         (None, Some(got)) => {
             let y = y_of(got);
-            write_line(svg, arrow, (middle, y.saturating_sub(ROW / 2)), (end, y))
+            let cut = (inside(to, STUB), y.saturating_sub(ROW / 2));
+            write_line(svg, arrow, cut, (end, y))
         }
         (None, None) => Ok(()),
     }
+}
+
+/// What the messages are, in the column between the lifelines, which nothing leaves. No arrow crosses a label: they have a
+/// margin in the ground's colour and lie on the arrows.
+fn write_labels(svg: &mut String, chart: &Chart, height: u64) -> Result<(), AllocError> {
+    let width = LIFELINE_B - LIFELINE_A;
+    writeln!(
+        svg,
+        "<svg x=\"{LIFELINE_A}\" width=\"{width}\" height=\"{height}\" viewBox=\"{LIFELINE_A} 0 {width} {height}\" stroke=\"white\" stroke-width=\"3\" paint-order=\"stroke\">"
+    )?;
+    for arrow in chart.arrows.iter() {
+        write_arrow_label(svg, arrow)?;
+    }
+    svg.push_str("</svg>\n")
+}
+
+/// Above an arrow's beginning; beside an arrow that is cut.
+fn write_arrow_label(svg: &mut String, arrow: &Arrow) -> Result<(), AllocError> {
+    let (vat, far, y) = match (arrow.sent, arrow.got) {
+        (Some(sent), Some(_)) => (arrow.from, ASIDE, y_of(sent).saturating_sub(4)),
+        (Some(sent), None) => (arrow.from, BEHIND_STUB, y_of(sent).saturating_add(4)),
+        (None, Some(got)) => (arrow.from.other(), BEHIND_STUB, y_of(got).saturating_add(4)),
+        (None, None) => return Ok(()),
+    };
+    let x = inside(vat, far);
+    let anchor = match vat {
+        Vat::A => "start",
+        Vat::B => "end",
+    };
+    let fill = if arrow.marked { MARKED } else { MESSAGE };
+    write!(
+        svg,
+        "<text x=\"{x}\" y=\"{y}\" text-anchor=\"{anchor}\" fill=\"{fill}\">"
+    )?;
+    write_label(svg, arrow.label.as_str())?;
+    svg.push_str("</text>\n")
 }
 
 fn write_line(
@@ -294,21 +384,24 @@ fn write_notes(svg: &mut String, chart: &Chart, height: u64) -> Result<(), Alloc
     svg.push_str("</svg>\n")
 }
 
-/// The sign on the lifeline: a dot, a cross, or none where an arrow begins or ends.
+/// The sign on the lifeline: a dot, which is hollow where a call waits, a cross, or none.
 fn write_mark(svg: &mut String, note: &Note) -> Result<(), AllocError> {
     let (x, y) = (lifeline(note.vat), y_of(note.row));
+    let ink = if note.marked { MARKED } else { EVENT };
     match note.mark {
-        Mark::Event => {
-            let fill = if note.marked { MARKED } else { EVENT };
-            writeln!(
-                svg,
-                "<circle cx=\"{x}\" cy=\"{y}\" r=\"3\" fill=\"{fill}\"/>"
-            )
-        }
+        Mark::Event => write_dot(svg, (x, y), ink, ink),
+        Mark::Waiting => write_dot(svg, (x, y), "white", ink),
         Mark::Down => write_cross(svg, x, y),
-        Mark::Sent => Ok(()),
-        Mark::Received => Ok(()),
+        Mark::Beside => Ok(()),
     }
+}
+
+fn write_dot(svg: &mut String, at: (u64, u64), fill: &str, stroke: &str) -> Result<(), AllocError> {
+    writeln!(
+        svg,
+        "<circle cx=\"{}\" cy=\"{}\" r=\"3\" fill=\"{fill}\" stroke=\"{stroke}\"/>",
+        at.0, at.1
+    )
 }
 
 fn write_cross(svg: &mut String, x: u64, y: u64) -> Result<(), AllocError> {
@@ -322,16 +415,16 @@ fn write_cross(svg: &mut String, x: u64, y: u64) -> Result<(), AllocError> {
 
 fn write_note(svg: &mut String, note: &Note, x: u64, anchor: &str) -> Result<(), AllocError> {
     let y = y_of(note.row).saturating_add(4);
-    let (fill, verb) = match note.mark {
-        Mark::Event => (EVENT, ""),
-        Mark::Sent => (MESSAGE, "sends "),
-        Mark::Received => (MESSAGE, "receives "),
-        Mark::Down => (DOWN, ""),
+    let fill = match note.mark {
+        Mark::Event => EVENT,
+        Mark::Waiting => EVENT,
+        Mark::Beside => FAINT,
+        Mark::Down => DOWN,
     };
     let fill = if note.marked { MARKED } else { fill };
     write!(
         svg,
-        "<text x=\"{x}\" y=\"{y}\" text-anchor=\"{anchor}\" fill=\"{fill}\">{verb}"
+        "<text x=\"{x}\" y=\"{y}\" text-anchor=\"{anchor}\" fill=\"{fill}\">"
     )?;
     write_label(svg, note.label.as_str())?;
     svg.push_str("</text>\n")

@@ -1,12 +1,14 @@
+use crate::refusals::refusal_name;
 use rpc_msg::{
-    Call, Descriptor, Disembargo, DisembargoContext, Items, Message, Op, Path, PlainMessage, RefId,
-    Resolve, ResolvedTo, Return, ReturnBody, Stamp, Target, Vat,
+    Call, Descriptor, Disembargo, DisembargoContext, EmbargoId, Exception, ExceptionKind, ExportId,
+    Items, Message, Op, Path, PlainMessage, RefId, Resolve, ResolvedTo, Return, ReturnBody, Stamp,
+    Target, Vat,
 };
 use std::alloc::{AllocError, Global};
 use std::fmt::Write;
-use vat_journal::{Advanced, Delivery, JournalEntry, MadeCall, Origin, Outcome};
+use vat_journal::{Advanced, Counts, Delivery, JournalEntry, MadeCall, Origin, Outcome};
 
-/// What is said of a message where it is sent and where it is received.
+/// What is said of a message, on its arrow.
 pub(crate) fn message_label(alloc: Global, message: &Message) -> Result<String, AllocError> {
     let mut text = String::new(alloc);
     match message {
@@ -21,7 +23,10 @@ pub(crate) fn message_label(alloc: Global, message: &Message) -> Result<String, 
 
 fn write_plain(text: &mut String, message: &PlainMessage) -> Result<(), AllocError> {
     match message {
-        PlainMessage::Abort(exception) => write!(text, "Abort: {}", exception.reason.as_str()),
+        PlainMessage::Abort(exception) => {
+            text.push_str("Abort, ")?;
+            write_exception(text, exception)
+        }
         PlainMessage::Bootstrap(question) => write!(text, "Bootstrap, question {}", question.0),
         PlainMessage::Call(call) => write_call(text, call),
         PlainMessage::Return(answer) => write_return(text, answer),
@@ -47,37 +52,64 @@ fn write_call(text: &mut String, call: &Call) -> Result<(), AllocError> {
     write_target(text, &call.target)?;
     text.push_str(" (")?;
     write_stamp(text, &call.stamp)?;
-    text.push(')')
+    text.push(')')?;
+    write_descriptors(text, &call.descriptors)
 }
 
 fn write_return(text: &mut String, answer: &Return) -> Result<(), AllocError> {
     write!(text, "Return, answer {}: ", answer.answer.0)?;
     match &answer.body {
-        ReturnBody::Results(_, descriptors) => write_results(text, descriptors)?,
-        ReturnBody::Exception(exception) => write!(
-            text,
-            "exception {}",
-            exception.reason.as_str()
-        )?,
+        ReturnBody::Results(_, descriptors) => {
+            text.push_str("results")?;
+            write_descriptors(text, descriptors)?;
+        }
+        ReturnBody::Exception(exception) => write_exception(text, exception)?,
         ReturnBody::Canceled => text.push_str("canceled")?,
     }
     write_flag(text, answer.release_param_caps)
 }
 
-fn write_results(text: &mut String, descriptors: &Items<Descriptor>) -> Result<(), AllocError> {
-    text.push_str("results")?;
-    for descriptor in descriptors.as_slice() {
-        text.push_str(", ")?;
+/// The capabilities of a payload, as the wire has them; nothing where there are none.
+fn write_descriptors(text: &mut String, descriptors: &Items<Descriptor>) -> Result<(), AllocError> {
+    for (place, descriptor) in descriptors.as_slice().iter().enumerate() {
+        text.push_str(if place == 0 { " with " } else { ", " })?;
         write_descriptor(text, descriptor)?;
     }
     Ok(())
+}
+
+/// The capabilities of a payload, as an application has them; nothing where there are none.
+fn write_references(
+    text: &mut String,
+    which: &str,
+    references: &Items<RefId>,
+) -> Result<(), AllocError> {
+    let plural = if references.len() > 1 { "s" } else { "" };
+    for (place, reference) in references.as_slice().iter().enumerate() {
+        if place == 0 {
+            write!(text, " with {which}{plural} {}", reference.0)?;
+        } else {
+            write!(text, ", {}", reference.0)?;
+        }
+    }
+    Ok(())
+}
+
+fn write_exception(text: &mut String, exception: &Exception) -> Result<(), AllocError> {
+    let kind = match exception.kind {
+        ExceptionKind::Failed => "failed",
+        ExceptionKind::Overloaded => "overloaded",
+        ExceptionKind::Disconnected => "disconnected",
+        ExceptionKind::Unimplemented => "unimplemented",
+    };
+    write!(text, "exception ({kind}): {}", exception.reason.as_str())
 }
 
 fn write_resolve(text: &mut String, resolve: &Resolve) -> Result<(), AllocError> {
     write!(text, "Resolve, promise {}: ", resolve.promise.0)?;
     match &resolve.to {
         ResolvedTo::Cap(descriptor) => write_descriptor(text, descriptor),
-        ResolvedTo::Exception(exception) => write!(text, "exception {}", exception.reason.as_str()),
+        ResolvedTo::Exception(exception) => write_exception(text, exception),
     }
 }
 
@@ -158,13 +190,15 @@ pub(crate) fn entry_label(alloc: Global, entry: &JournalEntry) -> Result<String,
         )?,
         JournalEntry::Made(vat, made) => write_made(&mut text, *vat, made)?,
         JournalEntry::Delivered(_, delivery) => write_delivered(&mut text, delivery)?,
-        JournalEntry::Answered(_, task, outcome, _) => {
+        JournalEntry::Answered(_, task, outcome, references) => {
             write!(text, "answers task {}: ", task.0)?;
             write_outcome(&mut text, outcome)?;
+            write_references(&mut text, "reference", references)?;
         }
         JournalEntry::Ended(_, ended) => {
             write!(text, "call {} ends: ", ended.call.0)?;
             write_outcome(&mut text, &ended.outcome)?;
+            write_references(&mut text, "new reference", &ended.refs)?;
         }
         _ => write_command(&mut text, entry)?,
     }
@@ -180,13 +214,23 @@ fn write_command(text: &mut String, entry: &JournalEntry) -> Result<(), AllocErr
                 promise.0, reference.0
             )
         }
-        JournalEntry::Rejected(_, promise, _) => write!(text, "rejects promise {}", promise.0),
+        JournalEntry::Rejected(_, promise, exception) => {
+            write!(text, "rejects promise {}: ", promise.0)?;
+            write_exception(text, exception)
+        }
         JournalEntry::Dropped(_, reference) => write!(text, "drops reference {}", reference.0),
         JournalEntry::Finished(_, call) => write!(text, "finishes call {}", call.0),
         JournalEntry::Advanced(_, reference, advanced) => write_advanced(text, reference, advanced),
-        JournalEntry::Refused(_, code) => write!(text, "a command is refused: {code}"),
+        JournalEntry::Refused(_, code) => write_refused(text, *code),
         JournalEntry::Down(_, fault) => write!(text, "goes down: {fault}"),
         _ => Ok(()),
+    }
+}
+
+fn write_refused(text: &mut String, code: u16) -> Result<(), AllocError> {
+    match refusal_name(code) {
+        Some(name) => write!(text, "a command is refused: {name} ({code})"),
+        None => write!(text, "a command is refused: {code}"),
     }
 }
 
@@ -217,7 +261,8 @@ fn write_made(text: &mut String, vat: Vat, made: &MadeCall) -> Result<(), AllocE
         text,
         ", interface {}, method {}, call {}",
         made.interface, made.method, made.call.0
-    )
+    )?;
+    write_references(text, "reference", &made.refs)
 }
 
 fn write_delivered(text: &mut String, delivery: &Delivery) -> Result<(), AllocError> {
@@ -227,13 +272,14 @@ fn write_delivered(text: &mut String, delivery: &Delivery) -> Result<(), AllocEr
         text,
         " to object {}, task {}",
         delivery.object.0, delivery.task.0
-    )
+    )?;
+    write_references(text, "new reference", &delivery.refs)
 }
 
 fn write_outcome(text: &mut String, outcome: &Outcome) -> Result<(), AllocError> {
     match outcome {
         Outcome::Results(_) => text.push_str("results"),
-        Outcome::Exception(exception) => write!(text, "exception {}", exception.reason.as_str()),
+        Outcome::Exception(exception) => write_exception(text, exception),
     }
 }
 
@@ -249,4 +295,62 @@ fn write_advanced(
         Advanced::Broke => "broke",
     };
     write!(text, "advances reference {}: {answer}", reference.0)
+}
+
+/// What is said where an embargo begins.
+pub(crate) fn embargo_label(
+    alloc: Global,
+    id: EmbargoId,
+    reference: Option<RefId>,
+) -> Result<String, AllocError> {
+    let mut text = String::new(alloc);
+    write_embargo(&mut text, id, reference)?;
+    Ok(text)
+}
+
+/// What is said where an embargo ends.
+pub(crate) fn lifted_label(
+    alloc: Global,
+    id: EmbargoId,
+    reference: Option<RefId>,
+    waiting: u64,
+) -> Result<String, AllocError> {
+    let mut text = String::new(alloc);
+    write_embargo(&mut text, id, reference)?;
+    write!(text, " is lifted; calls that waited: {waiting}")?;
+    Ok(text)
+}
+
+/// An embargo by its id and its reference, where that is known.
+pub(crate) fn write_embargo(
+    text: &mut String,
+    id: EmbargoId,
+    reference: Option<RefId>,
+) -> Result<(), AllocError> {
+    write!(text, "embargo {}", id.0)?;
+    if let Some(reference) = reference {
+        write!(text, " of reference {}", reference.0)?;
+    }
+    Ok(())
+}
+
+/// What is said of a vat's counts.
+pub(crate) fn counts_label(alloc: Global, counts: &Counts) -> Result<String, AllocError> {
+    let mut text = String::new(alloc);
+    text.push_str("exports: ")?;
+    write_counts(&mut text, &counts.exports)?;
+    text.push_str("; imports: ")?;
+    write_counts(&mut text, &counts.imports)?;
+    Ok(text)
+}
+
+fn write_counts(text: &mut String, counts: &Items<(ExportId, u32)>) -> Result<(), AllocError> {
+    if counts.is_empty() {
+        return text.push_str("none");
+    }
+    for (place, (id, count)) in counts.as_slice().iter().enumerate() {
+        text.push_str(if place == 0 { "" } else { ", " })?;
+        write!(text, "{} by {count}", id.0)?;
+    }
+    Ok(())
 }

@@ -4,9 +4,11 @@
 mod chart;
 mod draw;
 mod fault;
+mod followed;
 mod labels;
 mod options;
 mod program;
+mod refusals;
 #[cfg(test)]
 mod tests;
 mod text;

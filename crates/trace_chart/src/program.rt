@@ -95,7 +95,7 @@ fn svg_of(alloc: Global, trace: &str, options: Options) -> Result<String, Failur
 {
     let mut chart = Chart::new(alloc, options);
     follow(alloc, trace, &mut chart)?;
-    chart.finish()?;
+    chart.finish(alloc)?;
     let svg = picture(alloc, &chart)?;
     Ok(svg)
 }

@@ -5,13 +5,16 @@ ghost use Rattle.trace_chart.specs.Escapes.{escaped, letter_text};
 use std::alloc::AllocError;
 
 /// A label has that many characters at most.
-const LONGEST: usize = 60;
+const LONGEST: usize = 72;
 
-/// A label as SVG has it, and no more of it than there is place for, behind a text.
+/// A label as SVG has it, behind a text. Where there is no place for all of it, it is cut, and its title has the whole.
 pub(crate) fn write_label(svg: &mut String, label: &str) -> Result<(), AllocError> {
     if let Some((end, _)) = label.char_indices().nth(LONGEST)
         && let Some(head) = label.get(..end)
     {
+        svg.push_str("<title>")?;
+        write_escaped(svg, label)?;
+        svg.push_str("</title>")?;
         write_escaped(svg, head)?;
         return svg.push('…');
     }
