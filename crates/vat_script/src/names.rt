@@ -99,7 +99,7 @@ impl Names {
     }
 
     /// Keeps which references came with the calls that were delivered to a vat's application. `Memory` where a growth
-    /// was refused; the names stay as they are.
+    /// was refused; some of them may be kept then, and the names are only to be dropped.
     pub fn note_deliveries(
         &mut self,
         alloc: Global,
