@@ -7,7 +7,7 @@ use Rattle.rpc_msg.specs.Vats.{other_vat}
 use Rattle.vat_journal.specs.declared.entry.JournalEntry.{JournalEntry}
 use Rattle.vat_journal.specs.declared.entry.JournalEntry.TheVariants as entry
 use Rattle.vat_journal.specs.History.{Ref, all_that, deliveries}
-use Rattle.vat_machine.specs.Claims.{AreNumbered, BothUp, CountsAgree, IdleIsNonePending, IsInOrder, IsQuietWhenDown, IsReached, went_down_in}
+use Rattle.vat_machine.specs.Claims.{AreNumbered, BothUp, CountsAgree, EveryRunIsSound, history, IsSound, IdleIsNonePending, IsInOrder, IsQuietWhenDown, IsReached, went_down_in}
 use Rattle.vat_machine.specs.Faults.{fault_of}
 use Rattle.vat_machine.specs.Numbers.{held_past_limit, peer_abort, want_of_room}
 use Rattle.vat_machine.specs.World.{World, core, inbox, was_shut}
@@ -84,3 +84,10 @@ abbrev pub WorldsKeepPromises : Type 0
 WorldsKeepPromises =
     (h : List JournalEntry) (shut : Vat → Bool) (w : World) (run : IsReached (record { world = w; journal = events_of h }))
     → ((v : Vat) → shut v ≡ was_shut v run.happened) → IsPromised h shut w
+
+-- What is more, once all is so that is promised of runs (`IsSound`): each delivery is to the object for which its reference stands,
+-- each call ends as it was answered, and none is lost before the first one was delivered.
+abbrev pub SoundRunsKeepAll : Type 0
+SoundRunsKeepAll =
+    EveryRunIsSound → (h : List JournalEntry) (w : World) (run : IsReached (record { world = w; journal = events_of h }))
+    → IsSound (history run.root_a run.root_b h) run.happened w
