@@ -1,6 +1,6 @@
 -- What is promised of two vats with their journal (docs/protocol.md, "What is promised"): of each world to which a run of two
 -- new vats of level 1 leads.
-use Rattle.std.specs.Prelude.{◌≡◌, ◌⊎◌, ℕ, Bool, true, false, None, Option, Some, List, ◌∷◌, ◌++◌}
+use Rattle.std.specs.Prelude.{◌≡◌, ◌⊎◌, ℕ, Bool, true, false, None, Option, Some, is_some, List, ◌∷◌, ◌++◌}
 use Rattle.rpc_msg.specs.declared.ids.Vat.{Vat}
 use Rattle.rpc_msg.specs.declared.message.Message.{Message}
 use Rattle.rpc_msg.specs.Vats.{other_vat}
@@ -59,6 +59,10 @@ pub record DownsAreKnown (shut : Vat → Bool) (h : List JournalEntry) : Type 0 
   pub each : (v : Vat) (n : ℕ) (before behind : List JournalEntry) → h ≡ before ++ entry.Down v n ∷ behind → GoesDown (shut v) before v n
   pub shuts : (v : Vat) → shut v ≡ true → went_down_in v h ≡ true
 
+-- A vat is down exactly where its entry says so.
+abbrev pub DownsAreTold : List JournalEntry → World → Type 0
+DownsAreTold h w = (v : Vat) → went_down_in v h ≡ is_some (core w v).down
+
 pub record IsPromised (h : List JournalEntry) (shut : Vat → Bool) (w : World) : Type 0 where
   -- the calls delivered through a reference are a beginning of those made through it, in order; no two of these have one stamp,
   -- so each is delivered once; all are at one object; and once one was delivered, all are where none is pending
@@ -73,6 +77,7 @@ pub record IsPromised (h : List JournalEntry) (shut : Vat → Bool) (w : World) 
   -- neither vat takes the other down, but by going down itself
   pub unrefused : RefusesNothing w
   pub downs : DownsAreKnown shut h
+  pub told : DownsAreTold h w
   -- and whether a call is pending can be asked
   pub idle : IdleIsNonePending w
 
