@@ -12,6 +12,7 @@ ghost use Rattle.laws_meanings.specs.Tasks.{TasksAreOpen, TasksAreAnsweredOnce};
 ghost use Rattle.laws_meanings.specs.WhatIsLeft.{ObjectsAreLeft, AnswersAreLeft, CallsAreLeft, BrokenCallsAreLeft};
 ghost use Rattle.laws_meanings.specs.NodeMeanings.{LinksLast, LedToObjects, LedToBroken, LinksToObjectsAreLeft, LinksToBrokenAreLeft};
 ghost use Rattle.laws_meanings.specs.NodeLabels.{ActsKeepMeanings};
+ghost use Rattle.laws_meanings.specs.NoneLost.{ActsLoseNone};
 ghost use Rattle.laws_meanings.specs.CommandMeanings.{CommandsKeepMeanings, OpeningsKeepMeanings};
 
 use laws_answers::named_answers_are_there;
@@ -167,4 +168,10 @@ pub fn commands_keep_meanings()
 /// has the entry: what it opens means that call, that Bootstrap or that promise.
 pub fn openings_keep_meanings()
     ensures { OpeningsKeepMeanings }
+{}
+
+/// Where at a moment of a step the history leads each reference of a vat, and each call that waits, to what its node means,
+/// the small acts behind it lose no call, but one whose reference the history leads to broken.
+pub fn acts_lose_no_call()
+    ensures { ActsLoseNone }
 {}
