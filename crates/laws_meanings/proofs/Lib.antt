@@ -39,3 +39,5 @@ pub mod CommandsMean
 pub mod Relabelled
 pub mod OpensMean
 pub mod Losing
+pub mod Somewhere
+pub mod Unpending
