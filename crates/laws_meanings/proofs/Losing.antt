@@ -1,5 +1,5 @@
 -- Each act leaves a call at as many places as it found it, or the call broke: its reference leads to broken.
-use Rattle.std.proofs.Common.{◌≡◌, ◌⊎◌, inl, inr, ℕ, ◌+◌, ◌≤◌, Bool, true, false, ◌&&◌, nat_eq, Option, None, Some, List, [], ◌∷◌, ◌++◌, refl, sym, ap, ◌∙◌, subst, arith}
+use Rattle.std.proofs.Common.{◌≡◌, ◌⊎◌, inl, inr, ℕ, ◌+◌, ◌≤◌, Bool, true, false, ◌&&◌, nat_eq, None, List, [], ◌∷◌, ◌++◌, refl, sym, ap, subst, arith}
 use Rattle.std.specs.FinMap as map
 use Rattle.finite_maps.specs.Tally.{worth}
 use Rattle.finite_maps.proofs.Tallies.{tally-new, tally-remove}
@@ -13,7 +13,6 @@ use Rattle.rpc_msg.specs.declared.message.ResolvedTo.TheVariants as resolved
 use Rattle.vat_journal.specs.declared.entry.JournalEntry.{JournalEntry}
 use Rattle.vat_journal.specs.History.{Ref, same_ref, same_stamp, caller}
 use Rattle.vat_journal.specs.Meaning.{History, Broken}
-use Rattle.vat_machine.specs.declared.node.Node.{Node}
 use Rattle.vat_machine.specs.declared.node.Node.TheVariants as node
 use Rattle.vat_machine.specs.declared.node.Reason.TheVariants.{BrokenPromise}
 use Rattle.vat_machine.specs.declared.calls.WaitingCall.{WaitingCall}
@@ -27,11 +26,9 @@ use Rattle.vat_machine.specs.declared.command.Effects.{Effects}
 use Rattle.vat_machine.specs.declared.command.Level.{Level}
 use Rattle.vat_machine.specs.declared.command.Level.TheVariants.{Zero, One}
 use Rattle.vat_machine.specs.State.{State}
-use Rattle.vat_machine.specs.Commands.{request}
 use Rattle.vat_machine.specs.Faults.{fault_of, is_foreign}
 use Rattle.vat_machine.specs.Flags.{flag_for}
 use Rattle.vat_machine.specs.Journal.{granted_entries}
-use Rattle.vat_machine.specs.Nodes.{settle}
 use Rattle.vat_machine.specs.Progress.{numbers}
 use Rattle.vat_machine.specs.Settling.{or_failed, resolve_message}
 use Rattle.vat_machine.specs.Steps.{Does, Handles}
@@ -49,12 +46,12 @@ use Rattle.laws_acts.proofs.EachStep.{at_end}
 use Rattle.laws_runs.specs.MadeCalls.{NumbersItsCalls}
 use Rattle.laws_runs.proofs.Reading.{same_ref_is}
 use Rattle.laws_meanings.specs.OnePlace.{counted, is_call, in_held, at_promise, at_outcome, at_embargo, waiting, in_message, on_way}
-use Rattle.laws_meanings.specs.NodeMeanings.{Meant, Itself, OfRef, Leads}
+use Rattle.laws_meanings.specs.NodeMeanings.{Itself, OfRef, Leads}
 use Rattle.laws_meanings.specs.NodeLabels.{Labels, Means, CallAt, RoutedMean, MomentMeans}
 use Rattle.laws_meanings.specs.NoneLost.{in_yet, in_deliveries, here, IsToBroken, ActsLoseNone}
 use Rattle.laws_meanings.proofs.Labelled.{settles}
 use Rattle.laws_meanings.proofs.ActsMean.{acts_mean}
-use Rattle.laws_meanings.proofs.Placed.{put, cut, one_more, one_held, way-append, deliveries-append, all_to, all_held, no_releases, fitted, times_made}
+use Rattle.laws_meanings.proofs.Placed.{put, cut, one_more, one_held, way-append, deliveries-append, all_to, all_held, fitted, times_made}
 use Rattle.laws_meanings.proofs.Placing.{Leaves, has_own}
 
 -- Calls with one stamp are of one reference.

@@ -1,24 +1,19 @@
 -- Where none of a reference's calls is pending and none was delivered, each of them is at no place.
-use Rattle.std.proofs.Common.{◌≡◌, ◌⊎◌, inl, inr, ℕ, ◌+◌, ◌≤◌, Bool, true, false, ◌&&◌, nat_eq, cond, Option, None, Some, List, [], ◌∷◌, ◌++◌, map, refl, sym, ap, ◌∙◌, subst, arith}
+use Rattle.std.proofs.Common.{◌≡◌, ◌⊎◌, inl, inr, ℕ, ◌+◌, ◌≤◌, Bool, true, false, ◌&&◌, nat_eq, cond, List, [], ◌∷◌, ◌++◌, refl, sym, ap, ◌∙◌, subst, arith}
 use Rattle.std.specs.FinMap as map
 use Rattle.finite_maps.specs.Tally.{Map, tally, tally_of}
-use Rattle.rpc_msg.specs.declared.ids.Vat.{Vat}
-use Rattle.rpc_msg.specs.declared.ids.ObjectId.{ObjectId}
 use Rattle.rpc_msg.specs.declared.ids.Stamp.{Stamp}
 use Rattle.rpc_msg.specs.declared.message.Message.{Message}
 use Rattle.rpc_msg.specs.declared.message.Message.TheVariants as message
 use Rattle.rpc_msg.specs.declared.message.PlainMessage.TheVariants as plain
-use Rattle.vat_journal.specs.declared.entry.MadeCall.{MadeCall}
 use Rattle.vat_journal.specs.declared.entry.JournalEntry.{JournalEntry}
 use Rattle.vat_journal.specs.declared.entry.JournalEntry.TheVariants as entry
-use Rattle.vat_journal.specs.History.{Ref, same_vat, same_ref, same_stamp, caller, stamp_of, in_front, if_so, or_rest, stamps, DeliveredAt, deliveries, delivered, made, made_with}
-use Rattle.vat_journal.specs.Meaning.{History, Meaning, ObjectAt, Broken, StandsFor}
+use Rattle.vat_journal.specs.History.{Ref, same_ref, same_stamp, caller, stamp_of, in_front, if_so, stamps, deliveries, delivered, made}
+use Rattle.vat_journal.specs.Meaning.{History, ObjectAt, Broken}
 use Rattle.vat_machine.specs.declared.calls.HeldCall.{HeldCall}
 use Rattle.vat_machine.specs.declared.calls.WaitingCall.{WaitingCall}
-use Rattle.vat_machine.specs.declared.calls.KeptOutcome.{KeptOutcome}
 use Rattle.vat_machine.specs.declared.calls.Promise.{Promise}
 use Rattle.vat_machine.specs.declared.calls.Promise.TheVariants as promise
-use Rattle.vat_machine.specs.declared.entries.Embargo.{Embargo}
 use Rattle.vat_machine.specs.State.{State}
 use Rattle.vat_machine.specs.Lists.{from_each, of_map}
 use Rattle.vat_machine.specs.Queries.{stamps_of_calls, stamps_of_held, stamps_at_promise, stamps_at_outcome, stamps_under, is_through}
@@ -26,15 +21,14 @@ use Rattle.vat_machine.specs.Queries as queries
 use Rattle.vat_machine.specs.Pending.{in_messages, open_calls, through, pending}
 use Rattle.vat_machine.specs.Pending as unread
 use Rattle.vat_machine.specs.World.{World}
-use Rattle.vat_machine.specs.Claims.{IsToOne, history}
+use Rattle.vat_machine.specs.Claims.{history}
 use Rattle.laws_runs.specs.Meanings.{MeaningsAreOne}
-use Rattle.laws_runs.specs.Scenes.{Scene, IsScene}
+use Rattle.laws_runs.specs.Scenes.{Scene}
 use Rattle.laws_runs.proofs.Reading.{same_ref_is}
 use Rattle.laws_meanings.specs.OnePlace.{counted, in_calls, in_held, at_promise, at_outcome, at_embargo, waiting, in_message, on_way, deliveries_of, places}
 use Rattle.laws_meanings.specs.NodeMeanings.{Itself, OfRef, Leads}
-use Rattle.laws_meanings.specs.NoneLost.{IsToBroken, FirstActsMean, ObjectsLoseNone}
+use Rattle.laws_meanings.specs.NoneLost.{IsToBroken, ObjectsLoseNone}
 use Rattle.laws_meanings.proofs.Links.{led_to_broken}
-use Rattle.laws_meanings.proofs.Losing.{one_caller}
 use Rattle.laws_meanings.proofs.Placed.{times_made}
 use Rattle.laws_meanings.proofs.Somewhere.{there}
 use Rattle.laws_meanings.proofs.Stamped.{same_itself}
