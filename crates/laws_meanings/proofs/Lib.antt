@@ -38,3 +38,6 @@ pub mod ActsMean
 pub mod CommandsMean
 pub mod Relabelled
 pub mod OpensMean
+pub mod Losing
+pub mod Somewhere
+pub mod Unpending

@@ -12,10 +12,12 @@ ghost use Rattle.laws_meanings.specs.Tasks.{TasksAreOpen, TasksAreAnsweredOnce};
 ghost use Rattle.laws_meanings.specs.WhatIsLeft.{ObjectsAreLeft, AnswersAreLeft, CallsAreLeft, BrokenCallsAreLeft};
 ghost use Rattle.laws_meanings.specs.NodeMeanings.{LinksLast, LedToObjects, LedToBroken, LinksToObjectsAreLeft, LinksToBrokenAreLeft};
 ghost use Rattle.laws_meanings.specs.NodeLabels.{ActsKeepMeanings};
+ghost use Rattle.laws_meanings.specs.NoneLost.{ActsLoseNone, CallsAreSomewhere, ObjectsLoseNone};
 ghost use Rattle.laws_meanings.specs.CommandMeanings.{CommandsKeepMeanings, OpeningsKeepMeanings};
 
 use laws_answers::named_answers_are_there;
 use laws_nodes::outcomes_have_sources;
+use laws_runs::meanings_last;
 use laws_sessions::counts_agree_in_scenes;
 
 /// In each scene every call that waits or is on its way, and every delivery in the history up to it, has the interface,
@@ -168,3 +170,19 @@ pub fn commands_keep_meanings()
 pub fn openings_keep_meanings()
     ensures { OpeningsKeepMeanings }
 {}
+
+/// Where at a moment of a step the history leads each reference of a vat, and each call that waits, to what its node means,
+/// the small acts behind it lose no call, but one whose reference the history leads to broken.
+pub fn acts_lose_no_call()
+    ensures { ActsLoseNone }
+{}
+
+/// Where in each step, while neither vat gives up, nodes mean behind its first act what the history says, each call that was
+/// made is at one place in each scene: it waits, is on its way, or was delivered; or the history leads its reference to
+/// broken. So of a reference that stands for an object none is lost.
+pub fn no_call_is_lost()
+    ensures places { CallsAreSomewhere }
+    ensures objects { ObjectsLoseNone }
+{
+    meanings_last();
+}
