@@ -59,7 +59,7 @@ other m k key y a b f e = by (nat_eq k key) refl
     by true g = absurd (let z = sym f ∙ subst (λ (j : ℕ). map.get m j ≡ Some y) (equal k key g) e in let bad : None ≡ Some y = z in cc)
     by false g = refl
 
-this_one : {Y : Type 0} (k : ℕ) (a b : Y) → cond (nat_eq k k) a b ≡ a
+pub this_one : {Y : Type 0} (k : ℕ) (a b : Y) → cond (nat_eq k k) a b ≡ a
 this_one k a b = ap (λ (c : Bool). cond c a b) (itself k)
 
 module _ (h : History) (l : Labels) (s : State) (whole : IsWhole s) (one : HasOneSource s) (ends : QuestionsEnd s) (w : Places h s.vat l quiet s) where
@@ -135,10 +135,10 @@ module _ (h : History) (l : Labels) (s : State) (whole : IsWhole s) (one : HasOn
     with_question = relabelled h v l s l.promise l.import l.outcome qs question_relabels ends w
 
   module _ (key : ℕ) (x : Vat × Asking) (free : map.get s.outcomes key ≡ None) where
-    abbrev os : ℕ → Option (Vat × Asking)
+    abbrev pub os : ℕ → Option (Vat × Asking)
     os o = cond (nat_eq o key) (Some x) (l.outcome o)
 
-    outcome_relabels : Relabels h v l s l.promise l.import os l.question
+    pub outcome_relabels : Relabels h v l s l.promise l.import os l.question
     outcome_relabels = record {
       named = λ n a. by n (whole.there n a);
       promises = λ p y e. refl;
@@ -173,7 +173,7 @@ module _ (h : History) (l : Labels) (s : State) (whole : IsWhole s) (one : HasOn
         at c (own.Direct q) f i = i
         at c (own.Kept o) f i = (i.0, i.1, kept c o (map.get s.outcomes o) refl f ∙ i.2)
 
-    with_outcome : Places h v (record l { outcome = os }) quiet s
+    pub with_outcome : Places h v (record l { outcome = os }) quiet s
     with_outcome = relabelled h v l s l.promise l.import os l.question outcome_relabels ends w
 
 -- ---- The first act
@@ -244,7 +244,7 @@ module _ (h : History) (l : Labels) (s : State) (whole : IsWhole s) (one : HasOn
             b.4,
             b.5,
             at_put (λ k o. OwnCallMeans h s.vat m k o) s.calls s.next_call (own.Direct (record { 0 = q })) (OfBootstrap, z, is) (λ k y. b.6 k),
-            at_put (λ k o. QuestionMeans h s.vat m k o) s.questions q (first.asked (role.Direct (record { 0 = s.next_call })) []) (x, is, λ path. tt) (λ k y. b.7 k),
+            at_put (λ k o. QuestionMeans h s.vat m k o) s.questions q (first.asked (role.Direct (record { 0 = s.next_call })) []) (OfBootstrap, z, is, λ path. tt) (λ k y. b.7 k),
             b.8,
           ),
           tt,
@@ -273,7 +273,7 @@ module _ (h : History) (l : Labels) (s : State) (whole : IsWhole s) (one : HasOn
             b.4,
             b.5,
             at_put (λ k o. OwnCallMeans h s.vat m k o) s.calls s.next_call (own.Direct (record { 0 = q })) (OfCall stamp, (z.1 y f).0, is) (λ k y. b.6 k),
-            at_put (λ k o. QuestionMeans h s.vat m k o) s.questions q (first.asked (role.Direct (record { 0 = s.next_call })) ds) (x, is, λ path. tt) (λ k y. b.7 k),
+            at_put (λ k o. QuestionMeans h s.vat m k o) s.questions q (first.asked (role.Direct (record { 0 = s.next_call })) ds) (OfCall stamp, (z.1 y f).0, is, λ path. tt) (λ k y. b.7 k),
             b.8,
           ),
           tt,
