@@ -59,7 +59,7 @@ other m k key y a b f e = by (nat_eq k key) refl
     by true g = absurd (let z = sym f ∙ subst (λ (j : ℕ). map.get m j ≡ Some y) (equal k key g) e in let bad : None ≡ Some y = z in cc)
     by false g = refl
 
-this_one : {Y : Type 0} (k : ℕ) (a b : Y) → cond (nat_eq k k) a b ≡ a
+pub this_one : {Y : Type 0} (k : ℕ) (a b : Y) → cond (nat_eq k k) a b ≡ a
 this_one k a b = ap (λ (c : Bool). cond c a b) (itself k)
 
 module _ (h : History) (l : Labels) (s : State) (whole : IsWhole s) (one : HasOneSource s) (ends : QuestionsEnd s) (w : Places h s.vat l quiet s) where
@@ -70,12 +70,13 @@ module _ (h : History) (l : Labels) (s : State) (whole : IsWhole s) (one : HasOn
     abbrev ps : ℕ → Option Meant
     ps p = cond (nat_eq p key) (Some x) (l.promise p)
 
-    promise_relabels : Relabels h v l s ps l.outcome l.question
+    promise_relabels : Relabels h v l s ps l.import l.outcome l.question
     promise_relabels = record {
       named = λ n a. by n (whole.there n a);
       promises = λ p y e. other s.promises p key y (Some x) (l.promise p) free e;
       outcomes = λ o y e. refl;
       questions = λ q y e. refl;
+      imports = λ e y f. refl;
       awaited = λ o e. refl;
       calls = λ c y e i. at c y i;
     }
@@ -97,7 +98,7 @@ module _ (h : History) (l : Labels) (s : State) (whole : IsWhole s) (one : HasOn
         at c (own.Kept o) i = i
 
     with_promise : Places h v (record l { promise = ps }) quiet s
-    with_promise = relabelled h v l s ps l.outcome l.question promise_relabels ends w
+    with_promise = relabelled h v l s ps l.import l.outcome l.question promise_relabels ends w
 
   module _ (key : ℕ) (x : Vat × Asking) (free : map.get s.questions key ≡ None) where
     abbrev qs : ℕ → Option (Vat × Asking)
@@ -107,12 +108,13 @@ module _ (h : History) (l : Labels) (s : State) (whole : IsWhole s) (one : HasOn
     there c q None e i = absurd i
     there c q (Some y) e i = other s.questions q key y (Some x) (l.question q) free e
 
-    question_relabels : Relabels h v l s l.promise l.outcome qs
+    question_relabels : Relabels h v l s l.promise l.import l.outcome qs
     question_relabels = record {
       named = λ n a. by n (whole.there n a);
       promises = λ p y e. refl;
       outcomes = λ o y e. refl;
       questions = λ q y e. other s.questions q key y (Some x) (l.question q) free e;
+      imports = λ e y f. refl;
       awaited = λ o e. refl;
       calls = λ c y e i. at c y (subst (HasSource s c) e (whole.callers.calls c)) i;
     }
@@ -130,18 +132,19 @@ module _ (h : History) (l : Labels) (s : State) (whole : IsWhole s) (one : HasOn
         at c (own.Kept o) f i = i
 
     with_question : Places h v (record l { question = qs }) quiet s
-    with_question = relabelled h v l s l.promise l.outcome qs question_relabels ends w
+    with_question = relabelled h v l s l.promise l.import l.outcome qs question_relabels ends w
 
   module _ (key : ℕ) (x : Vat × Asking) (free : map.get s.outcomes key ≡ None) where
-    abbrev os : ℕ → Option (Vat × Asking)
+    abbrev pub os : ℕ → Option (Vat × Asking)
     os o = cond (nat_eq o key) (Some x) (l.outcome o)
 
-    outcome_relabels : Relabels h v l s l.promise os l.question
+    pub outcome_relabels : Relabels h v l s l.promise l.import os l.question
     outcome_relabels = record {
       named = λ n a. by n (whole.there n a);
       promises = λ p y e. refl;
       outcomes = λ o y e. other s.outcomes o key y (Some x) (l.outcome o) free e;
       questions = λ q y e. refl;
+      imports = λ e y f. refl;
       awaited = λ o e. waited o (nat_eq o key) refl e;
       calls = λ c y e i. at c y (subst (HasSource s c) e (whole.callers.calls c)) i;
     }
@@ -170,8 +173,8 @@ module _ (h : History) (l : Labels) (s : State) (whole : IsWhole s) (one : HasOn
         at c (own.Direct q) f i = i
         at c (own.Kept o) f i = (i.0, i.1, kept c o (map.get s.outcomes o) refl f ∙ i.2)
 
-    with_outcome : Places h v (record l { outcome = os }) quiet s
-    with_outcome = relabelled h v l s l.promise os l.question outcome_relabels ends w
+    pub with_outcome : Places h v (record l { outcome = os }) quiet s
+    with_outcome = relabelled h v l s l.promise l.import os l.question outcome_relabels ends w
 
 -- ---- The first act
 
@@ -241,7 +244,7 @@ module _ (h : History) (l : Labels) (s : State) (whole : IsWhole s) (one : HasOn
             b.4,
             b.5,
             at_put (λ k o. OwnCallMeans h s.vat m k o) s.calls s.next_call (own.Direct (record { 0 = q })) (OfBootstrap, z, is) (λ k y. b.6 k),
-            at_put (λ k o. QuestionMeans h s.vat m k o) s.questions q (first.asked (role.Direct (record { 0 = s.next_call })) []) (x, is, λ path. tt) (λ k y. b.7 k),
+            at_put (λ k o. QuestionMeans h s.vat m k o) s.questions q (first.asked (role.Direct (record { 0 = s.next_call })) []) (OfBootstrap, z, is, λ path. tt) (λ k y. b.7 k),
             b.8,
           ),
           tt,
@@ -270,7 +273,7 @@ module _ (h : History) (l : Labels) (s : State) (whole : IsWhole s) (one : HasOn
             b.4,
             b.5,
             at_put (λ k o. OwnCallMeans h s.vat m k o) s.calls s.next_call (own.Direct (record { 0 = q })) (OfCall stamp, (z.1 y f).0, is) (λ k y. b.6 k),
-            at_put (λ k o. QuestionMeans h s.vat m k o) s.questions q (first.asked (role.Direct (record { 0 = s.next_call })) ds) (x, is, λ path. tt) (λ k y. b.7 k),
+            at_put (λ k o. QuestionMeans h s.vat m k o) s.questions q (first.asked (role.Direct (record { 0 = s.next_call })) ds) (OfCall stamp, (z.1 y f).0, is, λ path. tt) (λ k y. b.7 k),
             b.8,
           ),
           tt,
