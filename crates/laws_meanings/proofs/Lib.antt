@@ -41,3 +41,4 @@ pub mod OpensMean
 pub mod Losing
 pub mod Somewhere
 pub mod Unpending
+pub mod Begun
