@@ -13,3 +13,4 @@ pub mod NodeLabels
 pub mod CommandMeanings
 pub mod NoneLost
 pub mod FirstActs
+pub mod FitCores
