@@ -19,7 +19,7 @@ use Rattle.laws_runs.specs.Scenes as scenes
 use Rattle.laws_runs.specs.Scenes.{Scene, IsScene}
 use Rattle.laws_meanings.specs.CommandMeanings.{OpensNothing, IsWritten, IsWrittenOpen}
 use Rattle.laws_meanings.specs.NodeLabels.{Labels, Places, MomentMeans}
-use Rattle.laws_meanings.specs.NoneLost.{FirstActsMean}
+use Rattle.laws_meanings.specs.NoneLost.{BeginningsMean}
 
 -- Where the history has the command's entry, what nodes mean lasts through its first act: by some labels.
 abbrev pub CommandsBegin : Type 0
@@ -44,4 +44,4 @@ abbrev pub FirstActsFollow : Type 0
 FirstActsFollow =
     (root_a root_b : Option ObjectId)
     → ((x new : Scene) (t : scenes.Steps x new) → IsScene root_a root_b x → x.over_a ≡ false → x.over_b ≡ false → IsReady (history root_a root_b new.journal) x new t)
-    → FirstActsMean root_a root_b
+    → BeginningsMean root_a root_b
