@@ -183,7 +183,7 @@ module _ (h : History) (v : Vat) (l : Labels) where
 
     -- ---- The first act
 
-    started : (c : Command) (g : Granted) (d : Moment) → OpensNothing c → IsWritten h v s c → Starts (beginning s) c g d → MomentMeans h v l d
+    pub started : (c : Command) (g : Granted) (d : Moment) → OpensNothing c → IsWritten h v s c → Starts (beginning s) c g d → MomentMeans h v l d
     started c g d n i (first.Hosts o e a u) =
         let z = subst (IsWritten h v s) e i in
         rw u ((headed s.next_ref (new_ref (node.Object o)) (Then (OwnObject o.0, z, refl) There), w.1, w.2, w.3, w.4, w.5, w.6, w.7, w.8), tt, tt, tt, tt, tt, tt, tt)

@@ -41,3 +41,5 @@ pub mod OpensMean
 pub mod Losing
 pub mod Somewhere
 pub mod Unpending
+pub mod FitCores
+pub mod Begun

@@ -195,7 +195,7 @@ module _ (h : History) (l : Labels) (s : State) (whole : IsWhole s) (one : HasOn
       let a = (z.1 x e).1 in
       (y.0, (a.0, a.1, subst (λ (rs : List RefId). IsRefAt h (refs_at s.vat rs) j y.0) (sym a.2) y.1), y.2)
 
-  opened : (c : Command) (g : Granted) (d : Moment) → IsWrittenOpen h s.vat s c → Starts (beginning s) c g d → Begun d
+  pub opened : (c : Command) (g : Granted) (d : Moment) → IsWrittenOpen h s.vat s c → Starts (beginning s) c g d → Begun d
   opened c g d i (first.Promises p e f a u) =
       let z = subst (IsWrittenOpen h s.vat s) e i in
       let x = OfPromise s.vat s.next_promise in

@@ -21,7 +21,7 @@ use Rattle.laws_runs.specs.Scenes.{Scene, IsScene, begins}
 use Rattle.laws_runs.proofs.Counting.{scenes_count}
 use Rattle.laws_meanings.specs.OnePlace.{counted, waiting, in_message, on_way, deliveries_of, places}
 use Rattle.laws_meanings.specs.NodeMeanings.{Itself, OfRef}
-use Rattle.laws_meanings.specs.NoneLost.{IsToBroken, FirstActsMean, CallsAreSomewhere}
+use Rattle.laws_meanings.specs.NoneLost.{IsToBroken, BeginningsMean, CallsAreSomewhere}
 use Rattle.laws_meanings.proofs.Links.{links_last}
 use Rattle.laws_meanings.proofs.Losing.{commands, messages}
 use Rattle.laws_meanings.proofs.Placed.{way-append, entries-append, of_effects, made_in, times_made, made-append}
@@ -113,7 +113,7 @@ module _ (a b : Option ObjectId) (k : Stamp) where
   given_up x A es p q = absurd (let bad : true ≡ false = p in cc)
   given_up x B es p q = absurd (let bad : true ≡ false = q in cc)
 
-  stepped : FirstActsMean a b → (x new : Scene) → IsScene a b x → scenes.Steps x new → IfUp x → IfUp new
+  stepped : BeginningsMean a b → (x new : Scene) → IsScene a b x → scenes.Steps x new → IfUp x → IfUp new
   stepped f x new i (scenes.GivesUp v c o r j e) w p q = given_up x v (granted_entries x.journal v c granted.Done) (sym (ap (λ (y : Scene). y.over_a) e) ∙ p) (sym (ap (λ (y : Scene). y.over_b) e) ∙ q)
   stepped f x new i (scenes.Stops v o e) w p q = given_up x v [] (sym (ap (λ (y : Scene). y.over_a) e) ∙ p) (sym (ap (λ (y : Scene). y.over_b) e) ∙ q)
   stepped f x new i (scenes.Commanded v c g told s o up r d z e) w p q =
@@ -136,7 +136,7 @@ module _ (a b : Option ObjectId) (k : Stamp) where
       by t (inl y) (inr n) = inr n
       by t (inl y) (inl n) = inl (rw e (received k x v m ms told s y j n (none_made k v told)))
 
-  pub there : FirstActsMean a b → (x : Scene) → IsScene a b x → IfUp x
+  pub there : BeginningsMean a b → (x : Scene) → IsScene a b x → IfUp x
   there f x i = in_each a b IfUp (λ y new j t. stepped f y new j t) begun x i
 
 -- What was made with a stamp is counted.

@@ -12,3 +12,5 @@ pub mod NodeMeanings
 pub mod NodeLabels
 pub mod CommandMeanings
 pub mod NoneLost
+pub mod FirstActs
+pub mod FitCores

@@ -55,8 +55,8 @@ IsFirstAct x new (scenes.GivesUp v c o r f e) u m = ⊥
 IsFirstAct x new (scenes.Stops v o e) u m = ⊥
 
 -- While neither vat gave up, nodes mean behind the first act of each step what the history says at its end.
-abbrev pub FirstActsMean : Option ObjectId → Option ObjectId → Type 0
-FirstActsMean root_a root_b =
+abbrev pub BeginningsMean : Option ObjectId → Option ObjectId → Type 0
+BeginningsMean root_a root_b =
     (x new : Scene) (t : scenes.Steps x new) (v : Vat) (m : Moment)
     → IsScene root_a root_b x → x.over_a ≡ false → x.over_b ≡ false → IsFirstAct x new t v m → (l : Labels) × MomentMeans (history root_a root_b new.journal) v l m
 
@@ -64,13 +64,13 @@ FirstActsMean root_a root_b =
 abbrev pub CallsAreSomewhere : Type 0
 CallsAreSomewhere =
     (root_a root_b : Option ObjectId) (x : Scene) (s : Stamp) (m : MadeCall)
-    → FirstActsMean root_a root_b → IsScene root_a root_b x → x.over_a ≡ false → x.over_b ≡ false → made_with x.journal s ≡ Some m
+    → BeginningsMean root_a root_b → IsScene root_a root_b x → x.over_a ≡ false → x.over_b ≡ false → made_with x.journal s ≡ Some m
     → (places s x ≡ 1) ⊎ IsToBroken (history root_a root_b x.journal) s
 
 -- So of a reference that stands for an object no call is lost: where none is pending and none was delivered, none was made.
 abbrev pub ObjectsLoseNone : Type 0
 ObjectsLoseNone =
     (root_a root_b : Option ObjectId) (x : Scene) (r : Ref) (v : Vat) (o : ℕ)
-    → FirstActsMean root_a root_b → IsScene root_a root_b x → x.over_a ≡ false → x.over_b ≡ false
+    → BeginningsMean root_a root_b → IsScene root_a root_b x → x.over_a ≡ false → x.over_b ≡ false
     → IsToOne (history root_a root_b x.journal) → StandsFor (history root_a root_b x.journal) r (ObjectAt v o)
     → pending x.world r ≡ [] → delivered x.journal r ≡ [] → made x.journal r ≡ []

@@ -12,13 +12,16 @@ ghost use Rattle.laws_meanings.specs.Tasks.{TasksAreOpen, TasksAreAnsweredOnce};
 ghost use Rattle.laws_meanings.specs.WhatIsLeft.{ObjectsAreLeft, AnswersAreLeft, CallsAreLeft, BrokenCallsAreLeft};
 ghost use Rattle.laws_meanings.specs.NodeMeanings.{LinksLast, LedToObjects, LedToBroken, LinksToObjectsAreLeft, LinksToBrokenAreLeft};
 ghost use Rattle.laws_meanings.specs.NodeLabels.{ActsKeepMeanings};
+ghost use Rattle.laws_meanings.specs.FirstActs.{CommandsBegin, FirstActsFollow};
+ghost use Rattle.laws_meanings.specs.FitCores.{CoresAreFit};
 ghost use Rattle.laws_meanings.specs.NoneLost.{ActsLoseNone, CallsAreSomewhere, ObjectsLoseNone};
 ghost use Rattle.laws_meanings.specs.CommandMeanings.{CommandsKeepMeanings, OpeningsKeepMeanings};
 
 use laws_answers::named_answers_are_there;
-use laws_nodes::outcomes_have_sources;
+use laws_nodes::{embargoes_pair, outcomes_have_sources, questions_end};
 use laws_runs::meanings_last;
 use laws_sessions::counts_agree_in_scenes;
+use laws_steps::nodes_are_there;
 
 /// In each scene every call that waits or is on its way, and every delivery in the history up to it, has the interface,
 /// method and payload of the call that was made with its stamp, and as many capabilities as that had references.
@@ -171,11 +174,35 @@ pub fn openings_keep_meanings()
     ensures { OpeningsKeepMeanings }
 {}
 
+/// In each scene the core of a vat has what its places name, one source of each outcome that is not known, its questions end
+/// in time, and a reference and its embargo name one another.
+pub fn cores_are_fit()
+    ensures { CoresAreFit }
+{
+    nodes_are_there();
+    outcomes_have_sources();
+    questions_end();
+    embargoes_pair();
+}
+
+/// What nodes mean lasts through the first act of each command of which the history has the entry.
+pub fn commands_begin_with_meanings()
+    ensures { CommandsBegin }
+{}
+
 /// Where at a moment of a step the history leads each reference of a vat, and each call that waits, to what its node means,
 /// the small acts behind it lose no call, but one whose reference the history leads to broken.
 pub fn acts_lose_no_call()
     ensures { ActsLoseNone }
 {}
+
+/// Where the history has the entry of each command, and nodes mean in each scene what it says, and behind the first act of
+/// each message, so they do behind each first act.
+pub fn first_acts_follow()
+    ensures { FirstActsFollow }
+{
+    cores_are_fit();
+}
 
 /// Where in each step, while neither vat gives up, nodes mean behind its first act what the history says, each call that was
 /// made is at one place in each scene: it waits, is on its way, or was delivered; or the history leads its reference to
