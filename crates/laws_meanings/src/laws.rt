@@ -13,6 +13,7 @@ ghost use Rattle.laws_meanings.specs.WhatIsLeft.{ObjectsAreLeft, AnswersAreLeft,
 ghost use Rattle.laws_meanings.specs.NodeMeanings.{LinksLast, LedToObjects, LedToBroken, LinksToObjectsAreLeft, LinksToBrokenAreLeft};
 ghost use Rattle.laws_meanings.specs.NodeLabels.{ActsKeepMeanings};
 ghost use Rattle.laws_meanings.specs.CommandMeanings.{CommandsKeepMeanings, OpeningsKeepMeanings};
+ghost use Rattle.laws_meanings.specs.MessageMeanings.{ConsumingMeans, EachActMeans, MessagesKeepMeanings};
 
 use laws_answers::named_answers_are_there;
 use laws_nodes::outcomes_have_sources;
@@ -167,4 +168,23 @@ pub fn commands_keep_meanings()
 /// has the entry: what it opens means that call, that Bootstrap or that promise.
 pub fn openings_keep_meanings()
     ensures { OpeningsKeepMeanings }
+{}
+
+/// One small act of a step keeps what nodes mean, and the labels of promises that are there.
+pub fn each_act_keeps_meanings()
+    ensures { EachActMeans }
+{}
+
+/// Where a received message says what it should, by the nodes that the receiver makes of its descriptors and its target,
+/// what nodes mean lasts through its first act. An answer that opens is of the call or Bootstrap that came; imports that come
+/// have the labels by which the message was read; other labels stay.
+pub fn first_acts_of_messages_mean()
+    ensures { ConsumingMeans }
+{}
+
+/// Where a received message says what it should, what nodes mean lasts through its whole step. What it delivers is delivered
+/// to the object to which the history leads the call's reference; and each call that it ends was answered, or its reference
+/// leads to broken.
+pub fn messages_keep_meanings()
+    ensures { MessagesKeepMeanings }
 {}
