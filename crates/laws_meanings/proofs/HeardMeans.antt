@@ -1,5 +1,5 @@
 -- What a received message does first keeps what nodes mean, where what it says means what it should; so does its step.
-use Rattle.std.proofs.Common.{◌≡◌, ◌⊎◌, inl, inr, ℕ, zero, suc, Bool, true, false, cond, Option, None, Some, unwrap_or, List, [], ◌∷◌, refl, sym, ap, ◌∙◌, IsSome, subst}
+use Rattle.std.proofs.Common.{◌≡◌, ◌⊎◌, inl, inr, ℕ, zero, suc, true, false, Option, None, Some, unwrap_or, List, [], ◌∷◌, refl, sym, ap, ◌∙◌, IsSome, subst}
 use Rattle.std.specs.FinMap as map
 use Rattle.std.specs.List.{slice_get}
 use Rattle.finite_maps.specs.Tally.{Map}
@@ -18,7 +18,6 @@ use Rattle.rpc_msg.specs.declared.message.PlainMessage.{PlainMessage}
 use Rattle.rpc_msg.specs.declared.message.PlainMessage.TheVariants as plain
 use Rattle.rpc_msg.specs.declared.message.ResolvedTo.{ResolvedTo}
 use Rattle.rpc_msg.specs.declared.message.ResolvedTo.TheVariants as resolved
-use Rattle.rpc_msg.specs.Messages.{descriptors_of_body}
 use Rattle.rpc_msg.specs.Paths.{fields}
 use Rattle.rpc_msg.specs.Vats.{other_vat}
 use Rattle.capn_wire.specs.declared.path.Op.{Op}
@@ -29,7 +28,6 @@ use Rattle.vat_journal.specs.Sources.{Asking, OfBootstrap, OfCall}
 use Rattle.vat_journal.specs.Meaning.{History, Broken}
 use Rattle.vat_machine.specs.Payloads.{cap_at}
 use Rattle.vat_machine.specs.Lists.{updated}
-use Rattle.vat_machine.specs.declared.command.Effects.{Effects}
 use Rattle.vat_machine.specs.declared.command.Level.{Level}
 use Rattle.vat_machine.specs.declared.command.Level.TheVariants.{Zero, One}
 use Rattle.vat_machine.specs.declared.node.Node.{Node}
@@ -40,9 +38,7 @@ use Rattle.vat_machine.specs.declared.calls.KeptOutcome.{KeptOutcome}
 use Rattle.vat_machine.specs.declared.calls.OwnCall.{OwnCall}
 use Rattle.vat_machine.specs.declared.calls.OwnCall.TheVariants as own
 use Rattle.vat_machine.specs.declared.calls.Value.{Value}
-use Rattle.vat_machine.specs.declared.calls.WaitingCall.{WaitingCall}
 use Rattle.vat_machine.specs.declared.entries.AnswerEntry.{AnswerEntry}
-use Rattle.vat_machine.specs.declared.entries.Embargo.{Embargo}
 use Rattle.vat_machine.specs.declared.entries.Export.{Export}
 use Rattle.vat_machine.specs.declared.entries.Finishing.{Finishing}
 use Rattle.vat_machine.specs.declared.entries.Finishing.TheVariants as finishing
@@ -57,27 +53,25 @@ use Rattle.vat_machine.specs.declared.entries.Role.TheVariants as role
 use Rattle.vat_machine.specs.declared.entries.SenderKind.{SenderKind}
 use Rattle.vat_machine.specs.State.{State}
 use Rattle.vat_machine.specs.Nodes.{node_of_cap}
-use Rattle.vat_machine.specs.Places.{nodes, named_by_export, places}
+use Rattle.vat_machine.specs.Places.{nodes, named_by_export}
 use Rattle.vat_machine.specs.Progress.{quiet}
-use Rattle.vat_machine.specs.Advancing.{known_by, known_by_resolve, known_at, known_cap, known_by_return}
-use Rattle.vat_machine.specs.Descriptors.{export_node, answer_node, read_one, read_at, read, read_all, read_beside, received, import_one, take_one, take_each, take_at, take_all}
-use Rattle.vat_machine.specs.Faults.{target_node, fault_of, is_foreign}
+use Rattle.vat_machine.specs.Advancing.{known_by, known_at, known_cap, known_by_return}
+use Rattle.vat_machine.specs.Descriptors.{export_node, answer_node, read_at, read, read_all, read_beside, received, take_one, take_each, take_at, take_all}
+use Rattle.vat_machine.specs.Faults.{target_node, is_foreign}
 use Rattle.vat_machine.specs.Messages.{bootstrap_value, results_of, value_of_results, set_resolution, resolve_import, take_resolve, unembargoed}
-use Rattle.vat_machine.specs.Steps.{staying_up, Handles}
-use Rattle.laws_acts.specs.Moments.{Moment, beginning, each_to}
+use Rattle.laws_acts.specs.Moments.{Moment, beginning}
 use Rattle.laws_acts.specs.MessageActs.{Back, Brings, ByReturn, ByEchoedRoot, ByEchoedCall, returning, answered, Consumes}
 use Rattle.laws_acts.specs.MessageActs as heard
 use Rattle.laws_acts.proofs.EachStep.{at_end}
 use Rattle.laws_acts.proofs.Received.{handles}
-use Rattle.laws_steps.specs.Settled.{IsAmong}
 use Rattle.laws_steps.specs.NodesThere.{Stands, IsWhole}
-use Rattle.laws_steps.specs.Callers.{HasSource, HasOutcome, IsFor, peer}
+use Rattle.laws_steps.specs.Callers.{HasOutcome, IsFor, peer}
 use Rattle.laws_steps.proofs.Among.{named, in_exports}
 use Rattle.laws_nodes.specs.Questions.{QuestionsEnd}
 use Rattle.laws_nodes.specs.Sources.{HasOneSource}
-use Rattle.laws_meanings.specs.NodeMeanings.{Meant, Itself, OfRef, field_meant, ByEnd, BySource, Leads}
-use Rattle.laws_meanings.specs.NodeLabels.{Labels, field_label, LeadsTo, label, Means, MeansKnown, IsOf, CapsMean, CallAt, CallsAt, ValueMeans, RefMeans, OutcomeMeans, EmbargoMeans, OwnCallMeans, BackMeans, QuestionMeans, ResolvedMeans, ImportMeans, asked_label, Places, RoutedMean, IsToldOf, AreLed, EndsAreLed, MomentMeans}
-use Rattle.laws_meanings.specs.MessageMeanings.{CallHeard, IfAwaited, ReturnHeard, SaidOf, ResolveHeard, PlainHeard, IsHeard, with_imports, ImportsKept, OutcomesKept, IsAnswerOf, AnswersOf, ConsumingMeans, MessagesKeepMeanings}
+use Rattle.laws_meanings.specs.NodeMeanings.{Meant, Itself, OfRef, field_meant, ByEnd, Leads}
+use Rattle.laws_meanings.specs.NodeLabels.{Labels, field_label, LeadsTo, label, Means, MeansKnown, ValueMeans, RefMeans, OutcomeMeans, EmbargoMeans, OwnCallMeans, BackMeans, QuestionMeans, ResolvedMeans, ImportMeans, asked_label, Places, IsToldOf, AreLed, EndsAreLed, MomentMeans}
+use Rattle.laws_meanings.specs.MessageMeanings.{CallHeard, IfAwaited, ReturnHeard, SaidOf, ResolveHeard, IsHeard, with_imports, ImportsKept, OutcomesKept, AnswersOf, ConsumingMeans, MessagesKeepMeanings}
 use Rattle.laws_meanings.proofs.ActsMean.{acts_mean}
 use Rattle.laws_meanings.proofs.CommandsMean.{up, routed}
 use Rattle.laws_meanings.proofs.Relabelled.{Relabels, relabelled}

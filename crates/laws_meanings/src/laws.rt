@@ -12,7 +12,7 @@ ghost use Rattle.laws_meanings.specs.Tasks.{TasksAreOpen, TasksAreAnsweredOnce};
 ghost use Rattle.laws_meanings.specs.WhatIsLeft.{ObjectsAreLeft, AnswersAreLeft, CallsAreLeft, BrokenCallsAreLeft};
 ghost use Rattle.laws_meanings.specs.NodeMeanings.{LinksLast, LedToObjects, LedToBroken, LinksToObjectsAreLeft, LinksToBrokenAreLeft};
 ghost use Rattle.laws_meanings.specs.NodeLabels.{ActsKeepMeanings};
-ghost use Rattle.laws_meanings.specs.CommandMeanings.{CommandsKeepMeanings, OpeningsKeepMeanings};
+ghost use Rattle.laws_meanings.specs.CommandMeanings.{CommandsKeepMeanings, OpeningsKeepMeanings, FirstActsMean, FirstOpeningsMean};
 ghost use Rattle.laws_meanings.specs.MessageMeanings.{ConsumingMeans, EachActMeans, MessagesKeepMeanings};
 
 use laws_answers::named_answers_are_there;
@@ -168,6 +168,13 @@ pub fn commands_keep_meanings()
 /// has the entry: what it opens means that call, that Bootstrap or that promise.
 pub fn openings_keep_meanings()
     ensures { OpeningsKeepMeanings }
+{}
+
+/// What nodes mean lasts through the first act of a command of which the history has the entry. It changes no label but that
+/// of the promise, outcome or question that it opens.
+pub fn first_acts_of_commands_mean()
+    ensures plain { FirstActsMean }
+    ensures openings { FirstOpeningsMean }
 {}
 
 /// One small act of a step keeps what nodes mean, and the labels of promises that are there.
