@@ -39,3 +39,4 @@ pub mod CommandsMean
 pub mod Relabelled
 pub mod OpensMean
 pub mod HeardMeans
+pub mod RootHeard
