@@ -53,7 +53,7 @@ use Rattle.laws_acts.proofs.Commanded.{does}
 use Rattle.laws_nodes.specs.Questions.{QuestionsEnd, IsRelayOpen, IsOpen}
 use Rattle.laws_meanings.specs.NodeMeanings.{Meant, Itself, OfRef, OfPromise, OfField, field_meant, IsRefAt, ByCap, Leads, There, Then}
 use Rattle.laws_meanings.specs.NodeLabels.{Labels, field_label, LeadsTo, label, Means, MeansKnown, CallsAt, ValueMeans, RefMeans, PromiseMeans, IsUnsettled, EmbargoMeans, TaskMeans, OwnCallMeans, BackMeans, QuestionMeans, ResolvedMeans, ImportMeans, Places, RoutedMean, AreLed, EndsAreLed, MomentMeans}
-use Rattle.laws_meanings.specs.CommandMeanings.{OpensNothing, AnswersWith, IsWritten, CommandsKeepMeanings}
+use Rattle.laws_meanings.specs.CommandMeanings.{OpensNothing, AnswersWith, IsWritten, CommandsKeepMeanings, FirstActsMean}
 use Rattle.laws_meanings.proofs.Links.{walk_fields}
 use Rattle.laws_meanings.proofs.Labelled.{further, further_to, settles, new_ref}
 use Rattle.laws_meanings.proofs.ActsMean.{acts_mean}
@@ -264,3 +264,6 @@ commands_mean h v l s c g x t n i ends w k =
     let q = z.1 in
     let e = at_end (λ u y. Places h v m y u × AreLed h v y.deliveries × EndsAreLed h v y.answers) a.last x t a.ends (up h v m a.last.effects a.last.state q.0, q.5, q.7) in
     (z.0, e.0, e.1, e.2)
+
+pub first_acts_mean : FirstActsMean
+first_acts_mean h v l s c g d n i ends w a = started h v l s ends w c g d n i a

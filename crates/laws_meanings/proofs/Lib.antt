@@ -43,3 +43,5 @@ pub mod Somewhere
 pub mod Unpending
 pub mod FitCores
 pub mod Begun
+pub mod HeardMeans
+pub mod RootHeard

@@ -15,7 +15,8 @@ ghost use Rattle.laws_meanings.specs.NodeLabels.{ActsKeepMeanings};
 ghost use Rattle.laws_meanings.specs.FirstActs.{CommandsBegin, FirstActsFollow};
 ghost use Rattle.laws_meanings.specs.FitCores.{CoresAreFit};
 ghost use Rattle.laws_meanings.specs.NoneLost.{ActsLoseNone, CallsAreSomewhere, ObjectsLoseNone};
-ghost use Rattle.laws_meanings.specs.CommandMeanings.{CommandsKeepMeanings, OpeningsKeepMeanings};
+ghost use Rattle.laws_meanings.specs.CommandMeanings.{CommandsKeepMeanings, OpeningsKeepMeanings, FirstActsMean, FirstOpeningsMean};
+ghost use Rattle.laws_meanings.specs.MessageMeanings.{BootstrapsAreHeard, ConsumingMeans, EachActMeans, MessagesKeepMeanings};
 
 use laws_answers::named_answers_are_there;
 use laws_nodes::{embargoes_pair, outcomes_have_sources, questions_end};
@@ -213,3 +214,34 @@ pub fn no_call_is_lost()
 {
     meanings_last();
 }
+
+/// What nodes mean lasts through the first act of a command of which the history has the entry. It changes no label but that
+/// of the promise, outcome or question that it opens.
+pub fn first_acts_of_commands_mean()
+    ensures plain { FirstActsMean }
+    ensures openings { FirstOpeningsMean }
+{}
+
+/// One small act of a step keeps what nodes mean, and the labels of promises that are there.
+pub fn each_act_keeps_meanings()
+    ensures { EachActMeans }
+{}
+
+/// Where a received message says what it should, by the nodes that the receiver makes of its descriptors and its target,
+/// what nodes mean lasts through its first act. An answer that opens is of the call or Bootstrap that came; imports that come
+/// have the labels by which the message was read; other labels stay.
+pub fn first_acts_of_messages_mean()
+    ensures { ConsumingMeans }
+{}
+
+/// Where a received message says what it should, what nodes mean lasts through its whole step. What it delivers is delivered
+/// to the object to which the history leads the call's reference; and each call that it ends was answered, or its reference
+/// leads to broken.
+pub fn messages_keep_meanings()
+    ensures { MessagesKeepMeanings }
+{}
+
+/// A Bootstrap says what it should at a vat whose bootstrap object the history has.
+pub fn bootstraps_are_heard()
+    ensures { BootstrapsAreHeard }
+{}
