@@ -34,6 +34,7 @@ use Rattle.vat_machine.specs.declared.entries.Embargo.{Embargo}
 use Rattle.vat_machine.specs.declared.entries.Import.{Import}
 use Rattle.vat_machine.specs.declared.entries.Question.{Question}
 use Rattle.vat_machine.specs.declared.entries.Reference.{Reference}
+use Rattle.vat_machine.specs.declared.entries.Resolution.{Resolution}
 use Rattle.vat_machine.specs.declared.entries.Returned.{Returned}
 use Rattle.vat_machine.specs.declared.entries.Role.{Role}
 use Rattle.vat_machine.specs.declared.entries.Role.TheVariants as role
@@ -51,7 +52,7 @@ use Rattle.laws_acts.proofs.EachStep.{at_end}
 use Rattle.laws_acts.proofs.Commanded.{does}
 use Rattle.laws_nodes.specs.Questions.{QuestionsEnd, IsRelayOpen, IsOpen}
 use Rattle.laws_meanings.specs.NodeMeanings.{Meant, Itself, OfRef, OfPromise, OfField, field_meant, IsRefAt, ByCap, Leads, There, Then}
-use Rattle.laws_meanings.specs.NodeLabels.{Labels, field_label, LeadsTo, label, Means, MeansKnown, CallsAt, ValueMeans, RefMeans, PromiseMeans, IsUnsettled, EmbargoMeans, TaskMeans, OwnCallMeans, BackMeans, QuestionMeans, ImportMeans, Places, RoutedMean, AreLed, EndsAreLed, MomentMeans}
+use Rattle.laws_meanings.specs.NodeLabels.{Labels, field_label, LeadsTo, label, Means, MeansKnown, CallsAt, ValueMeans, RefMeans, PromiseMeans, IsUnsettled, EmbargoMeans, TaskMeans, OwnCallMeans, BackMeans, QuestionMeans, ResolvedMeans, ImportMeans, Places, RoutedMean, AreLed, EndsAreLed, MomentMeans}
 use Rattle.laws_meanings.specs.CommandMeanings.{OpensNothing, AnswersWith, IsWritten, CommandsKeepMeanings}
 use Rattle.laws_meanings.proofs.Links.{walk_fields}
 use Rattle.laws_meanings.proofs.Labelled.{further, further_to, settles, new_ref}
@@ -75,9 +76,13 @@ module _ (h : History) (v : Vat) (l : Labels) where
   known_further w x (known.IsBroken reason) i f = further h (Itself Broken) w x i f
   known_further w x (known.Leads by n) i f = further_to h w x (label h v l n) i f
 
+  by_resolved : (x : Meant) (o : Option Meant) (r : Option Resolution) → ResolvedMeans h v l o r → LeadsTo h x o → MeansKnown h v l x (known_by_resolve r)
+  by_resolved x None r i m = subst (λ (z : Option Resolution). MeansKnown h v l x (known_by_resolve z)) (sym i) tt
+  by_resolved x (Some y) r i m = known_further y x (known_by_resolve r) i m
+
   by_import : (x : Meant) (e : ℕ) (o : Option Import) → ImportMeans h v l e o → LeadsTo h x (l.import e) → MeansKnown h v l x (known_by_resolve (resolution_of o))
   by_import x e None i m = tt
-  by_import x e (Some y) i m = known_further i.0 x (known_by_resolve y.resolution) i.2 (subst (LeadsTo h x) i.1 m)
+  by_import x e (Some y) i m = by_resolved x (l.import e) y.resolution i m
 
   by_role : (x : Meant) (q : ℕ) (path : List Op) (r : Role) (o : Option Returned) → IsRelayOpen r o → BackMeans h v l q r o → Means h v l x (node.Pipe (record { 0 = q }) path) → MeansKnown h v l x (known_by_return path o)
   by_role x q path (role.Direct c) o w i m =

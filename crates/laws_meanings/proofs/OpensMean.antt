@@ -70,12 +70,13 @@ module _ (h : History) (l : Labels) (s : State) (whole : IsWhole s) (one : HasOn
     abbrev ps : ℕ → Option Meant
     ps p = cond (nat_eq p key) (Some x) (l.promise p)
 
-    promise_relabels : Relabels h v l s ps l.outcome l.question
+    promise_relabels : Relabels h v l s ps l.import l.outcome l.question
     promise_relabels = record {
       named = λ n a. by n (whole.there n a);
       promises = λ p y e. other s.promises p key y (Some x) (l.promise p) free e;
       outcomes = λ o y e. refl;
       questions = λ q y e. refl;
+      imports = λ e y f. refl;
       awaited = λ o e. refl;
       calls = λ c y e i. at c y i;
     }
@@ -97,7 +98,7 @@ module _ (h : History) (l : Labels) (s : State) (whole : IsWhole s) (one : HasOn
         at c (own.Kept o) i = i
 
     with_promise : Places h v (record l { promise = ps }) quiet s
-    with_promise = relabelled h v l s ps l.outcome l.question promise_relabels ends w
+    with_promise = relabelled h v l s ps l.import l.outcome l.question promise_relabels ends w
 
   module _ (key : ℕ) (x : Vat × Asking) (free : map.get s.questions key ≡ None) where
     abbrev qs : ℕ → Option (Vat × Asking)
@@ -107,12 +108,13 @@ module _ (h : History) (l : Labels) (s : State) (whole : IsWhole s) (one : HasOn
     there c q None e i = absurd i
     there c q (Some y) e i = other s.questions q key y (Some x) (l.question q) free e
 
-    question_relabels : Relabels h v l s l.promise l.outcome qs
+    question_relabels : Relabels h v l s l.promise l.import l.outcome qs
     question_relabels = record {
       named = λ n a. by n (whole.there n a);
       promises = λ p y e. refl;
       outcomes = λ o y e. refl;
       questions = λ q y e. other s.questions q key y (Some x) (l.question q) free e;
+      imports = λ e y f. refl;
       awaited = λ o e. refl;
       calls = λ c y e i. at c y (subst (HasSource s c) e (whole.callers.calls c)) i;
     }
@@ -130,18 +132,19 @@ module _ (h : History) (l : Labels) (s : State) (whole : IsWhole s) (one : HasOn
         at c (own.Kept o) f i = i
 
     with_question : Places h v (record l { question = qs }) quiet s
-    with_question = relabelled h v l s l.promise l.outcome qs question_relabels ends w
+    with_question = relabelled h v l s l.promise l.import l.outcome qs question_relabels ends w
 
   module _ (key : ℕ) (x : Vat × Asking) (free : map.get s.outcomes key ≡ None) where
     abbrev os : ℕ → Option (Vat × Asking)
     os o = cond (nat_eq o key) (Some x) (l.outcome o)
 
-    outcome_relabels : Relabels h v l s l.promise os l.question
+    outcome_relabels : Relabels h v l s l.promise l.import os l.question
     outcome_relabels = record {
       named = λ n a. by n (whole.there n a);
       promises = λ p y e. refl;
       outcomes = λ o y e. other s.outcomes o key y (Some x) (l.outcome o) free e;
       questions = λ q y e. refl;
+      imports = λ e y f. refl;
       awaited = λ o e. waited o (nat_eq o key) refl e;
       calls = λ c y e i. at c y (subst (HasSource s c) e (whole.callers.calls c)) i;
     }
@@ -171,7 +174,7 @@ module _ (h : History) (l : Labels) (s : State) (whole : IsWhole s) (one : HasOn
         at c (own.Kept o) f i = (i.0, i.1, kept c o (map.get s.outcomes o) refl f ∙ i.2)
 
     with_outcome : Places h v (record l { outcome = os }) quiet s
-    with_outcome = relabelled h v l s l.promise os l.question outcome_relabels ends w
+    with_outcome = relabelled h v l s l.promise l.import os l.question outcome_relabels ends w
 
 -- ---- The first act
 
