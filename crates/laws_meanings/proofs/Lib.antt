@@ -38,3 +38,4 @@ pub mod ActsMean
 pub mod CommandsMean
 pub mod Relabelled
 pub mod OpensMean
+pub mod Lasts

@@ -11,3 +11,4 @@ pub mod AnsweredEnds
 pub mod NodeMeanings
 pub mod NodeLabels
 pub mod CommandMeanings
+pub mod LastingMeanings

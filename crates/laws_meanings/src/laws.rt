@@ -13,6 +13,7 @@ ghost use Rattle.laws_meanings.specs.WhatIsLeft.{ObjectsAreLeft, AnswersAreLeft,
 ghost use Rattle.laws_meanings.specs.NodeMeanings.{LinksLast, LedToObjects, LedToBroken, LinksToObjectsAreLeft, LinksToBrokenAreLeft};
 ghost use Rattle.laws_meanings.specs.NodeLabels.{ActsKeepMeanings};
 ghost use Rattle.laws_meanings.specs.CommandMeanings.{CommandsKeepMeanings, OpeningsKeepMeanings};
+ghost use Rattle.laws_meanings.specs.LastingMeanings.{PlacesLast, MomentsLast};
 
 use laws_answers::named_answers_are_there;
 use laws_nodes::outcomes_have_sources;
@@ -167,4 +168,10 @@ pub fn commands_keep_meanings()
 /// has the entry: what it opens means that call, that Bootstrap or that promise.
 pub fn openings_keep_meanings()
     ensures { OpeningsKeepMeanings }
+{}
+
+/// What nodes mean at a vat, at a moment of a step too, is so in a longer history.
+pub fn node_meanings_last()
+    ensures places { PlacesLast }
+    ensures moments { MomentsLast }
 {}
