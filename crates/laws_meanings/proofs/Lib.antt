@@ -39,3 +39,4 @@ pub mod CommandsMean
 pub mod Relabelled
 pub mod OpensMean
 pub mod Lasts
+pub mod Written

@@ -13,7 +13,7 @@ ghost use Rattle.laws_meanings.specs.WhatIsLeft.{ObjectsAreLeft, AnswersAreLeft,
 ghost use Rattle.laws_meanings.specs.NodeMeanings.{LinksLast, LedToObjects, LedToBroken, LinksToObjectsAreLeft, LinksToBrokenAreLeft};
 ghost use Rattle.laws_meanings.specs.NodeLabels.{ActsKeepMeanings};
 ghost use Rattle.laws_meanings.specs.CommandMeanings.{CommandsKeepMeanings, OpeningsKeepMeanings};
-ghost use Rattle.laws_meanings.specs.LastingMeanings.{PlacesLast, MomentsLast};
+ghost use Rattle.laws_meanings.specs.LastingMeanings.{PlacesLast, MomentsLast, EffectsAreWritten, EntriesAreLed};
 
 use laws_answers::named_answers_are_there;
 use laws_nodes::outcomes_have_sources;
@@ -175,3 +175,13 @@ pub fn node_meanings_last()
     ensures places { PlacesLast }
     ensures moments { MomentsLast }
 {}
+
+/// What nodes mean at the end of a step of a scene is known from the history with the entries of the step: each reference
+/// that a delivery or an end gave comes from there. And each of these entries is as what leads to an object, or to broken,
+/// says.
+pub fn effects_are_meanings()
+    ensures written { EffectsAreWritten }
+    ensures led { EntriesAreLed }
+{
+    given_references_are_new();
+}
