@@ -40,3 +40,4 @@ pub mod Relabelled
 pub mod OpensMean
 pub mod Lasts
 pub mod Written
+pub mod Unsettled

@@ -12,3 +12,4 @@ pub mod NodeMeanings
 pub mod NodeLabels
 pub mod CommandMeanings
 pub mod LastingMeanings
+pub mod Fates

@@ -13,6 +13,7 @@ ghost use Rattle.laws_meanings.specs.WhatIsLeft.{ObjectsAreLeft, AnswersAreLeft,
 ghost use Rattle.laws_meanings.specs.NodeMeanings.{LinksLast, LedToObjects, LedToBroken, LinksToObjectsAreLeft, LinksToBrokenAreLeft};
 ghost use Rattle.laws_meanings.specs.NodeLabels.{ActsKeepMeanings};
 ghost use Rattle.laws_meanings.specs.CommandMeanings.{CommandsKeepMeanings, OpeningsKeepMeanings};
+ghost use Rattle.laws_meanings.specs.Fates.{PromisesAreOpen};
 ghost use Rattle.laws_meanings.specs.LastingMeanings.{PlacesLast, MomentsLast, EffectsAreWritten, EntriesAreLed};
 
 use laws_answers::named_answers_are_there;
@@ -185,3 +186,8 @@ pub fn effects_are_meanings()
 {
     given_references_are_new();
 }
+
+/// In each scene an own promise that is not settled at its vat has no fate in the history, unless the vat takes no more steps.
+pub fn promises_are_settled_once()
+    ensures { PromisesAreOpen }
+{}
