@@ -45,3 +45,6 @@ pub mod FitCores
 pub mod Begun
 pub mod HeardMeans
 pub mod RootHeard
+pub mod Lasts
+pub mod Written
+pub mod Unsettled

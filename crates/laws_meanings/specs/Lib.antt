@@ -15,3 +15,5 @@ pub mod NoneLost
 pub mod FirstActs
 pub mod FitCores
 pub mod MessageMeanings
+pub mod LastingMeanings
+pub mod Fates

@@ -17,6 +17,8 @@ ghost use Rattle.laws_meanings.specs.FitCores.{CoresAreFit};
 ghost use Rattle.laws_meanings.specs.NoneLost.{ActsLoseNone, CallsAreSomewhere, ObjectsLoseNone};
 ghost use Rattle.laws_meanings.specs.CommandMeanings.{CommandsKeepMeanings, OpeningsKeepMeanings, FirstActsMean, FirstOpeningsMean};
 ghost use Rattle.laws_meanings.specs.MessageMeanings.{BootstrapsAreHeard, ConsumingMeans, EachActMeans, MessagesKeepMeanings};
+ghost use Rattle.laws_meanings.specs.Fates.{PromisesAreOpen};
+ghost use Rattle.laws_meanings.specs.LastingMeanings.{PlacesLast, MomentsLast, EffectsAreWritten, EntriesAreLed};
 
 use laws_answers::named_answers_are_there;
 use laws_nodes::{embargoes_pair, outcomes_have_sources, questions_end};
@@ -244,4 +246,24 @@ pub fn messages_keep_meanings()
 /// A Bootstrap says what it should at a vat whose bootstrap object the history has.
 pub fn bootstraps_are_heard()
     ensures { BootstrapsAreHeard }
+
+/// What nodes mean at a vat, at a moment of a step too, is so in a longer history.
+pub fn node_meanings_last()
+    ensures places { PlacesLast }
+    ensures moments { MomentsLast }
+{}
+
+/// What nodes mean at the end of a step of a scene is known from the history with the entries of the step: each reference
+/// that a delivery or an end gave comes from there. And each of these entries is as what leads to an object, or to broken,
+/// says.
+pub fn effects_are_meanings()
+    ensures written { EffectsAreWritten }
+    ensures led { EntriesAreLed }
+{
+    given_references_are_new();
+}
+
+/// In each scene an own promise that is not settled at its vat has no fate in the history, unless the vat takes no more steps.
+pub fn promises_are_settled_once()
+    ensures { PromisesAreOpen }
 {}
