@@ -246,6 +246,7 @@ pub fn messages_keep_meanings()
 /// A Bootstrap says what it should at a vat whose bootstrap object the history has.
 pub fn bootstraps_are_heard()
     ensures { BootstrapsAreHeard }
+{}
 
 /// What nodes mean at a vat, at a moment of a step too, is so in a longer history.
 pub fn node_meanings_last()
