@@ -23,7 +23,9 @@ Behind h v d = (l : Labels) × MomentMeans h v l d
 
 pub commands_begin : CommandsBegin
 commands_begin h l s c g d (inl i) whole one ends paired w e = (l, started h s.vat l s ends w c g d i.0 i.1 e)
-commands_begin h l s c g d (inr i) whole one ends paired w e = opened h l s whole one ends paired w c g d i e
+commands_begin h l s c g d (inr i) whole one ends paired w e =
+    let o = opened h l s whole one ends paired w c g d i e in
+    (o.0, o.2)
 
 -- In scenes, by what is known of each core.
 pub first_acts_follow : CoresAreFit → FirstActsFollow
