@@ -1,0 +1,2 @@
+pub mod AtFirst
+pub mod LinksKept
