@@ -1,2 +1,3 @@
 pub mod AtFirst
 pub mod LinksKept
+pub mod Behind

@@ -34,13 +34,13 @@ use Rattle.laws_runs.proofs.Extends.{Extends, extends}
 use Rattle.laws_runs.proofs.Grows.{same_bootstrap}
 use Rattle.laws_routes.specs.Named.{AllMet, EachMet, EachReturn, NamesMet, ResolveMet, ReturnOf}
 use Rattle.laws_routes.specs.Premises.{EachTargetCap, OfCap, TargetCap}
-use Rattle.laws_routes.specs.QuietLaws.{AimsElsewhere, EachOff, IsOffAnswer, IsOffDescriptor, NoneAims, NoneNames, Unless, opens}
+use Rattle.laws_routes.specs.QuietLaws.{AimsElsewhere, EachOff, IsOffAnswer, IsAsked, IsOffDescriptor, NoneAims, NoneNames, Unless, opens}
 use Rattle.laws_routes.specs.Sayings.{Has, IsSilentPlain, SaidIfThere, has_behind, is_among}
 use Rattle.laws_meanings.specs.NodeMeanings.{Meant, Itself, OfRef, OfField, field_meant, BySource, ByEnd, Leads}
 use Rattle.laws_meanings.specs.NodeLabels.{LeadsTo, IsAnsweredOrBroken, field_label}
 use Rattle.laws_meanings.proofs.Links.{links_last}
 use Rattle.laws_wires.specs.Wires.{Session, Reader, read_label, target_label, index_label, cap_label, resolved_label, CallMeans, ReturnMeans, ResolveMeans, MessageMeans, LinkMeans, has_past, past, past_one, with_session}
-use Rattle.laws_wires.specs.WireLaws.{IsAlike, LinksAreClosed, LinksAreFewer, LinksAreMet, LinksAreSent, LinksAreSentBack, LinksLive}
+use Rattle.laws_wires.specs.WireLaws.{IsAlike, LinksAreClosed, LinksAreFewer, LinksAreJoined, LinksAreMet, LinksAreSent, LinksAreSentBack, LinksLive}
 
 pub if_said : (P Q : Type 0) (b : Bool) → (P → Q) → SaidIfThere b P → SaidIfThere b Q
 if_said P Q true f h = f h
@@ -182,97 +182,139 @@ module _ (h : History) (v : Vat) (E F : Map Export) (x y : Reader) (same : IsAli
 pub links_are_met : LinksAreMet
 links_are_met h v E F x y has now ms same met t q l = all_met h v E F x y same has now ms met t q l
 
--- ---- An answer that closed
+-- ---- Answers that closed
 
-abbrev pub AlikeBut : ℕ → (ℕ → Session) → (ℕ → Session) → Type 0
-AlikeBut q now then = (k : ℕ) → nat_eq k q ≡ false → then k ≡ now k
+same_past : (v : Vat) (q : ℕ) (now then : ℕ → Session) (m : Message) → then q ≡ now q → past_one v then m q ≡ past_one v now m q
+same_past v q now then (message.Plain (plain.Abort exception)) h = h
+same_past v q now then (message.Plain (plain.Bootstrap k)) h = ap (λ z. cond (nat_eq q k.0) (Some (v, OfBootstrap)) z) h
+same_past v q now then (message.Plain (plain.Call c)) h = ap (λ z. cond (nat_eq q c.question.0) (Some (v, OfCall c.stamp)) z) h
+same_past v q now then (message.Plain (plain.Return r)) h = h
+same_past v q now then (message.Plain (plain.Finish x)) h = h
+same_past v q now then (message.Plain (plain.Resolve r)) h = h
+same_past v q now then (message.Plain (plain.Release r)) h = h
+same_past v q now then (message.Plain (plain.Disembargo x)) h = h
+same_past v q now then (message.Plain (plain.Other n)) h = h
+same_past v q now then (message.Unimplemented m) h = h
 
-with_alike : (q k : ℕ) (i : Session) (now then : ℕ → Session) → AlikeBut q now then → AlikeBut q (with_session now k i) (with_session then k i)
-with_alike q k i now then h = λ j n. ap (λ z. cond (nat_eq j k) i z) (h j n)
+flipped : (j k : ℕ) → nat_eq j k ≡ true → nat_eq k j ≡ true
+flipped j k e = grind (arith, e)
 
-with_same : (q k : ℕ) (i : Session) (now then : ℕ → Session) → AlikeBut q now then → nat_eq k q ≡ true → with_session then k i ≡ with_session now k i
-with_same q k i now then h e = fun_ext (λ j. by j (nat_eq j q) refl)
+opened_past : (v : Vat) (q : ℕ) (now then : ℕ → Session) (m : Message) → opens q m ≡ true → past_one v then m q ≡ past_one v now m q
+opened_past v q now then (message.Plain (plain.Abort exception)) e = cc
+opened_past v q now then (message.Plain (plain.Bootstrap k)) e =
+    let f = flipped k.0 q e in ap (λ b. cond b (Some (v, OfBootstrap)) (then q)) f ∙ sym (ap (λ b. cond b (Some (v, OfBootstrap)) (now q)) f)
+opened_past v q now then (message.Plain (plain.Call c)) e =
+    let f = flipped c.question.0 q e in ap (λ b. cond b (Some (v, OfCall c.stamp)) (then q)) f ∙ sym (ap (λ b. cond b (Some (v, OfCall c.stamp)) (now q)) f)
+opened_past v q now then (message.Plain (plain.Return r)) e = cc
+opened_past v q now then (message.Plain (plain.Finish x)) e = cc
+opened_past v q now then (message.Plain (plain.Resolve r)) e = cc
+opened_past v q now then (message.Plain (plain.Release r)) e = cc
+opened_past v q now then (message.Plain (plain.Disembargo x)) e = cc
+opened_past v q now then (message.Plain (plain.Other n)) e = cc
+opened_past v q now then (message.Unimplemented m) e = cc
+
+pub all_past : (v : Vat) (q : ℕ) (now then : ℕ → Session) (ms : List Message) → then q ≡ now q → past v then ms q ≡ past v now ms q
+all_past v q now then [] h = h
+all_past v q now then (m ∷ ms) h = all_past v q (past_one v now m) (past_one v then m) ms (same_past v q now then m h)
+
+-- Behind where q is asked both are the same.
+pub asked_past : (v : Vat) (q : ℕ) (now then : ℕ → Session) (ms : List Message) → IsAsked q ms → past v then ms q ≡ past v now ms q
+asked_past v q now then [] k = absurd k
+asked_past v q now then (m ∷ ms) (inl e) = all_past v q (past_one v now m) (past_one v then m) ms (opened_past v q now then m e)
+asked_past v q now then (m ∷ ms) (inr k) = asked_past v q (past_one v now m) (past_one v then m) ms k
+
+abbrev pub MayDiffer : (ℕ → Session) → (ℕ → Session) → List Message → Type 0
+MayDiffer now then ms = (q : ℕ) → (then q ≡ now q) ⊎ (NoneAims q ms × NoneNames q ms)
+
+differ_behind : (v : Vat) (now then : ℕ → Session) (m : PlainMessage) (ms : List Message) → MayDiffer now then (message.Plain m ∷ ms) → MayDiffer (past_one v now (message.Plain m)) (past_one v then (message.Plain m)) ms
+differ_behind v now then m ms f q = go (f q)
   where
-    by : (j : ℕ) (b : Bool) → nat_eq j q ≡ b → with_session then k i j ≡ with_session now k i j
-    by j true f =
-        let a : j ≡ k = equal j q f ∙ sym (equal k q e) in
-        let c : nat_eq j k ≡ true = grind (arith, a) in
-        ap (λ b. cond b i (then j)) c ∙ sym (ap (λ b. cond b i (now j)) c)
-    by j false f = ap (λ z. cond (nat_eq j k) i z) (h j f)
+    by : (b : Bool) → opens q (message.Plain m) ≡ b → Unless b (NoneAims q ms) → Unless b (NoneNames q ms)
+        → (past_one v then (message.Plain m) q ≡ past_one v now (message.Plain m) q) ⊎ (NoneAims q ms × NoneNames q ms)
+    by true e a n = inl (opened_past v q now then (message.Plain m) e)
+    by false e a n = inr (a, n)
 
-pub past_alike : (q : ℕ) (v : Vat) (now then : ℕ → Session) (m : Message) → AlikeBut q now then → AlikeBut q (past_one v now m) (past_one v then m)
-past_alike q v now then (message.Plain (plain.Abort exception)) h = h
-past_alike q v now then (message.Plain (plain.Bootstrap k)) h = with_alike q k.0 (Some (v, OfBootstrap)) now then h
-past_alike q v now then (message.Plain (plain.Call c)) h = with_alike q c.question.0 (Some (v, OfCall c.stamp)) now then h
-past_alike q v now then (message.Plain (plain.Return r)) h = h
-past_alike q v now then (message.Plain (plain.Finish x)) h = h
-past_alike q v now then (message.Plain (plain.Resolve r)) h = h
-past_alike q v now then (message.Plain (plain.Release r)) h = h
-past_alike q v now then (message.Plain (plain.Disembargo x)) h = h
-past_alike q v now then (message.Plain (plain.Other n)) h = h
-past_alike q v now then (message.Unimplemented m) h = h
+    go : (then q ≡ now q) ⊎ (NoneAims q (message.Plain m ∷ ms) × NoneNames q (message.Plain m ∷ ms)) → (past_one v then (message.Plain m) q ≡ past_one v now (message.Plain m) q) ⊎ (NoneAims q ms × NoneNames q ms)
+    go (inl e) = inl (same_past v q now then (message.Plain m) e)
+    go (inr k) = by (opens q (message.Plain m)) refl k.0.1 k.1.1
 
-pub past_opened : (q : ℕ) (v : Vat) (now then : ℕ → Session) (m : Message) → AlikeBut q now then → opens q m ≡ true → past_one v then m ≡ past_one v now m
-past_opened q v now then (message.Plain (plain.Abort exception)) h e = cc
-past_opened q v now then (message.Plain (plain.Bootstrap k)) h e = with_same q k.0 (Some (v, OfBootstrap)) now then h e
-past_opened q v now then (message.Plain (plain.Call c)) h e = with_same q c.question.0 (Some (v, OfCall c.stamp)) now then h e
-past_opened q v now then (message.Plain (plain.Return r)) h e = cc
-past_opened q v now then (message.Plain (plain.Finish x)) h e = cc
-past_opened q v now then (message.Plain (plain.Resolve r)) h e = cc
-past_opened q v now then (message.Plain (plain.Release r)) h e = cc
-past_opened q v now then (message.Plain (plain.Disembargo x)) h e = cc
-past_opened q v now then (message.Plain (plain.Other n)) h e = cc
-past_opened q v now then (message.Unimplemented m) h e = cc
+differ_echo : (now then : ℕ → Session) (m : PlainMessage) (ms : List Message) → MayDiffer now then (message.Unimplemented m ∷ ms) → MayDiffer now then ms
+differ_echo now then m ms f q = go (f q)
+  where
+    go : (then q ≡ now q) ⊎ (NoneAims q (message.Unimplemented m ∷ ms) × NoneNames q (message.Unimplemented m ∷ ms)) → (then q ≡ now q) ⊎ (NoneAims q ms × NoneNames q ms)
+    go (inl e) = inl e
+    go (inr k) = inr (k.0.1, k.1)
 
-unless_open : {A : Type 0} {B : Type 0} (b : Bool) → Unless b A → (b ≡ true → B) → (A → B) → B
-unless_open true k f h = f refl
-unless_open false k f h = h k
+not_itself : {P : Type 0} (q : ℕ) → nat_eq q q ≡ false → P
+not_itself q e = let f : nat_eq q q ≡ true = grind (arith) in let g : true ≡ false = sym f ∙ e in cc
 
-module _ (h : History) (v : Vat) (x : Reader) (q : ℕ) where
-  off_one : (now then : ℕ → Session) (d : Descriptor) → AlikeBut q now then → IsOffDescriptor q d → read_label h x then d ≡ read_label h x now d
-  off_one now then descriptor.None same off = refl
-  off_one now then (descriptor.SenderHosted e) same off = refl
-  off_one now then (descriptor.SenderPromise e) same off = refl
-  off_one now then (descriptor.ReceiverHosted e) same off = refl
-  off_one now then (descriptor.ReceiverAnswer k path) same off = ap (λ (i : Session). field_label h i (fields path)) (same k.0 off)
+module _ (h : History) (v : Vat) (x : Reader) (now then : ℕ → Session) where
+  off_session : (q : ℕ) (path : List Op) → (then q ≡ now q) ⊎ (nat_eq q q ≡ false) → field_label h (then q) path ≡ field_label h (now q) path
+  off_session q path (inl e) = ap (λ (i : Session). field_label h i path) e
+  off_session q path (inr e) = not_itself q e
 
-  each_off : (now then : ℕ → Session) (ds : List Descriptor) → AlikeBut q now then → EachOff q ds → EachAlike h (read_label h x now) (read_label h x then) ds
-  each_off now then [] same off i d e = cc
-  each_off now then (c ∷ ds) same off zero d e = let is : c ≡ d = cc in subst (λ z. read_label h x then z ≡ read_label h x now z) is (off_one now then c same off.0)
-  each_off now then (c ∷ ds) same off (suc i) d e = each_off now then ds same off.1 i d e
+  off_one : (d : Descriptor) → ((q : ℕ) → (then q ≡ now q) ⊎ IsOffDescriptor q d) → read_label h x then d ≡ read_label h x now d
+  off_one descriptor.None f = refl
+  off_one (descriptor.SenderHosted e) f = refl
+  off_one (descriptor.SenderPromise e) f = refl
+  off_one (descriptor.ReceiverHosted e) f = refl
+  off_one (descriptor.ReceiverAnswer k path) f = off_session k.0 (fields path) (f k.0)
 
-  off_target : (now then : ℕ → Session) (t : Target) → AlikeBut q now then → IsOffAnswer q t → target_label h x then t ≡ target_label h x now t
-  off_target now then (ImportedCap e) same off = refl
-  off_target now then (PromisedAnswer k path) same off = ap (λ (i : Session). field_label h i (fields path)) (same k.0 off)
+  head_off : (d : Descriptor) (ds : List Descriptor) (q : ℕ) → (then q ≡ now q) ⊎ EachOff q (d ∷ ds) → (then q ≡ now q) ⊎ IsOffDescriptor q d
+  head_off d ds q (inl e) = inl e
+  head_off d ds q (inr k) = inr k.0
 
-  off_message : (has : Has) (now then : ℕ → Session) (m : PlainMessage) → AlikeBut q now then → AimsElsewhere q (message.Plain m) → EachOff q (descriptors_of (message.Plain m)) → MessageMeans h v x has now m → MessageMeans h v x has then m
-  off_message has now then (plain.Abort exception) same a off l = tt
-  off_message has now then (plain.Bootstrap k) same a off l = tt
-  off_message has now then (plain.Call c) same a off l =
-      call_alike h (read_label h x now) (read_label h x then) v c.stamp (target_label h x now c.target) (target_label h x then c.target) c.descriptors (off_target now then c.target same a) (each_off now then c.descriptors same off) l
-  off_message has now then (plain.Return z) same a off l =
-      if_said _ _ (has.question z.answer.0) (λ k. (k.0, k.1, return_alike h (read_label h x now) (read_label h x then) k.0 z.body (each_off now then (descriptors_of_body z.body) same off) k.2)) l
-  off_message has now then (plain.Finish z) same a off l = tt
-  off_message has now then (plain.Resolve z) same a off l =
+  tail_off : (d : Descriptor) (ds : List Descriptor) (q : ℕ) → (then q ≡ now q) ⊎ EachOff q (d ∷ ds) → (then q ≡ now q) ⊎ EachOff q ds
+  tail_off d ds q (inl e) = inl e
+  tail_off d ds q (inr k) = inr k.1
+
+  each_off : (ds : List Descriptor) → ((q : ℕ) → (then q ≡ now q) ⊎ EachOff q ds) → EachAlike h (read_label h x now) (read_label h x then) ds
+  each_off [] f i d e = cc
+  each_off (c ∷ ds) f zero d e = let is : c ≡ d = cc in subst (λ z. read_label h x then z ≡ read_label h x now z) is (off_one c (λ q. head_off c ds q (f q)))
+  each_off (c ∷ ds) f (suc i) d e = each_off ds (λ q. tail_off c ds q (f q)) i d e
+
+  off_target : (t : Target) → ((q : ℕ) → (then q ≡ now q) ⊎ IsOffAnswer q t) → target_label h x then t ≡ target_label h x now t
+  off_target (ImportedCap e) f = refl
+  off_target (PromisedAnswer k path) f = off_session k.0 (fields path) (f k.0)
+
+  off_message : (has : Has) (m : PlainMessage) → ((q : ℕ) → (then q ≡ now q) ⊎ AimsElsewhere q (message.Plain m)) → ((q : ℕ) → (then q ≡ now q) ⊎ EachOff q (descriptors_of (message.Plain m)))
+      → MessageMeans h v x has now m → MessageMeans h v x has then m
+  off_message has (plain.Abort exception) a off l = tt
+  off_message has (plain.Bootstrap k) a off l = tt
+  off_message has (plain.Call c) a off l =
+      call_alike h (read_label h x now) (read_label h x then) v c.stamp (target_label h x now c.target) (target_label h x then c.target) c.descriptors (off_target c.target a) (each_off c.descriptors off) l
+  off_message has (plain.Return z) a off l =
+      if_said _ _ (has.question z.answer.0) (λ k. (k.0, k.1, return_alike h (read_label h x now) (read_label h x then) k.0 z.body (each_off (descriptors_of_body z.body) off) k.2)) l
+  off_message has (plain.Finish z) a off l = tt
+  off_message has (plain.Resolve z) a off l =
       if_said _ _ (has.import z.promise.0)
-      (λ k. resolve_alike h (read_label h x now) (read_label h x then) (x.sender z.promise.0) (x.sender z.promise.0) z.to refl (each_off now then (descriptors_of_resolved z.to) same off) k) l
-  off_message has now then (plain.Release z) same a off l = tt
-  off_message has now then (plain.Disembargo z) same a off l = tt
-  off_message has now then (plain.Other k) same a off l = tt
+      (λ k. resolve_alike h (read_label h x now) (read_label h x then) (x.sender z.promise.0) (x.sender z.promise.0) z.to refl (each_off (descriptors_of_resolved z.to) off) k) l
+  off_message has (plain.Release z) a off l = tt
+  off_message has (plain.Disembargo z) a off l = tt
+  off_message has (plain.Other k) a off l = tt
 
-  all_off : (has : Has) (now then : ℕ → Session) (ms : List Message) → AlikeBut q now then → NoneAims q ms → NoneNames q ms → LinkMeans h v x has now ms → LinkMeans h v x has then ms
-  all_off has now then [] same a off l = tt
-  all_off has now then (message.Plain m ∷ ms) same a off l =
-      let z = message.Plain m in (
-        off_message has now then m same a.0 off.0 l.0,
-        unless_open (opens q z) a.1 (λ e. subst (λ (w : ℕ → Session). LinkMeans h v x (has_behind has (descriptors_of z)) w ms) (sym (past_opened q v now then z same e)) l.1)
-            (λ b. unless_open (opens q z) off.1 (λ e. subst (λ (w : ℕ → Session). LinkMeans h v x (has_behind has (descriptors_of z)) w ms) (sym (past_opened q v now then z same e)) l.1)
-                (λ k. all_off (has_behind has (descriptors_of z)) (past_one v now z) (past_one v then z) ms (past_alike q v now then z same) b k l.1)),
-      )
-  all_off has now then (message.Unimplemented m ∷ ms) same a off l = (l.0, all_off has now then ms same a.1 off l.1)
+aims_first : (q : ℕ) (now then : ℕ → Session) (m : Message) (ms : List Message) → (then q ≡ now q) ⊎ (NoneAims q (m ∷ ms) × NoneNames q (m ∷ ms)) → (then q ≡ now q) ⊎ AimsElsewhere q m
+aims_first q now then m ms (inl e) = inl e
+aims_first q now then m ms (inr k) = inr k.0.0
+
+names_first : (q : ℕ) (now then : ℕ → Session) (m : PlainMessage) (ms : List Message) → (then q ≡ now q) ⊎ (NoneAims q (message.Plain m ∷ ms) × NoneNames q (message.Plain m ∷ ms)) → (then q ≡ now q) ⊎ EachOff q (descriptors_of (message.Plain m))
+names_first q now then m ms (inl e) = inl e
+names_first q now then m ms (inr k) = inr k.1.0
 
 pub links_are_closed : LinksAreClosed
-links_are_closed h v x has q now then ms same a off l = all_off h v x q has now then ms same a off l
+links_are_closed h v x has now then [] f l = tt
+links_are_closed h v x has now then (message.Plain m ∷ ms) f l = (
+  off_message h v x now then has m (λ q. aims_first q now then (message.Plain m) ms (f q)) (λ q. names_first q now then m ms (f q)) l.0,
+  links_are_closed h v x (has_behind has (descriptors_of (message.Plain m))) (past_one v now (message.Plain m)) (past_one v then (message.Plain m)) ms (differ_behind v now then m ms f) l.1,
+)
+links_are_closed h v x has now then (message.Unimplemented m ∷ ms) f l = (l.0, links_are_closed h v x has now then ms (differ_echo now then m ms f) l.1)
+
+-- ---- More messages
+
+pub links_are_joined : LinksAreJoined
+links_are_joined h v x has now [] more l k = k
+links_are_joined h v x has now (message.Plain m ∷ ms) more l k = (l.0, links_are_joined h v x (has_behind has (descriptors_of (message.Plain m))) (past_one v now (message.Plain m)) ms more l.1 k)
+links_are_joined h v x has now (message.Unimplemented m ∷ ms) more l k = (l.0, links_are_joined h v x has now ms more l.1 k)
 
 -- ---- A longer history
 

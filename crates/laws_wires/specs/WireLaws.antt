@@ -1,5 +1,5 @@
 -- What is proved of what stands on the wires.
-use Rattle.std.specs.Prelude.{◌≡◌, ℕ, nat_eq, false, true, Option, None, IsSome, List, [], ◌∷◌, ◌++◌}
+use Rattle.std.specs.Prelude.{◌≡◌, ◌⊎◌, ℕ, true, Option, None, IsSome, List, [], ◌∷◌, ◌++◌}
 use Rattle.std.specs.FinMap as map
 use Rattle.finite_maps.specs.Tally.{Map}
 use Rattle.rpc_msg.specs.declared.ids.ObjectId.{ObjectId}
@@ -48,10 +48,10 @@ LinksAreFewer =
     (h : History) (v : Vat) (x : Reader) (has left : Has) (now : ℕ → Session) (ms : List Message) → ((e : ℕ) → left.import e ≡ true → has.import e ≡ true)
     → EachReturn (λ q. left.question q ≡ true → has.question q ≡ true) ms → LinkMeans h v x has now ms → LinkMeans h v x left now ms
 
--- As the answer q closes.
+-- As answers close, at which nothing on the way is aimed, and that nothing there names.
 abbrev pub LinksAreClosed : Type 0
 LinksAreClosed =
-    (h : History) (v : Vat) (x : Reader) (has : Has) (q : ℕ) (now then : ℕ → Session) (ms : List Message) → ((k : ℕ) → nat_eq k q ≡ false → then k ≡ now k) → NoneAims q ms → NoneNames q ms
+    (h : History) (v : Vat) (x : Reader) (has : Has) (now then : ℕ → Session) (ms : List Message) → ((q : ℕ) → (then q ≡ now q) ⊎ (NoneAims q ms × NoneNames q ms))
     → LinkMeans h v x has now ms → LinkMeans h v x has then ms
 
 -- As one more is sent.
@@ -63,3 +63,9 @@ LinksAreSent =
 abbrev pub LinksAreSentBack : Type 0
 LinksAreSentBack =
     (h : History) (v : Vat) (x : Reader) (has : Has) (now : ℕ → Session) (ms : List Message) (m : PlainMessage) → LinkMeans h v x has now ms → IsSilentPlain m → LinkMeans h v x has now (ms ++ message.Unimplemented m ∷ [])
+
+-- As more are sent, one after the other.
+abbrev pub LinksAreJoined : Type 0
+LinksAreJoined =
+    (h : History) (v : Vat) (x : Reader) (has : Has) (now : ℕ → Session) (ms more : List Message) → LinkMeans h v x has now ms → LinkMeans h v x (has_past has ms) (past v now ms) more
+    → LinkMeans h v x has now (ms ++ more)

@@ -1,6 +1,7 @@
 //! The functions run no code: what each ensures is the law.
 
-ghost use Rattle.laws_wires.specs.WireLaws.{LinksAreClosed, LinksAreFewer, LinksAreMet, LinksAreSent, LinksAreSentBack, LinksLive, NewVatsMean};
+ghost use Rattle.laws_wires.specs.StepWires.{BackIsLeft, OutIsLeft, WiresLive};
+ghost use Rattle.laws_wires.specs.WireLaws.{LinksAreClosed, LinksAreFewer, LinksAreJoined, LinksAreMet, LinksAreSent, LinksAreSentBack, LinksLive, NewVatsMean};
 
 /// Of two new vats all means what it should, whatever the history is.
 pub fn wires_mean_at_first()
@@ -8,7 +9,7 @@ pub fn wires_mean_at_first()
 {}
 
 /// What is on its way keeps meaning what it should: in a longer history; as exports are added, or go that nothing on the way
-/// names, and labels come; as its receiver lets imports and questions go; as an answer closes; and as one more message is sent.
+/// names, and labels come; as its receiver lets imports and questions go; as answers close; and as more messages are sent.
 pub fn wires_last()
     ensures longer { LinksLive }
     ensures met { LinksAreMet }
@@ -16,4 +17,14 @@ pub fn wires_last()
     ensures closed { LinksAreClosed }
     ensures sent { LinksAreSent }
     ensures sent_back { LinksAreSentBack }
+    ensures joined { LinksAreJoined }
+{}
+
+/// The wires between two vats mean what they should in a longer history, and behind a step of one vat: what was on its way
+/// before, if exports that are named there are left as they were and answers that change may close; what the vats know of each
+/// other; and what was sent, if it means what it should.
+pub fn wires_are_left()
+    ensures longer { WiresLive }
+    ensures back { BackIsLeft }
+    ensures out { OutIsLeft }
 {}

@@ -4,4 +4,4 @@
 
 mod laws;
 
-pub use laws::{wires_last, wires_mean_at_first};
+pub use laws::{wires_are_left, wires_last, wires_mean_at_first};

@@ -1,4 +1,4 @@
-use Rattle.laws_wires.proofs.LinksKept.{links_are_closed, links_are_fewer, links_are_met, links_are_sent, links_are_sent_back, links_live}
+use Rattle.laws_wires.proofs.LinksKept.{links_are_closed, links_are_fewer, links_are_joined, links_are_met, links_are_sent, links_are_sent_back, links_live}
 use Rattle.laws_wires.proofs.laws.wires_last.Goals as goal
 
 pub returns-clause-longer : goal.returns-clause-longer
@@ -18,3 +18,6 @@ returns-clause-sent c = links_are_sent
 
 pub returns-clause-sent_back : goal.returns-clause-sent_back
 returns-clause-sent_back c = links_are_sent_back
+
+pub returns-clause-joined : goal.returns-clause-joined
+returns-clause-joined c = links_are_joined
