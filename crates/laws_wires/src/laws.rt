@@ -1,5 +1,6 @@
 //! The functions run no code: what each ensures is the law.
 
+ghost use Rattle.laws_wires.specs.SentWires.{SentIsRead};
 ghost use Rattle.laws_wires.specs.StepWires.{BackIsLeft, OutIsLeft, WiresLive};
 ghost use Rattle.laws_wires.specs.WireLaws.{LinksAreClosed, LinksAreFewer, LinksAreJoined, LinksAreMet, LinksAreSent, LinksAreSentBack, LinksLive, NewVatsMean};
 
@@ -27,4 +28,10 @@ pub fn wires_are_left()
     ensures longer { WiresLive }
     ensures back { BackIsLeft }
     ensures out { OutIsLeft }
+{}
+
+/// A message that means what it should by the labels of its sender means so as its receiver will read it, where the imports
+/// and questions that it names stand there for what they mean to the sender.
+pub fn what_is_sent_is_read()
+    ensures { SentIsRead }
 {}

@@ -4,4 +4,4 @@
 
 mod laws;
 
-pub use laws::{wires_are_left, wires_last, wires_mean_at_first};
+pub use laws::{what_is_sent_is_read, wires_are_left, wires_last, wires_mean_at_first};
