@@ -1,6 +1,6 @@
 -- Two new vats hold nothing, and nothing stands on their wires.
 use Rattle.std.specs.FinMap as map
-use Rattle.std.proofs.Common.{◌≡◌, ℕ, nat_cmp, Option, None, Some, [], refl, sym, subst}
+use Rattle.std.proofs.Common.{ℕ, nat_cmp, Option, None, [], sym, subst}
 use Rattle.finite_maps.specs.Tally.{Map}
 use Rattle.rpc_msg.specs.declared.ids.ObjectId.{ObjectId}
 use Rattle.rpc_msg.specs.declared.ids.Vat.{Vat}
@@ -9,12 +9,12 @@ use Rattle.vat_journal.specs.Meaning.{History}
 use Rattle.rpc_msg.specs.Vats.{other_vat}
 use Rattle.vat_machine.specs.declared.command.Level.{Level}
 use Rattle.vat_machine.specs.declared.command.Level.TheVariants.{One}
-use Rattle.vat_machine.specs.State.{State, start}
+use Rattle.vat_machine.specs.State.{start}
 use Rattle.vat_machine.specs.Progress.{quiet}
 use Rattle.vat_machine.specs.World.{core, inbox}
 use Rattle.laws_runs.specs.Scenes.{begins}
 use Rattle.laws_meanings.specs.NodeLabels.{Places, RefMeans, PromiseMeans, IsUnsettled, OutcomeMeans, EmbargoMeans, TaskMeans, OwnCallMeans, QuestionMeans, ImportMeans}
-use Rattle.laws_wires.specs.Wires.{WiresMean, WorldMeans, ImportAgrees, QuestionAgrees, export_label, past, sessions_at}
+use Rattle.laws_wires.specs.Wires.{WiresMean, ImportAgrees, QuestionAgrees, export_label, past, sessions_at}
 use Rattle.laws_wires.specs.WireLaws.{NewVatsMean, unlabelled}
 
 at_none : {X : Type 0} (P : ℕ → Option X → Type 0) → ((k : ℕ) → P k None) → (k : ℕ) → P k (let m : Map X = map.empty in map.get m k)

@@ -1,15 +1,14 @@
 -- The wires behind a step.
 use mathlib.Core.Path.{fun_ext}
 use Rattle.std.specs.FinMap as map
-use Rattle.std.proofs.Common.{◌≡◌, ◌⊎◌, inl, inr, ℕ, nat_eq, Bool, true, false, cond, arith, List, [], ◌∷◌, ◌++◌, Option, None, Some, IsSome, refl, sym, subst, ap, ◌∙◌}
+use Rattle.std.proofs.Common.{◌≡◌, ◌⊎◌, inl, inr, ℕ, nat_eq, true, false, cond, arith, List, [], ◌∷◌, ◌++◌, Option, None, Some, IsSome, refl, sym, subst, ap, ◌∙◌}
 use Rattle.finite_maps.specs.Tally.{Map}
 use Rattle.rpc_msg.specs.declared.ids.Vat.{Vat}
-use Rattle.rpc_msg.specs.declared.ids.Stamp.{Stamp}
 use Rattle.rpc_msg.specs.declared.message.PlainMessage.TheVariants as plain
 use Rattle.rpc_msg.specs.declared.message.Message.{Message}
 use Rattle.rpc_msg.specs.declared.message.Message.TheVariants as message
 use Rattle.vat_journal.specs.declared.entry.JournalEntry.{JournalEntry}
-use Rattle.vat_journal.specs.Sources.{Asking, OfBootstrap, OfCall}
+use Rattle.vat_journal.specs.Sources.{OfBootstrap, OfCall}
 use Rattle.vat_journal.specs.Meaning.{History}
 use Rattle.vat_machine.specs.declared.node.Node.{Node}
 use Rattle.vat_machine.specs.declared.node.Node.TheVariants as node
@@ -20,18 +19,16 @@ use Rattle.vat_machine.specs.declared.entries.Role.{Role}
 use Rattle.vat_machine.specs.declared.entries.Role.TheVariants as role
 use Rattle.vat_machine.specs.State.{State}
 use Rattle.vat_machine.specs.Descriptors.{export_node}
-use Rattle.vat_machine.specs.Sweeping.{IsNotSent}
 use Rattle.laws_runs.specs.Meanings.{with_more}
-use Rattle.laws_routes.specs.KnownLaws.{StillThere}
 use Rattle.laws_routes.specs.Premises.{EachOpen, OpenOf}
 use Rattle.laws_routes.specs.QuietLaws.{IsAsked, IsFinished, MayClose, NoneAims, NoneNames}
 use Rattle.laws_routes.specs.Sayings.{has_of}
 use Rattle.laws_meanings.specs.NodeMeanings.{Meant}
 use Rattle.laws_meanings.specs.NodeLabels.{Labels, label}
 use Rattle.laws_routes.proofs.SayingsCarried.{each_return}
-use Rattle.laws_wires.specs.Wires.{Session, Reader, LinkMeans, WiresMean, ImportAgrees, QuestionAgrees, IsSession, asked_at, asked_label, export_label, has_past, past, past_one, reader, sessions_at}
+use Rattle.laws_wires.specs.Wires.{Session, Reader, LinkMeans, WiresMean, ImportAgrees, QuestionAgrees, IsSession, asked_at, asked_label, export_label, past, past_one, reader, sessions_at}
 use Rattle.laws_wires.specs.WireLaws.{IsAlike}
-use Rattle.laws_wires.specs.StepWires.{Around, OnTheWay, NamedAreKept, BackIsMet, BackMeans, BackIsLeft, OutIsMet, OutIsLeft, ImportStays, QuestionStays, WasAsked, WiresLive, left, then}
+use Rattle.laws_wires.specs.StepWires.{Around, OnTheWay, NamedAreKept, BackIsMet, BackMeans, BackIsLeft, OutIsLeft, ImportStays, QuestionStays, WasAsked, WiresLive, left, then}
 use Rattle.laws_wires.proofs.LinksKept.{all_past, asked_past, label_on, links_are_closed, links_are_fewer, links_are_joined, links_are_met, links_live}
 
 -- ---- A longer history

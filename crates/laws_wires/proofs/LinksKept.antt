@@ -1,12 +1,10 @@
 -- What is on its way keeps meaning what it should.
-use mathlib.Core.Path.{fun_ext}
 use Rattle.std.specs.FinMap as map
 use Rattle.std.proofs.Common.{◌≡◌, ◌⊎◌, inl, inr, ℕ, nat_eq, zero, suc, Bool, true, false, ◌||◌, cond, arith, List, [], ◌∷◌, ◌++◌, Option, None, Some, IsSome, refl, sym, subst, ap, ◌∙◌, slice_get}
 use Rattle.capn_wire.specs.declared.path.Op.{Op}
 use Rattle.capn_wire.specs.declared.path.CapAt.{CapAt}
 use Rattle.capn_wire.specs.declared.path.CapAt.TheVariants.{Cap, Null, NotCap}
 use Rattle.finite_maps.specs.Tally.{Map}
-use Rattle.finite_maps.proofs.Tested.{equal}
 use Rattle.rpc_msg.specs.declared.ids.Vat.{Vat}
 use Rattle.rpc_msg.specs.declared.ids.Stamp.{Stamp}
 use Rattle.rpc_msg.specs.declared.parts.Descriptor.{Descriptor}
@@ -25,21 +23,21 @@ use Rattle.rpc_msg.specs.Messages.{descriptors_of, descriptors_of_body, descript
 use Rattle.rpc_msg.specs.Paths.{fields}
 use Rattle.vat_journal.specs.declared.entry.JournalEntry.{JournalEntry}
 use Rattle.vat_journal.specs.History.{caller}
-use Rattle.vat_journal.specs.Sources.{Asking, OfBootstrap, OfCall, SentWith}
-use Rattle.vat_journal.specs.Meaning.{History, Meaning, Broken, bootstrap_meaning, root_field}
+use Rattle.vat_journal.specs.Sources.{Asking, OfBootstrap, OfCall}
+use Rattle.vat_journal.specs.Meaning.{History, Meaning, Broken, root_field}
 use Rattle.vat_machine.specs.Payloads.{cap_at}
 use Rattle.vat_machine.specs.declared.entries.Export.{Export}
 use Rattle.laws_runs.specs.Meanings.{with_more}
-use Rattle.laws_runs.proofs.Extends.{Extends, extends}
+use Rattle.laws_runs.proofs.Extends.{extends}
 use Rattle.laws_runs.proofs.Grows.{same_bootstrap}
 use Rattle.laws_routes.specs.Named.{AllMet, EachMet, EachReturn, NamesMet, ResolveMet, ReturnOf}
 use Rattle.laws_routes.specs.Premises.{EachTargetCap, OfCap, TargetCap}
 use Rattle.laws_routes.specs.QuietLaws.{AimsElsewhere, EachOff, IsOffAnswer, IsAsked, IsOffDescriptor, NoneAims, NoneNames, Unless, opens}
 use Rattle.laws_routes.specs.Sayings.{Has, IsSilentPlain, SaidIfThere, has_behind, is_among}
-use Rattle.laws_meanings.specs.NodeMeanings.{Meant, Itself, OfRef, OfField, field_meant, BySource, ByEnd, Leads}
+use Rattle.laws_meanings.specs.NodeMeanings.{Meant, Itself, OfRef, field_meant, ByEnd, Leads}
 use Rattle.laws_meanings.specs.NodeLabels.{LeadsTo, IsAnsweredOrBroken, field_label}
 use Rattle.laws_meanings.proofs.Links.{links_last}
-use Rattle.laws_wires.specs.Wires.{Session, Reader, read_label, target_label, index_label, cap_label, resolved_label, CallMeans, ReturnMeans, ResolveMeans, MessageMeans, LinkMeans, has_past, past, past_one, with_session}
+use Rattle.laws_wires.specs.Wires.{Session, Reader, read_label, target_label, index_label, cap_label, resolved_label, CallMeans, ReturnMeans, ResolveMeans, MessageMeans, LinkMeans, has_past, past, past_one}
 use Rattle.laws_wires.specs.WireLaws.{IsAlike, LinksAreClosed, LinksAreFewer, LinksAreJoined, LinksAreMet, LinksAreSent, LinksAreSentBack, LinksLive}
 
 pub if_said : (P Q : Type 0) (b : Bool) → (P → Q) → SaidIfThere b P → SaidIfThere b Q

@@ -1,5 +1,5 @@
 -- What stands on the wires behind a step of one vat.
-use Rattle.std.specs.Prelude.{◌≡◌, ◌⊎◌, ℕ, nat_eq, false, true, Option, None, Some, IsSome, List, [], ◌∷◌, ◌++◌}
+use Rattle.std.specs.Prelude.{◌≡◌, ◌⊎◌, ℕ, nat_eq, false, true, Option, None, Some, IsSome, List, [], ◌++◌}
 use Rattle.std.specs.FinMap as map
 use Rattle.finite_maps.specs.Tally.{Map}
 use Rattle.rpc_msg.specs.declared.ids.Vat.{Vat}

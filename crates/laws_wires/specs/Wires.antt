@@ -1,6 +1,6 @@
 -- What stands on the wires means (docs/laws.md, "What is called, given and ended"): what is on its way from one vat to the
 -- other is read by labels as the receiver will read it.
-use Rattle.std.specs.Prelude.{◌≡◌, ℕ, zero, suc, nat_eq, Bool, true, false, Option, None, Some, List, [], ◌∷◌, slice_get, cond}
+use Rattle.std.specs.Prelude.{◌≡◌, ℕ, zero, suc, nat_eq, Option, None, Some, List, [], ◌∷◌, slice_get, cond}
 use Rattle.std.specs.FinMap as map
 use Rattle.finite_maps.specs.Tally.{Map}
 use Rattle.capn_wire.specs.declared.path.Op.{Op}
@@ -39,7 +39,7 @@ use Rattle.vat_machine.specs.Progress.{quiet}
 use Rattle.vat_machine.specs.Sweeping.{IsNotSent}
 use Rattle.vat_machine.specs.World.{World, core, inbox}
 use Rattle.laws_routes.specs.Sayings.{Has, IsSilentPlain, SaidIfThere, has_behind, has_of}
-use Rattle.laws_meanings.specs.NodeMeanings.{Meant, Itself, OfRef, OfField, field_meant, BySource, ByEnd, Leads}
+use Rattle.laws_meanings.specs.NodeMeanings.{Meant, Itself, OfRef, field_meant, BySource, ByEnd, Leads}
 use Rattle.laws_meanings.specs.NodeLabels.{Labels, LeadsTo, IsAnsweredOrBroken, Places, field_label, label}
 
 -- ---- Sessions
