@@ -85,7 +85,7 @@ module _ (h : History) (w : Around) (x : OnTheWay) (kept : Map Export) (n : Name
       → LinkMeans h w.v (reader h w.v w.t w.m w.u w.z w.k) (has_of [] w.z.imports w.z.questions) (sessions_at w.k w.z.answers) x.out
   out_link l =
       links_are_met h w.v kept w.z.exports (reader h w.v w.s w.l w.u w.z w.k) (reader h w.v w.t w.m w.u w.z w.k) (has_of [] w.z.imports w.z.questions) (sessions_at w.k w.z.answers) x.out out_alike n.named n.aimed
-          (each_return _ x.out (λ q e. refl)) l
+      (each_return _ x.out (λ q e. refl)) l
 
   -- ---- What is on its way to v
 

@@ -379,7 +379,7 @@ module _ (h : History) (more : List JournalEntry) where
     message_on has now (plain.Bootstrap k) l = tt
     message_on has now (plain.Call c) l =
         call_alike on (read_label h x now) (read_label on x now) v c.stamp (target_label h x now c.target) (target_label on x now c.target) c.descriptors (target_on x now c.target) (λ i d e. read_on x now d)
-            (call_on v (read_label h x now) c.stamp (target_label h x now c.target) c.descriptors l)
+        (call_on v (read_label h x now) c.stamp (target_label h x now c.target) c.descriptors l)
     message_on has now (plain.Return z) l =
         if_said _ _ (has.question z.answer.0) (λ k. (k.0, k.1, return_alike on (read_label h x now) (read_label on x now) k.0 z.body (λ i d e. read_on x now d) (return_on (read_label h x now) k.0 z.body k.2))) l
     message_on has now (plain.Finish z) l = tt
