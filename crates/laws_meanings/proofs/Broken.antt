@@ -21,9 +21,10 @@ use Rattle.laws_acts.proofs.EachStep.{kept, at_end}
 use Rattle.laws_runs.specs.MadeCalls.{NumbersItsCalls}
 use Rattle.laws_meanings.specs.OnePlace.{counted, waiting, on_way, in_message}
 use Rattle.laws_meanings.proofs.Stamped.{same_itself}
-use Rattle.laws_meanings.proofs.Placed.{in_yet, in_deliveries, times_made}
+use Rattle.laws_meanings.specs.NoneLost.{in_yet, in_deliveries, here}
+use Rattle.laws_meanings.proofs.Placed.{times_made}
 use Rattle.laws_meanings.proofs.Placing as placing
-use Rattle.laws_meanings.proofs.Placing.{here, Leaves}
+use Rattle.laws_meanings.proofs.Placing.{Leaves}
 use Rattle.laws_meanings.proofs.Whose as whose
 
 module _ (C : Caller → Option Asking) (L : ℕ → Option Asking) (T : ℕ → Stamp → Type 0) (W : Asking → Outcome → ℕ → Type 0) (U : ℕ → Type 0) (E : Stamp → Type 0) (broken : (s : Stamp) (why : Reason) → E s → W (OfCall s) (outcome.Exception (failed (reason_text why))) 0) where

@@ -38,3 +38,13 @@ pub mod ActsMean
 pub mod CommandsMean
 pub mod Relabelled
 pub mod OpensMean
+pub mod Losing
+pub mod Somewhere
+pub mod Unpending
+pub mod FitCores
+pub mod Begun
+pub mod HeardMeans
+pub mod RootHeard
+pub mod Lasts
+pub mod Written
+pub mod Unsettled

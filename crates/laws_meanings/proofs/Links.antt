@@ -35,15 +35,15 @@ use Rattle.laws_meanings.proofs.Left.{delivery}
 -- ---- Links last
 
 module _ (h k : History) (e : Extends h k) where
-  end_still : (v : Vat) (i : ℕ) (a : Asking) (y : Meant) → ByEnd h v i a y → ByEnd k v i a y
+  pub end_still : (v : Vat) (i : ℕ) (a : Asking) (y : Meant) → ByEnd h v i a y → ByEnd k v i a y
   end_still v i OfBootstrap y l = l ∙ ap (λ (m : Meaning). Itself m) (sym (same_bootstrap h k e v))
   end_still v i (OfCall s) y l = (l.0, e.answer s l.0 l.1, l.2)
 
-  field_still : (v : Vat) (path : List Op) (a : Asking) → field_meant h v a path ≡ field_meant k v a path
+  pub field_still : (v : Vat) (path : List Op) (a : Asking) → field_meant h v a path ≡ field_meant k v a path
   field_still v path OfBootstrap = ap (λ (m : Meaning). Itself (root_field m (fields path))) (sym (same_bootstrap h k e v))
   field_still v path (OfCall s) = refl
 
-  source_still : (v : Vat) (s : Source) (y : Meant) → BySource h v s y → BySource k v s y
+  pub source_still : (v : Vat) (s : Source) (y : Meant) → BySource h v s y → BySource k v s y
   source_still v (OwnObject o) y l = l
   source_still v (OwnPromise p) y l = l
   source_still v (CloneOf n) y l = l

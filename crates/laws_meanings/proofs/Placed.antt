@@ -27,6 +27,7 @@ use Rattle.vat_machine.specs.Claims.{IsNumbered}
 use Rattle.laws_acts.specs.Moments.{each_to, held_to}
 use Rattle.laws_acts.specs.SmallActs.{release_messages}
 use Rattle.laws_meanings.specs.OnePlace.{counted, is_call, in_calls, in_held, at_promise, on_way, deliveries_of}
+use Rattle.laws_meanings.specs.NoneLost.{in_yet, in_deliveries}
 
 -- ---- One entry of a table
 
@@ -55,23 +56,15 @@ module _ (s : Stamp) where
   entries-append [] ys = omega arith
   entries-append (x ∷ xs) ys = let a = entries-append xs ys in omega arith
 
-  abbrev pub in_yet : List (WaitingCall × Node) → ℕ
-  in_yet [] = 0
-  in_yet (x ∷ xs) = is_call s x.0 + in_yet xs
-
-  abbrev pub in_deliveries : List Delivery → ℕ
-  in_deliveries [] = 0
-  in_deliveries (d ∷ ds) = counted (same_stamp s d.stamp) + in_deliveries ds
-
-  pub deliveries-append : (xs ys : List Delivery) → in_deliveries (xs ++ ys) ≡ in_deliveries xs + in_deliveries ys
+  pub deliveries-append : (xs ys : List Delivery) → in_deliveries s (xs ++ ys) ≡ in_deliveries s xs + in_deliveries s ys
   deliveries-append [] ys = omega arith
   deliveries-append (x ∷ xs) ys = let a = deliveries-append xs ys in omega arith
 
-  pub all_to : (n : Node) (cs : List WaitingCall) → in_yet (each_to n cs) ≡ in_calls s cs
+  pub all_to : (n : Node) (cs : List WaitingCall) → in_yet s (each_to n cs) ≡ in_calls s cs
   all_to n [] = refl
   all_to n (c ∷ cs) = let a = all_to n cs in omega arith
 
-  pub all_held : (k : ℕ) (xs : List HeldCall) → in_yet (held_to k xs) ≡ in_held s xs
+  pub all_held : (k : ℕ) (xs : List HeldCall) → in_yet s (held_to k xs) ≡ in_held s xs
   all_held k [] = refl
   all_held k (x ∷ xs) = let a = all_held k xs in omega arith
 
@@ -100,7 +93,7 @@ module _ (s : Stamp) where
   no_sends v [] = refl
   no_sends v (m ∷ ms) = let e = no_sends v ms in omega arith
 
-  all_deliveries : (v : Vat) (ds : List Delivery) → deliveries_of s (map (entry.Delivered v) ds) ≡ in_deliveries ds
+  all_deliveries : (v : Vat) (ds : List Delivery) → deliveries_of s (map (entry.Delivered v) ds) ≡ in_deliveries s ds
   all_deliveries v [] = refl
   all_deliveries v (d ∷ ds) = let e = all_deliveries v ds in omega arith
 
@@ -112,7 +105,7 @@ module _ (s : Stamp) where
   none_down v None = refl
   none_down v (Some n) = refl
 
-  pub of_effects : (v : Vat) (x : Effects) → deliveries_of s (effect_entries v x) ≡ in_deliveries x.deliveries
+  pub of_effects : (v : Vat) (x : Effects) → deliveries_of s (effect_entries v x) ≡ in_deliveries s x.deliveries
   of_effects v x =
       let ms = map (entry.Sent v) x.sends in
       let ds = map (entry.Delivered v) x.deliveries in

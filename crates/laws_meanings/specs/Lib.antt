@@ -11,3 +11,9 @@ pub mod AnsweredEnds
 pub mod NodeMeanings
 pub mod NodeLabels
 pub mod CommandMeanings
+pub mod NoneLost
+pub mod FirstActs
+pub mod FitCores
+pub mod MessageMeanings
+pub mod LastingMeanings
+pub mod Fates

@@ -12,11 +12,19 @@ ghost use Rattle.laws_meanings.specs.Tasks.{TasksAreOpen, TasksAreAnsweredOnce};
 ghost use Rattle.laws_meanings.specs.WhatIsLeft.{ObjectsAreLeft, AnswersAreLeft, CallsAreLeft, BrokenCallsAreLeft};
 ghost use Rattle.laws_meanings.specs.NodeMeanings.{LinksLast, LedToObjects, LedToBroken, LinksToObjectsAreLeft, LinksToBrokenAreLeft};
 ghost use Rattle.laws_meanings.specs.NodeLabels.{ActsKeepMeanings};
-ghost use Rattle.laws_meanings.specs.CommandMeanings.{CommandsKeepMeanings, OpeningsKeepMeanings};
+ghost use Rattle.laws_meanings.specs.FirstActs.{CommandsBegin, FirstActsFollow};
+ghost use Rattle.laws_meanings.specs.FitCores.{CoresAreFit};
+ghost use Rattle.laws_meanings.specs.NoneLost.{ActsLoseNone, CallsAreSomewhere, ObjectsLoseNone};
+ghost use Rattle.laws_meanings.specs.CommandMeanings.{CommandsKeepMeanings, OpeningsKeepMeanings, FirstActsMean, FirstOpeningsMean};
+ghost use Rattle.laws_meanings.specs.MessageMeanings.{BootstrapsAreHeard, ConsumingMeans, EachActMeans, MessagesKeepMeanings};
+ghost use Rattle.laws_meanings.specs.Fates.{PromisesAreOpen};
+ghost use Rattle.laws_meanings.specs.LastingMeanings.{PlacesLast, MomentsLast, EffectsAreWritten, EntriesAreLed};
 
 use laws_answers::named_answers_are_there;
-use laws_nodes::outcomes_have_sources;
+use laws_nodes::{embargoes_pair, outcomes_have_sources, questions_end};
+use laws_runs::meanings_last;
 use laws_sessions::counts_agree_in_scenes;
+use laws_steps::nodes_are_there;
 
 /// In each scene every call that waits or is on its way, and every delivery in the history up to it, has the interface,
 /// method and payload of the call that was made with its stamp, and as many capabilities as that had references.
@@ -167,4 +175,96 @@ pub fn commands_keep_meanings()
 /// has the entry: what it opens means that call, that Bootstrap or that promise.
 pub fn openings_keep_meanings()
     ensures { OpeningsKeepMeanings }
+{}
+
+/// In each scene the core of a vat has what its places name, one source of each outcome that is not known, its questions end
+/// in time, and a reference and its embargo name one another.
+pub fn cores_are_fit()
+    ensures { CoresAreFit }
+{
+    nodes_are_there();
+    outcomes_have_sources();
+    questions_end();
+    embargoes_pair();
+}
+
+/// What nodes mean lasts through the first act of each command of which the history has the entry.
+pub fn commands_begin_with_meanings()
+    ensures { CommandsBegin }
+{}
+
+/// Where at a moment of a step the history leads each reference of a vat, and each call that waits, to what its node means,
+/// the small acts behind it lose no call, but one whose reference the history leads to broken.
+pub fn acts_lose_no_call()
+    ensures { ActsLoseNone }
+{}
+
+/// Where the history has the entry of each command, and nodes mean in each scene what it says, and behind the first act of
+/// each message, so they do behind each first act.
+pub fn first_acts_follow()
+    ensures { FirstActsFollow }
+{
+    cores_are_fit();
+}
+
+/// Where in each step, while neither vat gives up, nodes mean behind its first act what the history says, each call that was
+/// made is at one place in each scene: it waits, is on its way, or was delivered; or the history leads its reference to
+/// broken. So of a reference that stands for an object none is lost.
+pub fn no_call_is_lost()
+    ensures places { CallsAreSomewhere }
+    ensures objects { ObjectsLoseNone }
+{
+    meanings_last();
+}
+
+/// What nodes mean lasts through the first act of a command of which the history has the entry. It changes no label but that
+/// of the promise, outcome or question that it opens.
+pub fn first_acts_of_commands_mean()
+    ensures plain { FirstActsMean }
+    ensures openings { FirstOpeningsMean }
+{}
+
+/// One small act of a step keeps what nodes mean, and the labels of promises that are there.
+pub fn each_act_keeps_meanings()
+    ensures { EachActMeans }
+{}
+
+/// Where a received message says what it should, by the nodes that the receiver makes of its descriptors and its target,
+/// what nodes mean lasts through its first act. An answer that opens is of the call or Bootstrap that came; imports that come
+/// have the labels by which the message was read; other labels stay.
+pub fn first_acts_of_messages_mean()
+    ensures { ConsumingMeans }
+{}
+
+/// Where a received message says what it should, what nodes mean lasts through its whole step. What it delivers is delivered
+/// to the object to which the history leads the call's reference; and each call that it ends was answered, or its reference
+/// leads to broken.
+pub fn messages_keep_meanings()
+    ensures { MessagesKeepMeanings }
+{}
+
+/// A Bootstrap says what it should at a vat whose bootstrap object the history has.
+pub fn bootstraps_are_heard()
+    ensures { BootstrapsAreHeard }
+{}
+
+/// What nodes mean at a vat, at a moment of a step too, is so in a longer history.
+pub fn node_meanings_last()
+    ensures places { PlacesLast }
+    ensures moments { MomentsLast }
+{}
+
+/// What nodes mean at the end of a step of a scene is known from the history with the entries of the step: each reference
+/// that a delivery or an end gave comes from there. And each of these entries is as what leads to an object, or to broken,
+/// says.
+pub fn effects_are_meanings()
+    ensures written { EffectsAreWritten }
+    ensures led { EntriesAreLed }
+{
+    given_references_are_new();
+}
+
+/// In each scene an own promise that is not settled at its vat has no fate in the history, unless the vat takes no more steps.
+pub fn promises_are_settled_once()
+    ensures { PromisesAreOpen }
 {}

@@ -24,9 +24,9 @@ use Rattle.laws_routes.specs.Premises.{EachOpen, OpenOf}
 use Rattle.laws_routes.specs.QuietLaws.{IsAsked, IsFinished, MayClose, NoneAims, NoneNames}
 use Rattle.laws_routes.specs.Sayings.{has_of}
 use Rattle.laws_meanings.specs.NodeMeanings.{Meant}
-use Rattle.laws_meanings.specs.NodeLabels.{Labels, label}
+use Rattle.laws_meanings.specs.NodeLabels.{Labels, asked_label, label}
 use Rattle.laws_routes.proofs.SayingsCarried.{each_return}
-use Rattle.laws_wires.specs.Wires.{Session, Reader, LinkMeans, WiresMean, ImportAgrees, QuestionAgrees, IsSession, asked_at, asked_label, export_label, past, past_one, reader, sessions_at}
+use Rattle.laws_wires.specs.Wires.{Session, Reader, LinkMeans, WiresMean, ImportAgrees, QuestionAgrees, IsSession, asked_at, export_label, past, past_one, reader, sessions_at}
 use Rattle.laws_wires.specs.WireLaws.{IsAlike}
 use Rattle.laws_wires.specs.StepWires.{Around, OnTheWay, NamedAreKept, BackIsMet, BackMeans, BackIsLeft, OutIsLeft, ImportStays, QuestionStays, WasAsked, WiresLive, left, then}
 use Rattle.laws_wires.proofs.LinksKept.{all_past, asked_past, label_on, links_are_closed, links_are_fewer, links_are_joined, links_are_met, links_live}

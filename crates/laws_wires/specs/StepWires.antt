@@ -17,8 +17,8 @@ use Rattle.laws_routes.specs.Named.{AllMet, EachReturn}
 use Rattle.laws_routes.specs.Premises.{EachOpen, EachTargetCap}
 use Rattle.laws_routes.specs.QuietLaws.{MayClose}
 use Rattle.laws_routes.specs.Sayings.{Has, has_of}
-use Rattle.laws_meanings.specs.NodeLabels.{Labels, label}
-use Rattle.laws_wires.specs.Wires.{Session, LinkMeans, WiresMean, ImportAgrees, QuestionAgrees, IsSession, asked_at, asked_label, export_label, has_past, past, reader, sessions_at}
+use Rattle.laws_meanings.specs.NodeLabels.{Labels, asked_label, label}
+use Rattle.laws_wires.specs.Wires.{Session, LinkMeans, WiresMean, ImportAgrees, QuestionAgrees, IsSession, asked_at, export_label, has_past, past, reader, sessions_at}
 
 -- In a longer history the wires mean the same.
 abbrev pub WiresLive : Type 0

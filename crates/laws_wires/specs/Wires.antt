@@ -40,7 +40,7 @@ use Rattle.vat_machine.specs.Sweeping.{IsNotSent}
 use Rattle.vat_machine.specs.World.{World, core, inbox}
 use Rattle.laws_routes.specs.Sayings.{Has, IsSilentPlain, SaidIfThere, has_behind, has_of}
 use Rattle.laws_meanings.specs.NodeMeanings.{Meant, Itself, OfRef, field_meant, BySource, ByEnd, Leads}
-use Rattle.laws_meanings.specs.NodeLabels.{Labels, LeadsTo, IsAnsweredOrBroken, Places, field_label, label}
+use Rattle.laws_meanings.specs.NodeLabels.{Labels, LeadsTo, IsAnsweredOrBroken, Places, asked_label, field_label, label}
 
 -- ---- Sessions
 
@@ -85,11 +85,7 @@ has_past has [] = has
 has_past has (message.Plain m ∷ ms) = has_past (has_behind has (descriptors_of (message.Plain m))) ms
 has_past has (message.Unimplemented m ∷ ms) = has_past has ms
 
--- What a question is of: the vat's own call, or the one that it relays.
-abbrev pub asked_label : Labels → ℕ → Role → Session
-asked_label l q (role.Direct c) = l.question q
-asked_label l q (role.Relay o) = l.outcome o
-
+-- What a question is of.
 abbrev pub asked_at : Labels → ℕ → Option Question → Session
 asked_at l q None = None
 asked_at l q (Some x) = asked_label l q x.role
