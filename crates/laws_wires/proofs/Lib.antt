@@ -1,0 +1,4 @@
+pub mod AtFirst
+pub mod LinksKept
+pub mod Behind
+pub mod SentRead

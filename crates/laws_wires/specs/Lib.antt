@@ -1,0 +1,4 @@
+pub mod Wires
+pub mod WireLaws
+pub mod StepWires
+pub mod SentWires

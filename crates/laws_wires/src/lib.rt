@@ -1,0 +1,7 @@
+//! What stands on the wires between two vats means what the history says. No code runs here: what each function ensures is
+//! the law.
+#![tactic(auto)]
+
+mod laws;
+
+pub use laws::{what_is_sent_is_read, wires_are_left, wires_last, wires_mean_at_first};
