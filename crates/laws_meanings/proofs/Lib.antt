@@ -40,3 +40,4 @@ pub mod Relabelled
 pub mod OpensMean
 pub mod HeardMeans
 pub mod RootHeard
+pub mod ReadLabels

@@ -13,7 +13,7 @@ ghost use Rattle.laws_meanings.specs.WhatIsLeft.{ObjectsAreLeft, AnswersAreLeft,
 ghost use Rattle.laws_meanings.specs.NodeMeanings.{LinksLast, LedToObjects, LedToBroken, LinksToObjectsAreLeft, LinksToBrokenAreLeft};
 ghost use Rattle.laws_meanings.specs.NodeLabels.{ActsKeepMeanings};
 ghost use Rattle.laws_meanings.specs.CommandMeanings.{CommandsKeepMeanings, OpeningsKeepMeanings, FirstActsMean, FirstOpeningsMean};
-ghost use Rattle.laws_meanings.specs.MessageMeanings.{BootstrapsAreHeard, ConsumingMeans, EachActMeans, MessagesKeepMeanings};
+ghost use Rattle.laws_meanings.specs.MessageMeanings.{BootstrapsAreHeard, ConsumingMeans, DescriptorsAreRead, EachActMeans, MessagesKeepMeanings, TargetsAreRead};
 
 use laws_answers::named_answers_are_there;
 use laws_nodes::outcomes_have_sources;
@@ -199,4 +199,11 @@ pub fn messages_keep_meanings()
 /// A Bootstrap says what it should at a vat whose bootstrap object the history has.
 pub fn bootstraps_are_heard()
     ensures { BootstrapsAreHeard }
+{}
+
+/// Where a message is no fault, the nodes that a receiver makes of its descriptors and its target have the labels by which it
+/// is read on its way: own exports and answers by what they mean here, exports of the other vat by what they mean there.
+pub fn descriptors_are_read()
+    ensures descriptors { DescriptorsAreRead }
+    ensures targets { TargetsAreRead }
 {}
