@@ -10,7 +10,6 @@ use Rattle.capn_wire.specs.declared.path.Op.{Op}
 use Rattle.vat_journal.specs.History.{or_rest, if_so}
 use Rattle.vat_journal.specs.Meaning.{History}
 use Rattle.vat_machine.specs.declared.command.Level.{Level}
-use Rattle.vat_machine.specs.declared.command.Level.TheVariants.{One}
 use Rattle.vat_machine.specs.declared.entries.AnswerEntry.{AnswerEntry}
 use Rattle.vat_machine.specs.declared.entries.Export.{Export}
 use Rattle.vat_machine.specs.State.{State}
