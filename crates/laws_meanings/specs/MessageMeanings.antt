@@ -19,7 +19,7 @@ use Rattle.capn_wire.specs.declared.path.Op.{Op}
 use Rattle.rpc_msg.specs.Paths.{fields}
 use Rattle.rpc_msg.specs.Vats.{other_vat}
 use Rattle.vat_journal.specs.History.{caller}
-use Rattle.vat_journal.specs.Sources.{Asking, OfBootstrap, OfCall}
+use Rattle.vat_journal.specs.Sources.{Asking, OfBootstrap, OfCall, SentWith}
 use Rattle.vat_journal.specs.Meaning.{History, Broken, root}
 use Rattle.vat_machine.specs.declared.calls.KeptOutcome.{KeptOutcome}
 use Rattle.vat_machine.specs.declared.calls.Promise.{Promise}
@@ -44,8 +44,8 @@ use Rattle.laws_acts.specs.SmallActs.{Act}
 use Rattle.laws_steps.specs.NodesThere.{IsWhole}
 use Rattle.laws_nodes.specs.Questions.{QuestionsEnd}
 use Rattle.laws_nodes.specs.Sources.{HasOneSource}
-use Rattle.laws_meanings.specs.NodeMeanings.{Meant, Itself, OfRef, Leads}
-use Rattle.laws_meanings.specs.NodeLabels.{Labels, field_label, label, Means, CapsMean, ValueMeans, asked_label, Places, AreLed, EndsAreLed, MomentMeans}
+use Rattle.laws_meanings.specs.NodeMeanings.{Meant, Itself, OfRef, BySource, Leads}
+use Rattle.laws_meanings.specs.NodeLabels.{Labels, field_label, LeadsTo, label, Means, CapsMean, ValueMeans, asked_label, Places, AreLed, EndsAreLed, MomentMeans}
 
 -- ---- What a message says, by labels that name the imports that come with it
 
@@ -195,3 +195,12 @@ abbrev pub TargetsAreRead : Type 0
 TargetsAreRead =
     (h : History) (l : Labels) (s : State) (is : ℕ → Option Meant) (t : Target)
     → ImportsKept l s is → IsWhole s → target_fault s t ≡ None → label h s.vat (with_imports l is) (target_node s t) ≡ wire_target_label h s.vat l s t
+
+-- So a Call that is no fault says what it should, where on its way it does.
+abbrev pub CallsAreHeard : Type 0
+CallsAreHeard =
+    (h : History) (l : Labels) (s : State) (is : ℕ → Option Meant) (c : Call)
+    → ImportsKept l s is → IsWhole s → s.level ≡ One → fault_of s (message.Plain (plain.Call c)) ≡ None
+    → LeadsTo h (OfRef (caller c.stamp)) (wire_target_label h s.vat l s c.target)
+    → ((i : ℕ) (d : Descriptor) → slice_get c.descriptors i ≡ Some d → (y : Meant) × BySource h s.vat (SentWith c.stamp i) y × LeadsTo h y (wire_label h s.vat l s is d))
+    → IsHeard h s.vat (with_imports l is) s (message.Plain (plain.Call c))
