@@ -7,25 +7,28 @@ use Rattle.rpc_msg.specs.declared.parts.Descriptor.TheVariants as descriptor
 use Rattle.rpc_msg.specs.declared.parts.Target.{Target}
 use Rattle.rpc_msg.specs.declared.parts.Target.TheVariants.{ImportedCap, PromisedAnswer}
 use Rattle.rpc_msg.specs.declared.message.PlainMessage.TheVariants as plain
+use Rattle.rpc_msg.specs.declared.message.ResolvedTo.{ResolvedTo}
+use Rattle.rpc_msg.specs.declared.message.ResolvedTo.TheVariants as resolved
+use Rattle.vat_machine.specs.declared.entries.Import.{Import}
 use Rattle.capn_wire.specs.declared.path.Op.{Op}
 use Rattle.vat_journal.specs.History.{or_rest, if_so, caller}
 use Rattle.vat_journal.specs.Meaning.{History}
 use Rattle.vat_machine.specs.declared.node.Node.{Node}
 use Rattle.vat_machine.specs.Payloads.{caps_in}
-use Rattle.vat_machine.specs.Numbers.{question_in_use, bad_payload}
+use Rattle.vat_machine.specs.Numbers.{question_in_use, bad_payload, resolved_twice, not_a_promise}
 use Rattle.vat_machine.specs.declared.command.Level.{Level}
 use Rattle.vat_machine.specs.declared.entries.AnswerEntry.{AnswerEntry}
 use Rattle.vat_machine.specs.declared.entries.Export.{Export}
 use Rattle.vat_machine.specs.State.{State}
 use Rattle.vat_machine.specs.Places.{named_by_export}
 use Rattle.vat_machine.specs.Descriptors.{export_node, answer_node, read_one, read_at, read, read_all}
-use Rattle.vat_machine.specs.Faults.{target_node, target_fault, descriptor_fault, each_fault, faults_at, descriptors_fault, held_fault, plain_fault, is_foreign, unless_foreign}
+use Rattle.vat_machine.specs.Faults.{target_node, target_fault, descriptor_fault, each_fault, faults_at, descriptors_fault, held_fault, plain_fault, resolve_fault, is_resolved, is_hosted, is_foreign, unless_foreign}
 use Rattle.laws_acts.proofs.Checks.{first, rest}
 use Rattle.laws_steps.specs.NodesThere.{IsWhole}
 use Rattle.laws_steps.proofs.Among.{named, in_exports}
 use Rattle.laws_meanings.specs.NodeMeanings.{Meant, OfRef}
 use Rattle.laws_meanings.specs.NodeLabels.{Labels, LeadsTo, label, Means}
-use Rattle.laws_meanings.specs.MessageMeanings.{with_imports, ImportsKept, answer_label, wire_label, wire_target_label, DescriptorsAreRead, TargetsAreRead, CallsAreHeard}
+use Rattle.laws_meanings.specs.MessageMeanings.{SaidOf, ResolveHeard, ResolveRead, ResolvesAreHeard, with_imports, ImportsKept, answer_label, wire_label, wire_target_label, DescriptorsAreRead, TargetsAreRead, CallsAreHeard}
 use Rattle.laws_meanings.proofs.HeardMeans.{imported}
 
 no_fault : {X : Type 0} (a b : Option X) → or_rest a b ≡ None → a ≡ None
@@ -98,8 +101,28 @@ calls_heard h l s is c kept whole level f target caps =
     let b = rest (if_so (not (nat_eq (caps_in c.payload) (length c.descriptors))) bad_payload) four (rest (target_fault s c.target) three a) in
     let ds = first (descriptors_fault s c.descriptors) five b in (
       λ i n e.
-        let r = read_at_place s c.descriptors i n e in
-        let y = caps i r.0 r.1 in
-        (y.0, y.1, subst (Means h s.vat m y.0) r.2 (subst (LeadsTo h y.0) (sym (descriptors_read h l s is c.descriptors kept whole level ds i r.0 r.1)) y.2)),
+          let r = read_at_place s c.descriptors i n e in
+          let y = caps i r.0 r.1 in
+          (y.0, y.1, subst (Means h s.vat m y.0) r.2 (subst (LeadsTo h y.0) (sym (descriptors_read h l s is c.descriptors kept whole level ds i r.0 r.1)) y.2)),
       subst (LeadsTo h (OfRef (caller c.stamp))) (sym (targets_read h l s is c.target kept whole t)) target,
     )
+
+-- ---- A Resolve
+
+pub resolves_heard : ResolvesAreHeard
+resolves_heard h l s is r kept whole level f says = by (map.get s.imports r.promise.0) refl
+  where
+    free : resolve_fault s r.to ≡ None
+    free =
+        let g : plain_fault s (plain.Resolve r) ≡ None = subst (λ (k : Level). unless_foreign (is_foreign k (plain.Resolve r)) (plain_fault s (plain.Resolve r)) ≡ None) level f in
+        let three = resolve_fault s r.to ∷ [] in
+        let two = if_so (is_resolved (map.get s.imports r.promise.0)) resolved_twice ∷ three in
+        first (resolve_fault s r.to) [] (rest (if_so (is_resolved (map.get s.imports r.promise.0)) resolved_twice) three (rest (if_so (is_hosted (map.get s.imports r.promise.0)) not_a_promise) two g))
+
+    said : (to : ResolvedTo) (y : Meant) → resolve_fault s to ≡ None → ResolveRead h (wire_label h s.vat l s is) y to → SaidOf h s.vat (with_imports l is) s (Some y) to
+    said (resolved.Cap d) y k i = subst (LeadsTo h y) (sym (descriptors_read h l s is (d ∷ []) kept whole level k 0 d refl)) i
+    said (resolved.Exception exception) y k i = i
+
+    by : (o : Option Import) → map.get s.imports r.promise.0 ≡ o → ResolveHeard h s.vat (with_imports l is) s r.promise.0 r.to o
+    by None e = tt
+    by (Some x) e = let z = says x e in subst (λ (y : Option Meant). SaidOf h s.vat (with_imports l is) s y r.to) (sym z.1) (said r.to z.0 free z.2)

@@ -9,6 +9,7 @@ use Rattle.rpc_msg.specs.declared.message.Message.{Message}
 use Rattle.rpc_msg.specs.declared.message.Message.TheVariants as message
 use Rattle.rpc_msg.specs.declared.message.PlainMessage.{PlainMessage}
 use Rattle.rpc_msg.specs.declared.message.PlainMessage.TheVariants as plain
+use Rattle.rpc_msg.specs.declared.message.Resolve.{Resolve}
 use Rattle.rpc_msg.specs.declared.message.ResolvedTo.{ResolvedTo}
 use Rattle.rpc_msg.specs.declared.message.ResolvedTo.TheVariants as resolved
 use Rattle.rpc_msg.specs.declared.parts.Descriptor.{Descriptor}
@@ -204,3 +205,15 @@ CallsAreHeard =
     → LeadsTo h (OfRef (caller c.stamp)) (wire_target_label h s.vat l s c.target)
     → ((i : ℕ) (d : Descriptor) → slice_get c.descriptors i ≡ Some d → (y : Meant) × BySource h s.vat (SentWith c.stamp i) y × LeadsTo h y (wire_label h s.vat l s is d))
     → IsHeard h s.vat (with_imports l is) s (message.Plain (plain.Call c))
+
+-- And a Resolve.
+abbrev pub ResolveRead : History → (Descriptor → Option Meant) → Meant → ResolvedTo → Type 0
+ResolveRead h read y (resolved.Cap d) = LeadsTo h y (read d)
+ResolveRead h read y (resolved.Exception exception) = Leads h (Itself Broken) y
+
+abbrev pub ResolvesAreHeard : Type 0
+ResolvesAreHeard =
+    (h : History) (l : Labels) (s : State) (is : ℕ → Option Meant) (r : Resolve)
+    → ImportsKept l s is → IsWhole s → s.level ≡ One → fault_of s (message.Plain (plain.Resolve r)) ≡ None
+    → ((x : Import) → map.get s.imports r.promise.0 ≡ Some x → (y : Meant) × (is r.promise.0 ≡ Some y) × ResolveRead h (wire_label h s.vat l s is) y r.to)
+    → IsHeard h s.vat (with_imports l is) s (message.Plain (plain.Resolve r))

@@ -13,7 +13,7 @@ ghost use Rattle.laws_meanings.specs.WhatIsLeft.{ObjectsAreLeft, AnswersAreLeft,
 ghost use Rattle.laws_meanings.specs.NodeMeanings.{LinksLast, LedToObjects, LedToBroken, LinksToObjectsAreLeft, LinksToBrokenAreLeft};
 ghost use Rattle.laws_meanings.specs.NodeLabels.{ActsKeepMeanings};
 ghost use Rattle.laws_meanings.specs.CommandMeanings.{CommandsKeepMeanings, OpeningsKeepMeanings, FirstActsMean, FirstOpeningsMean};
-ghost use Rattle.laws_meanings.specs.MessageMeanings.{BootstrapsAreHeard, CallsAreHeard, ConsumingMeans, DescriptorsAreRead, EachActMeans, MessagesKeepMeanings, TargetsAreRead};
+ghost use Rattle.laws_meanings.specs.MessageMeanings.{BootstrapsAreHeard, CallsAreHeard, ConsumingMeans, DescriptorsAreRead, EachActMeans, MessagesKeepMeanings, ResolvesAreHeard, TargetsAreRead};
 
 use laws_answers::named_answers_are_there;
 use laws_nodes::outcomes_have_sources;
@@ -208,7 +208,8 @@ pub fn descriptors_are_read()
     ensures targets { TargetsAreRead }
 {}
 
-/// A Call that is no fault says what it should by the nodes that its receiver makes, where on its way it does.
+/// A Call or a Resolve that is no fault says what it should by the nodes that its receiver makes, where on its way it does.
 pub fn calls_are_heard()
-    ensures { CallsAreHeard }
+    ensures calls { CallsAreHeard }
+    ensures resolves { ResolvesAreHeard }
 {}
