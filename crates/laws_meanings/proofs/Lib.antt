@@ -48,3 +48,4 @@ pub mod RootHeard
 pub mod Lasts
 pub mod Written
 pub mod Unsettled
+pub mod ReadLabels

@@ -16,7 +16,7 @@ ghost use Rattle.laws_meanings.specs.FirstActs.{CommandsBegin, FirstActsFollow};
 ghost use Rattle.laws_meanings.specs.FitCores.{CoresAreFit};
 ghost use Rattle.laws_meanings.specs.NoneLost.{ActsLoseNone, CallsAreSomewhere, ObjectsLoseNone};
 ghost use Rattle.laws_meanings.specs.CommandMeanings.{CommandsKeepMeanings, OpeningsKeepMeanings, FirstActsMean, FirstOpeningsMean};
-ghost use Rattle.laws_meanings.specs.MessageMeanings.{BootstrapsAreHeard, ConsumingMeans, EachActMeans, MessagesKeepMeanings};
+ghost use Rattle.laws_meanings.specs.MessageMeanings.{BootstrapsAreHeard, ConsumingMeans, EachActMeans, MessagesKeepMeanings, CallsAreHeard, DescriptorsAreRead, ResolvesAreHeard, TargetsAreRead};
 ghost use Rattle.laws_meanings.specs.Fates.{PromisesAreOpen};
 ghost use Rattle.laws_meanings.specs.LastingMeanings.{PlacesLast, MomentsLast, EffectsAreWritten, EntriesAreLed};
 
@@ -267,4 +267,17 @@ pub fn effects_are_meanings()
 /// In each scene an own promise that is not settled at its vat has no fate in the history, unless the vat takes no more steps.
 pub fn promises_are_settled_once()
     ensures { PromisesAreOpen }
+{}
+
+/// Where a message is no fault, the nodes that a receiver makes of its descriptors and its target have the labels by which it
+/// is read on its way: own exports and answers by what they mean here, exports of the other vat by what they mean there.
+pub fn descriptors_are_read()
+    ensures descriptors { DescriptorsAreRead }
+    ensures targets { TargetsAreRead }
+{}
+
+/// A Call or a Resolve that is no fault says what it should by the nodes that its receiver makes, where on its way it does.
+pub fn calls_are_heard()
+    ensures calls { CallsAreHeard }
+    ensures resolves { ResolvesAreHeard }
 {}
