@@ -41,3 +41,4 @@ pub mod OpensMean
 pub mod Lasts
 pub mod Written
 pub mod Unsettled
+pub mod Writing

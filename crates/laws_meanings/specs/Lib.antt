@@ -13,3 +13,4 @@ pub mod NodeLabels
 pub mod CommandMeanings
 pub mod LastingMeanings
 pub mod Fates
+pub mod WrittenCommands

@@ -14,6 +14,7 @@ ghost use Rattle.laws_meanings.specs.NodeMeanings.{LinksLast, LedToObjects, LedT
 ghost use Rattle.laws_meanings.specs.NodeLabels.{ActsKeepMeanings};
 ghost use Rattle.laws_meanings.specs.CommandMeanings.{CommandsKeepMeanings, OpeningsKeepMeanings};
 ghost use Rattle.laws_meanings.specs.Fates.{PromisesAreOpen};
+ghost use Rattle.laws_meanings.specs.WrittenCommands.{CommandsAreWritten};
 ghost use Rattle.laws_meanings.specs.LastingMeanings.{PlacesLast, MomentsLast, EffectsAreWritten, EntriesAreLed};
 
 use laws_answers::named_answers_are_there;
@@ -191,3 +192,14 @@ pub fn effects_are_meanings()
 pub fn promises_are_settled_once()
     ensures { PromisesAreOpen }
 {}
+
+/// In each scene a command that is done is the first in the history of which that is said: the number that it is given is new,
+/// what it settles was not settled, what it answers not answered. This where a payload names no other capabilities than go with
+/// it.
+pub fn commands_are_written()
+    ensures { CommandsAreWritten }
+{
+    own_numbers_were_asked();
+    tasks_are_answered_once();
+    promises_are_settled_once();
+}
