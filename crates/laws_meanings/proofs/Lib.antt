@@ -42,3 +42,4 @@ pub mod Lasts
 pub mod Written
 pub mod Unsettled
 pub mod Writing
+pub mod StepsMean

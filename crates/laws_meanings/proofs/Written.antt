@@ -159,7 +159,7 @@ effects_are_written new a b x h v l e s k f i =
 -- ---- What leads to an object, or to broken
 
 module _ (a b : Option ObjectId) (v : Vat) where
-  abbrev IsLed : Claim
+  abbrev pub IsLed : Claim
   IsLed h y = IfLedToObject (history a b h) y × IfLedToBroken (history a b h) y
 
   led_to_broken : (h : List JournalEntry) (x : Ended) (s : Stamp) (c : Asking) → asking h v x.call.0 ≡ Some c → IsAnsweredOrBroken (history a b h) c → asking h v x.call.0 ≡ Some (OfCall s) → answer_of h s ≡ None → Leads (history a b h) (Itself Broken) (OfRef (names.caller s))

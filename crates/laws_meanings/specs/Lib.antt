@@ -14,3 +14,4 @@ pub mod CommandMeanings
 pub mod LastingMeanings
 pub mod Fates
 pub mod WrittenCommands
+pub mod StepMeanings

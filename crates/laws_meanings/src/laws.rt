@@ -15,11 +15,13 @@ ghost use Rattle.laws_meanings.specs.NodeLabels.{ActsKeepMeanings};
 ghost use Rattle.laws_meanings.specs.CommandMeanings.{CommandsKeepMeanings, OpeningsKeepMeanings};
 ghost use Rattle.laws_meanings.specs.Fates.{PromisesAreOpen};
 ghost use Rattle.laws_meanings.specs.WrittenCommands.{CommandsAreWritten};
+ghost use Rattle.laws_meanings.specs.StepMeanings.{ScenesCommandsKeep};
 ghost use Rattle.laws_meanings.specs.LastingMeanings.{PlacesLast, MomentsLast, EffectsAreWritten, EntriesAreLed};
 
 use laws_answers::named_answers_are_there;
-use laws_nodes::outcomes_have_sources;
+use laws_nodes::{embargoes_pair, outcomes_have_sources, questions_end};
 use laws_sessions::counts_agree_in_scenes;
+use laws_steps::nodes_are_there;
 
 /// In each scene every call that waits or is on its way, and every delivery in the history up to it, has the interface,
 /// method and payload of the call that was made with its stamp, and as many capabilities as that had references.
@@ -202,4 +204,18 @@ pub fn commands_are_written()
     own_numbers_were_asked();
     tasks_are_answered_once();
     promises_are_settled_once();
+}
+
+/// What nodes mean at a vat of a scene lasts through each step of a command, with all that this writes: and each of its
+/// deliveries is to the object to which the history up to it leads the call's reference, each call that it ends was answered,
+/// or the history leads its reference to broken. This where a payload names no other capabilities than go with it.
+pub fn commands_keep_scenes_meanings()
+    ensures { ScenesCommandsKeep }
+{
+    given_references_are_new();
+    commands_are_written();
+    nodes_are_there();
+    outcomes_have_sources();
+    questions_end();
+    embargoes_pair();
 }
