@@ -1,5 +1,5 @@
 -- A step of a command in a scene, put together: before it, with its own entry, through it, and with what its effects write.
-use Rattle.std.proofs.Common.{◌≡◌, ◌⊎◌, inl, inr, Bool, true, false, Option, Ok, List, [], ◌∷◌, ◌++◌, append_assoc, refl, sym, ap, subst, ◌∙◌}
+use Rattle.std.proofs.Common.{◌≡◌, ◌⊎◌, inl, inr, true, false, Option, List, [], ◌∷◌, ◌++◌, append_assoc, refl, sym, subst, ◌∙◌}
 use Rattle.rpc_msg.specs.declared.ids.Vat.{Vat}
 use Rattle.rpc_msg.specs.declared.ids.Vat.TheVariants.{A, B}
 use Rattle.rpc_msg.specs.declared.ids.ObjectId.{ObjectId}
@@ -15,8 +15,8 @@ use Rattle.vat_machine.specs.declared.command.Effects.{Effects}
 use Rattle.vat_machine.specs.State.{State}
 use Rattle.vat_machine.specs.Progress.{quiet}
 use Rattle.vat_machine.specs.Steps.{Does}
-use Rattle.vat_machine.specs.World.{World, core, put_inbox, after, Answered}
-use Rattle.vat_machine.specs.Journal.{effect_entries, granted_entries, command_entries}
+use Rattle.vat_machine.specs.World.{core, put_inbox, after}
+use Rattle.vat_machine.specs.Journal.{effect_entries, granted_entries}
 use Rattle.vat_machine.specs.Claims.{history}
 use Rattle.laws_steps.specs.NodesThere.{IsReached, NodesAreThere}
 use Rattle.laws_nodes.specs.Embargoes.{EmbargoesArePaired}
@@ -29,9 +29,9 @@ use Rattle.laws_runs.proofs.MakesNone.{call_or_not}
 use Rattle.laws_meanings.specs.CommandMeanings.{OpensNothing, IsWritten, IsWrittenOpen}
 use Rattle.laws_meanings.specs.NewReferences.{GivenAreNew}
 use Rattle.laws_meanings.specs.NodeLabels.{Labels, Places, AreLed, EndsAreLed}
-use Rattle.laws_meanings.specs.StepMeanings.{ScenesCommandsKeep}
+use Rattle.laws_meanings.specs.StepMeanings.{ScenesCommandsKeep, LastWordsAreLed}
 use Rattle.laws_meanings.specs.WrittenCommands.{Opens, CommandsAreWritten}
-use Rattle.laws_meanings.proofs.Entries.{EachAfter, each-append, upto, is_effect, granted_always}
+use Rattle.laws_meanings.proofs.Entries.{each-append, upto, is_effect, granted_always}
 use Rattle.laws_meanings.proofs.Walked.{in_each, step_more}
 use Rattle.laws_meanings.proofs.OfCallsScenes.{reached_at, both_reached}
 use Rattle.laws_meanings.proofs.CommandsMean.{commands_mean}
@@ -99,6 +99,9 @@ no_effect a b v h (entry.Delivered u d) f = let bad : true ≡ false = f in cc
 no_effect a b v h (entry.Ended u x) f = let bad : true ≡ false = f in cc
 no_effect a b v h e f = (tt, tt)
 
+pub last_words_led : LastWordsAreLed
+last_words_led a b h v c first rest y f = upto (IsLed a b v) h (granted_entries h v c granted.Done) first rest y (granted_always (IsLed a b v) (no_effect a b v) v h h c granted.Done) f
+
 pub scenes_commands_keep : GivenAreNew → CommandsAreWritten → NodesAreThere → EachHasOneSource → EachEndsInTime → EmbargoesArePaired → ScenesCommandsKeep
 scenes_commands_keep new written whole one ends paired names a b x v l c g e t k over up r d within i =
     let own = granted_entries x.journal v c g in
@@ -110,8 +113,7 @@ scenes_commands_keep new written whole one ends paired names a b x v l c g e t k
     let z = by s (x.journal ++ own) (its_vat a b x k v) (opens_or_not c) w reached before d in
     let m = z.0 in
     let mid = scenes.goes_on x (after x.world v e t) (own ++ es) in
-    let is_scene : IsScene a b mid = step_more x mid (begins a b) k (scenes.Commanded v c g e t over up r d within refl) in
-    (
+    let is_scene : IsScene a b mid = step_more x mid (begins a b) k (scenes.Commanded v c g e t over up r d within refl) in (
       (m, effects_are_written new a b mid (x.journal ++ own) v m e t is_scene (sym (append_assoc x.journal own es)) z.1),
       λ first rest y f. upto (IsLed a b v) x.journal (own ++ es) first rest y (each-append (IsLed a b v) x.journal own es (granted_always (IsLed a b v) (no_effect a b v) v x.journal x.journal c g) (each_led a b v (x.journal ++ own) e z.2 z.3)) f,
     )

@@ -1,6 +1,6 @@
 -- The numbers that a command is given are new in the history, what it settles is not settled there, and what it answers not
 -- answered; so its entry is the first that says so.
-use Rattle.std.proofs.Common.{◌≡◌, inl, inr, ℕ, zero, suc, ◌+◌, ◌≤◌, ◌<◌, Bool, true, false, not, ◌&&◌, nat_eq, Option, None, Some, is_some, List, [], ◌∷◌, ◌++◌, length, refl, sym, ap, subst, ◌∙◌, arith}
+use Rattle.std.proofs.Common.{◌≡◌, ℕ, zero, suc, ◌≤◌, ◌<◌, Bool, true, false, not, ◌&&◌, nat_eq, Option, None, Some, is_some, List, [], ◌∷◌, ◌++◌, length, refl, sym, ap, subst, ◌∙◌, arith}
 use Rattle.std.specs.FinMap as finmap
 use Rattle.std.specs.List.{slice_get, list_all}
 use Rattle.finite_maps.proofs.Tested.{itself}
@@ -9,8 +9,6 @@ use Rattle.rpc_msg.specs.declared.ids.RefId.{RefId}
 use Rattle.rpc_msg.specs.declared.ids.Stamp.{Stamp}
 use Rattle.rpc_msg.specs.declared.ids.TaskId.{TaskId}
 use Rattle.rpc_msg.specs.declared.ids.ObjectId.{ObjectId}
-use Rattle.capn_wire.specs.declared.path.Op.{Op}
-use Rattle.capn_wire.specs.declared.path.CapAt.TheVariants.{Cap}
 use Rattle.capn_wire.specs.Payloads.{Contents as Payload}
 use Rattle.vat_journal.specs.declared.report.Outcome.TheVariants as outcome
 use Rattle.vat_journal.specs.declared.entry.Origin.{Origin}
@@ -18,23 +16,20 @@ use Rattle.vat_journal.specs.declared.entry.Origin.TheVariants as origin
 use Rattle.vat_journal.specs.declared.entry.MadeCall.{MadeCall}
 use Rattle.vat_journal.specs.declared.entry.JournalEntry.{JournalEntry}
 use Rattle.vat_journal.specs.declared.entry.JournalEntry.TheVariants as entry
-use Rattle.vat_journal.specs.History.{same_vat, or_rest, if_so, stamp_of, made_one, made_with, answer_of}
-use Rattle.vat_journal.specs.Sources.{Asking, OfBootstrap, OfCall, asking, Source, source_of_origin, source_one, source, Fate, FixedTo, WasRejected, fate_one, fate}
-use Rattle.vat_machine.specs.Payloads.{cap_at, caps_in}
+use Rattle.vat_journal.specs.History.{same_vat, or_rest, if_so, stamp_of, made_one, made_with}
+use Rattle.vat_journal.specs.Sources.{OfBootstrap, OfCall, asking, source_of_origin, source_one, source, Fate, FixedTo, WasRejected, fate_one, fate}
+use Rattle.vat_machine.specs.Payloads.{caps_in}
 use Rattle.vat_machine.specs.declared.entries.Reference.{Reference}
 use Rattle.vat_machine.specs.declared.command.CallCommand.{CallCommand}
 use Rattle.vat_machine.specs.declared.command.Command.{Command}
 use Rattle.vat_machine.specs.declared.command.Command.TheVariants as command
 use Rattle.vat_machine.specs.declared.command.Granted.{Granted}
 use Rattle.vat_machine.specs.declared.command.Granted.TheVariants as granted
-use Rattle.vat_machine.specs.declared.command.Refusal.{Refusal}
 use Rattle.vat_machine.specs.declared.command.Refusal.TheVariants as refusal
-use Rattle.vat_machine.specs.declared.command.Effects.{Effects}
 use Rattle.vat_machine.specs.State.{State}
 use Rattle.vat_machine.specs.Commands.{request}
 use Rattle.vat_machine.specs.Lists.{is_empty}
 use Rattle.vat_machine.specs.Refusals.{is_known_ref, while_down, wrong_level, wrong_caps, unknown_ref, unknown_task, without_room, refused}
-use Rattle.vat_machine.specs.Steps.{Does}
 use Rattle.vat_machine.specs.World.{core}
 use Rattle.vat_machine.specs.Journal.{index_in, granted_entries}
 use Rattle.vat_machine.specs.Claims.{AreNumbered, history}
@@ -43,14 +38,13 @@ use Rattle.laws_acts.specs.FirstActs.{Starts}
 use Rattle.laws_acts.specs.FirstActs as first
 use Rattle.laws_acts.proofs.EachStep.{done}
 use Rattle.laws_acts.proofs.Checks as checks
-use Rattle.laws_runs.specs.Scenes.{Scene, IsScene, is_over}
+use Rattle.laws_runs.specs.Scenes.{Scene, IsScene}
 use Rattle.laws_runs.specs.MadeCalls.{NumbersItsCalls}
 use Rattle.laws_runs.proofs.Reading as reading
 use Rattle.laws_runs.proofs.Counting.{scenes_count}
 use Rattle.laws_meanings.specs.Bootstraps.{NumbersAreAsked}
 use Rattle.laws_meanings.specs.CommandMeanings.{AnswersWith, IsWritten, IsWrittenOpen}
 use Rattle.laws_meanings.specs.Fates.{PromisesAreOpen}
-use Rattle.laws_meanings.specs.Identities.{DeliveredIn}
 use Rattle.laws_meanings.specs.OnePlace.{deliveries_of}
 use Rattle.laws_meanings.specs.Tasks.{times_answered, TasksAreOpen}
 use Rattle.laws_meanings.specs.WrittenCommands.{Opens, NamesItsCaps, CommandsAreWritten}

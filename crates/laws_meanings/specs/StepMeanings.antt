@@ -6,6 +6,7 @@ use Rattle.rpc_msg.specs.declared.ids.ObjectId.{ObjectId}
 use Rattle.vat_journal.specs.declared.entry.JournalEntry.{JournalEntry}
 use Rattle.vat_machine.specs.declared.command.Command.{Command}
 use Rattle.vat_machine.specs.declared.command.Granted.{Granted}
+use Rattle.vat_machine.specs.declared.command.Granted.TheVariants as granted
 use Rattle.vat_machine.specs.declared.command.Effects.{Effects}
 use Rattle.vat_machine.specs.State.{State}
 use Rattle.vat_machine.specs.Limits.{IsWithin}
@@ -13,7 +14,7 @@ use Rattle.vat_machine.specs.Refusals.{refused}
 use Rattle.vat_machine.specs.Progress.{quiet}
 use Rattle.vat_machine.specs.Steps.{Does}
 use Rattle.vat_machine.specs.World.{core, Answered}
-use Rattle.vat_machine.specs.Journal.{command_entries}
+use Rattle.vat_machine.specs.Journal.{granted_entries, command_entries}
 use Rattle.vat_machine.specs.Claims.{history}
 use Rattle.laws_runs.specs.Scenes.{Scene, IsScene, is_over}
 use Rattle.laws_meanings.specs.NodeMeanings.{IfLedToObject, IfLedToBroken}
@@ -33,3 +34,7 @@ ScenesCommandsKeep =
     → Places (history root_a root_b x.journal) v l quiet (core x.world v)
     → ((m : Labels) × Places (history root_a root_b (x.journal ++ command_entries x.journal v c true (Answered (Ok g) e))) v m quiet t)
     × AllLed root_a root_b x.journal (command_entries x.journal v c true (Answered (Ok g) e))
+
+-- The last words of a vat that takes no more steps deliver and end nothing.
+abbrev pub LastWordsAreLed : Type 0
+LastWordsAreLed = (root_a root_b : Option ObjectId) (h : List JournalEntry) (v : Vat) (c : Command) → AllLed root_a root_b h (granted_entries h v c granted.Done)

@@ -15,7 +15,7 @@ ghost use Rattle.laws_meanings.specs.NodeLabels.{ActsKeepMeanings};
 ghost use Rattle.laws_meanings.specs.CommandMeanings.{CommandsKeepMeanings, OpeningsKeepMeanings};
 ghost use Rattle.laws_meanings.specs.Fates.{PromisesAreOpen};
 ghost use Rattle.laws_meanings.specs.WrittenCommands.{CommandsAreWritten};
-ghost use Rattle.laws_meanings.specs.StepMeanings.{ScenesCommandsKeep};
+ghost use Rattle.laws_meanings.specs.StepMeanings.{ScenesCommandsKeep, LastWordsAreLed};
 ghost use Rattle.laws_meanings.specs.LastingMeanings.{PlacesLast, MomentsLast, EffectsAreWritten, EntriesAreLed};
 
 use laws_answers::named_answers_are_there;
@@ -210,7 +210,8 @@ pub fn commands_are_written()
 /// deliveries is to the object to which the history up to it leads the call's reference, each call that it ends was answered,
 /// or the history leads its reference to broken. This where a payload names no other capabilities than go with it.
 pub fn commands_keep_scenes_meanings()
-    ensures { ScenesCommandsKeep }
+    ensures steps { ScenesCommandsKeep }
+    ensures last { LastWordsAreLed }
 {
     given_references_are_new();
     commands_are_written();
