@@ -231,7 +231,7 @@ module _ (h : History) (v : Vat) (l : Labels) (ps : ℕ → Option Meant) (weake
   soft_known x (known.Leads by n) i = soft x n i
 
   pub soft_back : (q : ℕ) (r : Role) (o : Option Returned) → BackMeans h v l q r o → BackMeans h v m q r o
-  soft_back q (role.Direct c) o i = (i.0, i.1, λ path. soft_known (field_meant h i.0.0 i.0.1 path) (known_by_return path o) (i.2 path))
+  soft_back q (role.Direct c) o i = (i.0, i.1, i.2, λ path. soft_known (field_meant h v i.0 path) (known_by_return path o) (i.3 path))
   soft_back q (role.Relay u) o i = i
 
   pub soft_question : (q : ℕ) (o : Option Question) → QuestionMeans h v l q o → QuestionMeans h v m q o

@@ -173,7 +173,7 @@ module _ (h k : History) (e : Extends h k) (v : Vat) (l : Labels) where
   said_still a r i path = subst (λ (y : Meant). MeansKnown k v l y (known_by_return path r)) (field_still h k e a.0 path a.1) (known_still (field_meant h a.0 a.1 path) (known_by_return path r) (i path))
 
   back_still : (q : ℕ) (x : Role) (r : Option Returned) → BackMeans h v l q x r → BackMeans k v l q x r
-  back_still q (role.Direct c) r i = (i.0, i.1, said_still i.0 r i.2)
+  back_still q (role.Direct c) r i = (i.0, e.asking v c.0 i.0 i.1, i.2, said_still (v, i.0) r i.3)
   back_still q (role.Relay o) r i = i
 
   question_still : (q : ℕ) (o : Option Question) → QuestionMeans h v l q o → QuestionMeans k v l q o

@@ -38,6 +38,9 @@ pub mod ActsMean
 pub mod CommandsMean
 pub mod Relabelled
 pub mod OpensMean
+pub mod HeardMeans
+pub mod RootHeard
+pub mod ReadLabels
 pub mod Lasts
 pub mod Written
 pub mod Unsettled

@@ -187,7 +187,7 @@ module _ (h : History) (v : Vat) (l : Labels) (s : State) (ps is : ℕ → Optio
 
     back_again : (q : ℕ) (y : Question) (k : Role) → y.role ≡ k → map.get s.questions q ≡ Some y → IsRelayOpen k y.returned → BackMeans h v l q k y.returned → BackMeans h v m q k y.returned
     back_again q y (role.Direct c) f e w i =
-        (i.0, r.questions q y e ∙ i.1, λ path. return_again (field_meant h i.0.0 i.0.1 path) path y.returned (λ k a. in_questions s k (named named_by_question q y k s.questions e a)) (i.2 path))
+        (i.0, i.1, r.questions q y e ∙ i.2, λ path. return_again (field_meant h v i.0 path) path y.returned (λ k a. in_questions s k (named named_by_question q y k s.questions e a)) (i.3 path))
     back_again q y (role.Relay o) f e w i =
         let a = itself o in
         let b = ap one_if a in

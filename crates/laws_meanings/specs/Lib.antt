@@ -11,6 +11,7 @@ pub mod AnsweredEnds
 pub mod NodeMeanings
 pub mod NodeLabels
 pub mod CommandMeanings
+pub mod MessageMeanings
 pub mod LastingMeanings
 pub mod Fates
 pub mod WrittenCommands

@@ -49,6 +49,11 @@ pub record Labels : Type 0 where
   pub outcome : ℕ → Option (Vat × Asking)
   pub question : ℕ → Option (Vat × Asking)
 
+-- What a question is of: that of a relay is of the call of its outcome.
+abbrev pub asked_label : Labels → ℕ → Role → Option (Vat × Asking)
+asked_label l q (role.Direct c) = l.question q
+asked_label l q (role.Relay o) = l.outcome o
+
 -- The task is of a delivery of that call.
 abbrev pub IsIn : ℕ → Stamp → List Delivery → Type 0
 IsIn t s [] = ⊥
@@ -176,7 +181,7 @@ module _ (h : History) (v : Vat) (l : Labels) where
   OwnCallMeans c (Some (own.Kept o)) = (a : Asking) × (asking h.journal v c ≡ Some a) × (l.outcome o ≡ Some (v, a))
 
   abbrev pub BackMeans : ℕ → Role → Option Returned → Type 0
-  BackMeans q (role.Direct c) r = (a : Vat × Asking) × (l.question q ≡ Some a) × ((path : List Op) → MeansKnown (field_meant h a.0 a.1 path) (known_by_return path r))
+  BackMeans q (role.Direct c) r = (a : Asking) × (asking h.journal v c.0 ≡ Some a) × (l.question q ≡ Some (v, a)) × ((path : List Op) → MeansKnown (field_meant h v a path) (known_by_return path r))
   BackMeans q (role.Relay o) r = (s : Stamp) × IsOf o s
 
   abbrev pub QuestionMeans : ℕ → Option Question → Type 0

@@ -12,7 +12,8 @@ ghost use Rattle.laws_meanings.specs.Tasks.{TasksAreOpen, TasksAreAnsweredOnce};
 ghost use Rattle.laws_meanings.specs.WhatIsLeft.{ObjectsAreLeft, AnswersAreLeft, CallsAreLeft, BrokenCallsAreLeft};
 ghost use Rattle.laws_meanings.specs.NodeMeanings.{LinksLast, LedToObjects, LedToBroken, LinksToObjectsAreLeft, LinksToBrokenAreLeft};
 ghost use Rattle.laws_meanings.specs.NodeLabels.{ActsKeepMeanings};
-ghost use Rattle.laws_meanings.specs.CommandMeanings.{CommandsKeepMeanings, OpeningsKeepMeanings};
+ghost use Rattle.laws_meanings.specs.CommandMeanings.{CommandsKeepMeanings, OpeningsKeepMeanings, FirstActsMean, FirstOpeningsMean};
+ghost use Rattle.laws_meanings.specs.MessageMeanings.{BootstrapsAreHeard, CallsAreHeard, ConsumingMeans, DescriptorsAreRead, EachActMeans, MessagesKeepMeanings, TargetsAreRead};
 ghost use Rattle.laws_meanings.specs.Fates.{PromisesAreOpen};
 ghost use Rattle.laws_meanings.specs.WrittenCommands.{CommandsAreWritten};
 ghost use Rattle.laws_meanings.specs.StepMeanings.{ScenesCommandsKeep, LastWordsAreLed};
@@ -172,6 +173,49 @@ pub fn commands_keep_meanings()
 /// has the entry: what it opens means that call, that Bootstrap or that promise.
 pub fn openings_keep_meanings()
     ensures { OpeningsKeepMeanings }
+{}
+
+/// What nodes mean lasts through the first act of a command of which the history has the entry. It changes no label but that
+/// of the promise, outcome or question that it opens.
+pub fn first_acts_of_commands_mean()
+    ensures plain { FirstActsMean }
+    ensures openings { FirstOpeningsMean }
+{}
+
+/// One small act of a step keeps what nodes mean, and the labels of promises that are there.
+pub fn each_act_keeps_meanings()
+    ensures { EachActMeans }
+{}
+
+/// Where a received message says what it should, by the nodes that the receiver makes of its descriptors and its target,
+/// what nodes mean lasts through its first act. An answer that opens is of the call or Bootstrap that came; imports that come
+/// have the labels by which the message was read; other labels stay.
+pub fn first_acts_of_messages_mean()
+    ensures { ConsumingMeans }
+{}
+
+/// Where a received message says what it should, what nodes mean lasts through its whole step. What it delivers is delivered
+/// to the object to which the history leads the call's reference; and each call that it ends was answered, or its reference
+/// leads to broken.
+pub fn messages_keep_meanings()
+    ensures { MessagesKeepMeanings }
+{}
+
+/// A Bootstrap says what it should at a vat whose bootstrap object the history has.
+pub fn bootstraps_are_heard()
+    ensures { BootstrapsAreHeard }
+{}
+
+/// Where a message is no fault, the nodes that a receiver makes of its descriptors and its target have the labels by which it
+/// is read on its way: own exports and answers by what they mean here, exports of the other vat by what they mean there.
+pub fn descriptors_are_read()
+    ensures descriptors { DescriptorsAreRead }
+    ensures targets { TargetsAreRead }
+{}
+
+/// A Call that is no fault says what it should by the nodes that its receiver makes, where on its way it does.
+pub fn calls_are_heard()
+    ensures { CallsAreHeard }
 {}
 
 /// What nodes mean at a vat, at a moment of a step too, is so in a longer history.
