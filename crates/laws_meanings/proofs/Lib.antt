@@ -49,3 +49,5 @@ pub mod Lasts
 pub mod Written
 pub mod Unsettled
 pub mod ReadLabels
+pub mod Writing
+pub mod StepsMean

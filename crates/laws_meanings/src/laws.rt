@@ -18,11 +18,15 @@ ghost use Rattle.laws_meanings.specs.NoneLost.{ActsLoseNone, CallsAreSomewhere, 
 ghost use Rattle.laws_meanings.specs.CommandMeanings.{CommandsKeepMeanings, OpeningsKeepMeanings, FirstActsMean, FirstOpeningsMean};
 ghost use Rattle.laws_meanings.specs.MessageMeanings.{BootstrapsAreHeard, ConsumingMeans, EachActMeans, MessagesKeepMeanings, CallsAreHeard, DescriptorsAreRead, ResolvesAreHeard, TargetsAreRead};
 ghost use Rattle.laws_meanings.specs.Fates.{PromisesAreOpen};
+ghost use Rattle.laws_meanings.specs.WrittenCommands.{CommandsAreWritten};
+ghost use Rattle.laws_meanings.specs.StepMeanings.{ScenesCommandsKeep, LastWordsAreLed};
 ghost use Rattle.laws_meanings.specs.LastingMeanings.{PlacesLast, MomentsLast, EffectsAreWritten, EntriesAreLed};
 
 use laws_answers::named_answers_are_there;
 use laws_nodes::{embargoes_pair, outcomes_have_sources, questions_end};
 use laws_runs::meanings_last;
+{}
+
 use laws_sessions::counts_agree_in_scenes;
 use laws_steps::nodes_are_there;
 
@@ -281,3 +285,53 @@ pub fn calls_are_heard()
     ensures calls { CallsAreHeard }
     ensures resolves { ResolvesAreHeard }
 {}
+
+    ensures { CallsAreHeard }
+{}
+
+/// What nodes mean at a vat, at a moment of a step too, is so in a longer history.
+pub fn node_meanings_last()
+    ensures places { PlacesLast }
+    ensures moments { MomentsLast }
+{}
+
+/// What nodes mean at the end of a step of a scene is known from the history with the entries of the step: each reference
+/// that a delivery or an end gave comes from there. And each of these entries is as what leads to an object, or to broken,
+/// says.
+pub fn effects_are_meanings()
+    ensures written { EffectsAreWritten }
+    ensures led { EntriesAreLed }
+{
+    given_references_are_new();
+}
+
+/// In each scene an own promise that is not settled at its vat has no fate in the history, unless the vat takes no more steps.
+pub fn promises_are_settled_once()
+    ensures { PromisesAreOpen }
+{}
+
+/// In each scene a command that is done is the first in the history of which that is said: the number that it is given is new,
+/// what it settles was not settled, what it answers not answered. This where a payload names no other capabilities than go with
+/// it.
+pub fn commands_are_written()
+    ensures { CommandsAreWritten }
+{
+    own_numbers_were_asked();
+    tasks_are_answered_once();
+    promises_are_settled_once();
+}
+
+/// What nodes mean at a vat of a scene lasts through each step of a command, with all that this writes: and each of its
+/// deliveries is to the object to which the history up to it leads the call's reference, each call that it ends was answered,
+/// or the history leads its reference to broken. This where a payload names no other capabilities than go with it.
+pub fn commands_keep_scenes_meanings()
+    ensures steps { ScenesCommandsKeep }
+    ensures last { LastWordsAreLed }
+{
+    given_references_are_new();
+    commands_are_written();
+    nodes_are_there();
+    outcomes_have_sources();
+    questions_end();
+    embargoes_pair();
+}
