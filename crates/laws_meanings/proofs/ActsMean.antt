@@ -42,6 +42,7 @@ use Rattle.laws_acts.specs.SmallActs.{Act, IsStill, kept_known, delivery, Acts, 
 use Rattle.laws_acts.specs.SmallActs as act
 use Rattle.laws_meanings.specs.NodeMeanings.{Meant, Itself, OfRef, Leads, Breaks}
 use Rattle.laws_meanings.specs.Identities.{DeliveredIn}
+use Rattle.laws_meanings.specs.MessageMeanings.{EachActMeans}
 use Rattle.laws_meanings.specs.NodeLabels.{Labels, IsIn, Means, CallAt, CallsAt, HeldAt, ValueMeans, IsGiven, IsEndOf, RefMeans, PromiseMeans, CallerIs, ValueIs, OutcomeMeans, TaskMeans, QuestionMeans, ImportMeans, RoutedMean, ComingMeans, IsToldOf, TellingMeans, ClearingMeans, MomentMeans, ActsKeepMeanings}
 use Rattle.laws_meanings.proofs.Labelled.{in-before, in-behind, settles, calls-append, held-append, coming-append, led-append, given-before, given-behind, ended-before, ended-behind, ends-append, all_refs, at_new, soft_ref, soft_held, soft_outcome, soft_embargo, soft_task, soft_own, soft_question, soft_import, soft_coming, soft_caller, soft_promises, soft_unsettled, still_unsettled}
 use Rattle.laws_meanings.proofs.Fitting.{Fitted, fitted}
@@ -124,20 +125,23 @@ module _ (h : History) (v : Vat) (l : Labels) where
 
 -- ---- Acts
 
-abbrev Kept : History → Vat → Labels → Moment → Type 0
-Kept h v l new = (ps : ℕ → Option Meant) × MomentMeans h v (record l { promise = ps }) new
+abbrev Kept : History → Vat → Labels → Moment → Moment → Type 0
+Kept h v l d new = (ps : ℕ → Option Meant) × ((p : ℕ) (y : Promise) → map.get d.state.promises p ≡ Some y → ps p ≡ l.promise p) × MomentMeans h v (record l { promise = ps }) new
+
+abbrev AllKept : History → Vat → Labels → Moment → Type 0
+AllKept h v l last = (ps : ℕ → Option Meant) × MomentMeans h v (record l { promise = ps }) last
 
 module _ (h : History) (v : Vat) (l : Labels) where
   abbrev same : Moment → Type 0
   same new = MomentMeans h v l new
 
-  keeps : (new : Moment) → MomentMeans h v l new → Kept h v l new
-  keeps new i = (l.promise, i)
+  keeps : (d new : Moment) → MomentMeans h v l new → Kept h v l d new
+  keeps d new i = (l.promise, (λ p y e. refl), i)
 
   goes : (d : Moment) (c : WaitingCall) (n m : Node) → MomentMeans h v l d → CallAt h v l n c → settle d.state n ≡ m → CallAt h v l m c
   goes d c n m i y e = (y.0, y.1, subst (Means h v l (OfRef (history.caller c.request.stamp))) e (settles h v l d.state i.0.1 i.0.3 (OfRef (history.caller c.request.stamp)) n y.2))
 
-  acted : (d new : Moment) → MomentMeans h v l d → Act d new → Kept h v l new
+  acted : (d new : Moment) → MomentMeans h v l d → Act d new → Kept h v l d new
   acted d new i (act.Delivers c n rest o e f k) =
       let s = d.state in
       let y : CallAt h v l n c × RoutedMean h v l rest = subst (RoutedMean h v l) e i.1 in
@@ -147,7 +151,7 @@ module _ (h : History) (v : Vat) (l : Labels) where
       let refs = all_refs (λ j r. RefMeans h v l more j r) s c.request.caps (λ j. more_given h v l d.effects x j (map.get s.refs j) (i.0.0 j))
       (λ j m g. let b = y.0.1 j m g in (b.0, inr (inl (given-behind h v (s.next_ref + j) b.0 d.effects.deliveries (x ∷ []) (inl (j, at_new s.next_ref c.request.caps j m g, b.1)))), b.2))
       in
-      keeps new (rw k ((refs, i.0.1, i.0.2, i.0.3, i.0.4, at_put (λ j t. TaskMeans h v l more j t) s.tasks s.next_task c.outcome (c.request.stamp, inr (in-behind h v s.next_task c.request.stamp d.effects.deliveries (x ∷ []) (inl (refl, refl))), y.0.0) (λ j g. more_tasks h v l d.effects x j (map.get s.tasks j) (i.0.5 j)), i.0.6, i.0.7, i.0.8), y.1, i.2, i.3, i.4, led-append h v d.effects.deliveries (x ∷ []) i.5 (z.2, tt), i.6, i.7))
+      keeps d new (rw k ((refs, i.0.1, i.0.2, i.0.3, i.0.4, at_put (λ j t. TaskMeans h v l more j t) s.tasks s.next_task c.outcome (c.request.stamp, inr (in-behind h v s.next_task c.request.stamp d.effects.deliveries (x ∷ []) (inl (refl, refl))), y.0.0) (λ j g. more_tasks h v l d.effects x j (map.get s.tasks j) (i.0.5 j)), i.0.6, i.0.7, i.0.8), y.1, i.2, i.3, i.4, led-append h v d.effects.deliveries (x ∷ []) i.5 (z.2, tt), i.6, i.7))
   acted d new i (act.Waits c n rest p calls e f j k) =
       let s = d.state in
       let y : CallAt h v l n c × RoutedMean h v l rest = subst (RoutedMean h v l) e i.1 in
@@ -155,26 +159,26 @@ module _ (h : History) (v : Vat) (l : Labels) where
       let x = promise.Open (calls ++ c ∷ []) in
       let ps = map.insert s.promises p x in
       let opens = at_put (λ (q : ℕ) (r : Option Promise). (cs : List WaitingCall) → map.get s.promises q ≡ Some (promise.Open cs) → (ds : List WaitingCall) × (r ≡ Some (promise.Open ds))) s.promises p x (λ cs g. (calls ++ c ∷ [], refl)) (λ q g cs m. (cs, m)) in
-      keeps new (rw k ((i.0.0, at_put (λ q r. PromiseMeans h v l q r) s.promises p x (calls-append h v l (node.Promise p) calls (c ∷ []) was (goes d c n (node.Promise p) i y.0 f, tt)) (λ q g. i.0.1 q), (λ q. still_unsettled h v l s.promises ps opens q (map.get s.unsettled q) (i.0.2 q)), i.0.3, i.0.4, i.0.5, i.0.6, i.0.7, i.0.8), y.1, i.2, i.3, i.4, i.5, i.6, i.7))
+      keeps d new (rw k ((i.0.0, at_put (λ q r. PromiseMeans h v l q r) s.promises p x (calls-append h v l (node.Promise p) calls (c ∷ []) was (goes d c n (node.Promise p) i y.0 f, tt)) (λ q g. i.0.1 q), (λ q. still_unsettled h v l s.promises ps opens q (map.get s.unsettled q) (i.0.2 q)), i.0.3, i.0.4, i.0.5, i.0.6, i.0.7, i.0.8), y.1, i.2, i.3, i.4, i.5, i.6, i.7))
   acted d new i (act.Holds c n rest u path x e f j k) =
       let s = d.state in
       let y : CallAt h v l n c × RoutedMean h v l rest = subst (RoutedMean h v l) e i.1 in
       let was : OutcomeMeans h v l u (Some x) = subst (OutcomeMeans h v l u) j (i.0.3 u) in
       let z : HeldCall = record { path = path; call = c } in
       let w : KeptOutcome = record x { waiting = x.waiting ++ z ∷ [] } in
-      keeps new (rw k ((i.0.0, i.0.1, i.0.2, at_put (λ q r. OutcomeMeans h v l q r) s.outcomes u w (was.0, was.1, held-append h v l u x.waiting (z ∷ []) was.2 (goes d c n (node.Field u path) i y.0 f, tt)) (λ q g. i.0.3 q), i.0.4, i.0.5, i.0.6, i.0.7, i.0.8), y.1, i.2, i.3, i.4, i.5, i.6, i.7))
+      keeps d new (rw k ((i.0.0, i.0.1, i.0.2, at_put (λ q r. OutcomeMeans h v l q r) s.outcomes u w (was.0, was.1, held-append h v l u x.waiting (z ∷ []) was.2 (goes d c n (node.Field u path) i y.0 f, tt)) (λ q g. i.0.3 q), i.0.4, i.0.5, i.0.6, i.0.7, i.0.8), y.1, i.2, i.3, i.4, i.5, i.6, i.7))
   acted d new i (act.Relays c n rest q t ds es e f j k u) =
       let s = d.state in
       let y : CallAt h v l n c × RoutedMean h v l rest = subst (RoutedMean h v l) e i.1 in
-      keeps new (rw u ((i.0.0, i.0.1, i.0.2, i.0.3, i.0.4, i.0.5, i.0.6, at_put (λ b r. QuestionMeans h v l b r) s.questions q (asked (role.Relay c.outcome) ds) (c.request.stamp, y.0.0) (λ b g. i.0.7 b), i.0.8), y.1, i.2, i.3, i.4, i.5, i.6, i.7))
+      keeps d new (rw u ((i.0.0, i.0.1, i.0.2, i.0.3, i.0.4, i.0.5, i.0.6, at_put (λ b r. QuestionMeans h v l b r) s.questions q (asked (role.Relay c.outcome) ds) (c.request.stamp, y.0.0) (λ b g. i.0.7 b), i.0.8), y.1, i.2, i.3, i.4, i.5, i.6, i.7))
   acted d new i (act.Breaks c n rest reason e f u) =
       let y : CallAt h v l n c × RoutedMean h v l rest = subst (RoutedMean h v l) e i.1 in
       let z = goes d c n (node.Broken reason) i y.0 f in
       let o = y.0.0 in
-      keeps new (rw u (i.0, y.1, coming-append h v l d.arisen _ i.2 (((o.0, OfCall c.request.stamp), o.1, broken_value h v l o.0 c.request.stamp reason z.2), tt), i.3, i.4, i.5, i.6, i.7))
+      keeps d new (rw u (i.0, y.1, coming-append h v l d.arisen _ i.2 (((o.0, OfCall c.request.stamp), o.1, broken_value h v l o.0 c.request.stamp reason z.2), tt), i.3, i.4, i.5, i.6, i.7))
   acted d new i (act.NextArisen o w rest e f u) =
       let y : ComingMeans h v l ((o, w) ∷ rest) = subst (ComingMeans h v l) f i.2 in
-      keeps new (rw u (i.0, i.1, y.1, (y.0, tt), i.4, i.5, i.6, i.7))
+      keeps d new (rw u (i.0, i.1, y.1, (y.0, tt), i.4, i.5, i.6, i.7))
   acted d new i (act.Knows o w fit x ps e f j k u) =
       let s = d.state in
       let y : ComingMeans h v l ((o, w) ∷ []) = subst (λ (m : Moment). ComingMeans h v l m.coming) e i.3 in
@@ -188,6 +192,7 @@ module _ (h : History) (v : Vat) (l : Labels) where
       let outcomes = at_put (λ q r. OutcomeMeans h v m q r) s.outcomes o it (who, (a, y.0.1, z.means), soft_held h v l g.means g.weaker o x.waiting was.2) (λ q n. soft_outcome h v l g.means g.weaker q (map.get s.outcomes q) (i.0.3 q)) in
       let no_calls : d.yet ≡ [] = ap (λ (b : Moment). b.yet) e in (
         g.means,
+        λ p y e. (g.same p y e).0,
         rw u (
           (
             λ q. soft_ref h v l g.means g.weaker d.effects q (map.get s.refs q) (i.0.0 q),
@@ -218,41 +223,44 @@ module _ (h : History) (v : Vat) (l : Labels) where
       let refs = all_refs (λ j r. RefMeans h v l more j r) s (caps_of w) (λ j. more_ended h v l d.effects x j (map.get s.refs j) (i.0.0 j))
       (λ j m g. let b = z.2.1 j m g in (b.0, inr (inr (ended-behind h v (s.next_ref + j) b.0 d.effects.answers (x ∷ []) (inl (j, at_new s.next_ref (caps_of w) j m g, (z.0, z.1, b.1))))), b.2))
       in
-      keeps new (rw u ((refs, i.0.1, i.0.2, i.0.3, i.0.4, (λ j. still_tasks h v l d.effects x j (map.get s.tasks j) (i.0.5 j)), i.0.6, i.0.7, i.0.8), i.1, i.2, i.3, tt, i.5, i.6, ends-append h v d.effects.answers (x ∷ []) i.7 ((z.0, z.1, z.2.2), tt)))
-  acted d new i (act.TellsNobody c w e f u) = keeps new (rw u (i.0, i.1, i.2, i.3, tt, i.5, i.6, i.7))
-  acted d new i (act.MakesReturn q w a b ds es e f j k u) = keeps new (rw u (i.0, i.1, i.2, i.3, tt, i.5, i.6, i.7))
+      keeps d new (rw u ((refs, i.0.1, i.0.2, i.0.3, i.0.4, (λ j. still_tasks h v l d.effects x j (map.get s.tasks j) (i.0.5 j)), i.0.6, i.0.7, i.0.8), i.1, i.2, i.3, tt, i.5, i.6, ends-append h v d.effects.answers (x ∷ []) i.7 ((z.0, z.1, z.2.2), tt)))
+  acted d new i (act.TellsNobody c w e f u) = keeps d new (rw u (i.0, i.1, i.2, i.3, tt, i.5, i.6, i.7))
+  acted d new i (act.MakesReturn q w a b ds es e f j k u) = keeps d new (rw u (i.0, i.1, i.2, i.3, tt, i.5, i.6, i.7))
   acted d new i (act.SendsReturn x a e f j u) =
-      keeps new (rw u ((i.0.0, i.0.1, i.0.2, i.0.3, i.0.4, i.0.5, i.0.6, i.0.7, imports_left h v l d.state (numbers a.taken) i.0.8), i.1, i.2, i.3, i.4, i.5, i.6, i.7))
+      keeps d new (rw u ((i.0.0, i.0.1, i.0.2, i.0.3, i.0.4, i.0.5, i.0.6, i.0.7, imports_left h v l d.state (numbers a.taken) i.0.8), i.1, i.2, i.3, i.4, i.5, i.6, i.7))
   acted d new i (act.Clears x e f u) =
       let s = d.state in
       let is : CallerIs h v l x.outcome x.caller × ValueIs h v l x.outcome (Some x.value) = subst (λ (m : Moment). ClearingMeans h v l m.clearing) e i.6 in
       let outcomes = at_put (λ q r. OutcomeMeans h v l q r) s.outcomes x.outcome (kept_known x.caller x.value []) (is.0, is.1, tt) (λ q g. i.0.3 q) in
-      keeps new (rw u ((i.0.0, i.0.1, i.0.2, outcomes, i.0.4, i.0.5, i.0.6, i.0.7, i.0.8), routed_held h v l x.outcome x.waiting (by f), i.2, i.3, i.4, i.5, tt, i.7))
+      keeps d new (rw u ((i.0.0, i.0.1, i.0.2, outcomes, i.0.4, i.0.5, i.0.6, i.0.7, i.0.8), routed_held h v l x.outcome x.waiting (by f), i.2, i.3, i.4, i.5, tt, i.7))
     where
       by : IsStill d.state x → HeldAt h v l x.outcome x.waiting
       by (inl g) = let z : OutcomeMeans h v l x.outcome (Some (kept_known x.caller x.value x.waiting)) = subst (OutcomeMeans h v l x.outcome) g (i.0.3 x.outcome) in z.2
       by (inr g) = subst (HeldAt h v l x.outcome) (sym g.1) tt
-  acted d new i (act.Lists x e u) = keeps new (rw u i)
-  acted d new i (act.SendsResolve x rest k es e w f u) = keeps new (rw u i)
-  acted d new i (act.SendsBroken x rest reason e f u) = keeps new (rw u i)
+  acted d new i (act.Lists x e u) = keeps d new (rw u i)
+  acted d new i (act.SendsResolve x rest k es e w f u) = keeps d new (rw u i)
+  acted d new i (act.SendsBroken x rest reason e f u) = keeps d new (rw u i)
   acted d new i (act.PromiseGoes p to w e f u) =
       let s = d.state in
       let opens = at_cut (λ (q : ℕ) (r : Option Promise). (cs : List WaitingCall) → map.get s.promises q ≡ Some (promise.Open cs) → (ds : List WaitingCall) × (r ≡ Some (promise.Open ds))) s.promises p (λ cs g. absurd (let bad : Some (promise.Fixed to) ≡ Some (promise.Open cs) = sym e ∙ g in cc)) (λ q g cs m. (cs, m)) in
-      keeps new (rw u ((i.0.0, at_cut (λ q r. PromiseMeans h v l q r) s.promises p tt (λ q g. i.0.1 q), (λ q. still_unsettled h v l s.promises (map.remove s.promises p) opens q (map.get s.unsettled q) (i.0.2 q)), i.0.3, i.0.4, i.0.5, i.0.6, i.0.7, i.0.8), i.1, i.2, i.3, i.4, i.5, i.6, i.7))
+      keeps d new (rw u ((i.0.0, at_cut (λ q r. PromiseMeans h v l q r) s.promises p tt (λ q g. i.0.1 q), (λ q. still_unsettled h v l s.promises (map.remove s.promises p) opens q (map.get s.unsettled q) (i.0.2 q)), i.0.3, i.0.4, i.0.5, i.0.6, i.0.7, i.0.8), i.1, i.2, i.3, i.4, i.5, i.6, i.7))
   acted d new i (act.OutcomeGoes o x w a e f j k b u) =
-      keeps new (rw u ((i.0.0, i.0.1, i.0.2, at_cut (λ q r. OutcomeMeans h v l q r) d.state.outcomes o tt (λ q g. i.0.3 q), i.0.4, i.0.5, i.0.6, i.0.7, i.0.8), i.1, i.2, i.3, i.4, i.5, i.6, i.7))
+      keeps d new (rw u ((i.0.0, i.0.1, i.0.2, at_cut (λ q r. OutcomeMeans h v l q r) d.state.outcomes o tt (λ q g. i.0.3 q), i.0.4, i.0.5, i.0.6, i.0.7, i.0.8), i.1, i.2, i.3, i.4, i.5, i.6, i.7))
   acted d new i (act.ImportGoes b x w e f u) =
-      keeps new (rw u ((i.0.0, i.0.1, i.0.2, i.0.3, i.0.4, i.0.5, i.0.6, i.0.7, at_cut (λ q r. ImportMeans h v l q r) d.state.imports b tt (λ q g. i.0.8 q)), i.1, i.2, i.3, i.4, i.5, i.6, i.7))
-  acted d new i (act.Sweeps over e f j u) = keeps new (rw u i)
+      keeps d new (rw u ((i.0.0, i.0.1, i.0.2, i.0.3, i.0.4, i.0.5, i.0.6, i.0.7, at_cut (λ q r. ImportMeans h v l q r) d.state.imports b tt (λ q g. i.0.8 q)), i.1, i.2, i.3, i.4, i.5, i.6, i.7))
+  acted d new i (act.Sweeps over e f j u) = keeps d new (rw u i)
   acted d new i (act.SendsFinish q x rest e f j w k u) =
-      keeps new (rw u ((i.0.0, i.0.1, i.0.2, i.0.3, i.0.4, i.0.5, i.0.6, closes h v l d.state.questions q x x.returned f i.0.7, imports_left h v l d.state (got_of x.returned) i.0.8), i.1, i.2, i.3, i.4, i.5, i.6, i.7))
+      keeps d new (rw u ((i.0.0, i.0.1, i.0.2, i.0.3, i.0.4, i.0.5, i.0.6, closes h v l d.state.questions q x x.returned f i.0.7, imports_left h v l d.state (got_of x.returned) i.0.8), i.1, i.2, i.3, i.4, i.5, i.6, i.7))
   acted d new i (act.Closes q x rest e f j w k u) =
-      keeps new (rw u ((i.0.0, i.0.1, i.0.2, i.0.3, i.0.4, i.0.5, i.0.6, closes h v l d.state.questions q x x.returned f i.0.7, i.0.8), i.1, i.2, i.3, i.4, i.5, i.6, i.7))
-  acted d new i (act.Releases a e f u) = keeps new (rw u i)
+      keeps d new (rw u ((i.0.0, i.0.1, i.0.2, i.0.3, i.0.4, i.0.5, i.0.6, closes h v l d.state.questions q x x.returned f i.0.7, i.0.8), i.1, i.2, i.3, i.4, i.5, i.6, i.7))
+  acted d new i (act.Releases a e f u) = keeps d new (rw u i)
 
-all_keep : (last : Moment) (h : History) (v : Vat) (l : Labels) (d : Moment) → Acts last d → MomentMeans h v l d → Kept h v l last
+all_keep : (last : Moment) (h : History) (v : Vat) (l : Labels) (d : Moment) → Acts last d → MomentMeans h v l d → AllKept h v l last
 all_keep last h v l d NoMore i = (l.promise, i)
-all_keep last h v l d (Then {mid = mid} a rest) i = let z = acted h v l d mid i a in all_keep last h v (record l { promise = z.0 }) mid rest z.1
+all_keep last h v l d (Then {mid = mid} a rest) i = let z = acted h v l d mid i a in all_keep last h v (record l { promise = z.0 }) mid rest z.2
 
 pub acts_mean : ActsKeepMeanings
 acts_mean h v l d last acts i = all_keep last h v l d acts i
+
+pub each_act_means : EachActMeans
+each_act_means h v l d new a i = acted h v l d new i a

@@ -34,6 +34,7 @@ use Rattle.vat_machine.specs.declared.entries.Embargo.{Embargo}
 use Rattle.vat_machine.specs.declared.entries.Import.{Import}
 use Rattle.vat_machine.specs.declared.entries.Question.{Question}
 use Rattle.vat_machine.specs.declared.entries.Reference.{Reference}
+use Rattle.vat_machine.specs.declared.entries.Resolution.{Resolution}
 use Rattle.vat_machine.specs.declared.entries.Returned.{Returned}
 use Rattle.vat_machine.specs.declared.entries.Role.{Role}
 use Rattle.vat_machine.specs.declared.entries.Role.TheVariants as role
@@ -51,8 +52,8 @@ use Rattle.laws_acts.proofs.EachStep.{at_end}
 use Rattle.laws_acts.proofs.Commanded.{does}
 use Rattle.laws_nodes.specs.Questions.{QuestionsEnd, IsRelayOpen, IsOpen}
 use Rattle.laws_meanings.specs.NodeMeanings.{Meant, Itself, OfRef, OfPromise, OfField, field_meant, IsRefAt, ByCap, Leads, There, Then}
-use Rattle.laws_meanings.specs.NodeLabels.{Labels, field_label, LeadsTo, label, Means, MeansKnown, CallsAt, ValueMeans, RefMeans, PromiseMeans, IsUnsettled, EmbargoMeans, TaskMeans, OwnCallMeans, BackMeans, QuestionMeans, ImportMeans, Places, RoutedMean, AreLed, EndsAreLed, MomentMeans}
-use Rattle.laws_meanings.specs.CommandMeanings.{OpensNothing, AnswersWith, IsWritten, CommandsKeepMeanings}
+use Rattle.laws_meanings.specs.NodeLabels.{Labels, field_label, LeadsTo, label, Means, MeansKnown, CallsAt, ValueMeans, RefMeans, PromiseMeans, IsUnsettled, EmbargoMeans, TaskMeans, OwnCallMeans, BackMeans, QuestionMeans, ResolvedMeans, ImportMeans, Places, RoutedMean, AreLed, EndsAreLed, MomentMeans}
+use Rattle.laws_meanings.specs.CommandMeanings.{OpensNothing, AnswersWith, IsWritten, CommandsKeepMeanings, FirstActsMean}
 use Rattle.laws_meanings.proofs.Links.{walk_fields}
 use Rattle.laws_meanings.proofs.Labelled.{further, further_to, settles, new_ref}
 use Rattle.laws_meanings.proofs.ActsMean.{acts_mean}
@@ -75,14 +76,17 @@ module _ (h : History) (v : Vat) (l : Labels) where
   known_further w x (known.IsBroken reason) i f = further h (Itself Broken) w x i f
   known_further w x (known.Leads by n) i f = further_to h w x (label h v l n) i f
 
+  by_resolved : (x : Meant) (o : Option Meant) (r : Option Resolution) → ResolvedMeans h v l o r → LeadsTo h x o → MeansKnown h v l x (known_by_resolve r)
+  by_resolved x None r i m = subst (λ (z : Option Resolution). MeansKnown h v l x (known_by_resolve z)) (sym i) tt
+  by_resolved x (Some y) r i m = known_further y x (known_by_resolve r) i m
+
   by_import : (x : Meant) (e : ℕ) (o : Option Import) → ImportMeans h v l e o → LeadsTo h x (l.import e) → MeansKnown h v l x (known_by_resolve (resolution_of o))
   by_import x e None i m = tt
-  by_import x e (Some y) i m = known_further i.0 x (known_by_resolve y.resolution) i.2 (subst (LeadsTo h x) i.1 m)
+  by_import x e (Some y) i m = by_resolved x (l.import e) y.resolution i m
 
   by_role : (x : Meant) (q : ℕ) (path : List Op) (r : Role) (o : Option Returned) → IsRelayOpen r o → BackMeans h v l q r o → Means h v l x (node.Pipe (record { 0 = q }) path) → MeansKnown h v l x (known_by_return path o)
   by_role x q path (role.Direct c) o w i m =
-      let a = i.0 in
-      known_further (field_meant h a.0 a.1 path) x (known_by_return path o) (i.2 path) (subst (λ (z : Option (Vat × Asking)). LeadsTo h x (label h v (record l { question = λ k. z }) (node.Pipe (record { 0 = q }) path))) i.1 m)
+      known_further (field_meant h v i.0 path) x (known_by_return path o) (i.3 path) (subst (λ (z : Option (Vat × Asking)). LeadsTo h x (label h v (record l { question = λ k. z }) (node.Pipe (record { 0 = q }) path))) i.2 m)
   by_role x q path (role.Relay o) r w i m = subst (λ (z : Option Returned). MeansKnown h v l x (known_by_return path z)) (sym w) tt
 
   by_question : (x : Meant) (q : ℕ) (path : List Op) (o : Option Question) → IsOpen o → QuestionMeans h v l q o → Means h v l x (node.Pipe (record { 0 = q }) path) → MeansKnown h v l x (known_by_return path (returned_of o))
@@ -116,7 +120,7 @@ module _ (h : History) (v : Vat) (l : Labels) where
     pub headed : (r : ℕ) (x : Reference) → Means h v l (this r) x.head → (k : ℕ) → RefMeans h v l quiet k (map.get (map.insert s.refs r x) k)
     headed r x m = at_put (λ k o. RefMeans h v l quiet k o) s.refs r x (this r, inl refl, m) (λ k e. w.0 k)
 
-    routed : (n : Node) (cs : List WaitingCall) → CallsAt h v l n cs → RoutedMean h v l (each_to n cs)
+    pub routed : (n : Node) (cs : List WaitingCall) → CallsAt h v l n cs → RoutedMean h v l (each_to n cs)
     routed n [] i = tt
     routed n (c ∷ cs) i = (i.0, routed n cs i.1)
 
@@ -260,3 +264,6 @@ commands_mean h v l s c g x t n i ends w k =
     let q = z.1 in
     let e = at_end (λ u y. Places h v m y u × AreLed h v y.deliveries × EndsAreLed h v y.answers) a.last x t a.ends (up h v m a.last.effects a.last.state q.0, q.5, q.7) in
     (z.0, e.0, e.1, e.2)
+
+pub first_acts_mean : FirstActsMean
+first_acts_mean h v l s c g d n i ends w a = started h v l s ends w c g d n i a

@@ -29,6 +29,7 @@ use Rattle.vat_machine.specs.declared.entries.Embargo.{Embargo}
 use Rattle.vat_machine.specs.declared.entries.Import.{Import}
 use Rattle.vat_machine.specs.declared.entries.Question.{Question}
 use Rattle.vat_machine.specs.declared.entries.Reference.{Reference}
+use Rattle.vat_machine.specs.declared.entries.Resolution.{Resolution}
 use Rattle.vat_machine.specs.declared.entries.Role.{Role}
 use Rattle.vat_machine.specs.declared.entries.Role.TheVariants as role
 use Rattle.vat_machine.specs.declared.entries.Returned.{Returned}
@@ -39,7 +40,7 @@ use Rattle.vat_machine.specs.Progress.{with_refs, new_refs}
 use Rattle.vat_machine.specs.Advancing.{Known, known_by_resolve, known_by_return}
 use Rattle.vat_machine.specs.Advancing as known
 use Rattle.laws_meanings.specs.NodeMeanings.{Meant, Itself, OfRef, field_meant, Leads, There, Then, Breaks}
-use Rattle.laws_meanings.specs.NodeLabels.{Labels, IsIn, field_label, LeadsTo, label, Means, MeansKnown, CallAt, CallsAt, HeldAt, ValueMeans, IsGiven, IsEndOf, RefMeans, PromiseMeans, IsUnsettled, CallerIs, ValueIs, OutcomeMeans, EmbargoMeans, TaskMeans, OwnCallMeans, BackMeans, QuestionMeans, ImportMeans, ComingMeans, AreLed, EndsAreLed}
+use Rattle.laws_meanings.specs.NodeLabels.{Labels, IsIn, field_label, LeadsTo, label, Means, MeansKnown, CallAt, CallsAt, HeldAt, ValueMeans, IsGiven, IsEndOf, RefMeans, PromiseMeans, IsUnsettled, CallerIs, ValueIs, OutcomeMeans, EmbargoMeans, TaskMeans, OwnCallMeans, BackMeans, QuestionMeans, ResolvedMeans, ImportMeans, ComingMeans, AreLed, EndsAreLed}
 
 -- ---- Links, one after the other
 
@@ -230,16 +231,20 @@ module _ (h : History) (v : Vat) (l : Labels) (ps : ℕ → Option Meant) (weake
   soft_known x (known.Leads by n) i = soft x n i
 
   pub soft_back : (q : ℕ) (r : Role) (o : Option Returned) → BackMeans h v l q r o → BackMeans h v m q r o
-  soft_back q (role.Direct c) o i = (i.0, i.1, λ path. soft_known (field_meant h i.0.0 i.0.1 path) (known_by_return path o) (i.2 path))
+  soft_back q (role.Direct c) o i = (i.0, i.1, i.2, λ path. soft_known (field_meant h v i.0 path) (known_by_return path o) (i.3 path))
   soft_back q (role.Relay u) o i = i
 
   pub soft_question : (q : ℕ) (o : Option Question) → QuestionMeans h v l q o → QuestionMeans h v m q o
   soft_question q None i = tt
   soft_question q (Some x) i = soft_back q x.role x.returned i
 
+  soft_resolved : (o : Option Meant) (r : Option Resolution) → ResolvedMeans h v l o r → ResolvedMeans h v m o r
+  soft_resolved None r i = i
+  soft_resolved (Some y) r i = soft_known y (known_by_resolve r) i
+
   pub soft_import : (e : ℕ) (o : Option Import) → ImportMeans h v l e o → ImportMeans h v m e o
   soft_import e None i = tt
-  soft_import e (Some x) i = (i.0, i.1, soft_known i.0 (known_by_resolve x.resolution) i.2)
+  soft_import e (Some x) i = soft_resolved (l.import e) x.resolution i
 
   pub soft_coming : (xs : List (ℕ × Value)) → ComingMeans h v l xs → ComingMeans h v m xs
   soft_coming [] i = tt

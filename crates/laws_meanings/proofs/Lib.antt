@@ -43,3 +43,4 @@ pub mod Somewhere
 pub mod Unpending
 pub mod FitCores
 pub mod Begun
+pub mod HeardMeans

@@ -46,7 +46,7 @@ use Rattle.laws_nodes.specs.Sources.{HasOneSource, sources, waits_for}
 use Rattle.laws_nodes.specs.Embargoes as pairs
 use Rattle.laws_nodes.specs.Embargoes.{ArePaired}
 use Rattle.laws_meanings.specs.NodeLabels.{CapsMean, CallAt, OutcomeMeans}
-use Rattle.laws_meanings.specs.CommandMeanings.{IsWrittenOpen, OpeningsKeepMeanings}
+use Rattle.laws_meanings.specs.CommandMeanings.{IsWrittenOpen, OpeningsKeepMeanings, LabelsKept, FirstOpeningsMean}
 use Rattle.laws_meanings.proofs.Labelled.{still_unsettled, calls-append}
 use Rattle.laws_meanings.proofs.CommandsMean.{head_means, head_at, headed, up}
 use Rattle.laws_meanings.proofs.Relabelled.{Relabels, relabelled}
@@ -59,7 +59,7 @@ other m k key y a b f e = by (nat_eq k key) refl
     by true g = absurd (let z = sym f ∙ subst (λ (j : ℕ). map.get m j ≡ Some y) (equal k key g) e in let bad : None ≡ Some y = z in cc)
     by false g = refl
 
-this_one : {Y : Type 0} (k : ℕ) (a b : Y) → cond (nat_eq k k) a b ≡ a
+pub this_one : {Y : Type 0} (k : ℕ) (a b : Y) → cond (nat_eq k k) a b ≡ a
 this_one k a b = ap (λ (c : Bool). cond c a b) (itself k)
 
 module _ (h : History) (l : Labels) (s : State) (whole : IsWhole s) (one : HasOneSource s) (ends : QuestionsEnd s) (w : Places h s.vat l quiet s) where
@@ -70,12 +70,13 @@ module _ (h : History) (l : Labels) (s : State) (whole : IsWhole s) (one : HasOn
     abbrev ps : ℕ → Option Meant
     ps p = cond (nat_eq p key) (Some x) (l.promise p)
 
-    promise_relabels : Relabels h v l s ps l.outcome l.question
+    promise_relabels : Relabels h v l s ps l.import l.outcome l.question
     promise_relabels = record {
       named = λ n a. by n (whole.there n a);
       promises = λ p y e. other s.promises p key y (Some x) (l.promise p) free e;
       outcomes = λ o y e. refl;
       questions = λ q y e. refl;
+      imports = λ e y f. refl;
       awaited = λ o e. refl;
       calls = λ c y e i. at c y i;
     }
@@ -97,7 +98,7 @@ module _ (h : History) (l : Labels) (s : State) (whole : IsWhole s) (one : HasOn
         at c (own.Kept o) i = i
 
     with_promise : Places h v (record l { promise = ps }) quiet s
-    with_promise = relabelled h v l s ps l.outcome l.question promise_relabels ends w
+    with_promise = relabelled h v l s ps l.import l.outcome l.question promise_relabels ends w
 
   module _ (key : ℕ) (x : Vat × Asking) (free : map.get s.questions key ≡ None) where
     abbrev qs : ℕ → Option (Vat × Asking)
@@ -107,12 +108,13 @@ module _ (h : History) (l : Labels) (s : State) (whole : IsWhole s) (one : HasOn
     there c q None e i = absurd i
     there c q (Some y) e i = other s.questions q key y (Some x) (l.question q) free e
 
-    question_relabels : Relabels h v l s l.promise l.outcome qs
+    question_relabels : Relabels h v l s l.promise l.import l.outcome qs
     question_relabels = record {
       named = λ n a. by n (whole.there n a);
       promises = λ p y e. refl;
       outcomes = λ o y e. refl;
       questions = λ q y e. other s.questions q key y (Some x) (l.question q) free e;
+      imports = λ e y f. refl;
       awaited = λ o e. refl;
       calls = λ c y e i. at c y (subst (HasSource s c) e (whole.callers.calls c)) i;
     }
@@ -130,18 +132,19 @@ module _ (h : History) (l : Labels) (s : State) (whole : IsWhole s) (one : HasOn
         at c (own.Kept o) f i = i
 
     with_question : Places h v (record l { question = qs }) quiet s
-    with_question = relabelled h v l s l.promise l.outcome qs question_relabels ends w
+    with_question = relabelled h v l s l.promise l.import l.outcome qs question_relabels ends w
 
   module _ (key : ℕ) (x : Vat × Asking) (free : map.get s.outcomes key ≡ None) where
-    abbrev os : ℕ → Option (Vat × Asking)
+    abbrev pub os : ℕ → Option (Vat × Asking)
     os o = cond (nat_eq o key) (Some x) (l.outcome o)
 
-    outcome_relabels : Relabels h v l s l.promise os l.question
+    pub outcome_relabels : Relabels h v l s l.promise l.import os l.question
     outcome_relabels = record {
       named = λ n a. by n (whole.there n a);
       promises = λ p y e. refl;
       outcomes = λ o y e. other s.outcomes o key y (Some x) (l.outcome o) free e;
       questions = λ q y e. refl;
+      imports = λ e y f. refl;
       awaited = λ o e. waited o (nat_eq o key) refl e;
       calls = λ c y e i. at c y (subst (HasSource s c) e (whole.callers.calls c)) i;
     }
@@ -170,14 +173,17 @@ module _ (h : History) (l : Labels) (s : State) (whole : IsWhole s) (one : HasOn
         at c (own.Direct q) f i = i
         at c (own.Kept o) f i = (i.0, i.1, kept c o (map.get s.outcomes o) refl f ∙ i.2)
 
-    with_outcome : Places h v (record l { outcome = os }) quiet s
-    with_outcome = relabelled h v l s l.promise os l.question outcome_relabels ends w
+    pub with_outcome : Places h v (record l { outcome = os }) quiet s
+    with_outcome = relabelled h v l s l.promise l.import os l.question outcome_relabels ends w
+
+kept_by : (h : History) (l : Labels) (s : State) (m : Labels) → Relabels h s.vat l s m.promise l.import m.outcome m.question → LabelsKept l (record m { import = l.import }) s
+kept_by h l s m r = record { promises = r.promises; imports = λ e. refl; outcomes = r.outcomes; questions = r.questions }
 
 -- ---- The first act
 
 module _ (h : History) (l : Labels) (s : State) (whole : IsWhole s) (one : HasOneSource s) (ends : QuestionsEnd s) (paired_all : ArePaired s) (w : Places h s.vat l quiet s) where
   abbrev Begun : Moment → Type 0
-  Begun d = (m : Labels) × MomentMeans h s.vat m d
+  Begun d = (m : Labels) × LabelsKept l m s × MomentMeans h s.vat m d
 
   abbrev own_ref : ℕ → Meant
   own_ref r = OfRef (record { vat = s.vat; number = r })
@@ -204,6 +210,7 @@ module _ (h : History) (l : Labels) (s : State) (whole : IsWhole s) (one : HasOn
       let opens = at_put (λ (q : ℕ) (r : Option Promise). (cs : List WaitingCall) → map.get s.promises q ≡ Some (promise.Open cs) → (ds : List WaitingCall) × (r ≡ Some (promise.Open ds))) s.promises p (promise.Open []) (λ cs y. ([], refl)) (λ q y cs r. (cs, r)) in
       let means = subst (LeadsTo h (own_ref s.next_ref)) (sym is) (Then (OwnPromise s.next_promise, z, refl) There) in (
         m,
+        kept_by h l s m (promise_relabels h l s whole one ends w p x f),
         rw u (
           (
             headed h s.vat m s ends b s.next_ref (new_ref (node.Promise p)) means,
@@ -232,6 +239,7 @@ module _ (h : History) (l : Labels) (s : State) (whole : IsWhole s) (one : HasOn
       let b = with_question h l s whole one ends w q x f in
       let is : m.question q ≡ Some x = this_one q (Some x) (l.question q) in (
         m,
+        kept_by h l s m (question_relabels h l s whole one ends w q x f),
         rw u (
           (
             b.0,
@@ -241,7 +249,7 @@ module _ (h : History) (l : Labels) (s : State) (whole : IsWhole s) (one : HasOn
             b.4,
             b.5,
             at_put (λ k o. OwnCallMeans h s.vat m k o) s.calls s.next_call (own.Direct (record { 0 = q })) (OfBootstrap, z, is) (λ k y. b.6 k),
-            at_put (λ k o. QuestionMeans h s.vat m k o) s.questions q (first.asked (role.Direct (record { 0 = s.next_call })) []) (x, is, λ path. tt) (λ k y. b.7 k),
+            at_put (λ k o. QuestionMeans h s.vat m k o) s.questions q (first.asked (role.Direct (record { 0 = s.next_call })) []) (OfBootstrap, z, is, λ path. tt) (λ k y. b.7 k),
             b.8,
           ),
           tt,
@@ -261,6 +269,7 @@ module _ (h : History) (l : Labels) (s : State) (whole : IsWhole s) (one : HasOn
       let b = with_question h l s whole one ends w q x o in
       let is : m.question q ≡ Some x = this_one q (Some x) (l.question q) in (
         m,
+        kept_by h l s m (question_relabels h l s whole one ends w q x o),
         rw u (
           (
             counted m b k y f,
@@ -270,7 +279,7 @@ module _ (h : History) (l : Labels) (s : State) (whole : IsWhole s) (one : HasOn
             b.4,
             b.5,
             at_put (λ k o. OwnCallMeans h s.vat m k o) s.calls s.next_call (own.Direct (record { 0 = q })) (OfCall stamp, (z.1 y f).0, is) (λ k y. b.6 k),
-            at_put (λ k o. QuestionMeans h s.vat m k o) s.questions q (first.asked (role.Direct (record { 0 = s.next_call })) ds) (x, is, λ path. tt) (λ k y. b.7 k),
+            at_put (λ k o. QuestionMeans h s.vat m k o) s.questions q (first.asked (role.Direct (record { 0 = s.next_call })) ds) (OfCall stamp, (z.1 y f).0, is, λ path. tt) (λ k y. b.7 k),
             b.8,
           ),
           tt,
@@ -291,6 +300,7 @@ module _ (h : History) (l : Labels) (s : State) (whole : IsWhole s) (one : HasOn
       let is : m.outcome o ≡ Some x = this_one o (Some x) (l.outcome o) in
       let it : KeptOutcome = record { caller = caller.Application (record { 0 = s.next_call }); value = None; waiting = [] } in (
         m,
+        kept_by h l s m (outcome_relabels h l s whole one ends w o x r),
         rw u (
           (
             counted m b k y f,
@@ -325,6 +335,7 @@ module _ (h : History) (l : Labels) (s : State) (whole : IsWhole s) (one : HasOn
       let this = first.waiting_call s k y o in
       let call : CallAt h s.vat m p.node this = ((s.vat, is), caps m b k y z f, subst (λ (r : ℕ). Means h s.vat m (own_ref r) p.node) paired was.1) in (
         m,
+        kept_by h l s m (outcome_relabels h l s whole one ends w o x r),
         rw u (
           (
             counted m b k y f,
@@ -364,8 +375,11 @@ pub openings_mean : OpeningsKeepMeanings
 openings_mean h l s c g x t i whole one ends paired w k =
     let a = does s c g x t k in
     let b = opened h l s whole one ends paired w c g a.started i a.starts in
-    let z = acts_mean h s.vat b.0 a.started a.last a.acts b.1 in
+    let z = acts_mean h s.vat b.0 a.started a.last a.acts b.2 in
     let m : Labels = record (b.0) { promise = z.0 } in
     let q = z.1 in
     let e = at_end (λ u y. Places h s.vat m y u × AreLed h s.vat y.deliveries × EndsAreLed h s.vat y.answers) a.last x t a.ends (up h s.vat m a.last.effects a.last.state q.0, q.5, q.7) in
     (m, e.0, e.1, e.2)
+
+pub first_openings_mean : FirstOpeningsMean
+first_openings_mean h l s c g d i whole one ends paired w a = opened h l s whole one ends paired w c g d i a

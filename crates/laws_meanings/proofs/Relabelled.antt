@@ -49,17 +49,17 @@ use Rattle.laws_nodes.specs.Sources as source
 use Rattle.laws_nodes.specs.Ones.{one_if}
 use Rattle.laws_nodes.specs.Questions.{QuestionsEnd, IsRelayOpen, IsOpen}
 use Rattle.laws_meanings.specs.NodeMeanings.{Meant, OfRef, field_meant}
-use Rattle.laws_meanings.specs.NodeLabels.{Labels, field_label, LeadsTo, label, Means, MeansKnown, CallAt, CallsAt, HeldAt, ValueMeans, RefMeans, PromiseMeans, IsUnsettled, CallerIs, ValueIs, OutcomeMeans, EmbargoMeans, TaskMeans, OwnCallMeans, BackMeans, QuestionMeans, ImportMeans, Places}
+use Rattle.laws_meanings.specs.NodeLabels.{Labels, field_label, LeadsTo, label, Means, MeansKnown, CallAt, CallsAt, HeldAt, ValueMeans, RefMeans, PromiseMeans, IsUnsettled, CallerIs, ValueIs, OutcomeMeans, EmbargoMeans, TaskMeans, OwnCallMeans, BackMeans, QuestionMeans, ResolvedMeans, ImportMeans, Places}
 
 among_at : (ns : List Node) (i : ℕ) (n : Node) → slice_get ns i ≡ Some n → IsAmong n ns
 among_at [] i n e = let bad : ◌≡◌ {A = Option Node} None (Some n) = e in cc
 among_at (m ∷ ms) zero n e = inl (let f : Some m ≡ Some n = e in cc)
 among_at (m ∷ ms) (suc i) n e = inr (among_at ms i n e)
 
--- Labels of promises, outcomes and questions, at a vat between steps.
-module _ (h : History) (v : Vat) (l : Labels) (s : State) (ps : ℕ → Option Meant) (os qs : ℕ → Option (Vat × Asking)) where
+-- At a vat between steps.
+module _ (h : History) (v : Vat) (l : Labels) (s : State) (ps is : ℕ → Option Meant) (os qs : ℕ → Option (Vat × Asking)) where
   abbrev pub m : Labels
-  m = record l { promise = ps; outcome = os; question = qs }
+  m = record { promise = ps; import = is; outcome = os; question = qs }
 
   -- What is named, and what is there, keeps its label; so does an outcome that something waits to make known.
   pub record Relabels : Type 0 where
@@ -67,6 +67,7 @@ module _ (h : History) (v : Vat) (l : Labels) (s : State) (ps : ℕ → Option M
     pub promises : (p : ℕ) (y : Promise) → map.get s.promises p ≡ Some y → ps p ≡ l.promise p
     pub outcomes : (o : ℕ) (y : KeptOutcome) → map.get s.outcomes o ≡ Some y → os o ≡ l.outcome o
     pub questions : (q : ℕ) (y : Question) → map.get s.questions q ≡ Some y → qs q ≡ l.question q
+    pub imports : (e : ℕ) (y : Import) → map.get s.imports e ≡ Some y → is e ≡ l.import e
     pub awaited : (o : ℕ) → 1 ≤ sources o s → os o ≡ l.outcome o
     pub calls : (c : ℕ) (y : OwnCall) → map.get s.calls c ≡ Some y → OwnCallMeans h v l c (Some y) → OwnCallMeans h v m c (Some y)
 
@@ -186,7 +187,7 @@ module _ (h : History) (v : Vat) (l : Labels) (s : State) (ps : ℕ → Option M
 
     back_again : (q : ℕ) (y : Question) (k : Role) → y.role ≡ k → map.get s.questions q ≡ Some y → IsRelayOpen k y.returned → BackMeans h v l q k y.returned → BackMeans h v m q k y.returned
     back_again q y (role.Direct c) f e w i =
-        (i.0, r.questions q y e ∙ i.1, λ path. return_again (field_meant h i.0.0 i.0.1 path) path y.returned (λ k a. in_questions s k (named named_by_question q y k s.questions e a)) (i.2 path))
+        (i.0, i.1, r.questions q y e ∙ i.2, λ path. return_again (field_meant h v i.0 path) path y.returned (λ k a. in_questions s k (named named_by_question q y k s.questions e a)) (i.3 path))
     back_again q y (role.Relay o) f e w i =
         let a = itself o in
         let b = ap one_if a in
@@ -203,9 +204,13 @@ module _ (h : History) (v : Vat) (l : Labels) (s : State) (ps : ℕ → Option M
     resolved_again x (Some (resolution.To d n)) g i = said_again x d n (g n (inl refl)) i
     resolved_again x (Some (resolution.Exception exception)) g i = i
 
+    means_again : (x : Option Meant) (o : Option Resolution) → ((k : Node) → IsAmong k (named_by_resolution o) → IsAmong k (places s)) → ResolvedMeans h v l x o → ResolvedMeans h v m x o
+    means_again None o g i = i
+    means_again (Some y) o g i = resolved_again y o g i
+
     import_again : (e : ℕ) (o : Option Import) → map.get s.imports e ≡ o → ImportMeans h v l e o → ImportMeans h v m e o
     import_again e None f i = tt
-    import_again e (Some y) f i = (i.0, i.1, resolved_again i.0 y.resolution (λ k a. in_imports s k (named named_by_import e y k s.imports f a)) i.2)
+    import_again e (Some y) f i = subst (λ (o : Option Meant). ResolvedMeans h v m o y.resolution) (sym (r.imports e y f)) (means_again (l.import e) y.resolution (λ k a. in_imports s k (named named_by_import e y k s.imports f a)) i)
 
     pub relabelled : Places h v l quiet s → Places h v m quiet s
     relabelled w = (

@@ -17,18 +17,23 @@ use Rattle.vat_machine.specs.declared.command.Command.{Command}
 use Rattle.vat_machine.specs.declared.command.Command.TheVariants as command
 use Rattle.vat_machine.specs.declared.command.Granted.{Granted}
 use Rattle.vat_machine.specs.declared.command.Effects.{Effects}
+use Rattle.vat_machine.specs.declared.calls.KeptOutcome.{KeptOutcome}
+use Rattle.vat_machine.specs.declared.calls.Promise.{Promise}
+use Rattle.vat_machine.specs.declared.entries.Question.{Question}
 use Rattle.vat_machine.specs.declared.entries.Reference.{Reference}
 use Rattle.vat_machine.specs.State.{State}
 use Rattle.vat_machine.specs.Commands.{request}
 use Rattle.vat_machine.specs.Progress.{quiet}
 use Rattle.vat_machine.specs.Steps.{Does}
+use Rattle.laws_acts.specs.Moments.{Moment, beginning}
+use Rattle.laws_acts.specs.FirstActs.{Starts}
 use Rattle.laws_steps.specs.NodesThere.{IsWhole}
 use Rattle.laws_nodes.specs.Embargoes.{ArePaired}
 use Rattle.laws_nodes.specs.Questions.{QuestionsEnd}
 use Rattle.laws_nodes.specs.Sources.{HasOneSource}
 use Rattle.laws_meanings.specs.Identities.{DeliveredIn}
 use Rattle.laws_meanings.specs.NodeMeanings.{Meant}
-use Rattle.laws_meanings.specs.NodeLabels.{Labels, Places, AreLed, EndsAreLed}
+use Rattle.laws_meanings.specs.NodeLabels.{Labels, Places, AreLed, EndsAreLed, MomentMeans}
 
 abbrev pub OpensNothing : Command → Type 0
 OpensNothing command.Bootstrap = ⊥
@@ -81,3 +86,24 @@ OpeningsKeepMeanings =
     (h : History) (l : Labels) (s : State) (c : Command) (g : Granted) (x : Effects) (t : State)
     → IsWrittenOpen h s.vat s c → IsWhole s → HasOneSource s → QuestionsEnd s → ArePaired s → Places h s.vat l quiet s → Does s c g x t
     → (m : Labels) × Places h s.vat m x t × AreLed h s.vat x.deliveries × EndsAreLed h s.vat x.answers
+
+-- ---- The first act of a command
+
+-- What is there keeps its label, and so do imports.
+pub record LabelsKept (l m : Labels) (s : State) : Type 0 where
+  pub promises : (p : ℕ) (y : Promise) → map.get s.promises p ≡ Some y → m.promise p ≡ l.promise p
+  pub imports : (e : ℕ) → m.import e ≡ l.import e
+  pub outcomes : (o : ℕ) (y : KeptOutcome) → map.get s.outcomes o ≡ Some y → m.outcome o ≡ l.outcome o
+  pub questions : (q : ℕ) (y : Question) → map.get s.questions q ≡ Some y → m.question q ≡ l.question q
+
+-- What the command does itself changes no label; or only that of what it opens.
+abbrev pub FirstActsMean : Type 0
+FirstActsMean =
+    (h : History) (v : Vat) (l : Labels) (s : State) (c : Command) (g : Granted) (new : Moment)
+    → OpensNothing c → IsWritten h v s c → QuestionsEnd s → Places h v l quiet s → Starts (beginning s) c g new → MomentMeans h v l new
+
+abbrev pub FirstOpeningsMean : Type 0
+FirstOpeningsMean =
+    (h : History) (l : Labels) (s : State) (c : Command) (g : Granted) (new : Moment)
+    → IsWrittenOpen h s.vat s c → IsWhole s → HasOneSource s → QuestionsEnd s → ArePaired s → Places h s.vat l quiet s → Starts (beginning s) c g new
+    → (m : Labels) × LabelsKept l m s × MomentMeans h s.vat m new

@@ -14,3 +14,4 @@ pub mod CommandMeanings
 pub mod NoneLost
 pub mod FirstActs
 pub mod FitCores
+pub mod MessageMeanings

@@ -26,6 +26,7 @@ use Rattle.vat_machine.specs.declared.entries.Embargo.{Embargo}
 use Rattle.vat_machine.specs.declared.entries.Import.{Import}
 use Rattle.vat_machine.specs.declared.entries.Question.{Question}
 use Rattle.vat_machine.specs.declared.entries.Reference.{Reference}
+use Rattle.vat_machine.specs.declared.entries.Resolution.{Resolution}
 use Rattle.vat_machine.specs.declared.entries.Role.{Role}
 use Rattle.vat_machine.specs.declared.entries.Role.TheVariants as role
 use Rattle.vat_machine.specs.declared.entries.Returned.{Returned}
@@ -41,12 +42,17 @@ use Rattle.laws_meanings.specs.Identities.{DeliveredIn}
 use Rattle.laws_meanings.specs.NodeMeanings.{Meant, Itself, OfRef, OfPromise, field_meant, ByEnd, BySource, Leads}
 
 -- By keys and ids: what an own promise means, and an import; which call or Bootstrap, of which vat, an outcome is of, and
--- a question. A promise that nobody settles means nothing.
+-- a question. A promise that nobody settles means nothing; nor does an import of it.
 pub record Labels : Type 0 where
   pub promise : ℕ → Option Meant
   pub import : ℕ → Option Meant
   pub outcome : ℕ → Option (Vat × Asking)
   pub question : ℕ → Option (Vat × Asking)
+
+-- What a question is of: that of a relay is of the call of its outcome.
+abbrev pub asked_label : Labels → ℕ → Role → Option (Vat × Asking)
+asked_label l q (role.Direct c) = l.question q
+asked_label l q (role.Relay o) = l.outcome o
 
 -- The task is of a delivery of that call.
 abbrev pub IsIn : ℕ → Stamp → List Delivery → Type 0
@@ -175,16 +181,21 @@ module _ (h : History) (v : Vat) (l : Labels) where
   OwnCallMeans c (Some (own.Kept o)) = (a : Asking) × (asking h.journal v c ≡ Some a) × (l.outcome o ≡ Some (v, a))
 
   abbrev pub BackMeans : ℕ → Role → Option Returned → Type 0
-  BackMeans q (role.Direct c) r = (a : Vat × Asking) × (l.question q ≡ Some a) × ((path : List Op) → MeansKnown (field_meant h a.0 a.1 path) (known_by_return path r))
+  BackMeans q (role.Direct c) r = (a : Asking) × (asking h.journal v c.0 ≡ Some a) × (l.question q ≡ Some (v, a)) × ((path : List Op) → MeansKnown (field_meant h v a path) (known_by_return path r))
   BackMeans q (role.Relay o) r = (s : Stamp) × IsOf o s
 
   abbrev pub QuestionMeans : ℕ → Option Question → Type 0
   QuestionMeans q None = Unit {0}
   QuestionMeans q (Some x) = BackMeans q x.role x.returned
 
+  -- What is said of an import is what it means; nothing is said of one that means nothing.
+  abbrev pub ResolvedMeans : Option Meant → Option Resolution → Type 0
+  ResolvedMeans None r = r ≡ None
+  ResolvedMeans (Some y) r = MeansKnown y (known_by_resolve r)
+
   abbrev pub ImportMeans : ℕ → Option Import → Type 0
   ImportMeans e None = Unit {0}
-  ImportMeans e (Some x) = (y : Meant) × (l.import e ≡ Some y) × MeansKnown y (known_by_resolve x.resolution)
+  ImportMeans e (Some x) = ResolvedMeans (l.import e) x.resolution
 
   -- References; promises, and those that are not settled; outcomes; embargoes; tasks; own calls; questions; imports.
   abbrev pub Places : Effects → State → Type 0

@@ -12,10 +12,11 @@ ghost use Rattle.laws_meanings.specs.Tasks.{TasksAreOpen, TasksAreAnsweredOnce};
 ghost use Rattle.laws_meanings.specs.WhatIsLeft.{ObjectsAreLeft, AnswersAreLeft, CallsAreLeft, BrokenCallsAreLeft};
 ghost use Rattle.laws_meanings.specs.NodeMeanings.{LinksLast, LedToObjects, LedToBroken, LinksToObjectsAreLeft, LinksToBrokenAreLeft};
 ghost use Rattle.laws_meanings.specs.NodeLabels.{ActsKeepMeanings};
-ghost use Rattle.laws_meanings.specs.FirstActs.{CommandsBegin, FirstActsFollow};
+ghost use Rattle.laws_meanings.specs.FirstActs.{FirstActsFollow};
 ghost use Rattle.laws_meanings.specs.FitCores.{CoresAreFit};
 ghost use Rattle.laws_meanings.specs.NoneLost.{ActsLoseNone, CallsAreSomewhere, ObjectsLoseNone};
-ghost use Rattle.laws_meanings.specs.CommandMeanings.{CommandsKeepMeanings, OpeningsKeepMeanings};
+ghost use Rattle.laws_meanings.specs.CommandMeanings.{CommandsKeepMeanings, OpeningsKeepMeanings, FirstActsMean, FirstOpeningsMean};
+ghost use Rattle.laws_meanings.specs.MessageMeanings.{ConsumingMeans, EachActMeans, MessagesKeepMeanings};
 
 use laws_answers::named_answers_are_there;
 use laws_nodes::{embargoes_pair, outcomes_have_sources, questions_end};
@@ -185,24 +186,11 @@ pub fn cores_are_fit()
     embargoes_pair();
 }
 
-/// What nodes mean lasts through the first act of each command of which the history has the entry.
-pub fn commands_begin_with_meanings()
-    ensures { CommandsBegin }
-{}
-
 /// Where at a moment of a step the history leads each reference of a vat, and each call that waits, to what its node means,
 /// the small acts behind it lose no call, but one whose reference the history leads to broken.
 pub fn acts_lose_no_call()
     ensures { ActsLoseNone }
 {}
-
-/// Where the history has the entry of each command, and nodes mean in each scene what it says, and behind the first act of
-/// each message, so they do behind each first act.
-pub fn first_acts_follow()
-    ensures { FirstActsFollow }
-{
-    cores_are_fit();
-}
 
 /// Where in each step, while neither vat gives up, nodes mean behind its first act what the history says, each call that was
 /// made is at one place in each scene: it waits, is on its way, or was delivered; or the history leads its reference to
@@ -212,4 +200,40 @@ pub fn no_call_is_lost()
     ensures objects { ObjectsLoseNone }
 {
     meanings_last();
+}
+
+/// What nodes mean lasts through the first act of a command of which the history has the entry. It changes no label but that
+/// of the promise, outcome or question that it opens.
+pub fn first_acts_of_commands_mean()
+    ensures plain { FirstActsMean }
+    ensures openings { FirstOpeningsMean }
+{}
+
+/// One small act of a step keeps what nodes mean, and the labels of promises that are there.
+pub fn each_act_keeps_meanings()
+    ensures { EachActMeans }
+{}
+
+/// Where a received message says what it should, by the nodes that the receiver makes of its descriptors and its target,
+/// what nodes mean lasts through its first act. An answer that opens is of the call or Bootstrap that came; imports that come
+/// have the labels by which the message was read; other labels stay.
+pub fn first_acts_of_messages_mean()
+    ensures { ConsumingMeans }
+{}
+
+/// Where a received message says what it should, what nodes mean lasts through its whole step. What it delivers is delivered
+/// to the object to which the history leads the call's reference; and each call that it ends was answered, or its reference
+/// leads to broken.
+pub fn messages_keep_meanings()
+    ensures { MessagesKeepMeanings }
+{}
+
+/// Where in each step from a scene nodes mean before it what the history says at its end, which has the entry of its command,
+/// and its message says what it should, nodes mean so behind its first act.
+pub fn first_acts_follow()
+    ensures { FirstActsFollow }
+{
+    cores_are_fit();
+    first_acts_of_commands_mean();
+    first_acts_of_messages_mean();
 }
