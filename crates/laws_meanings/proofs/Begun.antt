@@ -33,14 +33,18 @@ module _ (plain : FirstActsMean) (opens : FirstOpeningsMean) (hears : ConsumingM
 
   pub first_acts_follow : CoresAreFit → FirstActsFollow
   first_acts_follow fit a b ready x new (scenes.Commanded v c g told s o up r d w e) u m i p q n =
-      let h = history a b new.journal in
-      subst (λ (y : Vat). Behind h y m) (sym n.0) (by (core x.world v) v (fit a b x i v).vat (fit a b x i v) h (ready x new (scenes.Commanded v c g told s o up r d w e) i p q) n.1)
+      let z = ready x new (scenes.Commanded v c g told s o up r d w e) i p q in
+      let h = history a b z.0 in
+      let k = subst (λ (y : Vat). Behind h y m) (sym n.0) (by (core x.world v) v (fit a b x i v).vat (fit a b x i v) h z.3 n.1) in
+      (z.0, z.1, z.2, k.0, k.1)
     where
       by : (t : State) (y : Vat) → t.vat ≡ y → IsFit y t → (h : History) → (l : Labels) × Places h y l quiet t × ((OpensNothing c × IsWritten h y t c) ⊎ IsWrittenOpen h y t c) → Starts (beginning t) c g m → Behind h y m
       by t y f k h z n = subst (λ (y : Vat). IsFit y t → (l : Labels) × Places h y l quiet t × ((OpensNothing c × IsWritten h y t c) ⊎ IsWrittenOpen h y t c) → Behind h y m) f (λ k z. commanded h z.0 t c g m k z.1 z.2 n) k z
   first_acts_follow fit a b ready x new (scenes.Received v y ms told s o up j f d w e) u m i p q n =
-      let h = history a b new.journal in
-      subst (λ (y : Vat). Behind h y m) (sym n.0) (by (core x.world v) v (fit a b x i v).vat (fit a b x i v) h (ready x new (scenes.Received v y ms told s o up j f d w e) i p q) n.1)
+      let z = ready x new (scenes.Received v y ms told s o up j f d w e) i p q in
+      let h = history a b z.0 in
+      let k = subst (λ (y : Vat). Behind h y m) (sym n.0) (by (core x.world v) v (fit a b x i v).vat (fit a b x i v) h z.3 n.1) in
+      (z.0, z.1, z.2, k.0, k.1)
     where
       by : (t : State) (z : Vat) → t.vat ≡ z → IsFit z t → (h : History) → (l : Labels) × Places h z l quiet t × ((is : ℕ → Option Meant) × ImportsKept l t is × IsHeard h z (with_imports l is) t y) → Consumes (beginning t) y m → Behind h z m
       by t z f k h r n = subst (λ (z : Vat). IsFit z t → (l : Labels) × Places h z l quiet t × ((is : ℕ → Option Meant) × ImportsKept l t is × IsHeard h z (with_imports l is) t y) → Behind h z m) f (λ k r. heard h r.0 t y m k r.1 r.2.0 r.2.1 r.2.2 n) k r

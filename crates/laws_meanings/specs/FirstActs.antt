@@ -1,6 +1,7 @@
 -- What nodes mean behind the first act of each step in a scene.
-use Rattle.std.specs.Prelude.{◌≡◌, ◌⊎◌, ℕ, false, Option}
+use Rattle.std.specs.Prelude.{◌≡◌, ◌⊎◌, ℕ, false, Option, List, ◌++◌}
 use Rattle.rpc_msg.specs.declared.ids.ObjectId.{ObjectId}
+use Rattle.vat_journal.specs.declared.entry.JournalEntry.{JournalEntry}
 use Rattle.vat_journal.specs.Meaning.{History}
 use Rattle.vat_machine.specs.Progress.{quiet}
 use Rattle.vat_machine.specs.Claims.{history}
@@ -23,9 +24,9 @@ IsReady h x new (scenes.Received v y ms told s o up i f d w e) =
 IsReady h x new (scenes.GivesUp v c o r f e) = Unit {0}
 IsReady h x new (scenes.Stops v o e) = Unit {0}
 
--- So they mean it behind its first act.
+-- So they mean it behind its first act. The history may be that of any time, up to the step's end.
 abbrev pub FirstActsFollow : Type 0
 FirstActsFollow =
     (root_a root_b : Option ObjectId)
-    → ((x new : Scene) (t : scenes.Steps x new) → IsScene root_a root_b x → x.over_a ≡ false → x.over_b ≡ false → IsReady (history root_a root_b new.journal) x new t)
+    → ((x new : Scene) (t : scenes.Steps x new) → IsScene root_a root_b x → x.over_a ≡ false → x.over_b ≡ false → (es : List JournalEntry) × (more : List JournalEntry) × (new.journal ≡ es ++ more) × IsReady (history root_a root_b es) x new t)
     → BeginningsMean root_a root_b

@@ -228,7 +228,7 @@ pub fn messages_keep_meanings()
     ensures { MessagesKeepMeanings }
 {}
 
-/// Where in each step from a scene nodes mean before it what the history says at its end, which has the entry of its command,
+/// Where in each step from a scene nodes mean before it what the history says, which has the entry of its command,
 /// and its message says what it should, nodes mean so behind its first act.
 pub fn first_acts_follow()
     ensures { FirstActsFollow }
