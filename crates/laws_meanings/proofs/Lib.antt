@@ -44,3 +44,4 @@ pub mod Unpending
 pub mod FitCores
 pub mod Begun
 pub mod HeardMeans
+pub mod RootHeard

@@ -3,6 +3,7 @@
 use Rattle.std.specs.Prelude.{◌≡◌, ℕ, Option, None, Some}
 use Rattle.std.specs.FinMap as map
 use Rattle.rpc_msg.specs.declared.ids.Vat.{Vat}
+use Rattle.rpc_msg.specs.declared.ids.QuestionId.{QuestionId}
 use Rattle.rpc_msg.specs.declared.message.Call.{Call}
 use Rattle.rpc_msg.specs.declared.message.Message.{Message}
 use Rattle.rpc_msg.specs.declared.message.Message.TheVariants as message
@@ -13,7 +14,7 @@ use Rattle.rpc_msg.specs.declared.message.ResolvedTo.TheVariants as resolved
 use Rattle.rpc_msg.specs.Vats.{other_vat}
 use Rattle.vat_journal.specs.History.{caller}
 use Rattle.vat_journal.specs.Sources.{Asking, OfBootstrap, OfCall}
-use Rattle.vat_journal.specs.Meaning.{History, Broken}
+use Rattle.vat_journal.specs.Meaning.{History, Broken, root}
 use Rattle.vat_machine.specs.declared.calls.KeptOutcome.{KeptOutcome}
 use Rattle.vat_machine.specs.declared.calls.Promise.{Promise}
 use Rattle.vat_machine.specs.declared.calls.Value.{Value}
@@ -24,6 +25,7 @@ use Rattle.vat_machine.specs.declared.entries.Finishing.TheVariants as finishing
 use Rattle.vat_machine.specs.declared.entries.Import.{Import}
 use Rattle.vat_machine.specs.declared.entries.Question.{Question}
 use Rattle.vat_machine.specs.State.{State}
+use Rattle.vat_machine.specs.Claims.{object_number}
 use Rattle.vat_machine.specs.Descriptors.{read, read_all}
 use Rattle.vat_machine.specs.Faults.{fault_of, target_node}
 use Rattle.vat_machine.specs.Messages.{bootstrap_value, results_of, value_of_results}
@@ -147,3 +149,7 @@ MessagesKeepMeanings =
     → ImportsKept l s is → IsHeard h s.vat (with_imports l is) s m → IsWhole s → HasOneSource s → QuestionsEnd s → Places h s.vat l quiet s → fault_of s m ≡ None → Handles s m x t
     → (ps : ℕ → Option Meant) × (os : ℕ → Option (Vat × Asking)) × OutcomesKept l s os
     × Places h s.vat (record { promise = ps; import = is; outcome = os; question = l.question }) x t × AreLed h s.vat x.deliveries × EndsAreLed h s.vat x.answers
+
+-- A Bootstrap says what it should where the history has the vat's bootstrap object.
+abbrev pub BootstrapsAreHeard : Type 0
+BootstrapsAreHeard = (h : History) (v : Vat) (l : Labels) (s : State) → root h v ≡ object_number s.bootstrap → (q : QuestionId) → IsHeard h v l s (message.Plain (plain.Bootstrap q))

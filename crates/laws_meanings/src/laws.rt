@@ -16,7 +16,7 @@ ghost use Rattle.laws_meanings.specs.FirstActs.{FirstActsFollow};
 ghost use Rattle.laws_meanings.specs.FitCores.{CoresAreFit};
 ghost use Rattle.laws_meanings.specs.NoneLost.{ActsLoseNone, CallsAreSomewhere, ObjectsLoseNone};
 ghost use Rattle.laws_meanings.specs.CommandMeanings.{CommandsKeepMeanings, OpeningsKeepMeanings, FirstActsMean, FirstOpeningsMean};
-ghost use Rattle.laws_meanings.specs.MessageMeanings.{ConsumingMeans, EachActMeans, MessagesKeepMeanings};
+ghost use Rattle.laws_meanings.specs.MessageMeanings.{BootstrapsAreHeard, ConsumingMeans, EachActMeans, MessagesKeepMeanings};
 
 use laws_answers::named_answers_are_there;
 use laws_nodes::{embargoes_pair, outcomes_have_sources, questions_end};
@@ -237,3 +237,8 @@ pub fn first_acts_follow()
     first_acts_of_commands_mean();
     first_acts_of_messages_mean();
 }
+
+/// A Bootstrap says what it should at a vat whose bootstrap object the history has.
+pub fn bootstraps_are_heard()
+    ensures { BootstrapsAreHeard }
+{}

@@ -4,7 +4,7 @@
 mod laws;
 
 pub use laws::{
-    acts_keep_meanings, acts_lose_no_call, bootstraps_are_left, bootstraps_end_with_roots,
+    acts_keep_meanings, acts_lose_no_call, bootstraps_are_heard, bootstraps_are_left, bootstraps_end_with_roots,
     broken_calls_are_left, calls_are_as_made, calls_are_at_one_place, calls_end_as_answered,
     commands_keep_meanings, cores_are_fit, each_act_keeps_meanings, ends_are_first,
     ends_of_calls_are_left, ends_were_asked, first_acts_follow, first_acts_of_commands_mean,
