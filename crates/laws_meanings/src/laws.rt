@@ -12,7 +12,7 @@ ghost use Rattle.laws_meanings.specs.Tasks.{TasksAreOpen, TasksAreAnsweredOnce};
 ghost use Rattle.laws_meanings.specs.WhatIsLeft.{ObjectsAreLeft, AnswersAreLeft, CallsAreLeft, BrokenCallsAreLeft};
 ghost use Rattle.laws_meanings.specs.NodeMeanings.{LinksLast, LedToObjects, LedToBroken, LinksToObjectsAreLeft, LinksToBrokenAreLeft};
 ghost use Rattle.laws_meanings.specs.NodeLabels.{ActsKeepMeanings};
-ghost use Rattle.laws_meanings.specs.FirstActs.{CommandsBegin, FirstActsFollow};
+ghost use Rattle.laws_meanings.specs.FirstActs.{FirstActsFollow};
 ghost use Rattle.laws_meanings.specs.FitCores.{CoresAreFit};
 ghost use Rattle.laws_meanings.specs.NoneLost.{ActsLoseNone, CallsAreSomewhere, ObjectsLoseNone};
 ghost use Rattle.laws_meanings.specs.CommandMeanings.{CommandsKeepMeanings, OpeningsKeepMeanings, FirstActsMean, FirstOpeningsMean};
@@ -192,24 +192,11 @@ pub fn cores_are_fit()
     embargoes_pair();
 }
 
-/// What nodes mean lasts through the first act of each command of which the history has the entry.
-pub fn commands_begin_with_meanings()
-    ensures { CommandsBegin }
-{}
-
 /// Where at a moment of a step the history leads each reference of a vat, and each call that waits, to what its node means,
 /// the small acts behind it lose no call, but one whose reference the history leads to broken.
 pub fn acts_lose_no_call()
     ensures { ActsLoseNone }
 {}
-
-/// Where the history has the entry of each command, and nodes mean in each scene what it says, and behind the first act of
-/// each message, so they do behind each first act.
-pub fn first_acts_follow()
-    ensures { FirstActsFollow }
-{
-    cores_are_fit();
-}
 
 /// Where in each step, while neither vat gives up, nodes mean behind its first act what the history says, each call that was
 /// made is at one place in each scene: it waits, is on its way, or was delivered; or the history leads its reference to
@@ -246,6 +233,16 @@ pub fn first_acts_of_messages_mean()
 pub fn messages_keep_meanings()
     ensures { MessagesKeepMeanings }
 {}
+
+/// Where in each step from a scene nodes mean before it what the history says, which has the entry of its command,
+/// and its message says what it should, nodes mean so behind its first act.
+pub fn first_acts_follow()
+    ensures { FirstActsFollow }
+{
+    cores_are_fit();
+    first_acts_of_commands_mean();
+    first_acts_of_messages_mean();
+}
 
 /// A Bootstrap says what it should at a vat whose bootstrap object the history has.
 pub fn bootstraps_are_heard()
@@ -284,30 +281,6 @@ pub fn descriptors_are_read()
 pub fn calls_are_heard()
     ensures calls { CallsAreHeard }
     ensures resolves { ResolvesAreHeard }
-{}
-
-    ensures { CallsAreHeard }
-{}
-
-/// What nodes mean at a vat, at a moment of a step too, is so in a longer history.
-pub fn node_meanings_last()
-    ensures places { PlacesLast }
-    ensures moments { MomentsLast }
-{}
-
-/// What nodes mean at the end of a step of a scene is known from the history with the entries of the step: each reference
-/// that a delivery or an end gave comes from there. And each of these entries is as what leads to an object, or to broken,
-/// says.
-pub fn effects_are_meanings()
-    ensures written { EffectsAreWritten }
-    ensures led { EntriesAreLed }
-{
-    given_references_are_new();
-}
-
-/// In each scene an own promise that is not settled at its vat has no fate in the history, unless the vat takes no more steps.
-pub fn promises_are_settled_once()
-    ensures { PromisesAreOpen }
 {}
 
 /// In each scene a command that is done is the first in the history of which that is said: the number that it is given is new,
