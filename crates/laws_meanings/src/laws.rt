@@ -25,8 +25,6 @@ ghost use Rattle.laws_meanings.specs.LastingMeanings.{PlacesLast, MomentsLast, E
 use laws_answers::named_answers_are_there;
 use laws_nodes::{embargoes_pair, outcomes_have_sources, questions_end};
 use laws_runs::meanings_last;
-{}
-
 use laws_sessions::counts_agree_in_scenes;
 use laws_steps::nodes_are_there;
 
