@@ -3,3 +3,5 @@ pub mod LinksKept
 pub mod Behind
 pub mod SentRead
 pub mod SentSo
+pub mod StillSo
+pub mod ActsSent
