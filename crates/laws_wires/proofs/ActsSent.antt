@@ -476,3 +476,39 @@ module _ (h : History) (v : Vat) (l : Labels) (said : ℕ → Session) (ps : ℕ
 
 pub acts_say_so : ActsSaySo
 acts_say_so h v l said ps d new x i j a g = acted h v l said ps d new i j a g x
+
+-- ---- Acts, one after the other
+
+abbrev Ends : History → Vat → Labels → (ℕ → Session) → Moment → Moment → Type 0
+Ends h v l said d last =
+    (ps : ℕ → Option Meant) × ((p : ℕ) → (ps p ≡ l.promise p) ⊎ (ps p ≡ None)) × ExportsStay h v l d.state ps last.state
+    × MomentMeans h v (record l { promise = ps }) last × SentMean h v (record l { promise = ps }) said last
+
+weaker_on : (a b c : Option Meant) → ((c ≡ b) ⊎ (c ≡ None)) → ((b ≡ a) ⊎ (b ≡ None)) → (c ≡ a) ⊎ (c ≡ None)
+weaker_on a b c (inr e) f = inr e
+weaker_on a b c (inl e) (inl f) = inl (e ∙ f)
+weaker_on a b c (inl e) (inr f) = inr (e ∙ f)
+
+stay_on : (h : History) (v : Vat) (l : Labels) (s t u : State) (ps qs : ℕ → Option Meant) → ExportsStay h v l s ps t → ExportsStay h v (record l { promise = ps }) t qs u → ExportsStay h v l s qs u
+stay_on h v l s t u ps qs f g e x at =
+    let y = f e x at in
+    let z = g e y.0 y.1 in (
+      z.0,
+      z.1,
+      z.2 ∙ y.2,
+      λ k. (let a = y.3 k in
+      let b = z.3 (subst (IsKept t.promises) (sym y.2) a.0) in
+      (subst (IsKept u.promises) y.2 b.0, subst (λ (n : Node). label h v (record l { promise = qs }) n ≡ label h v (record l { promise = ps }) n) y.2 b.1 ∙ a.1)),
+    )
+
+module _ (each : EachActMeans) (h : History) (v : Vat) (said : ℕ → Session) (last : Moment) where
+  all_say : (l : Labels) (d : Moment) → Acts last d → MomentMeans h v l d → SentMean h v l said d → Ends h v l said d last
+  all_say l d NoMore i g = (l.promise, λ p. inl refl, λ e x f. (x, f, refl, λ k. (k, refl)), i, g)
+  all_say l d (Then {mid = mid} a rest) i g =
+      let z = each h v l d mid a i in
+      let one = acted h v l said z.0 d mid i z.3 (record { same = z.1; weaker = z.2 }) g a in
+      let r = all_say (record l { promise = z.0 }) mid rest z.3 one.1 in
+      (r.0, λ p. weaker_on (l.promise p) (z.0 p) (r.0 p) (r.1 p) (z.2 p), stay_on h v l d.state mid.state last.state z.0 r.0 one.0 r.2, r.3, r.4)
+
+pub steps_say_so : EachActMeans → StepsSaySo
+steps_say_so each h v l said d last acts i g = all_say each h v said last l d acts i g

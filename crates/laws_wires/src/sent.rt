@@ -2,6 +2,8 @@
 
 ghost use Rattle.laws_wires.specs.Sent.{ActsSaySo, StepsSaySo};
 
+use laws_meanings::each_act_keeps_meanings;
+
 /// What a small act of a step sends means what it should, by the labels of its vat at that moment; and what was sent before
 /// means it still.
 pub fn acts_send_meanings()
@@ -12,4 +14,6 @@ pub fn acts_send_meanings()
 /// of the step, with all that the step sends. Exports stay, and what they mean.
 pub fn steps_send_meanings()
     ensures { StepsSaySo }
-{}
+{
+    each_act_keeps_meanings();
+}
