@@ -126,7 +126,7 @@ module _ (h : History) (v : Vat) (l : Labels) where
 -- ---- Acts
 
 abbrev Kept : History → Vat → Labels → Moment → Moment → Type 0
-Kept h v l d new = (ps : ℕ → Option Meant) × ((p : ℕ) (y : Promise) → map.get d.state.promises p ≡ Some y → ps p ≡ l.promise p) × MomentMeans h v (record l { promise = ps }) new
+Kept h v l d new = (ps : ℕ → Option Meant) × ((p : ℕ) (y : Promise) → map.get d.state.promises p ≡ Some y → ps p ≡ l.promise p) × ((p : ℕ) → (ps p ≡ l.promise p) ⊎ (ps p ≡ None)) × MomentMeans h v (record l { promise = ps }) new
 
 abbrev AllKept : History → Vat → Labels → Moment → Type 0
 AllKept h v l last = (ps : ℕ → Option Meant) × MomentMeans h v (record l { promise = ps }) last
@@ -136,7 +136,7 @@ module _ (h : History) (v : Vat) (l : Labels) where
   same new = MomentMeans h v l new
 
   keeps : (d new : Moment) → MomentMeans h v l new → Kept h v l d new
-  keeps d new i = (l.promise, (λ p y e. refl), i)
+  keeps d new i = (l.promise, (λ p y e. refl), (λ p. inl refl), i)
 
   goes : (d : Moment) (c : WaitingCall) (n m : Node) → MomentMeans h v l d → CallAt h v l n c → settle d.state n ≡ m → CallAt h v l m c
   goes d c n m i y e = (y.0, y.1, subst (Means h v l (OfRef (history.caller c.request.stamp))) e (settles h v l d.state i.0.1 i.0.3 (OfRef (history.caller c.request.stamp)) n y.2))
@@ -193,6 +193,7 @@ module _ (h : History) (v : Vat) (l : Labels) where
       let no_calls : d.yet ≡ [] = ap (λ (b : Moment). b.yet) e in (
         g.means,
         λ p y e. (g.same p y e).0,
+        g.weaker,
         rw u (
           (
             λ q. soft_ref h v l g.means g.weaker d.effects q (map.get s.refs q) (i.0.0 q),
@@ -257,7 +258,7 @@ module _ (h : History) (v : Vat) (l : Labels) where
 
 all_keep : (last : Moment) (h : History) (v : Vat) (l : Labels) (d : Moment) → Acts last d → MomentMeans h v l d → AllKept h v l last
 all_keep last h v l d NoMore i = (l.promise, i)
-all_keep last h v l d (Then {mid = mid} a rest) i = let z = acted h v l d mid i a in all_keep last h v (record l { promise = z.0 }) mid rest z.2
+all_keep last h v l d (Then {mid = mid} a rest) i = let z = acted h v l d mid i a in all_keep last h v (record l { promise = z.0 }) mid rest z.3
 
 pub acts_mean : ActsKeepMeanings
 acts_mean h v l d last acts i = all_keep last h v l d acts i

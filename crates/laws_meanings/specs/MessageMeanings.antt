@@ -1,6 +1,6 @@
 -- What nodes mean after a received message: where what it says means what it should, by the nodes that the receiver makes
 -- of its descriptors and its target, all that the vat holds means what it should.
-use Rattle.std.specs.Prelude.{◌≡◌, ℕ, Option, None, Some, List, slice_get}
+use Rattle.std.specs.Prelude.{◌≡◌, ◌⊎◌, ℕ, Option, None, Some, List, slice_get}
 use Rattle.std.specs.FinMap as map
 use Rattle.rpc_msg.specs.declared.ids.Vat.{Vat}
 use Rattle.rpc_msg.specs.declared.ids.QuestionId.{QuestionId}
@@ -143,12 +143,13 @@ ConsumingMeans =
     → ImportsKept l s is → IsHeard h s.vat (with_imports l is) s m → IsWhole s → HasOneSource s → QuestionsEnd s → Places h s.vat l quiet s → Consumes (beginning s) m new
     → (os : ℕ → Option (Vat × Asking)) × OutcomesKept l s os × AnswersOf os (other_vat s.vat) new.state m × MomentMeans h s.vat (record l { import = is; outcome = os }) new
 
--- So does each small act; promises that are there keep their labels.
+-- So does each small act; promises that are there keep their labels, and no other comes to mean something.
 abbrev pub EachActMeans : Type 0
 EachActMeans =
     (h : History) (v : Vat) (l : Labels) (d new : Moment)
     → Act d new → MomentMeans h v l d
-    → (ps : ℕ → Option Meant) × ((p : ℕ) (y : Promise) → map.get d.state.promises p ≡ Some y → ps p ≡ l.promise p) × MomentMeans h v (record l { promise = ps }) new
+    → (ps : ℕ → Option Meant) × ((p : ℕ) (y : Promise) → map.get d.state.promises p ≡ Some y → ps p ≡ l.promise p) × ((p : ℕ) → (ps p ≡ l.promise p) ⊎ (ps p ≡ None))
+    × MomentMeans h v (record l { promise = ps }) new
 
 -- So does the whole step.
 abbrev pub MessagesKeepMeanings : Type 0
