@@ -49,5 +49,6 @@ pub mod Lasts
 pub mod Written
 pub mod Unsettled
 pub mod ReadLabels
+pub mod ReadReturns
 pub mod Writing
 pub mod StepsMean

@@ -15,6 +15,7 @@ pub mod NoneLost
 pub mod FirstActs
 pub mod FitCores
 pub mod MessageMeanings
+pub mod ReadMessages
 pub mod LastingMeanings
 pub mod Fates
 pub mod WrittenCommands

@@ -17,6 +17,7 @@ ghost use Rattle.laws_meanings.specs.FitCores.{CoresAreFit};
 ghost use Rattle.laws_meanings.specs.NoneLost.{ActsLoseNone, CallsAreSomewhere, ObjectsLoseNone};
 ghost use Rattle.laws_meanings.specs.CommandMeanings.{CommandsKeepMeanings, OpeningsKeepMeanings, FirstActsMean, FirstOpeningsMean};
 ghost use Rattle.laws_meanings.specs.MessageMeanings.{BootstrapsAreHeard, ConsumingMeans, EachActMeans, MessagesKeepMeanings, CallsAreHeard, DescriptorsAreRead, ResolvesAreHeard, TargetsAreRead};
+ghost use Rattle.laws_meanings.specs.ReadMessages.{MessagesAreHeard, ReturnsAreHeard};
 ghost use Rattle.laws_meanings.specs.Fates.{PromisesAreOpen};
 ghost use Rattle.laws_meanings.specs.WrittenCommands.{CommandsAreWritten};
 ghost use Rattle.laws_meanings.specs.StepMeanings.{ScenesCommandsKeep, LastWordsAreLed};
@@ -279,6 +280,12 @@ pub fn descriptors_are_read()
 pub fn calls_are_heard()
     ensures calls { CallsAreHeard }
     ensures resolves { ResolvesAreHeard }
+{}
+
+/// So does a Return, of a question whose Finish is not sent; and any message.
+pub fn messages_are_heard()
+    ensures returns { ReturnsAreHeard }
+    ensures messages { MessagesAreHeard }
 {}
 
 /// In each scene a command that is done is the first in the history of which that is said: the number that it is given is new,
