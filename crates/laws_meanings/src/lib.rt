@@ -11,7 +11,7 @@ pub use laws::{
     effects_are_meanings, ends_are_first, ends_of_calls_are_left, ends_were_asked,
     first_acts_follow, first_acts_of_commands_mean, first_acts_of_messages_mean,
     given_references_are_new, links_are_left, links_are_meanings, meanings_are_left,
-    messages_are_heard, messages_keep_meanings, no_call_is_lost, node_meanings_last, openings_keep_meanings,
-    outcomes_are_of_calls, own_numbers_were_asked, promises_are_settled_once,
-    tasks_are_answered_once,
+    messages_are_heard, messages_keep_meanings, no_call_is_lost, node_meanings_last,
+    openings_keep_meanings, outcomes_are_of_calls, own_numbers_were_asked,
+    promises_are_settled_once, tasks_are_answered_once,
 };
