@@ -4,7 +4,9 @@ ghost use Rattle.laws_sound.specs.OldestHeard.{OldestAreHeard, RootsAreHosted};
 ghost use Rattle.laws_sound.specs.SoundByWires.{BeginningsFollow, ScenesAreLed, ScenesAreMeant, ScenesMean, SoundByWires};
 
 use laws_meanings::{
-    bootstraps_are_heard, calls_are_heard, commands_are_written, commands_keep_scenes_meanings, cores_are_fit, descriptors_are_read, first_acts_follow, links_are_left, messages_keep_meanings, no_call_is_lost, node_meanings_last,
+    commands_are_written, commands_keep_scenes_meanings, cores_are_fit, first_acts_follow,
+    links_are_left, messages_are_heard, messages_keep_meanings, no_call_is_lost,
+    node_meanings_last,
 };
 use laws_runs::meanings_last;
 use laws_scenes::{canceled_were_given_up, sound_by_meanings};
@@ -22,9 +24,7 @@ pub fn oldest_are_heard()
     ensures { OldestAreHeard }
 {
     roots_are_hosted();
-    bootstraps_are_heard();
-    calls_are_heard();
-    descriptors_are_read();
+    messages_are_heard();
     cores_are_fit();
     canceled_were_given_up();
     counts_agree_in_scenes();
