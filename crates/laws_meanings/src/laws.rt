@@ -18,7 +18,7 @@ ghost use Rattle.laws_meanings.specs.NoneLost.{ActsLoseNone, CallsAreSomewhere, 
 ghost use Rattle.laws_meanings.specs.CommandMeanings.{CommandsKeepMeanings, OpeningsKeepMeanings, FirstActsMean, FirstOpeningsMean};
 ghost use Rattle.laws_meanings.specs.MessageMeanings.{BootstrapsAreHeard, ConsumingMeans, EachActMeans, MessagesKeepMeanings, CallsAreHeard, DescriptorsAreRead, ResolvesAreHeard, TargetsAreRead};
 ghost use Rattle.laws_meanings.specs.Fates.{PromisesAreOpen};
-ghost use Rattle.laws_meanings.specs.WrittenCommands.{CommandsAreWritten};
+ghost use Rattle.laws_meanings.specs.WrittenCommands.{CommandsAreWritten, NamesItsCaps};
 ghost use Rattle.laws_meanings.specs.StepMeanings.{ScenesCommandsKeep, LastWordsAreLed};
 ghost use Rattle.laws_meanings.specs.LastingMeanings.{PlacesLast, MomentsLast, EffectsAreWritten, EntriesAreLed};
 
@@ -279,6 +279,11 @@ pub fn descriptors_are_read()
 pub fn calls_are_heard()
     ensures calls { CallsAreHeard }
     ensures resolves { ResolvesAreHeard }
+{}
+
+/// A payload names no other capabilities than go with it.
+pub fn payloads_name_their_own()
+    ensures { NamesItsCaps }
 {}
 
 /// In each scene a command that is done is the first in the history of which that is said: the number that it is given is new,
