@@ -4,3 +4,5 @@ pub mod EachScene
 pub mod Led
 pub mod Begins
 pub mod MeantByWires
+pub mod PromisesStay
+pub mod Stepping

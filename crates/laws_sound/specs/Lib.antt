@@ -1,2 +1,3 @@
 pub mod OldestHeard
 pub mod SoundByWires
+pub mod StepsInScenes
