@@ -6,3 +6,4 @@ pub mod Begins
 pub mod MeantByWires
 pub mod PromisesStay
 pub mod Stepping
+pub mod KeptBySteps

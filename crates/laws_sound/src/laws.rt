@@ -2,6 +2,7 @@
 
 ghost use Rattle.laws_sound.specs.OldestHeard.{OldestAreHeard, RootsAreHosted};
 ghost use Rattle.laws_sound.specs.StepsInScenes.{CommandsStep, MessagesStep};
+ghost use Rattle.laws_sound.specs.WiresKept.{MeaningsAreKept, SoundBySteps};
 ghost use Rattle.laws_sound.specs.SoundByWires.{BeginningsFollow, ScenesAreLed, ScenesAreMeant, ScenesMean, SoundByWires};
 
 use laws_meanings::{
@@ -83,4 +84,16 @@ pub fn steps_keep_places()
     node_meanings_last();
     effects_are_meanings();
     oldest_are_heard();
+}
+
+/// So all is kept by each step, and all that is promised of runs holds, where the first act of each step sends what means what it
+/// should, and the wires behind a step mean what they should by what its vat holds and sends.
+pub fn sound_by_steps()
+    ensures kept { MeaningsAreKept }
+    ensures runs { SoundBySteps }
+{
+    steps_keep_places();
+    node_meanings_last();
+    wires_are_left();
+    sound_by_wires();
 }
