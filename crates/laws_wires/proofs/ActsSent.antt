@@ -61,7 +61,7 @@ use Rattle.laws_wires.proofs.StillSo.{Alike, Onto, all-append, all_released, all
 -- ---- What is newly sent
 
 module _ (h : History) (v : Vat) (l : Labels) (said : ℕ → Session) (s : State) (promises : (p : ℕ) → PromiseMeans h v l p (map.get s.promises p)) (outcomes : (o : ℕ) → OutcomeMeans h v l o (map.get s.outcomes o)) where
-  aimed : (F : Map Export) (x : Meant) (n : Node) (t : Target) → wire_target n ≡ Some t → Means h v l x n → LeadsTo h x (own_target h v l F t)
+  pub aimed : (F : Map Export) (x : Meant) (n : Node) (t : Target) → wire_target n ≡ Some t → Means h v l x n → LeadsTo h x (own_target h v l F t)
   aimed F x (node.Object o) t e k = let bad : ◌≡◌ {A = Option Target} None (Some t) = e in cc
   aimed F x (node.Promise p) t e k = let bad : ◌≡◌ {A = Option Target} None (Some t) = e in cc
   aimed F x (node.Field o path) t e k = let bad : ◌≡◌ {A = Option Target} None (Some t) = e in cc
