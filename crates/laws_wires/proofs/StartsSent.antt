@@ -68,7 +68,7 @@ module _ (h : History) (s : State) (l : Labels) (k : CallCommand) (x : Reference
   head_so : (r : ℕ) (y : Reference) → map.get s.refs r ≡ Some y → Means h s.vat l (own_ref r) y.head
   head_so r y e =
       let z = at_put (λ (j : ℕ) (o : Option Reference). (b : Reference) → map.get s.refs j ≡ Some b → (c : Reference) × (o ≡ Some c) × (c.head ≡ b.head)) s.refs k.reference.0 now
-          (λ b f. (now, refl, (let is : Some x ≡ Some b = sym there ∙ f in let i : x ≡ b = cc in ap (λ (a : Reference). a.head) i))) (λ j n b f. (b, f, refl)) r y e in
+      (λ b f. (now, refl, (let is : Some x ≡ Some b = sym there ∙ f in let i : x ≡ b = cc in ap (λ (a : Reference). a.head) i))) (λ j n b f. (b, f, refl)) r y e in
       subst (Means h s.vat l (own_ref r)) z.2 (head_now r z.0 z.1)
 
   head_at : (rs : List RefId) (i : ℕ) (n : Node) → ((j : ℕ) (r : RefId) → slice_get rs j ≡ Some r → (y : Reference) × (map.get s.refs r.0 ≡ Some y)) → slice_get (heads s rs) i ≡ Some n
