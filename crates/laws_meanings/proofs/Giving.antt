@@ -246,6 +246,14 @@ stepped x mid (scenes.Stops v o e) b = rw e (gave_up x v [] (λ u k. refl) b)
 both : (a b : Option ObjectId) (x : Scene) → IsScene a b x → Both x
 both a b x k = in_each a b Both (λ y mid s t p. stepped y mid t p) (λ k. inl refl, λ k. inl refl) x k
 
+-- The next number was not given.
+pub none_to_come : (a b : Option ObjectId) (x : Scene) → IsScene a b x → (v : Vat) → given v (core x.world v).next_ref x.journal ≡ 0
+none_to_come a b x k v = by ((pair v x (both a b x k)).0 (core x.world v).next_ref)
+  where
+    by : OnceFrom 0 (core x.world v).next_ref (core x.world v).next_ref (given v (core x.world v).next_ref x.journal) → given v (core x.world v).next_ref x.journal ≡ 0
+    by (inl e) = e
+    by (inr e) = let l = e.2 in absurd (omega arith)
+
 at_most : (k next n : ℕ) → OnceFrom 0 next k n → n ≤ 1
 at_most k next n (inl e) = omega arith
 at_most k next n (inr e) = let a = e.0 in omega arith

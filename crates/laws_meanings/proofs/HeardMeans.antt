@@ -168,7 +168,7 @@ module _ (h : History) (v : Vat) (l : Labels) where
 -- ---- Labels of imports that come
 
 module _ (h : History) (l : Labels) (s : State) (is : ℕ → Option Meant) (whole : IsWhole s) (kept : ImportsKept l s is) where
-  imported : Relabels h s.vat l s l.promise is l.outcome l.question
+  pub imported : Relabels h s.vat l s l.promise is l.outcome l.question
   imported = record {
     named = λ n a. by n (whole.there n a);
     promises = λ p y e. refl;

@@ -1,13 +1,11 @@
 -- What nodes mean at a vat is so in a history that says more.
-use Rattle.std.proofs.Common.{◌≡◌, ◌⊎◌, inl, inr, ℕ, Option, None, Some, List, [], ◌∷◌, ◌++◌, refl, sym, ap, subst}
+use Rattle.std.proofs.Common.{◌≡◌, ◌⊎◌, inl, inr, ℕ, Option, None, Some, List, [], ◌∷◌, refl, ap, subst}
 use Rattle.std.specs.FinMap as map
-use Rattle.std.specs.List.{slice_get}
 use Rattle.rpc_msg.specs.declared.ids.Vat.{Vat}
 use Rattle.rpc_msg.specs.declared.ids.Stamp.{Stamp}
 use Rattle.capn_wire.specs.declared.path.Op.{Op}
 use Rattle.vat_journal.specs.declared.report.Delivery.{Delivery}
 use Rattle.vat_journal.specs.declared.report.Ended.{Ended}
-use Rattle.vat_journal.specs.declared.entry.JournalEntry.{JournalEntry}
 use Rattle.vat_journal.specs.History as history
 use Rattle.vat_journal.specs.Sources.{Asking, OfBootstrap, OfCall, SentWith, EndedWith}
 use Rattle.vat_journal.specs.Meaning.{History, Broken}
@@ -40,7 +38,7 @@ use Rattle.laws_acts.specs.Moments.{Moment, Clearing}
 use Rattle.laws_runs.specs.Meanings.{with_more}
 use Rattle.laws_runs.proofs.Extends.{Extends, extends}
 use Rattle.laws_meanings.specs.Identities.{DeliveredIn}
-use Rattle.laws_meanings.specs.NodeMeanings.{Meant, Itself, OfRef, field_meant, Leads}
+use Rattle.laws_meanings.specs.NodeMeanings.{Meant, Itself, OfRef, field_meant}
 use Rattle.laws_meanings.specs.NodeLabels.{Labels, IsIn, field_label, LeadsTo, IsAnsweredOrBroken, EndsAreLed, IsGiven, IsEndOf, AreLed, label, Means, MeansKnown, CapsMean, CallAt, CallsAt, HeldAt, ValueMeans, RefMeans, PromiseMeans, IsUnsettled, CallerIs, ValueIs, OutcomeMeans, EmbargoMeans, TaskMeans, OwnCallMeans, BackMeans, QuestionMeans, ResolvedMeans, ImportMeans, Places, RoutedMean, ComingMeans, IsToldOf, TellingMeans, ClearingMeans, MomentMeans}
 use Rattle.laws_meanings.specs.LastingMeanings.{PlacesLast, MomentsLast}
 use Rattle.laws_meanings.proofs.Links.{leads_still, end_still, field_still, source_still}

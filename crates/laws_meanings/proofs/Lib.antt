@@ -48,3 +48,6 @@ pub mod RootHeard
 pub mod Lasts
 pub mod Written
 pub mod Unsettled
+pub mod ReadLabels
+pub mod Writing
+pub mod StepsMean

@@ -237,8 +237,9 @@ module _ (s : State) (m : Message) (k : Stamp) where
 -- ---- Steps
 
 module _ (h : History) (v : Vat) (k : Stamp) where
+  -- Nodes mean what a history says of which h is more.
   abbrev Begun : Moment → Type 0
-  Begun d = (l : Labels) × MomentMeans h v l d
+  Begun d = (e : History) × (l : Labels) × MomentMeans e v l d × (IsToBroken e k → IsToBroken h k)
 
   -- What is there at the end, the step leaves.
   left : (last : Moment) (x : Effects) (t : State) (n : ℕ) → IsEnd last x t → n ≤ here k last → n ≤ Leaves k t x
@@ -247,11 +248,11 @@ module _ (h : History) (v : Vat) (k : Stamp) where
       at_end (λ u z. n ≤ Leaves k u z) last x t e (omega arith)
 
   through : (d last : Moment) (x : Effects) (t : State) (n : ℕ) → Acts last d → Begun d → IsEnd last x t → n ≤ here k d → (n ≤ Leaves k t x) ⊎ IsToBroken h k
-  through d last x t n a i e low = by (all_acted k last h v i.0 d a i.1)
+  through d last x t n a i e low = by (all_acted k last i.0 v i.1 d a i.2)
     where
-      by : (here k d ≤ here k last) ⊎ IsToBroken h k → (n ≤ Leaves k t x) ⊎ IsToBroken h k
+      by : (here k d ≤ here k last) ⊎ IsToBroken i.0 k → (n ≤ Leaves k t x) ⊎ IsToBroken h k
       by (inl y) = inl (left last x t n e (omega arith))
-      by (inr y) = inr y
+      by (inr y) = inr (i.3 y)
 
   pub commands : (j : List JournalEntry) (s : State) (c : Command) (g : Granted) (x : Effects) (t : State) → NumbersItsCalls v s j → ((d : Moment) → Starts (beginning s) c g d → Begun d) → Does s c g x t
       → (waiting k s + times_made k (granted_entries j v c g) ≤ Leaves k t x) ⊎ IsToBroken h k

@@ -65,19 +65,23 @@ same_length v [] = refl
 same_length v (r ∷ rs) = ap suc (same_length v rs)
 
 -- The answer to a delivered task that was not answered before is that of its call.
-pub answered : (h own : List JournalEntry) (v : Vat) (t : TaskId) (z : Stamp) (o : Outcome) (refs : List RefId) → own ≡ entry.Answered v t o refs ∷ [] → DeliveredIn (h ++ own) v t.0 z → deliveries_of z (h ++ own) ≤ 1 → times_answered v t.0 h ≡ 0
-    → IsAnswered (h ++ own) z o (length refs)
-answered h own v t z o refs e i l n =
+pub answered_by : (h own : List JournalEntry) (v : Vat) (t : TaskId) (z : Stamp) (o : Outcome) (refs : List RefId) → own ≡ entry.Answered v t o refs ∷ [] → DeliveredIn (h ++ own) v t.0 z → deliveries_of z (h ++ own) ≤ 1 → times_answered v t.0 h ≡ 0
+    → answer_of (h ++ own) z ≡ Some (record { outcome = o; refs = refs_at v refs })
+answered_by h own v t z o refs e i l n =
     let f = found (h ++ own) v t.0 z i l in
     let r : Reply = record { outcome = o; refs = refs_at v refs } in
     let first : reply_one v t.0 (entry.Answered v t o refs) ≡ Some r = by (same_vat v v) (nat_eq t.0 t.0) (reading.itself v) (itself t.0) in
     let said : first_that (reply_one v t.0) (h ++ own) ≡ Some r =
     ap (λ (es : List JournalEntry). first_that (reply_one v t.0) (h ++ es)) e ∙ nothing_before (reply_one v t.0) h (entry.Answered v t o refs ∷ []) (no_reply v t.0 h n) ∙ ap (λ (x : Option Reply). or_rest x None) first
     in
-    (r, ap (reply_to (h ++ own)) f.1 ∙ ap (λ (k : ℕ). first_that (reply_one v k) (h ++ own)) f.2 ∙ said, refl, same_length v refs)
+    ap (reply_to (h ++ own)) f.1 ∙ ap (λ (k : ℕ). first_that (reply_one v k) (h ++ own)) f.2 ∙ said
   where
     by : (b c : Bool) → b ≡ true → c ≡ true → if_so {X = Reply} (b && c) (record { outcome = o; refs = refs_at v refs }) ≡ Some (record { outcome = o; refs = refs_at v refs })
     by b c f g = rw (f, g) refl
+
+pub answered : (h own : List JournalEntry) (v : Vat) (t : TaskId) (z : Stamp) (o : Outcome) (refs : List RefId) → own ≡ entry.Answered v t o refs ∷ [] → DeliveredIn (h ++ own) v t.0 z → deliveries_of z (h ++ own) ≤ 1 → times_answered v t.0 h ≡ 0
+    → IsAnswered (h ++ own) z o (length refs)
+answered h own v t z o refs e i l n = (record { outcome = o; refs = refs_at v refs }, answered_by h own v t z o refs e i l n, refl, same_length v refs)
 
 -- It stays so.
 pub answer_still : (h es : List JournalEntry) (z : Stamp) (r : Reply) → answer_of h z ≡ Some r → answer_of (h ++ es) z ≡ Some r

@@ -23,7 +23,7 @@ use Rattle.vat_machine.specs.declared.node.Node.TheVariants as node
 use Rattle.vat_machine.specs.Nodes.{node_of_cap}
 use Rattle.vat_machine.specs.Messages.{bootstrap_value}
 use Rattle.laws_meanings.specs.NodeMeanings.{Meant, Itself, ByEnd, Leads, There}
-use Rattle.laws_meanings.specs.NodeLabels.{Labels, LeadsTo, label, Means, ValueMeans}
+use Rattle.laws_meanings.specs.NodeLabels.{Labels, Means, ValueMeans}
 use Rattle.laws_meanings.specs.MessageMeanings.{BootstrapsAreHeard}
 use Rattle.laws_meanings.proofs.OfCallsScenes.{twice}
 

@@ -9,18 +9,20 @@ use Rattle.vat_journal.specs.declared.entry.MadeCall.{MadeCall}
 use Rattle.vat_journal.specs.declared.entry.JournalEntry.{JournalEntry}
 use Rattle.vat_journal.specs.declared.entry.JournalEntry.TheVariants as entry
 use Rattle.vat_journal.specs.History.{same_stamp, stamp_of, caller, or_rest, if_so, made_with}
-use Rattle.vat_journal.specs.Meaning.{Broken}
+use Rattle.vat_journal.specs.Meaning.{History, Broken}
 use Rattle.vat_machine.specs.declared.command.Effects.{Effects}
 use Rattle.vat_machine.specs.declared.command.Granted.TheVariants as granted
 use Rattle.vat_machine.specs.State.{State}
 use Rattle.vat_machine.specs.World.{core, inbox, put_inbox, after}
 use Rattle.vat_machine.specs.Journal.{went_down, effect_entries, granted_entries}
 use Rattle.vat_machine.specs.Claims.{history}
+use Rattle.laws_acts.specs.Moments.{Moment}
 use Rattle.laws_runs.specs.Scenes as scenes
 use Rattle.laws_runs.specs.Scenes.{Scene, IsScene, begins}
 use Rattle.laws_runs.proofs.Counting.{scenes_count}
 use Rattle.laws_meanings.specs.OnePlace.{counted, waiting, in_message, on_way, deliveries_of, places}
 use Rattle.laws_meanings.specs.NodeMeanings.{Itself, OfRef}
+use Rattle.laws_meanings.specs.NodeLabels.{Labels, MomentMeans}
 use Rattle.laws_meanings.specs.NoneLost.{IsToBroken, BeginningsMean, CallsAreSomewhere}
 use Rattle.laws_meanings.proofs.Links.{links_last}
 use Rattle.laws_meanings.proofs.Losing.{commands, messages}
@@ -109,6 +111,10 @@ module _ (a b : Option ObjectId) (k : Stamp) where
   still_broken : (x new : Scene) (es : List JournalEntry) → new.journal ≡ x.journal ++ es → IsToBroken (history a b x.journal) k → IsToBroken (history a b new.journal) k
   still_broken x new es e i = rw e (links_last (history a b x.journal) es (Itself Broken) (OfRef (caller k)) i)
 
+  from : (new : Scene) (v : Vat) (m : Moment) → (es : List JournalEntry) × (more : List JournalEntry) × (new.journal ≡ es ++ more) × (l : Labels) × MomentMeans (history a b es) v l m
+      → (e : History) × (l : Labels) × MomentMeans e v l m × (IsToBroken e k → IsToBroken (history a b new.journal) k)
+  from new v m z = (history a b z.0, z.3, z.4, λ i. rw z.2 (links_last (history a b z.0) z.1 (Itself Broken) (OfRef (caller k)) i))
+
   given_up : {P : Type 0} (x : Scene) (v : Vat) (es : List JournalEntry) → (let y = scenes.stopped x v es in y.over_a ≡ false) → (let y = scenes.stopped x v es in y.over_b ≡ false) → P
   given_up x A es p q = absurd (let bad : true ≡ false = p in cc)
   given_up x B es p q = absurd (let bad : true ≡ false = q in cc)
@@ -120,7 +126,7 @@ module _ (a b : Option ObjectId) (k : Stamp) where
       let pa : x.over_a ≡ false = sym (ap (λ (y : Scene). y.over_a) e) ∙ p in
       let pb : x.over_b ≡ false = sym (ap (λ (y : Scene). y.over_b) e) ∙ q in
       let es = granted_entries x.journal v c g ++ effect_entries v told in
-      by (ap (λ (y : Scene). y.journal) e) (w pa pb) (commands (history a b new.journal) v k x.journal (core x.world v) c g told s (scenes_count a b x i v) (λ m y. f x new (scenes.Commanded v c g told s o up r d z e) v m i pa pb (refl, y)) d)
+      by (ap (λ (y : Scene). y.journal) e) (w pa pb) (commands (history a b new.journal) v k x.journal (core x.world v) c g told s (scenes_count a b x i v) (λ m y. from new v m (f x new (scenes.Commanded v c g told s o up r d z e) v m i pa pb (refl, y))) d)
     where
       by : new.journal ≡ x.journal ++ (granted_entries x.journal v c g ++ effect_entries v told) → IsThere x → (waiting k (core x.world v) + times_made k (granted_entries x.journal v c g) ≤ Leaves k s told) ⊎ IsToBroken (history a b new.journal) k → IsThere new
       by t (inr y) n = inr (still_broken x new _ t y)
@@ -129,7 +135,7 @@ module _ (a b : Option ObjectId) (k : Stamp) where
   stepped f x new i (scenes.Received v m ms told s o up j g d z e) w p q =
       let pa : x.over_a ≡ false = sym (ap (λ (y : Scene). y.over_a) e) ∙ p in
       let pb : x.over_b ≡ false = sym (ap (λ (y : Scene). y.over_b) e) ∙ q in
-      by (ap (λ (y : Scene). y.journal) e) (w pa pb) (messages (history a b new.journal) v k (core x.world v) m told s g (λ n y. f x new (scenes.Received v m ms told s o up j g d z e) v n i pa pb (refl, y)) d)
+      by (ap (λ (y : Scene). y.journal) e) (w pa pb) (messages (history a b new.journal) v k (core x.world v) m told s g (λ n y. from new v n (f x new (scenes.Received v m ms told s o up j g d z e) v n i pa pb (refl, y))) d)
     where
       by : new.journal ≡ x.journal ++ (entry.Got v ∷ effect_entries v told) → IsThere x → (waiting k (core x.world v) + in_message k m ≤ Leaves k s told) ⊎ IsToBroken (history a b new.journal) k → IsThere new
       by t (inr y) n = inr (still_broken x new _ t y)

@@ -29,7 +29,7 @@ use Rattle.vat_machine.specs.declared.command.Effects.{Effects}
 use Rattle.vat_machine.specs.State.{State, start}
 use Rattle.vat_machine.specs.Faults.{fault_of}
 use Rattle.vat_machine.specs.Steps.{Does, Handles}
-use Rattle.vat_machine.specs.World.{World, core, put_inbox, after}
+use Rattle.vat_machine.specs.World.{core, put_inbox, after}
 use Rattle.vat_machine.specs.Journal.{went_down, effect_entries, born, born_promise, asked_entries, made_entries, advanced_entries, granted_entries}
 use Rattle.laws_acts.specs.Moments.{Moment, beginning}
 use Rattle.laws_acts.specs.FirstActs.{Starts}

@@ -8,7 +8,6 @@ use Rattle.rpc_msg.specs.declared.ids.Vat.{Vat}
 use Rattle.rpc_msg.specs.declared.ids.RefId.{RefId}
 use Rattle.rpc_msg.specs.declared.ids.Stamp.{Stamp}
 use Rattle.rpc_msg.specs.declared.ids.ObjectId.{ObjectId}
-use Rattle.rpc_msg.specs.declared.message.Message.{Message}
 use Rattle.vat_journal.specs.declared.report.Delivery.{Delivery}
 use Rattle.vat_journal.specs.declared.report.Ended.{Ended}
 use Rattle.vat_journal.specs.declared.entry.JournalEntry.{JournalEntry}
@@ -16,7 +15,7 @@ use Rattle.vat_journal.specs.declared.entry.JournalEntry.TheVariants as entry
 use Rattle.vat_journal.specs.History.{Ref, Reply, same_vat, or_rest, first_that, refs_at, answer_of}
 use Rattle.vat_journal.specs.History as names
 use Rattle.vat_journal.specs.Sources.{Asking, OfBootstrap, OfCall, asking, Source, SentWith, EndedWith, place_from, sent_with, ended_with, at_vat, source_one, source}
-use Rattle.vat_journal.specs.Meaning.{History, Broken}
+use Rattle.vat_journal.specs.Meaning.{Broken}
 use Rattle.vat_machine.specs.declared.entries.Reference.{Reference}
 use Rattle.vat_machine.specs.declared.command.Effects.{Effects}
 use Rattle.vat_machine.specs.State.{State}
@@ -27,7 +26,7 @@ use Rattle.laws_runs.proofs.Extends.{extends}
 use Rattle.laws_runs.proofs.Reading as reading
 use Rattle.laws_meanings.specs.Identities.{DeliveredIn}
 use Rattle.laws_meanings.specs.NewReferences.{IfGives, GivenAreNew}
-use Rattle.laws_meanings.specs.NodeMeanings.{Meant, Itself, OfRef, BySource, Link, Leads, There, Then, IfLedToObject, IfLedToBroken}
+use Rattle.laws_meanings.specs.NodeMeanings.{Meant, Itself, OfRef, Link, Leads, There, Then, IfLedToObject, IfLedToBroken}
 use Rattle.laws_meanings.specs.NodeLabels.{Labels, IsIn, IsAnsweredOrBroken, EndsAreLed, IsGiven, IsEndOf, AreLed, label, RefMeans, TaskMeans, Places}
 use Rattle.laws_meanings.specs.LastingMeanings.{EffectsAreWritten, EntriesAreLed}
 use Rattle.laws_meanings.proofs.Entries.{Claim, EachAfter, each-append, each_always, upto, nothing_before}
@@ -159,7 +158,7 @@ effects_are_written new a b x h v l e s k f i =
 -- ---- What leads to an object, or to broken
 
 module _ (a b : Option ObjectId) (v : Vat) where
-  abbrev IsLed : Claim
+  abbrev pub IsLed : Claim
   IsLed h y = IfLedToObject (history a b h) y × IfLedToBroken (history a b h) y
 
   led_to_broken : (h : List JournalEntry) (x : Ended) (s : Stamp) (c : Asking) → asking h v x.call.0 ≡ Some c → IsAnsweredOrBroken (history a b h) c → asking h v x.call.0 ≡ Some (OfCall s) → answer_of h s ≡ None → Leads (history a b h) (Itself Broken) (OfRef (names.caller s))

@@ -17,3 +17,5 @@ pub mod FitCores
 pub mod MessageMeanings
 pub mod LastingMeanings
 pub mod Fates
+pub mod WrittenCommands
+pub mod StepMeanings

@@ -1,6 +1,6 @@
 -- What nodes mean after a received message: where what it says means what it should, by the nodes that the receiver makes
 -- of its descriptors and its target, all that the vat holds means what it should.
-use Rattle.std.specs.Prelude.{◌≡◌, ◌⊎◌, ℕ, Option, None, Some}
+use Rattle.std.specs.Prelude.{◌≡◌, ◌⊎◌, ℕ, Option, None, Some, List, slice_get}
 use Rattle.std.specs.FinMap as map
 use Rattle.rpc_msg.specs.declared.ids.Vat.{Vat}
 use Rattle.rpc_msg.specs.declared.ids.QuestionId.{QuestionId}
@@ -9,16 +9,24 @@ use Rattle.rpc_msg.specs.declared.message.Message.{Message}
 use Rattle.rpc_msg.specs.declared.message.Message.TheVariants as message
 use Rattle.rpc_msg.specs.declared.message.PlainMessage.{PlainMessage}
 use Rattle.rpc_msg.specs.declared.message.PlainMessage.TheVariants as plain
+use Rattle.rpc_msg.specs.declared.message.Resolve.{Resolve}
 use Rattle.rpc_msg.specs.declared.message.ResolvedTo.{ResolvedTo}
 use Rattle.rpc_msg.specs.declared.message.ResolvedTo.TheVariants as resolved
+use Rattle.rpc_msg.specs.declared.parts.Descriptor.{Descriptor}
+use Rattle.rpc_msg.specs.declared.parts.Descriptor.TheVariants as descriptor
+use Rattle.rpc_msg.specs.declared.parts.Target.{Target}
+use Rattle.rpc_msg.specs.declared.parts.Target.TheVariants.{ImportedCap, PromisedAnswer}
+use Rattle.capn_wire.specs.declared.path.Op.{Op}
+use Rattle.rpc_msg.specs.Paths.{fields}
 use Rattle.rpc_msg.specs.Vats.{other_vat}
 use Rattle.vat_journal.specs.History.{caller}
-use Rattle.vat_journal.specs.Sources.{Asking, OfBootstrap, OfCall}
+use Rattle.vat_journal.specs.Sources.{Asking, OfBootstrap, OfCall, SentWith}
 use Rattle.vat_journal.specs.Meaning.{History, Broken, root}
 use Rattle.vat_machine.specs.declared.calls.KeptOutcome.{KeptOutcome}
 use Rattle.vat_machine.specs.declared.calls.Promise.{Promise}
 use Rattle.vat_machine.specs.declared.calls.Value.{Value}
 use Rattle.vat_machine.specs.declared.command.Effects.{Effects}
+use Rattle.vat_machine.specs.declared.command.Level.TheVariants.{One}
 use Rattle.vat_machine.specs.declared.entries.AnswerEntry.{AnswerEntry}
 use Rattle.vat_machine.specs.declared.entries.Finishing.{Finishing}
 use Rattle.vat_machine.specs.declared.entries.Finishing.TheVariants as finishing
@@ -26,8 +34,8 @@ use Rattle.vat_machine.specs.declared.entries.Import.{Import}
 use Rattle.vat_machine.specs.declared.entries.Question.{Question}
 use Rattle.vat_machine.specs.State.{State}
 use Rattle.vat_machine.specs.Claims.{object_number}
-use Rattle.vat_machine.specs.Descriptors.{read, read_all}
-use Rattle.vat_machine.specs.Faults.{fault_of, target_node}
+use Rattle.vat_machine.specs.Descriptors.{read, read_all, export_node}
+use Rattle.vat_machine.specs.Faults.{fault_of, target_node, target_fault, descriptors_fault}
 use Rattle.vat_machine.specs.Messages.{bootstrap_value, results_of, value_of_results}
 use Rattle.vat_machine.specs.Progress.{quiet}
 use Rattle.vat_machine.specs.Steps.{Handles}
@@ -37,8 +45,8 @@ use Rattle.laws_acts.specs.SmallActs.{Act}
 use Rattle.laws_steps.specs.NodesThere.{IsWhole}
 use Rattle.laws_nodes.specs.Questions.{QuestionsEnd}
 use Rattle.laws_nodes.specs.Sources.{HasOneSource}
-use Rattle.laws_meanings.specs.NodeMeanings.{Meant, Itself, OfRef, Leads}
-use Rattle.laws_meanings.specs.NodeLabels.{Labels, Means, CapsMean, ValueMeans, asked_label, Places, AreLed, EndsAreLed, MomentMeans}
+use Rattle.laws_meanings.specs.NodeMeanings.{Meant, Itself, OfRef, BySource, Leads}
+use Rattle.laws_meanings.specs.NodeLabels.{Labels, field_label, LeadsTo, label, Means, CapsMean, ValueMeans, asked_label, Places, AreLed, EndsAreLed, MomentMeans}
 
 -- ---- What a message says, by labels that name the imports that come with it
 
@@ -154,3 +162,59 @@ MessagesKeepMeanings =
 -- A Bootstrap says what it should where the history has the vat's bootstrap object.
 abbrev pub BootstrapsAreHeard : Type 0
 BootstrapsAreHeard = (h : History) (v : Vat) (l : Labels) (s : State) → root h v ≡ object_number s.bootstrap → (q : QuestionId) → IsHeard h v l s (message.Plain (plain.Bootstrap q))
+
+-- ---- How descriptors and targets are read
+
+module _ (h : History) (v : Vat) (l : Labels) (s : State) where
+  -- own exports by their nodes, own answers by their outcomes;
+  abbrev pub export_label : ℕ → Option Meant
+  export_label e = label h v l (export_node (map.get s.exports e))
+
+  abbrev pub answer_label : Option AnswerEntry → List Op → Option Meant
+  answer_label None path = None
+  answer_label (Some a) path = field_label h (l.outcome a.outcome) (fields path)
+
+  -- and exports of the other vat by what they mean there.
+  abbrev pub wire_label : (ℕ → Option Meant) → Descriptor → Option Meant
+  wire_label is descriptor.None = Some (Itself Broken)
+  wire_label is (descriptor.SenderHosted e) = is e.0
+  wire_label is (descriptor.SenderPromise e) = is e.0
+  wire_label is (descriptor.ReceiverHosted e) = export_label e.0
+  wire_label is (descriptor.ReceiverAnswer q path) = answer_label (map.get s.answers q.0) path
+
+  abbrev pub wire_target_label : Target → Option Meant
+  wire_target_label (ImportedCap e) = export_label e.0
+  wire_target_label (PromisedAnswer q path) = answer_label (map.get s.answers q.0) path
+
+-- The nodes that the receiver makes of them have these labels, where they are no fault.
+abbrev pub DescriptorsAreRead : Type 0
+DescriptorsAreRead =
+    (h : History) (l : Labels) (s : State) (is : ℕ → Option Meant) (ds : List Descriptor)
+    → ImportsKept l s is → IsWhole s → s.level ≡ One → descriptors_fault s ds ≡ None
+    → (i : ℕ) (d : Descriptor) → slice_get ds i ≡ Some d → label h s.vat (with_imports l is) (read s d) ≡ wire_label h s.vat l s is d
+
+abbrev pub TargetsAreRead : Type 0
+TargetsAreRead =
+    (h : History) (l : Labels) (s : State) (is : ℕ → Option Meant) (t : Target)
+    → ImportsKept l s is → IsWhole s → target_fault s t ≡ None → label h s.vat (with_imports l is) (target_node s t) ≡ wire_target_label h s.vat l s t
+
+-- So a Call that is no fault says what it should, where on its way it does.
+abbrev pub CallsAreHeard : Type 0
+CallsAreHeard =
+    (h : History) (l : Labels) (s : State) (is : ℕ → Option Meant) (c : Call)
+    → ImportsKept l s is → IsWhole s → s.level ≡ One → fault_of s (message.Plain (plain.Call c)) ≡ None
+    → LeadsTo h (OfRef (caller c.stamp)) (wire_target_label h s.vat l s c.target)
+    → ((i : ℕ) (d : Descriptor) → slice_get c.descriptors i ≡ Some d → (y : Meant) × BySource h s.vat (SentWith c.stamp i) y × LeadsTo h y (wire_label h s.vat l s is d))
+    → IsHeard h s.vat (with_imports l is) s (message.Plain (plain.Call c))
+
+-- And a Resolve.
+abbrev pub ResolveRead : History → (Descriptor → Option Meant) → Meant → ResolvedTo → Type 0
+ResolveRead h read y (resolved.Cap d) = LeadsTo h y (read d)
+ResolveRead h read y (resolved.Exception exception) = Leads h (Itself Broken) y
+
+abbrev pub ResolvesAreHeard : Type 0
+ResolvesAreHeard =
+    (h : History) (l : Labels) (s : State) (is : ℕ → Option Meant) (r : Resolve)
+    → ImportsKept l s is → IsWhole s → s.level ≡ One → fault_of s (message.Plain (plain.Resolve r)) ≡ None
+    → ((x : Import) → map.get s.imports r.promise.0 ≡ Some x → (y : Meant) × (is r.promise.0 ≡ Some y) × ResolveRead h (wire_label h s.vat l s is) y r.to)
+    → IsHeard h s.vat (with_imports l is) s (message.Plain (plain.Resolve r))

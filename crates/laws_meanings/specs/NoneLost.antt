@@ -1,11 +1,12 @@
 -- No call is lost (docs/history.md, "Calls"): while neither vat gives up, each call that was made is at a place, or the
 -- history leads its reference to broken.
-use Rattle.std.specs.Prelude.{◌≡◌, ◌⊎◌, ℕ, ◌+◌, ◌≤◌, false, Option, Some, List, [], ◌∷◌}
+use Rattle.std.specs.Prelude.{◌≡◌, ◌⊎◌, ℕ, ◌+◌, ◌≤◌, false, Option, Some, List, [], ◌∷◌, ◌++◌}
 use Rattle.rpc_msg.specs.declared.ids.Vat.{Vat}
 use Rattle.rpc_msg.specs.declared.ids.ObjectId.{ObjectId}
 use Rattle.rpc_msg.specs.declared.ids.Stamp.{Stamp}
 use Rattle.vat_journal.specs.declared.report.Delivery.{Delivery}
 use Rattle.vat_journal.specs.declared.entry.MadeCall.{MadeCall}
+use Rattle.vat_journal.specs.declared.entry.JournalEntry.{JournalEntry}
 use Rattle.vat_journal.specs.History.{Ref, same_stamp, caller, made, made_with, delivered}
 use Rattle.vat_journal.specs.Meaning.{History, ObjectAt, Broken, StandsFor}
 use Rattle.vat_machine.specs.declared.node.Node.{Node}
@@ -54,11 +55,13 @@ IsFirstAct x new (scenes.Received v y ms told s o up i f d w e) u m = (u ≡ v) 
 IsFirstAct x new (scenes.GivesUp v c o r f e) u m = ⊥
 IsFirstAct x new (scenes.Stops v o e) u m = ⊥
 
--- While neither vat gave up, nodes mean behind the first act of each step what the history says at its end.
+-- While neither vat gave up, nodes mean behind the first act of each step what the history says: up to some entry, at the
+-- latest that at the step's end.
 abbrev pub BeginningsMean : Option ObjectId → Option ObjectId → Type 0
 BeginningsMean root_a root_b =
     (x new : Scene) (t : scenes.Steps x new) (v : Vat) (m : Moment)
-    → IsScene root_a root_b x → x.over_a ≡ false → x.over_b ≡ false → IsFirstAct x new t v m → (l : Labels) × MomentMeans (history root_a root_b new.journal) v l m
+    → IsScene root_a root_b x → x.over_a ≡ false → x.over_b ≡ false → IsFirstAct x new t v m
+    → (es : List JournalEntry) × (more : List JournalEntry) × (new.journal ≡ es ++ more) × (l : Labels) × MomentMeans (history root_a root_b es) v l m
 
 -- Then each call that was made is at a place in each scene, or its reference leads to broken.
 abbrev pub CallsAreSomewhere : Type 0

@@ -12,12 +12,14 @@ ghost use Rattle.laws_meanings.specs.Tasks.{TasksAreOpen, TasksAreAnsweredOnce};
 ghost use Rattle.laws_meanings.specs.WhatIsLeft.{ObjectsAreLeft, AnswersAreLeft, CallsAreLeft, BrokenCallsAreLeft};
 ghost use Rattle.laws_meanings.specs.NodeMeanings.{LinksLast, LedToObjects, LedToBroken, LinksToObjectsAreLeft, LinksToBrokenAreLeft};
 ghost use Rattle.laws_meanings.specs.NodeLabels.{ActsKeepMeanings};
-ghost use Rattle.laws_meanings.specs.FirstActs.{CommandsBegin, FirstActsFollow};
+ghost use Rattle.laws_meanings.specs.FirstActs.{FirstActsFollow};
 ghost use Rattle.laws_meanings.specs.FitCores.{CoresAreFit};
 ghost use Rattle.laws_meanings.specs.NoneLost.{ActsLoseNone, CallsAreSomewhere, ObjectsLoseNone};
 ghost use Rattle.laws_meanings.specs.CommandMeanings.{CommandsKeepMeanings, OpeningsKeepMeanings, FirstActsMean, FirstOpeningsMean};
-ghost use Rattle.laws_meanings.specs.MessageMeanings.{BootstrapsAreHeard, ConsumingMeans, EachActMeans, MessagesKeepMeanings};
+ghost use Rattle.laws_meanings.specs.MessageMeanings.{BootstrapsAreHeard, ConsumingMeans, EachActMeans, MessagesKeepMeanings, CallsAreHeard, DescriptorsAreRead, ResolvesAreHeard, TargetsAreRead};
 ghost use Rattle.laws_meanings.specs.Fates.{PromisesAreOpen};
+ghost use Rattle.laws_meanings.specs.WrittenCommands.{CommandsAreWritten};
+ghost use Rattle.laws_meanings.specs.StepMeanings.{ScenesCommandsKeep, LastWordsAreLed};
 ghost use Rattle.laws_meanings.specs.LastingMeanings.{PlacesLast, MomentsLast, EffectsAreWritten, EntriesAreLed};
 
 use laws_answers::named_answers_are_there;
@@ -188,24 +190,11 @@ pub fn cores_are_fit()
     embargoes_pair();
 }
 
-/// What nodes mean lasts through the first act of each command of which the history has the entry.
-pub fn commands_begin_with_meanings()
-    ensures { CommandsBegin }
-{}
-
 /// Where at a moment of a step the history leads each reference of a vat, and each call that waits, to what its node means,
 /// the small acts behind it lose no call, but one whose reference the history leads to broken.
 pub fn acts_lose_no_call()
     ensures { ActsLoseNone }
 {}
-
-/// Where the history has the entry of each command, and nodes mean in each scene what it says, and behind the first act of
-/// each message, so they do behind each first act.
-pub fn first_acts_follow()
-    ensures { FirstActsFollow }
-{
-    cores_are_fit();
-}
 
 /// Where in each step, while neither vat gives up, nodes mean behind its first act what the history says, each call that was
 /// made is at one place in each scene: it waits, is on its way, or was delivered; or the history leads its reference to
@@ -243,6 +232,16 @@ pub fn messages_keep_meanings()
     ensures { MessagesKeepMeanings }
 {}
 
+/// Where in each step from a scene nodes mean before it what the history says, which has the entry of its command,
+/// and its message says what it should, nodes mean so behind its first act.
+pub fn first_acts_follow()
+    ensures { FirstActsFollow }
+{
+    cores_are_fit();
+    first_acts_of_commands_mean();
+    first_acts_of_messages_mean();
+}
+
 /// A Bootstrap says what it should at a vat whose bootstrap object the history has.
 pub fn bootstraps_are_heard()
     ensures { BootstrapsAreHeard }
@@ -268,3 +267,42 @@ pub fn effects_are_meanings()
 pub fn promises_are_settled_once()
     ensures { PromisesAreOpen }
 {}
+
+/// Where a message is no fault, the nodes that a receiver makes of its descriptors and its target have the labels by which it
+/// is read on its way: own exports and answers by what they mean here, exports of the other vat by what they mean there.
+pub fn descriptors_are_read()
+    ensures descriptors { DescriptorsAreRead }
+    ensures targets { TargetsAreRead }
+{}
+
+/// A Call or a Resolve that is no fault says what it should by the nodes that its receiver makes, where on its way it does.
+pub fn calls_are_heard()
+    ensures calls { CallsAreHeard }
+    ensures resolves { ResolvesAreHeard }
+{}
+
+/// In each scene a command that is done is the first in the history of which that is said: the number that it is given is new,
+/// what it settles was not settled, what it answers not answered. This where a payload names no other capabilities than go with
+/// it.
+pub fn commands_are_written()
+    ensures { CommandsAreWritten }
+{
+    own_numbers_were_asked();
+    tasks_are_answered_once();
+    promises_are_settled_once();
+}
+
+/// What nodes mean at a vat of a scene lasts through each step of a command, with all that this writes: and each of its
+/// deliveries is to the object to which the history up to it leads the call's reference, each call that it ends was answered,
+/// or the history leads its reference to broken. This where a payload names no other capabilities than go with it.
+pub fn commands_keep_scenes_meanings()
+    ensures steps { ScenesCommandsKeep }
+    ensures last { LastWordsAreLed }
+{
+    given_references_are_new();
+    commands_are_written();
+    nodes_are_there();
+    outcomes_have_sources();
+    questions_end();
+    embargoes_pair();
+}

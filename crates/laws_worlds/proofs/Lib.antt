@@ -1,3 +1,4 @@
 pub mod Kept
 pub mod Promising
 pub mod Sounding
+pub mod Wrongs

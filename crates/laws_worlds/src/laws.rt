@@ -1,6 +1,7 @@
 //! The functions run no code: what each ensures is the law.
 
 ghost use Rattle.laws_worlds.specs.Promised.{SoundRunsKeepAll, WorldsKeepPromises};
+ghost use Rattle.laws_worlds.specs.Wrong.{WrongJournals};
 
 use laws_runs::{calls_are_numbered, meanings_last, quiet_when_down};
 use laws_scenes::{calls_arrive_in_full, calls_keep_their_order, nothing_is_refused};
@@ -29,3 +30,9 @@ pub fn sound_runs_keep_all()
 {
     meanings_last();
 }
+
+/// Journals that are not promised: a call before one that was made before it, or without it, or twice, or that nobody made; two calls
+/// of a reference at two objects; one at a vat that is down; a vat that a message took down, or the Abort of one that is up.
+pub fn wrong_journals_are_refused()
+    ensures { WrongJournals }
+{}

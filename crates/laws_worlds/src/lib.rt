@@ -4,4 +4,4 @@
 
 mod laws;
 
-pub use laws::{sound_runs_keep_all, worlds_keep_promises};
+pub use laws::{sound_runs_keep_all, worlds_keep_promises, wrong_journals_are_refused};

@@ -1,0 +1,69 @@
+-- Each step of a scene begins with what means what the history says.
+use Rattle.std.proofs.Common.{◌≡◌, ◌⊎◌, inl, inr, Option, List, ◌∷◌, [], ◌++◌, append_assoc, sym, ap, ◌∙◌}
+use Rattle.rpc_msg.specs.declared.ids.Vat.TheVariants.{A, B}
+use Rattle.rpc_msg.specs.declared.ids.ObjectId.{ObjectId}
+use Rattle.rpc_msg.specs.Vats.{other_vat}
+use Rattle.vat_journal.specs.declared.entry.JournalEntry.{JournalEntry}
+use Rattle.vat_journal.specs.declared.entry.JournalEntry.TheVariants as entry
+use Rattle.vat_journal.specs.Meaning.{History}
+use Rattle.vat_machine.specs.declared.command.Command.{Command}
+use Rattle.vat_machine.specs.declared.command.Command.TheVariants as command
+use Rattle.vat_machine.specs.declared.command.Granted.TheVariants as granted
+use Rattle.vat_machine.specs.State.{State}
+use Rattle.rpc_msg.specs.declared.ids.Vat.{Vat}
+use Rattle.vat_machine.specs.Claims.{history}
+use Rattle.vat_machine.specs.Journal.{effect_entries, granted_entries}
+use Rattle.vat_machine.specs.Progress.{quiet}
+use Rattle.vat_machine.specs.World.{core}
+use Rattle.laws_runs.specs.Scenes as scenes
+use Rattle.laws_runs.specs.Scenes.{Scene, IsScene}
+use Rattle.laws_meanings.specs.CommandMeanings.{OpensNothing, IsWritten, IsWrittenOpen}
+use Rattle.laws_meanings.specs.FirstActs.{FirstActsFollow, IsReady}
+use Rattle.laws_meanings.specs.LastingMeanings.{PlacesLast}
+use Rattle.laws_meanings.specs.WrittenCommands.{CommandsAreWritten, NamesItsCaps, Opens}
+use Rattle.laws_sound.specs.OldestHeard.{OldestAreHeard, exports_mean}
+use Rattle.laws_sound.specs.SoundByWires.{BeginningsFollow, Means}
+
+pub opens_or_not : (c : Command) → OpensNothing c ⊎ Opens c
+opens_or_not command.Bootstrap = inr tt
+opens_or_not (command.Call k) = inr tt
+opens_or_not command.Promise = inr tt
+opens_or_not (command.Host o) = inl tt
+opens_or_not (command.CloneRef r) = inl tt
+opens_or_not (command.DropRef r) = inl tt
+opens_or_not (command.Field c path) = inl tt
+opens_or_not (command.Resolve p r) = inl tt
+opens_or_not (command.Reject p why) = inl tt
+opens_or_not (command.Answer t payload refs) = inl tt
+opens_or_not (command.Fail t why) = inl tt
+opens_or_not (command.Finish c) = inl tt
+opens_or_not (command.Advance r) = inl tt
+opens_or_not (command.Shut n) = inl tt
+
+written_either : (h : History) (v : Vat) (s : State) (c : Command) → OpensNothing c ⊎ Opens c → IsWritten h v s c → (Opens c → IsWrittenOpen h v s c) → (OpensNothing c × IsWritten h v s c) ⊎ IsWrittenOpen h v s c
+written_either h v s c (inl o) w f = inl (o, w)
+written_either h v s c (inr o) w f = inr (f o)
+
+module _ (a b : Option ObjectId) (heard : OldestAreHeard) (written : CommandsAreWritten) (places : PlacesLast) (names : NamesItsCaps) (means : (x : Scene) → IsScene a b x → Means a b x) where
+  abbrev Ready : (x new : Scene) → scenes.Steps x new → Type 0
+  Ready x new t = (es : List JournalEntry) × (more : List JournalEntry) × (new.journal ≡ es ++ more) × IsReady (history a b es) x new t
+
+  ready : (x new : Scene) (t : scenes.Steps x new) → IsScene a b x → Ready x new t
+  ready x new (scenes.Commanded v c g told s o up r d w e) j =
+      let z = means x j in
+      let own = granted_entries x.journal v c g in
+      let k = written names a b x v c g told s j o r d in (
+        x.journal ++ own, effect_entries v told, ap (λ (y : Scene). y.journal) e ∙ sym (append_assoc x.journal own (effect_entries v told)),
+        (z.0 v, places (history a b x.journal) own v (z.0 v) quiet (core x.world v) (z.1.places v), written_either (history a b (x.journal ++ own)) v (core x.world v) c (opens_or_not c) k.0 k.1),
+      )
+  ready x new (scenes.Received v m ms told s o up p f d w e) j =
+      let z = means x j in
+      let y = heard a b x z.0 v m ms j p f z.1 in
+      (x.journal, entry.Got v ∷ effect_entries v told, ap (λ (y : Scene). y.journal) e, (z.0 v, z.1.places v, (exports_mean (history a b x.journal) x.world z.0 (other_vat v), y.0, y.1)))
+  ready x new (scenes.GivesUp A c o r f e) j = (x.journal, granted_entries x.journal A c granted.Done, ap (λ (y : Scene). y.journal) e, tt)
+  ready x new (scenes.GivesUp B c o r f e) j = (x.journal, granted_entries x.journal B c granted.Done, ap (λ (y : Scene). y.journal) e, tt)
+  ready x new (scenes.Stops A o e) j = (x.journal, [], ap (λ (y : Scene). y.journal) e, tt)
+  ready x new (scenes.Stops B o e) j = (x.journal, [], ap (λ (y : Scene). y.journal) e, tt)
+
+pub beginnings_follow : OldestAreHeard → CommandsAreWritten → PlacesLast → FirstActsFollow → BeginningsFollow
+beginnings_follow heard written places follow names a b means = follow a b (λ x new t j na nb. ready a b heard written places names means x new t j)

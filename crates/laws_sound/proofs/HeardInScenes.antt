@@ -1,0 +1,216 @@
+-- What is read on its way as it should is heard so by its receiver.
+use Rattle.std.proofs.Common.{◌≡◌, ℕ, zero, suc, Bool, Option, None, Some, is_some, List, [], ◌∷◌, refl, sym, ◌∙◌, subst}
+use Rattle.std.specs.FinMap as map
+use Rattle.std.specs.List.{slice_get}
+use Rattle.capn_wire.specs.declared.path.Op.{Op}
+use Rattle.capn_wire.specs.declared.path.CapAt.{CapAt}
+use Rattle.capn_wire.specs.declared.path.CapAt.TheVariants.{Cap, Null, NotCap}
+use Rattle.rpc_msg.specs.declared.ids.ObjectId.{ObjectId}
+use Rattle.rpc_msg.specs.declared.ids.Vat.{Vat}
+use Rattle.rpc_msg.specs.declared.ids.Vat.TheVariants.{A, B}
+use Rattle.rpc_msg.specs.declared.parts.Descriptor.{Descriptor}
+use Rattle.rpc_msg.specs.declared.parts.Descriptor.TheVariants as descriptor
+use Rattle.rpc_msg.specs.declared.parts.Target.{Target}
+use Rattle.rpc_msg.specs.declared.parts.Target.TheVariants.{ImportedCap, PromisedAnswer}
+use Rattle.rpc_msg.specs.declared.message.ReturnBody.{ReturnBody}
+use Rattle.rpc_msg.specs.declared.message.ReturnBody.TheVariants as body
+use Rattle.rpc_msg.specs.declared.message.ResolvedTo.{ResolvedTo}
+use Rattle.rpc_msg.specs.declared.message.ResolvedTo.TheVariants as resolved
+use Rattle.rpc_msg.specs.declared.message.PlainMessage.{PlainMessage}
+use Rattle.rpc_msg.specs.declared.message.PlainMessage.TheVariants as plain
+use Rattle.rpc_msg.specs.declared.message.Message.{Message}
+use Rattle.rpc_msg.specs.declared.message.Message.TheVariants as message
+use Rattle.rpc_msg.specs.Paths.{fields}
+use Rattle.rpc_msg.specs.Vats.{other_vat}
+use Rattle.vat_journal.specs.Sources.{Asking}
+use Rattle.vat_journal.specs.Meaning.{History, root}
+use Rattle.vat_machine.specs.Claims.{history, object_number}
+use Rattle.vat_machine.specs.Payloads.{cap_at}
+use Rattle.vat_machine.specs.declared.command.Level.{Level}
+use Rattle.vat_machine.specs.declared.command.Level.TheVariants.{One}
+use Rattle.vat_machine.specs.declared.node.Node.{Node}
+use Rattle.vat_machine.specs.declared.entries.AnswerEntry.{AnswerEntry}
+use Rattle.vat_machine.specs.declared.entries.Finishing.{Finishing}
+use Rattle.vat_machine.specs.declared.entries.Finishing.TheVariants as finishing
+use Rattle.vat_machine.specs.declared.entries.Import.{Import}
+use Rattle.vat_machine.specs.declared.entries.Question.{Question}
+use Rattle.vat_machine.specs.declared.entries.Role.{Role}
+use Rattle.vat_machine.specs.declared.entries.Role.TheVariants as role
+use Rattle.vat_machine.specs.State.{State}
+use Rattle.vat_machine.specs.Descriptors.{read, read_beside}
+use Rattle.vat_machine.specs.Faults.{body_fault, descriptors_fault, fault_of, flag_fault, is_foreign, plain_fault, return_fault, unless_foreign}
+use Rattle.vat_machine.specs.Messages.{results_of, value_of_results}
+use Rattle.vat_machine.specs.Nodes.{node_of_cap}
+use Rattle.vat_machine.specs.Places.{nodes}
+use Rattle.vat_machine.specs.Progress.{numbers}
+use Rattle.vat_machine.specs.Sweeping.{IsNotSent}
+use Rattle.vat_machine.specs.World.{core, inbox}
+use Rattle.laws_acts.proofs.Checks.{first, rest}
+use Rattle.laws_steps.specs.NodesThere.{IsWhole}
+use Rattle.laws_sessions.specs.Scenes.{CountsOfScenes}
+use Rattle.laws_answers.proofs.About.{levels}
+use Rattle.laws_runs.specs.Scenes.{Scene, IsScene}
+use Rattle.laws_routes.specs.SayingLaws.{IsNotCanceled}
+use Rattle.laws_routes.specs.Sayings.{SaidIfThere, has_of, is_waiting, not_sent}
+use Rattle.laws_between.specs.Meeting.{IfThere}
+use Rattle.laws_scenes.specs.Canceled.{CanceledWereGivenUp, CancelsOnlyGivenUp}
+use Rattle.laws_meanings.specs.FitCores.{CoresAreFit}
+use Rattle.laws_meanings.specs.NodeMeanings.{Meant, field_meant}
+use Rattle.laws_meanings.specs.NodeLabels.{Labels, LeadsTo, Means, ValueMeans, asked_label, field_label, label}
+use Rattle.laws_meanings.specs.MessageMeanings.{BootstrapsAreHeard, CallsAreHeard, DescriptorsAreRead, ResolvesAreHeard, IfAwaited, ImportsKept, IsHeard, ResolveRead, ReturnHeard, answer_label, wire_label, wire_target_label, with_imports}
+use Rattle.laws_wires.specs.Wires.{ImportAgrees, LinkMeans, MessageMeans, Reader, ResolveMeans, ReturnMeans, Session, asked_at, cap_label, export_label, index_label, read_label, reader, resolved_label, session_of, sessions_at, target_label}
+use Rattle.laws_sound.specs.OldestHeard.{OldestAreHeard, RootsAreHosted}
+
+-- What is known of a vat that receives.
+record Receives (h : History) (t : State) : Type 0 where
+  whole : IsWhole t
+  level : t.level ≡ One
+  root : root h t.vat ≡ object_number t.bootstrap
+
+-- The laws of what is received.
+pub record Laws : Type 0 where
+  pub descriptors : DescriptorsAreRead
+  pub bootstraps : BootstrapsAreHeard
+  pub calls : CallsAreHeard
+  pub resolves : ResolvesAreHeard
+
+-- From the vat u in the state s to one in the state t.
+module _ (laws : Laws) (h : History) (u : Vat) (s : State) (l : Labels) (t : State) (k : Labels) (known : Receives h t) where
+  abbrev is : ℕ → Option Meant
+  is e = export_label h u l s.exports e
+
+  abbrev m : Labels
+  m = with_imports k is
+
+  abbrev by : Reader
+  by = reader h u s l t.vat t k
+
+  abbrev now : ℕ → Session
+  now = sessions_at k t.answers
+
+  answer_same : (o : Option AnswerEntry) (path : List Op) → field_label h (session_of k.outcome o) (fields path) ≡ answer_label h t.vat k t o path
+  answer_same None path = refl
+  answer_same (Some a) path = refl
+
+  read_same : (d : Descriptor) → read_label h by now d ≡ wire_label h t.vat k t is d
+  read_same descriptor.None = refl
+  read_same (descriptor.SenderHosted e) = refl
+  read_same (descriptor.SenderPromise e) = refl
+  read_same (descriptor.ReceiverHosted e) = refl
+  read_same (descriptor.ReceiverAnswer q path) = answer_same (map.get t.answers q.0) path
+
+  target_same : (x : Target) → target_label h by now x ≡ wire_target_label h t.vat k t x
+  target_same (ImportedCap e) = refl
+  target_same (PromisedAnswer q path) = answer_same (map.get t.answers q.0) path
+
+  role_same : (q : ℕ) (x : Role) → asked_label m q x ≡ asked_label k q x
+  role_same q (role.Direct c) = refl
+  role_same q (role.Relay o) = refl
+
+  -- ---- A Return
+
+  index_same : (ds : List Descriptor) → ((i : ℕ) (d : Descriptor) → slice_get ds i ≡ Some d → label h t.vat m (read t d) ≡ read_label h by now d) → (i : ℕ) → label h t.vat m (node_of_cap (nodes (read_beside t ds)) (Cap i)) ≡ index_label (read_label h by now) ds i
+  index_same [] reads i = refl
+  index_same (d ∷ ds) reads zero = reads 0 d refl
+  index_same (d ∷ ds) reads (suc i) = index_same ds (λ j c e. reads (suc j) c e) i
+
+  cap_same : (ds : List Descriptor) → ((i : ℕ) (d : Descriptor) → slice_get ds i ≡ Some d → label h t.vat m (read t d) ≡ read_label h by now d) → (c : CapAt) → label h t.vat m (node_of_cap (nodes (read_beside t ds)) c) ≡ cap_label (read_label h by now) ds c
+  cap_same ds reads (Cap i) = index_same ds reads i
+  cap_same ds reads Null = refl
+  cap_same ds reads NotCap = refl
+
+  at_place : (ds : List Descriptor) (i : ℕ) (n : Node) → slice_get (nodes (read_beside t ds)) i ≡ Some n → (d : Descriptor) × (slice_get ds i ≡ Some d) × (read t d ≡ n)
+  at_place [] i n e = let bad : ◌≡◌ {A = Option Node} None (Some n) = e in cc
+  at_place (d ∷ ds) zero n e = (d, refl, (let f : Some (read t d) ≡ Some n = e in cc))
+  at_place (d ∷ ds) (suc i) n e = at_place ds i n e
+
+  descriptors_same : (ds : List Descriptor) → ImportsKept k t is → descriptors_fault t ds ≡ None → (i : ℕ) (d : Descriptor) → slice_get ds i ≡ Some d → label h t.vat m (read t d) ≡ read_label h by now d
+  descriptors_same ds kept f i d e = laws.descriptors h k t is ds kept known.whole known.level f i d e ∙ sym (read_same d)
+
+  value_means : (x : ReturnBody) (a : Vat × Asking) → ImportsKept k t is → body_fault t x ≡ None → IsNotCanceled x → ReturnMeans h (read_label h by now) a x → ValueMeans h t.vat m a (value_of_results (results_of t x))
+  value_means (body.Results payload ds) a kept f c i =
+      let free = first (descriptors_fault t ds) [] (rest _ (descriptors_fault t ds ∷ []) f) in
+      let same = descriptors_same ds kept free in (
+        λ path. subst (LeadsTo h (field_meant h a.0 a.1 path)) (sym (cap_same ds same (cap_at payload path))) (i.0 path),
+        λ j n e.
+            let r = at_place ds j n e in
+            let y = i.1 j r.0 r.1 in
+            (y.0, y.1, subst (Means h t.vat m y.0) r.2 (subst (LeadsTo h y.0) (sym (same j r.0 r.1)) y.2)),
+        i.2,
+      )
+  value_means (body.Exception exception) a kept f c i = (i.0, λ j n e. let bad : ◌≡◌ {A = Option Node} None (Some n) = e in cc, i.1)
+  value_means body.Canceled a kept f c i = absurd c
+
+  awaited : (P Q : Type 0) (x : ReturnBody) (f : Finishing) → SaidIfThere (not_sent f) P → (IsNotSent f → IsNotCanceled x) → (P → IsNotCanceled x → Q) → IfAwaited f Q
+  awaited P Q x finishing.Owed i c g = g i (c tt)
+  awaited P Q x finishing.Sent i c g = tt
+  awaited P Q x finishing.Waived i c g = g i (c tt)
+
+  return_heard : (q : ℕ) (flag : Bool) (x : ReturnBody) (o : Option Question) → ImportsKept k t is → return_fault t flag x o ≡ None → IfThere (λ (y : Question). IsNotSent y.finish → IsNotCanceled x) o
+      → SaidIfThere (is_waiting o) ((a : Vat × Asking) × (asked_at k q o ≡ Some a) × ReturnMeans h (read_label h by now) a x)
+      → ReturnHeard h t.vat m t q (value_of_results (results_of t x)) o
+  return_heard q flag x None kept f c i = tt
+  return_heard q flag x (Some y) kept f c i =
+      let free = first (body_fault t x) (flag_fault t flag (numbers y.given) ∷ []) (rest _ (body_fault t x ∷ flag_fault t flag (numbers y.given) ∷ []) f) in
+      awaited ((a : Vat × Asking) × (asked_at k q (Some y) ≡ Some a) × ReturnMeans h (read_label h by now) a x) ((a : Vat × Asking) × (asked_label m q y.role ≡ Some a) × ValueMeans h t.vat m a (value_of_results (results_of t x))) x y.finish i c
+      (λ z no_cancel. (z.0, role_same q y.role ∙ z.1, value_means x z.0 kept free no_cancel z.2))
+
+  -- ---- A Resolve
+
+  resolve_reads : (to : ResolvedTo) (y : Meant) → LeadsTo h y (resolved_label (read_label h by now) to) → ResolveRead h (wire_label h t.vat k t is) y to
+  resolve_reads (resolved.Cap d) y i = subst (LeadsTo h y) (read_same d) i
+  resolve_reads (resolved.Exception exception) y i = i
+
+  resolve_heard : (e : ℕ) (to : ResolvedTo) (o : Option Import) → SaidIfThere (is_some o) (ResolveMeans h (read_label h by now) (is e) to) → (x : Import) → o ≡ Some x → (y : Meant) × (is e ≡ Some y) × ResolveRead h (wire_label h t.vat k t is) y to
+  resolve_heard e to None i x f = let bad : ◌≡◌ {A = Option Import} None (Some x) = f in cc
+  resolve_heard e to (Some z) i x f = (i.0, i.1, resolve_reads to i.0 i.2)
+
+  -- ---- A message
+
+  level_one : (x : PlainMessage) → fault_of t (message.Plain x) ≡ None → plain_fault t x ≡ None
+  level_one x f = subst (λ (n : Level). unless_foreign (is_foreign n x) (plain_fault t x) ≡ None) known.level f
+
+  heard : (x : PlainMessage) → ImportsKept k t is → fault_of t (message.Plain x) ≡ None → CancelsOnlyGivenUp t x → MessageMeans h u by (has_of [] t.imports t.questions) now x → IsHeard h t.vat m t (message.Plain x)
+  heard (plain.Abort exception) kept f c i = tt
+  heard (plain.Bootstrap q) kept f c i = laws.bootstraps h t.vat m t known.root q
+  heard (plain.Call x) kept f c i =
+      laws.calls h k t is x kept known.whole known.level f (subst (LeadsTo h _) (target_same x.target) i.0)
+      (λ j d e. let y = i.1 j d e in (y.0, y.1, subst (LeadsTo h y.0) (read_same d) y.2))
+  heard (plain.Return r) kept f c i = return_heard r.answer.0 r.release_param_caps r.body (map.get t.questions r.answer.0) kept (level_one (plain.Return r) f) c i
+  heard (plain.Finish x) kept f c i = tt
+  heard (plain.Resolve r) kept f c i = laws.resolves h k t is r kept known.whole known.level f (resolve_heard r.promise.0 r.to (map.get t.imports r.promise.0) i)
+  heard (plain.Release r) kept f c i = tt
+  heard (plain.Disembargo d) kept f c i = tt
+  heard (plain.Other n) kept f c i = tt
+
+-- ---- In scenes
+
+module _ (h : History) (u v : Vat) (s t : State) (l k : Labels) where
+  kept_imports : ((e : ℕ) → ImportAgrees (k.import e) (export_label h u l s.exports e) (map.get t.imports e)) → ImportsKept k t (λ e. export_label h u l s.exports e)
+  kept_imports i e y f = sym (subst (λ (o : Option Import). ImportAgrees (k.import e) (export_label h u l s.exports e) o) f (i e))
+
+module _ (hosted : RootsAreHosted) (laws : Laws) (fit : CoresAreFit) (canceled : CanceledWereGivenUp) (counts : CountsOfScenes) where
+  at_vat : (a b : Option ObjectId) (x : Scene) (v : Vat) (k l : Labels) (m : Message) (ms : List Message) → IsScene a b x → inbox x.world v ≡ m ∷ ms → fault_of (core x.world v) m ≡ None
+      → ((e : ℕ) → ImportAgrees (k.import e) (export_label (history a b x.journal) (other_vat v) l (core x.world (other_vat v)).exports e) (map.get (core x.world v).imports e))
+      → LinkMeans (history a b x.journal) (other_vat v) (reader (history a b x.journal) (other_vat v) (core x.world (other_vat v)) l v (core x.world v) k) (has_of [] (core x.world v).imports (core x.world v).questions) (sessions_at k (core x.world v).answers) (inbox x.world v)
+      → ImportsKept k (core x.world v) (λ e. export_label (history a b x.journal) (other_vat v) l (core x.world (other_vat v)).exports e)
+      × IsHeard (history a b x.journal) v (with_imports k (λ e. export_label (history a b x.journal) (other_vat v) l (core x.world (other_vat v)).exports e)) (core x.world v) m
+  at_vat a b x v k l m ms scene e f imports link =
+      let h = history a b x.journal in
+      let u = other_vat v in
+      let s = core x.world u in
+      let t = core x.world v in
+      let is : ℕ → Option Meant = (λ i. export_label h u l s.exports i) in
+      let ready = fit a b x scene v in
+      let kept = kept_imports h u v s t l k imports in
+      let known : Receives h t = (record { whole = ready.whole; level = levels x.world (counts.sessions a b x scene) v; root = subst (λ (z : Vat). root h z ≡ object_number t.bootstrap) (sym ready.vat) (hosted a b x v scene) }) in
+      let p = counts.oldest a b x scene v m ms e in
+      let e_plain : inbox x.world v ≡ message.Plain p.0 ∷ ms = subst (λ (y : Message). inbox x.world v ≡ y ∷ ms) p.1 e in
+      let head = subst (λ (ns : List Message). LinkMeans h u (reader h u s l v t k) (has_of [] t.imports t.questions) (sessions_at k t.answers) ns) e_plain link in
+      let there = subst (λ (z : Vat). MessageMeans h u (reader h u s l z t k) (has_of [] t.imports t.questions) (sessions_at k t.answers) p.0) (sym ready.vat) head.0 in
+      let here = heard laws h u s l t k known p.0 kept (subst (λ (y : Message). fault_of t y ≡ None) p.1 f) (canceled a b x scene v p.0 ms e_plain) there in
+      (kept, subst (λ (y : Message). IsHeard h v (with_imports k is) t y) (sym p.1) (subst (λ (z : Vat). IsHeard h z (with_imports k is) t (message.Plain p.0)) ready.vat here))
+
+  pub oldest_heard : OldestAreHeard
+  oldest_heard a b x l A m ms scene e f i = at_vat a b x A (l A) (l B) m ms scene e f (i.wires A).imports (i.wires B).link
+  oldest_heard a b x l B m ms scene e f i = at_vat a b x B (l B) (l A) m ms scene e f (i.wires B).imports (i.wires A).link

@@ -1,0 +1,2 @@
+pub mod OldestHeard
+pub mod SoundByWires

@@ -1,0 +1,69 @@
+//! The functions run no code: what each ensures is the law.
+
+ghost use Rattle.laws_sound.specs.OldestHeard.{OldestAreHeard, RootsAreHosted};
+ghost use Rattle.laws_sound.specs.SoundByWires.{BeginningsFollow, ScenesAreLed, ScenesAreMeant, ScenesMean, SoundByWires};
+
+use laws_meanings::{
+    bootstraps_are_heard, calls_are_heard, commands_are_written, commands_keep_scenes_meanings, cores_are_fit, descriptors_are_read, first_acts_follow, links_are_left, messages_keep_meanings, no_call_is_lost, node_meanings_last,
+};
+use laws_runs::meanings_last;
+use laws_scenes::{canceled_were_given_up, sound_by_meanings};
+use laws_sessions::counts_agree_in_scenes;
+use laws_wires::{wires_are_left, wires_mean_at_first};
+
+/// In each scene the history has the bootstrap object of each vat.
+pub fn roots_are_hosted()
+    ensures { RootsAreHosted }
+{}
+
+/// In a scene in which all that stands on the wires means what it should, the oldest message on its way to a vat says there
+/// what it should.
+pub fn oldest_are_heard()
+    ensures { OldestAreHeard }
+{
+    roots_are_hosted();
+    bootstraps_are_heard();
+    calls_are_heard();
+    descriptors_are_read();
+    cores_are_fit();
+    canceled_were_given_up();
+    counts_agree_in_scenes();
+}
+
+/// Where each step keeps that all which two vats hold, and which stands on the wires between them, means what the history says,
+/// it is so in each scene.
+pub fn scenes_mean()
+    ensures { ScenesMean }
+{
+    wires_mean_at_first();
+    wires_are_left();
+    node_meanings_last();
+}
+
+/// Where that is so in each scene, each entry of its journal is as what leads to an object, or to broken, says; and so are nodes
+/// behind the first act of each step.
+pub fn scenes_are_led()
+    ensures led { ScenesAreLed }
+    ensures begin { BeginningsFollow }
+{
+    oldest_are_heard();
+    cores_are_fit();
+    messages_keep_meanings();
+    commands_keep_scenes_meanings();
+    commands_are_written();
+    node_meanings_last();
+    first_acts_follow();
+}
+
+/// So all that is promised of runs follows from what each step keeps.
+pub fn sound_by_wires()
+    ensures scenes { ScenesAreMeant }
+    ensures runs { SoundByWires }
+{
+    scenes_mean();
+    scenes_are_led();
+    links_are_left();
+    meanings_last();
+    no_call_is_lost();
+    sound_by_meanings();
+}
