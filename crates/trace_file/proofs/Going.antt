@@ -10,6 +10,7 @@ use Rattle.trace_write.specs.declared.version.TraceVersion.{TraceVersion}
 use Rattle.trace_write.specs.declared.version.TraceVersion.TheVariants.{Two}
 use Rattle.trace_write.specs.Values.{head_data}
 use Rattle.trace_json.specs.declared.fault.TraceFault.{TraceFault}
+use Rattle.trace_json.specs.declared.fault.TraceFault.TheVariants as fault
 use Rattle.trace_file.specs.Faults.{IsLaterFault, IsFaultAt}
 use Rattle.trace_file.specs.Traces.{trace_text, line_text, IsEntryLine, AreEntryLines, AreLines, Follows}
 
@@ -74,15 +75,16 @@ item_there f (x ∷ xs) (suc i) d within = item_there f xs i d (omega (arith, wi
 
 -- The next line is at fault.
 pub fault_next : {S X : Type 0} (takes : S → JournalEntry → S → Type 0) (version : TraceVersion) (f : X → List ℕ) (xs : List X) (i : ℕ) (d : X) (s mid : S) (r : TraceFault)
-    → i < length xs → HasRead takes version (take i (map f xs)) s mid → IsLaterFault version r (read (f (get_or xs i d)))
+    → i < length xs → HasRead takes version (take i (map f xs)) s mid → ¬ (r ≡ fault.Memory) → IsLaterFault version r (read (f (get_or xs i d)))
     → IsFaultAt version (map f xs) (i + 2) r
-fault_next takes version f xs i d s mid r within so_far wrong = record {
+fault_next takes version f xs i d s mid r within so_far named wrong = record {
   index = i;
   counted = refl;
   before = so_far.0;
   said = so_far.1;
   line = f (get_or xs i d);
   there = item_there f xs i d within;
+  named = named;
   wrong = wrong;
 }
 

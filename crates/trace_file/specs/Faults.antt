@@ -27,26 +27,27 @@ IsLaterFault version fault.BadBase64 o = IsFault version fault.BadBase64 o
 IsLaterFault version fault.BadPayload o = IsFault version fault.BadPayload o
 IsLaterFault version fault.Version o = ⊥
 
--- Of the lines behind the first, those in front of that one say entries, and it has that fault.
-pub record IsFaultAt (version : TraceVersion) (lines : List (List ℕ)) (number : ℕ) (fault : TraceFault) : Type 0 where
+-- Of the lines behind the first, those in front of that one say entries, and it has that fault, which is no want of memory.
+pub record IsFaultAt (version : TraceVersion) (lines : List (List ℕ)) (number : ℕ) (f : TraceFault) : Type 0 where
   pub index : ℕ
   pub counted : number ≡ index + 2
   pub before : List JournalEntry
   pub said : AreEntryLines version (take index lines) before
   pub line : List ℕ
   pub there : slice_get lines index ≡ Some line
-  pub wrong : IsLaterFault version fault (read line)
+  pub named : ¬ (f ≡ fault.Memory)
+  pub wrong : IsLaterFault version f (read line)
 
 abbrev pub IsEntriesFault : TraceVersion → List (List ℕ) → FileFault → Type 0
 IsEntriesFault version lines file.Memory = Unit {0}
-IsEntriesFault version lines (file.Line number fault) = IsFaultAt version lines number fault
+IsEntriesFault version lines (file.Line number f) = IsFaultAt version lines number f
 
 -- The first line is no head, or a later one is at fault.
 abbrev pub IsLinesFault : List (List ℕ) → FileFault → Type 0
 IsLinesFault lines file.Memory = Unit {0}
 IsLinesFault [] (file.Line number f) = (number ≡ 1) × (f ≡ fault.WrongShape)
 IsLinesFault (first ∷ rest) (file.Line number f) =
-    ((number ≡ 1) × IsVersionFault f (read first))
+    ((number ≡ 1) × (¬ (f ≡ fault.Memory)) × IsVersionFault f (read first))
     ⊎ ((version : TraceVersion) × (read first ≡ Some (head_data version)) × IsFaultAt version rest number f)
 
 -- The fault of a text that is no trace.
