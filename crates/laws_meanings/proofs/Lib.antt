@@ -48,6 +48,7 @@ pub mod RootHeard
 pub mod Lasts
 pub mod Written
 pub mod Unsettled
+pub mod OwnCaps
 pub mod ReadLabels
 pub mod ReadReturns
 pub mod Writing

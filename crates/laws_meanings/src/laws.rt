@@ -19,7 +19,7 @@ ghost use Rattle.laws_meanings.specs.CommandMeanings.{CommandsKeepMeanings, Open
 ghost use Rattle.laws_meanings.specs.MessageMeanings.{BootstrapsAreHeard, ConsumingMeans, EachActMeans, MessagesKeepMeanings, CallsAreHeard, DescriptorsAreRead, ResolvesAreHeard, TargetsAreRead};
 ghost use Rattle.laws_meanings.specs.ReadMessages.{MessagesAreHeard, ReturnsAreHeard};
 ghost use Rattle.laws_meanings.specs.Fates.{PromisesAreOpen};
-ghost use Rattle.laws_meanings.specs.WrittenCommands.{CommandsAreWritten};
+ghost use Rattle.laws_meanings.specs.WrittenCommands.{CommandsAreWritten, NamesItsCaps};
 ghost use Rattle.laws_meanings.specs.StepMeanings.{ScenesCommandsKeep, LastWordsAreLed};
 ghost use Rattle.laws_meanings.specs.LastingMeanings.{PlacesLast, MomentsLast, EffectsAreWritten, EntriesAreLed};
 
@@ -286,6 +286,11 @@ pub fn calls_are_heard()
 pub fn messages_are_heard()
     ensures returns { ReturnsAreHeard }
     ensures messages { MessagesAreHeard }
+{}
+
+/// A payload names no other capabilities than go with it.
+pub fn payloads_name_their_own()
+    ensures { NamesItsCaps }
 {}
 
 /// In each scene a command that is done is the first in the history of which that is said: the number that it is given is new,

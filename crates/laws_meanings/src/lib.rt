@@ -12,6 +12,6 @@ pub use laws::{
     first_acts_follow, first_acts_of_commands_mean, first_acts_of_messages_mean,
     given_references_are_new, links_are_left, links_are_meanings, meanings_are_left,
     messages_are_heard, messages_keep_meanings, no_call_is_lost, node_meanings_last,
-    openings_keep_meanings, outcomes_are_of_calls, own_numbers_were_asked,
+    openings_keep_meanings, outcomes_are_of_calls, own_numbers_were_asked, payloads_name_their_own,
     promises_are_settled_once, tasks_are_answered_once,
 };
