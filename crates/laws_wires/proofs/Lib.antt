@@ -6,3 +6,4 @@ pub mod SentSo
 pub mod StillSo
 pub mod ActsSent
 pub mod StartsSent
+pub mod WholeSent

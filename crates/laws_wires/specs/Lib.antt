@@ -4,3 +4,4 @@ pub mod StepWires
 pub mod SentWires
 pub mod Sent
 pub mod FirstSent
+pub mod StepsSent

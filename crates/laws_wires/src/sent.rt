@@ -2,8 +2,10 @@
 
 ghost use Rattle.laws_wires.specs.FirstSent.{CommandsSaySo, MessagesSaySo};
 ghost use Rattle.laws_wires.specs.Sent.{ActsSaySo, StepsSaySo};
+ghost use Rattle.laws_wires.specs.StepsSent.{CommandsSend};
 
-use laws_meanings::each_act_keeps_meanings;
+use laws_acts::steps_are_small_acts;
+use laws_meanings::{each_act_keeps_meanings, first_acts_of_commands_mean};
 
 /// What a small act of a step sends means what it should, by the labels of its vat at that moment; and what was sent before
 /// means it still.
@@ -25,3 +27,14 @@ pub fn first_acts_send_meanings()
     ensures commands { CommandsSaySo }
     ensures messages { MessagesSaySo }
 {}
+
+/// What a whole step of a command sends means what it should, by the labels by which nodes mean what they should at its end.
+/// They are those of before, where something was there: so exports stay, and mean what they did.
+pub fn commands_send_meanings()
+    ensures { CommandsSend }
+{
+    steps_are_small_acts();
+    first_acts_of_commands_mean();
+    first_acts_send_meanings();
+    steps_send_meanings();
+}
