@@ -7,3 +7,4 @@ pub mod StillSo
 pub mod ActsSent
 pub mod StartsSent
 pub mod WholeSent
+pub mod HeardSent

@@ -40,7 +40,7 @@ use Rattle.laws_wires.specs.FirstSent.{CommandsSaySo}
 use Rattle.laws_wires.specs.StepsSent.{Keeps, CommandsSend}
 use Rattle.laws_wires.proofs.StillSo.{kept_all}
 
-some_of : {X : Type 0} (o : Option X) → IsSome o → (x : X) × (o ≡ Some x)
+pub some_of : {X : Type 0} (o : Option X) → IsSome o → (x : X) × (o ≡ Some x)
 some_of None i = absurd (let bad : false ≡ true = i in cc)
 some_of (Some x) i = (x, refl)
 
@@ -66,7 +66,7 @@ module _ (h : History) (l m : Labels) (s : State) (k : LabelsKept l m s) where
   callers_kept said o None e i = tt
   callers_kept said o (Some x) e i = awaited said o x.caller x.value (k.outcomes o x e) i
 
-is_kept : (s : State) (n : Node) → Stands s n → IsKept s.promises n
+pub is_kept : (s : State) (n : Node) → Stands s n → IsKept s.promises n
 is_kept s (node.Object o) i = tt
 is_kept s (node.Promise p) i = some_of (map.get s.promises p) i
 is_kept s (node.Field o path) i = tt

@@ -2,10 +2,12 @@
 
 ghost use Rattle.laws_wires.specs.FirstSent.{CommandsSaySo, MessagesSaySo};
 ghost use Rattle.laws_wires.specs.Sent.{ActsSaySo, StepsSaySo};
-ghost use Rattle.laws_wires.specs.StepsSent.{CommandsSend};
+ghost use Rattle.laws_wires.specs.StepsSent.{CommandsSend, MessagesSend};
 
 use laws_acts::steps_are_small_acts;
-use laws_meanings::{each_act_keeps_meanings, first_acts_of_commands_mean};
+use laws_meanings::{
+    each_act_keeps_meanings, first_acts_of_commands_mean, first_acts_of_messages_mean,
+};
 
 /// What a small act of a step sends means what it should, by the labels of its vat at that moment; and what was sent before
 /// means it still.
@@ -35,6 +37,17 @@ pub fn commands_send_meanings()
 {
     steps_are_small_acts();
     first_acts_of_commands_mean();
+    first_acts_send_meanings();
+    steps_send_meanings();
+}
+
+/// What a whole step of a received message sends means what it should, by the labels by which nodes mean what they should at
+/// its end, where each outcome for which the peer waits is that of its question.
+pub fn messages_send_meanings()
+    ensures { MessagesSend }
+{
+    steps_are_small_acts();
+    first_acts_of_messages_mean();
     first_acts_send_meanings();
     steps_send_meanings();
 }
