@@ -86,9 +86,8 @@ module _ (acts : StepsAreSmallActs) (consuming : ConsumingMeans) (messages : Mes
       let sent = r.4 in
       let same : t.exports ≡ (a.last).state.exports = ap (λ (z : State). z.exports) (a.ends).state in
       let end = at_end (λ u z. Places h s.vat m z u × AreLed h s.vat z.deliveries × EndsAreLed h s.vat z.answers × AllSaySo h s.vat m u.exports u.promises said z.sends) a.last x t a.ends
-          (up h s.vat m (a.last).effects (a.last).state means.0, means.5, means.7, sent.0)
-      in
-      (
+      (up h s.vat m (a.last).effects (a.last).state means.0, means.5, means.7, sent.0)
+      in (
         d,
         a.consumes,
         (

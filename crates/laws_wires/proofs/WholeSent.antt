@@ -95,9 +95,8 @@ module _ (acts : StepsAreSmallActs) (plain : FirstActsMean) (openings : FirstOpe
       let sent = r.4 in
       let same : t.exports ≡ (a.last).state.exports = ap (λ (z : State). z.exports) (a.ends).state in
       let end = at_end (λ u y. Places h s.vat m y u × AreLed h s.vat y.deliveries × EndsAreLed h s.vat y.answers × AllSaySo h s.vat m u.exports u.promises said y.sends) a.last x t a.ends
-          (up h s.vat m (a.last).effects (a.last).state means.0, means.5, means.7, sent.0)
-      in
-      (
+      (up h s.vat m (a.last).effects (a.last).state means.0, means.5, means.7, sent.0)
+      in (
         m,
         record {
           imports = λ e. kept.imports e;
