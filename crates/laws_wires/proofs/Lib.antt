@@ -8,3 +8,4 @@ pub mod ActsSent
 pub mod StartsSent
 pub mod WholeSent
 pub mod HeardSent
+pub mod LinksRead

@@ -5,3 +5,4 @@ pub mod SentWires
 pub mod Sent
 pub mod FirstSent
 pub mod StepsSent
+pub mod SentLinks

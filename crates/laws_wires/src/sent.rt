@@ -2,6 +2,7 @@
 
 ghost use Rattle.laws_wires.specs.FirstSent.{CommandsSaySo, MessagesSaySo};
 ghost use Rattle.laws_wires.specs.Sent.{ActsSaySo, StepsSaySo};
+ghost use Rattle.laws_wires.specs.SentLinks.{LinksSaySo};
 ghost use Rattle.laws_wires.specs.StepsSent.{CommandsSend, MessagesSend};
 
 use laws_acts::steps_are_small_acts;
@@ -51,3 +52,9 @@ pub fn messages_send_meanings()
     first_acts_send_meanings();
     steps_send_meanings();
 }
+
+/// All that a step sends means what it should as its receiver will read it, where each message, behind those in front of it,
+/// names and is aimed at what stands for the same there.
+pub fn links_are_sent_with_meanings()
+    ensures { LinksSaySo }
+{}
