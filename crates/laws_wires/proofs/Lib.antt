@@ -6,3 +6,6 @@ pub mod SentSo
 pub mod StillSo
 pub mod ActsSent
 pub mod StartsSent
+pub mod WholeSent
+pub mod HeardSent
+pub mod LinksRead

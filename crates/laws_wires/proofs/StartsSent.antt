@@ -43,8 +43,9 @@ use Rattle.laws_meanings.specs.NodeLabels.{Labels, Means, CapsMean, RefMeans, Pr
 use Rattle.laws_meanings.proofs.Labelled.{settles}
 use Rattle.laws_wires.specs.Wires.{Session}
 use Rattle.laws_wires.specs.Sent.{IsKept, CallerSo, SaysSo, SentMean}
-use Rattle.laws_wires.specs.FirstSent.{AreThere, CommandsSaySo, MessagesSaySo}
+use Rattle.laws_wires.specs.FirstSent.{AreThere, PromisesThere, CommandsSaySo, MessagesSaySo}
 use Rattle.laws_wires.proofs.SentSo.{AllGone, all_go}
+use Rattle.laws_wires.proofs.StillSo.{kept_put}
 use Rattle.laws_wires.proofs.ActsSent.{aimed}
 
 -- ---- A call of the application
@@ -90,7 +91,7 @@ module _ (h : History) (s : State) (l : Labels) (k : CallCommand) (x : Reference
 
 module _ (h : History) (l : Labels) (said : ℕ → Session) (s : State) (callers : (o : ℕ) → CallerSo h s.vat l said o (map.get s.outcomes o)) where
   abbrev Begins : Moment → Type 0
-  Begins d = AreThere s.exports d.state.exports × SentMean h s.vat l said d
+  Begins d = AreThere s.exports d.state.exports × PromisesThere s.promises d.state.promises × SentMean h s.vat l said d
 
   all_there : (F : Map Export) → F ≡ s.exports → AreThere s.exports F
   all_there F is = subst (AreThere s.exports) (sym is) (λ e x f. (x, f, refl))
@@ -108,10 +109,10 @@ module _ (h : History) (l : Labels) (said : ℕ → Session) (s : State) (caller
   written c k e (inr a) = subst (IsWrittenOpen h s.vat s) e a
 
   started : (c : Command) (g : Granted) (d : Moment) → (OpensNothing c × IsWritten h s.vat s c) ⊎ IsWrittenOpen h s.vat s c → MomentMeans h s.vat l d → Starts (beginning s) c g d → Begins d
-  started c g d z i (first.Hosts o e a u) = rw u ((λ e x f. (x, f, refl)), (tt, tt, tt, callers, tt, tt))
-  started c g d z i (first.Clones r x e f a u) = rw u ((λ e x f. (x, f, refl)), (tt, tt, tt, callers, tt, tt))
-  started c g d z i (first.Drops r x e f a u) = rw u ((λ e x f. (x, f, refl)), (tt, tt, tt, callers, tt, tt))
-  started c g d z i (first.AsksRoot q e f a u) = rw u ((λ e x f. (x, f, refl)), (((tt, tt, tt), tt), tt, tt, callers, tt, tt))
+  started c g d z i (first.Hosts o e a u) = rw u ((λ e x f. (x, f, refl)), (λ j b f. (b, f)), (tt, tt, tt, callers, tt, tt))
+  started c g d z i (first.Clones r x e f a u) = rw u ((λ e x f. (x, f, refl)), (λ j b f. (b, f)), (tt, tt, tt, callers, tt, tt))
+  started c g d z i (first.Drops r x e f a u) = rw u ((λ e x f. (x, f, refl)), (λ j b f. (b, f)), (tt, tt, tt, callers, tt, tt))
+  started c g d z i (first.AsksRoot q e f a u) = rw u ((λ e x f. (x, f, refl)), (λ j b f. (b, f)), (((tt, tt, tt), tt), tt, tt, callers, tt, tt))
   started c g d z i (first.CallsOut k x q t ds es e f j n o r a u) =
       let w = written c k e z in
       let sends = message.Plain (asking q t (request s k x) ds) ∷ [] in
@@ -131,28 +132,28 @@ module _ (h : History) (l : Labels) (said : ℕ → Session) (s : State) (caller
         out.ours,
         tt,
       ) in
-      rw u ((λ e y g. still.still e y g), ((it, tt), tt, tt, callers, tt, tt))
-  started c g d z i (first.CallsHere k x o e f j n r a u) = rw u ((λ e x f. (x, f, refl)), (tt, tt, tt, kept_own o (record { 0 = s.next_call }), tt, tt))
-  started c g d z i (first.CallsLater k x o q b e f j n r a u) = rw u ((λ e x f. (x, f, refl)), (tt, tt, tt, kept_own o (record { 0 = s.next_call }), tt, tt))
-  started c g d z i (first.NamesField k path from e f a u) = rw u ((λ e x f. (x, f, refl)), (tt, tt, tt, callers, tt, tt))
-  started c g d z i (first.Promises p e f a u) = rw u ((λ e x f. (x, f, refl)), (tt, tt, tt, callers, tt, tt))
+      rw u ((λ e y g. still.still e y g), (λ j b f. (b, f)), ((it, tt), tt, tt, callers, tt, tt))
+  started c g d z i (first.CallsHere k x o e f j n r a u) = rw u ((λ e x f. (x, f, refl)), (λ j b f. (b, f)), (tt, tt, tt, kept_own o (record { 0 = s.next_call }), tt, tt))
+  started c g d z i (first.CallsLater k x o q b e f j n r a u) = rw u ((λ e x f. (x, f, refl)), (λ j b f. (b, f)), (tt, tt, tt, kept_own o (record { 0 = s.next_call }), tt, tt))
+  started c g d z i (first.NamesField k path from e f a u) = rw u ((λ e x f. (x, f, refl)), (λ j b f. (b, f)), (tt, tt, tt, callers, tt, tt))
+  started c g d z i (first.Promises p e f a u) = rw u ((λ e x f. (x, f, refl)), kept_put s.promises p (promise.Open []), (tt, tt, tt, callers, tt, tt))
   started c g d z i (first.Fixes p r x key calls e f j n a u) =
       let to = fixed d key x.head (ap (λ (b : Moment). map.get b.state.promises key) u ∙ get-insert_same s.promises key (promise.Fixed x.head)) i in
       let P = ap (λ (b : Moment). b.state.promises) u in
       let at : IsKept (map.insert s.promises key (promise.Fixed x.head)) (node.Promise key) = subst (λ (Q : Map Promise). IsKept Q (node.Promise key)) P to.0 in
-      rw u ((λ e x f. (x, f, refl)), (tt, tt, tt, callers, (refl, refl, refl, (at, to.1)), tt))
+      rw u ((λ e x f. (x, f, refl)), kept_put s.promises key (promise.Fixed x.head), (tt, tt, tt, callers, (refl, refl, refl, (at, to.1)), tt))
   started c g d z i (first.Rejects p why key calls e f j a u) =
       let to = fixed d key (node.Broken BrokenPromise) (ap (λ (b : Moment). map.get b.state.promises key) u ∙ get-insert_same s.promises key (promise.Fixed (node.Broken BrokenPromise))) i in
       let P = ap (λ (b : Moment). b.state.promises) u in
       let at : IsKept (map.insert s.promises key (promise.Fixed (node.Broken BrokenPromise))) (node.Promise key) = subst (λ (Q : Map Promise). IsKept Q (node.Promise key)) P to.0 in
-      rw u ((λ e x f. (x, f, refl)), (tt, tt, tt, callers, (refl, refl, refl, (at, to.1)), tt))
-  started c g d z i (first.Answers t payload refs o e f a u) = rw u ((λ e x f. (x, f, refl)), (tt, tt, tt, callers, tt, tt))
-  started c g d z i (first.Fails t why o e f a u) = rw u ((λ e x f. (x, f, refl)), (tt, tt, tt, callers, tt, tt))
-  started c g d z i (first.Finishes k from e f a u) = rw u ((λ e x f. (x, f, refl)), (tt, tt, tt, callers, tt, tt))
-  started c g d z i (first.StaysPut r x e f a u) = rw u ((λ e x f. (x, f, refl)), (tt, tt, tt, callers, tt, tt))
-  started c g d z i (first.Breaks r x reason e f j n a u) = rw u ((λ e x f. (x, f, refl)), (tt, tt, tt, callers, tt, tt))
-  started c g d z i (first.Switches r x by n e f j k b o a u) = rw u ((λ e x f. (x, f, refl)), (tt, tt, tt, callers, tt, tt))
-  started c g d z i (first.Turns r x by n t y e f j k b o p q a u) = rw u ((λ e x f. (x, f, refl)), (((tt, tt, tt), tt), tt, tt, callers, tt, tt))
+      rw u ((λ e x f. (x, f, refl)), kept_put s.promises key (promise.Fixed (node.Broken BrokenPromise)), (tt, tt, tt, callers, (refl, refl, refl, (at, to.1)), tt))
+  started c g d z i (first.Answers t payload refs o e f a u) = rw u ((λ e x f. (x, f, refl)), (λ j b f. (b, f)), (tt, tt, tt, callers, tt, tt))
+  started c g d z i (first.Fails t why o e f a u) = rw u ((λ e x f. (x, f, refl)), (λ j b f. (b, f)), (tt, tt, tt, callers, tt, tt))
+  started c g d z i (first.Finishes k from e f a u) = rw u ((λ e x f. (x, f, refl)), (λ j b f. (b, f)), (tt, tt, tt, callers, tt, tt))
+  started c g d z i (first.StaysPut r x e f a u) = rw u ((λ e x f. (x, f, refl)), (λ j b f. (b, f)), (tt, tt, tt, callers, tt, tt))
+  started c g d z i (first.Breaks r x reason e f j n a u) = rw u ((λ e x f. (x, f, refl)), (λ j b f. (b, f)), (tt, tt, tt, callers, tt, tt))
+  started c g d z i (first.Switches r x by n e f j k b o a u) = rw u ((λ e x f. (x, f, refl)), (λ j b f. (b, f)), (tt, tt, tt, callers, tt, tt))
+  started c g d z i (first.Turns r x by n t y e f j k b o p q a u) = rw u ((λ e x f. (x, f, refl)), (λ j b f. (b, f)), (((tt, tt, tt), tt), tt, tt, callers, tt, tt))
 
 pub commands_say_so : CommandsSaySo
 commands_say_so h l said s c g new z a i callers = started h l said s callers c g new z i a

@@ -7,6 +7,8 @@ use Rattle.rpc_msg.specs.declared.message.Message.{Message}
 use Rattle.rpc_msg.specs.declared.message.Message.TheVariants as message
 use Rattle.rpc_msg.specs.declared.message.PlainMessage.{PlainMessage}
 use Rattle.vat_journal.specs.Meaning.{History}
+use Rattle.vat_machine.specs.declared.node.Node.TheVariants as node
+use Rattle.vat_machine.specs.declared.calls.Promise.{Promise}
 use Rattle.vat_machine.specs.declared.command.Command.{Command}
 use Rattle.vat_machine.specs.declared.command.Granted.{Granted}
 use Rattle.vat_machine.specs.declared.entries.Export.{Export}
@@ -19,11 +21,14 @@ use Rattle.laws_routes.specs.Sayings.{IsSilentPlain}
 use Rattle.laws_meanings.specs.CommandMeanings.{OpensNothing, IsWritten, IsWrittenOpen}
 use Rattle.laws_meanings.specs.NodeLabels.{Labels, MomentMeans}
 use Rattle.laws_wires.specs.Wires.{Session}
-use Rattle.laws_wires.specs.Sent.{CallerSo, SentMean}
+use Rattle.laws_wires.specs.Sent.{IsKept, CallerSo, SentMean}
 
 -- Each export is there still, and of its node.
 abbrev pub AreThere : Map Export → Map Export → Type 0
 AreThere E F = (e : ℕ) (x : Export) → map.get E e ≡ Some x → (y : Export) × (map.get F e ≡ Some y) × (y.node ≡ x.node)
+
+abbrev pub PromisesThere : Map Promise → Map Promise → Type 0
+PromisesThere P Q = (p : ℕ) (y : Promise) → map.get P p ≡ Some y → IsKept Q (node.Promise p)
 
 -- By labels that say what nodes mean behind it, and where before it the outcomes for which the peer waits are what its
 -- questions stand for.
@@ -31,7 +36,7 @@ abbrev pub CommandsSaySo : Type 0
 CommandsSaySo =
     (h : History) (l : Labels) (said : ℕ → Session) (s : State) (c : Command) (g : Granted) (new : Moment)
     → (OpensNothing c × IsWritten h s.vat s c) ⊎ IsWrittenOpen h s.vat s c → Starts (beginning s) c g new → MomentMeans h s.vat l new → ((o : ℕ) → CallerSo h s.vat l said o (map.get s.outcomes o))
-    → AreThere s.exports new.state.exports × SentMean h s.vat l said new
+    → AreThere s.exports new.state.exports × PromisesThere s.promises new.state.promises × SentMean h s.vat l said new
 
 -- A message sends nothing but a Disembargo that turns back, or what is not understood, which asks nothing.
 abbrev pub MessagesSaySo : Type 0

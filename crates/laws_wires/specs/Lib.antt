@@ -4,3 +4,5 @@ pub mod StepWires
 pub mod SentWires
 pub mod Sent
 pub mod FirstSent
+pub mod StepsSent
+pub mod SentLinks
