@@ -1,5 +1,5 @@
 -- What the first act of a step in a scene sends means what it should.
-use Rattle.std.proofs.Common.{◌≡◌, ◌⊎◌, inl, inr, ℕ, nat_eq, length, Bool, true, false, not, cond, is_some, Option, None, Some, List, [], ◌∷◌, ◌++◌, refl, sym, ap, ◌∙◌, subst}
+use Rattle.std.proofs.Common.{◌≡◌, ◌⊎◌, ℕ, nat_eq, length, Bool, true, false, not, cond, is_some, Option, None, Some, [], ◌∷◌, ◌++◌, refl, sym, ap, ◌∙◌, subst}
 use Rattle.std.specs.FinMap as map
 use Rattle.finite_maps.proofs.Gets.{get-insert_same}
 use Rattle.finite_maps.proofs.Tested.{at_put, equal}
@@ -18,7 +18,6 @@ use Rattle.vat_machine.specs.declared.calls.Caller.{Caller}
 use Rattle.vat_machine.specs.declared.calls.Caller.TheVariants as caller
 use Rattle.vat_machine.specs.declared.calls.KeptOutcome.{KeptOutcome}
 use Rattle.vat_machine.specs.declared.calls.Value.{Value}
-use Rattle.vat_machine.specs.declared.command.Command.{Command}
 use Rattle.vat_machine.specs.declared.command.Level.{Level}
 use Rattle.vat_machine.specs.declared.command.Level.TheVariants.{One}
 use Rattle.vat_machine.specs.declared.entries.AnswerEntry.{AnswerEntry}
@@ -35,21 +34,19 @@ use Rattle.laws_acts.specs.MessageActs as heard
 use Rattle.laws_acts.proofs.Checks.{first}
 use Rattle.laws_answers.proofs.About.{levels}
 use Rattle.laws_routes.specs.Sayings.{IsSilentPlain}
-use Rattle.laws_runs.specs.Scenes.{Scene, IsScene}
 use Rattle.laws_sessions.specs.Scenes.{CountsOfScenes}
 use Rattle.laws_steps.specs.Callers.{AnswersWith, CallersAreServed, IsOpenFor}
 use Rattle.laws_meanings.specs.CommandMeanings.{OpensNothing, IsWritten, IsWrittenOpen}
 use Rattle.laws_meanings.specs.FitCores.{CoresAreFit}
 use Rattle.laws_meanings.specs.MessageMeanings.{AnswersOf, IsAnswerOf, OutcomesKept}
-use Rattle.laws_meanings.specs.NodeMeanings.{Meant}
 use Rattle.laws_meanings.specs.NodeLabels.{Labels, MomentMeans}
-use Rattle.laws_meanings.specs.WrittenCommands.{CommandsAreWritten, NamesItsCaps, Opens}
+use Rattle.laws_meanings.specs.WrittenCommands.{CommandsAreWritten, NamesItsCaps}
 use Rattle.laws_meanings.proofs.OpensMean.{this_one}
 use Rattle.laws_wires.specs.FirstSent.{CommandsSaySo, MessagesSaySo}
 use Rattle.laws_wires.specs.Sent.{CallerSo, IsAwaited, SentMean}
 use Rattle.laws_wires.specs.Wires.{Session, past_one, session_of, sessions_at, with_session}
 use Rattle.laws_sound.specs.OldestHeard.{exports_mean}
-use Rattle.laws_sound.specs.StepsInScenes.{AreKept, FirstActsSend, FirstCommandsSend, FirstMessagesSend}
+use Rattle.laws_sound.specs.StepsInScenes.{FirstActsSend, FirstCommandsSend, FirstMessagesSend}
 use Rattle.laws_sound.proofs.Begins.{opens_or_not, written_either}
 
 -- ---- Outcomes for which the peer waits

@@ -86,18 +86,6 @@ pub fn steps_keep_places()
     oldest_are_heard();
 }
 
-/// So all is kept by each step, and all that is promised of runs holds, where the first act of each step sends what means what it
-/// should, and the wires behind a step mean what they should by what its vat holds and sends.
-pub fn sound_by_steps()
-    ensures kept { MeaningsAreKept }
-    ensures runs { SoundBySteps }
-{
-    steps_keep_places();
-    node_meanings_last();
-    wires_are_left();
-    sound_by_wires();
-}
-
 /// What the first act of each step in a scene sends means what it should, where all did before the step.
 pub fn first_acts_send()
     ensures { FirstActsSend }
@@ -106,4 +94,17 @@ pub fn first_acts_send()
     cores_are_fit();
     commands_are_written();
     counts_agree_in_scenes();
+}
+
+/// So all is kept by each step, and all that is promised of runs holds, where the wires behind a step mean what they should by
+/// what its vat holds and sends.
+pub fn sound_by_steps()
+    ensures kept { MeaningsAreKept }
+    ensures runs { SoundBySteps }
+{
+    first_acts_send();
+    steps_keep_places();
+    node_meanings_last();
+    wires_are_left();
+    sound_by_wires();
 }
