@@ -53,7 +53,9 @@ module _ (a b : Option ObjectId) (heard : OldestAreHeard) (written : CommandsAre
       let z = means x j in
       let own = granted_entries x.journal v c g in
       let k = written names a b x v c g told s j o r d in (
-        x.journal ++ own, effect_entries v told, ap (λ (y : Scene). y.journal) e ∙ sym (append_assoc x.journal own (effect_entries v told)),
+        x.journal ++ own,
+        effect_entries v told,
+        ap (λ (y : Scene). y.journal) e ∙ sym (append_assoc x.journal own (effect_entries v told)),
         (z.0 v, places (history a b x.journal) own v (z.0 v) quiet (core x.world v) (z.1.places v), written_either (history a b (x.journal ++ own)) v (core x.world v) c (opens_or_not c) k.0 k.1),
       )
   ready x new (scenes.Received v m ms told s o up p f d w e) j =

@@ -56,7 +56,7 @@ with_answer l o None i = absurd i
 with_answer l o (Some a) i = ap l.outcome i.0
 
 module _ (h : History) (v : Vat) (l m : Labels) (s : State) (said : ℕ → Session) (served : CallersAreServed s) (kept : OutcomesKept l s m.outcome)
-  (same : (q o : ℕ) → AnswersWith o (map.get s.answers q) → said q ≡ sessions_at l s.answers q) where
+    (same : (q o : ℕ) → AnswersWith o (map.get s.answers q) → said q ≡ sessions_at l s.answers q) where
   awaited : (o : ℕ) (x : KeptOutcome) → map.get s.outcomes o ≡ Some x → (c : Caller) (w : Option Value) → x.caller ≡ c → x.value ≡ w → IsAwaited h v m said o c w
   awaited o x e (caller.Application c) w f g = tt
   awaited o x e (caller.Peer q) (Some y) f g = tt

@@ -104,9 +104,10 @@ stepped say h v l n s d last said told t kept whole stay acts ends i g =
         exports = λ k x y at was same.
             let stands = whole.there x.node (in_exports s x.node (named named_by_export k x x.node s.exports at (inl refl))) in
             let r = z.2 k y was in
-            let y_kept : IsKept d.state.promises y.node = subst (IsKept d.state.promises) (sym same) (is_kept s d stay x.node stands) in
-            (
-              r.0, subst (λ (u : State). map.get u.exports k ≡ Some r.0) (sym ends.state) r.1, r.2 ∙ same,
+            let y_kept : IsKept d.state.promises y.node = subst (IsKept d.state.promises) (sym same) (is_kept s d stay x.node stands) in (
+              r.0,
+              subst (λ (u : State). map.get u.exports k ≡ Some r.0) (sym ends.state) r.1,
+              r.2 ∙ same,
               subst (λ (u : Node). label h v m u ≡ label h v n u) same (r.3 y_kept).1 ∙ label_kept h v l n s kept x.node stands,
             );
         sent = e.1;

@@ -6,12 +6,17 @@ ghost use Rattle.laws_sound.specs.WiresKept.{MeaningsAreKept, SoundBySteps};
 ghost use Rattle.laws_sound.specs.SoundByWires.{BeginningsFollow, ScenesAreLed, ScenesAreMeant, ScenesMean, SoundByWires};
 
 use laws_meanings::{
-    bootstraps_are_heard, calls_are_heard, commands_are_written, commands_keep_scenes_meanings, cores_are_fit, descriptors_are_read, effects_are_meanings, first_acts_follow, first_acts_of_commands_mean, first_acts_of_messages_mean, links_are_left, messages_keep_meanings, no_call_is_lost, node_meanings_last,
+    bootstraps_are_heard, calls_are_heard, commands_are_written, commands_keep_scenes_meanings,
+    cores_are_fit, descriptors_are_read, effects_are_meanings, first_acts_follow,
+    first_acts_of_commands_mean, first_acts_of_messages_mean, links_are_left,
+    messages_keep_meanings, no_call_is_lost, node_meanings_last,
 };
 use laws_runs::meanings_last;
 use laws_scenes::{canceled_were_given_up, sound_by_meanings};
 use laws_sessions::counts_agree_in_scenes;
-use laws_wires::{first_acts_send_meanings, steps_send_meanings, wires_are_left, wires_mean_at_first};
+use laws_wires::{
+    first_acts_send_meanings, steps_send_meanings, wires_are_left, wires_mean_at_first,
+};
 
 /// In each scene the history has the bootstrap object of each vat.
 pub fn roots_are_hosted()
