@@ -40,7 +40,7 @@ opens_or_not (command.Finish c) = inl tt
 opens_or_not (command.Advance r) = inl tt
 opens_or_not (command.Shut n) = inl tt
 
-written_either : (h : History) (v : Vat) (s : State) (c : Command) → OpensNothing c ⊎ Opens c → IsWritten h v s c → (Opens c → IsWrittenOpen h v s c) → (OpensNothing c × IsWritten h v s c) ⊎ IsWrittenOpen h v s c
+pub written_either : (h : History) (v : Vat) (s : State) (c : Command) → OpensNothing c ⊎ Opens c → IsWritten h v s c → (Opens c → IsWrittenOpen h v s c) → (OpensNothing c × IsWritten h v s c) ⊎ IsWrittenOpen h v s c
 written_either h v s c (inl o) w f = inl (o, w)
 written_either h v s c (inr o) w f = inr (f o)
 
