@@ -4,3 +4,6 @@ pub mod EachScene
 pub mod Led
 pub mod Begins
 pub mod MeantByWires
+pub mod PromisesStay
+pub mod Stepping
+pub mod KeptBySteps

@@ -1,2 +1,4 @@
 pub mod OldestHeard
 pub mod SoundByWires
+pub mod StepsInScenes
+pub mod WiresKept

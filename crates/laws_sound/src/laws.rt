@@ -1,15 +1,17 @@
 //! The functions run no code: what each ensures is the law.
 
 ghost use Rattle.laws_sound.specs.OldestHeard.{OldestAreHeard, RootsAreHosted};
+ghost use Rattle.laws_sound.specs.StepsInScenes.{CommandsStep, MessagesStep};
+ghost use Rattle.laws_sound.specs.WiresKept.{MeaningsAreKept, SoundBySteps};
 ghost use Rattle.laws_sound.specs.SoundByWires.{BeginningsFollow, ScenesAreLed, ScenesAreMeant, ScenesMean, SoundByWires};
 
 use laws_meanings::{
-    bootstraps_are_heard, calls_are_heard, commands_are_written, commands_keep_scenes_meanings, cores_are_fit, descriptors_are_read, first_acts_follow, links_are_left, messages_keep_meanings, no_call_is_lost, node_meanings_last,
+    bootstraps_are_heard, calls_are_heard, commands_are_written, commands_keep_scenes_meanings, cores_are_fit, descriptors_are_read, effects_are_meanings, first_acts_follow, first_acts_of_commands_mean, first_acts_of_messages_mean, links_are_left, messages_keep_meanings, no_call_is_lost, node_meanings_last,
 };
 use laws_runs::meanings_last;
 use laws_scenes::{canceled_were_given_up, sound_by_meanings};
 use laws_sessions::counts_agree_in_scenes;
-use laws_wires::{wires_are_left, wires_mean_at_first};
+use laws_wires::{steps_send_meanings, wires_are_left, wires_mean_at_first};
 
 /// In each scene the history has the bootstrap object of each vat.
 pub fn roots_are_hosted()
@@ -66,4 +68,32 @@ pub fn sound_by_wires()
     meanings_last();
     no_call_is_lost();
     sound_by_meanings();
+}
+
+/// Where all means what it should before a step, and its first act sends what does, all that its vat holds means what the history
+/// says behind it, by labels that are kept where keys were there; and so does all that it sends.
+pub fn steps_keep_places()
+    ensures commands { CommandsStep }
+    ensures messages { MessagesStep }
+{
+    steps_send_meanings();
+    first_acts_of_commands_mean();
+    first_acts_of_messages_mean();
+    cores_are_fit();
+    commands_are_written();
+    node_meanings_last();
+    effects_are_meanings();
+    oldest_are_heard();
+}
+
+/// So all is kept by each step, and all that is promised of runs holds, where the first act of each step sends what means what it
+/// should, and the wires behind a step mean what they should by what its vat holds and sends.
+pub fn sound_by_steps()
+    ensures kept { MeaningsAreKept }
+    ensures runs { SoundBySteps }
+{
+    steps_keep_places();
+    node_meanings_last();
+    wires_are_left();
+    sound_by_wires();
 }

@@ -4,4 +4,4 @@
 
 mod laws;
 
-pub use laws::{oldest_are_heard, roots_are_hosted, scenes_are_led, scenes_mean, sound_by_wires};
+pub use laws::{oldest_are_heard, roots_are_hosted, scenes_are_led, scenes_mean, sound_by_steps, sound_by_wires, steps_keep_places};

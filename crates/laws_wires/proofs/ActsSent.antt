@@ -61,7 +61,7 @@ use Rattle.laws_wires.proofs.StillSo.{Alike, Onto, all-append, all_released, all
 -- ---- What is newly sent
 
 module _ (h : History) (v : Vat) (l : Labels) (said : ℕ → Session) (s : State) (promises : (p : ℕ) → PromiseMeans h v l p (map.get s.promises p)) (outcomes : (o : ℕ) → OutcomeMeans h v l o (map.get s.outcomes o)) where
-  aimed : (F : Map Export) (x : Meant) (n : Node) (t : Target) → wire_target n ≡ Some t → Means h v l x n → LeadsTo h x (own_target h v l F t)
+  pub aimed : (F : Map Export) (x : Meant) (n : Node) (t : Target) → wire_target n ≡ Some t → Means h v l x n → LeadsTo h x (own_target h v l F t)
   aimed F x (node.Object o) t e k = let bad : ◌≡◌ {A = Option Target} None (Some t) = e in cc
   aimed F x (node.Promise p) t e k = let bad : ◌≡◌ {A = Option Target} None (Some t) = e in cc
   aimed F x (node.Field o path) t e k = let bad : ◌≡◌ {A = Option Target} None (Some t) = e in cc
@@ -114,8 +114,7 @@ module _ (h : History) (v : Vat) (l : Labels) (said : ℕ → Session) (s : Stat
       let to = k.4 in
       let z : Gone h v l s.exports (settle s (settle s x.node)) d F = goes_so h v l s.exports (settle s (settle s x.node)) d F g in
       let more : Grown s.exports F = z.grown in
-      let now = more.still x.export y k.1 in
-      (
+      let now = more.still x.export y k.1 in (
         (
           (
             to.0,
@@ -165,8 +164,7 @@ module _ (h : History) (v : Vat) (l : Labels) (said : ℕ → Session) (ps : ℕ
       let F = new.state.exports in
       let P = d.state.promises in
       let Q = new.state.promises in
-      let w : Onto h v l said ps E F P Q = record { weak = a; grown = subst (Grown E) (sym r.exports) (none_grown E); kept = r.promises } in
-      (
+      let w : Onto h v l said ps E F P Q = record { weak = a; grown = subst (Grown E) (sym r.exports) (none_grown E); kept = r.promises } in (
         stays h v l said ps E F P Q w,
         (
           subst (AllSaySo h v m F Q said) (sym r.sends) (all_still h v l said ps E F P Q w d.effects.sends i.0),
@@ -235,8 +233,7 @@ module _ (h : History) (v : Vat) (l : Labels) (said : ℕ → Session) (ps : ℕ
       let P = d.state.promises in
       let Q = new.state.promises in
       let w : Onto h v l said ps E F P Q = record { weak = a; grown = g; kept = λ e y f. kept_all P Q (held_same d new r.promises) y.node } in
-      let u : Onto h v l said ps F F P Q = record { weak = a; grown = none_grown F; kept = λ e y f. kept_all P Q (held_same d new r.promises) y.node } in
-      (
+      let u : Onto h v l said ps F F P Q = record { weak = a; grown = none_grown F; kept = λ e y f. kept_all P Q (held_same d new r.promises) y.node } in (
         stays h v l said ps E F P Q w,
         (
           subst (AllSaySo h v m F Q said) (sym r.sends) (all-append h v l said ps F Q d.effects.sends (message.Plain x ∷ []) (all_still h v l said ps E F P Q w d.effects.sends i.0) (says_still h v l said ps F F P Q u x k, tt)),
@@ -301,8 +298,7 @@ module _ (h : History) (v : Vat) (l : Labels) (said : ℕ → Session) (ps : ℕ
       let it = clears.1 in
       let E = s.exports in
       let P = s.promises in
-      let to : Onto h v l said ps E E P qs = record { weak = a; grown = none_grown E; kept = λ b c n. kept_all P qs (λ p r u. (let t = same.same p r u in (r, t.1))) c.node } in
-      (
+      let to : Onto h v l said ps E E P qs = record { weak = a; grown = none_grown E; kept = λ b c n. kept_all P qs (λ p r u. (let t = same.same p r u in (r, t.1))) c.node } in (
         rw k (stays h v l said ps E E P qs to),
         (
           rw k (all_still h v l said ps E E P qs to d.effects.sends g.0),
@@ -326,8 +322,7 @@ module _ (h : History) (v : Vat) (l : Labels) (said : ℕ → Session) (ps : ℕ
       let of : AllToldSo h v l said ((caller.Peer q, w) ∷ []) = subst (AllToldSo h v l said) e g.2 in
       let it = of.0 in
       let out = body_so h v l said s i.0.1 i.0.3 y.finished it.0 w b ds es says it.2 in
-      let to : Onto h v l said ps E es P P = record { weak = a; grown = out.2; kept = λ n c u k. k } in
-      (
+      let to : Onto h v l said ps E es P P = record { weak = a; grown = out.2; kept = λ n c u k. k } in (
         rw k (stays h v l said ps E es P P to),
         (
           rw k (all_still h v l said ps E es P P to d.effects.sends g.0),
@@ -342,8 +337,7 @@ module _ (h : History) (v : Vat) (l : Labels) (said : ℕ → Session) (ps : ℕ
       let s = d.state in
       let was : SayingSo h v l s.exports s.promises said (Some x) = subst (SayingSo h v l s.exports s.promises said) e g.1 in
       let to = onto_same h v l said ps s.exports s.promises a in
-      let now = saying_still h v l said ps s.exports s.exports s.promises s.promises to (Some x) was in
-      (
+      let now = saying_still h v l said ps s.exports s.exports s.promises s.promises to (Some x) was in (
         rw k (stays h v l said ps s.exports s.exports s.promises s.promises to),
         (
           rw k (all-append h v l said ps s.exports s.promises d.effects.sends _ (all_still h v l said ps s.exports s.exports s.promises s.promises to d.effects.sends g.0) (now, tt)),
@@ -364,8 +358,7 @@ module _ (h : History) (v : Vat) (l : Labels) (said : ℕ → Session) (ps : ℕ
         ap (λ (b : Moment). b.telling) k ∙ ap (λ (b : Moment). b.telling) e,
         ap (λ (b : Moment). b.swept) k ∙ ap (λ (b : Moment). b.swept) e,
         (it.0, it.1),
-      ) in
-      (
+      ) in (
         rw k (stays h v l said ps s.exports s.exports s.promises s.promises to),
         (
           rw k (all_still h v l said ps s.exports s.exports s.promises s.promises to d.effects.sends g.0),
@@ -380,8 +373,7 @@ module _ (h : History) (v : Vat) (l : Labels) (said : ℕ → Session) (ps : ℕ
       let s = d.state in
       let to = onto_same h v l said ps s.exports s.promises a in
       let was : IsSettledSo h v l d (Some x) = subst (IsSettledSo h v l d) (ap (λ (b : Moment). b.settled) e) g.4 in
-      let all = listed h v l s.exports s.promises x (why_of x) was.3 (map.entries s.exports) (map.entries_sorted s.exports) (λ b y f. map.get-entries s.exports b ∙ f) in
-      (
+      let all = listed h v l s.exports s.promises x (why_of x) was.3 (map.entries s.exports) (map.entries_sorted s.exports) (λ b y f. map.get-entries s.exports b ∙ f) in (
         rw k (stays h v l said ps s.exports s.exports s.promises s.promises to),
         (
           rw k (all_still h v l said ps s.exports s.exports s.promises s.promises to d.effects.sends g.0),
@@ -497,8 +489,8 @@ stay_on h v l s t u ps qs f g e x at =
       z.1,
       z.2 ∙ y.2,
       λ k. (let a = y.3 k in
-      let b = z.3 (subst (IsKept t.promises) (sym y.2) a.0) in
-      (subst (IsKept u.promises) y.2 b.0, subst (λ (n : Node). label h v (record l { promise = qs }) n ≡ label h v (record l { promise = ps }) n) y.2 b.1 ∙ a.1)),
+          let b = z.3 (subst (IsKept t.promises) (sym y.2) a.0) in
+          (subst (IsKept u.promises) y.2 b.0, subst (λ (n : Node). label h v (record l { promise = qs }) n ≡ label h v (record l { promise = ps }) n) y.2 b.1 ∙ a.1)),
     )
 
 module _ (each : EachActMeans) (h : History) (v : Vat) (said : ℕ → Session) (last : Moment) where

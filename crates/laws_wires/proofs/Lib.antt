@@ -5,3 +5,4 @@ pub mod SentRead
 pub mod SentSo
 pub mod StillSo
 pub mod ActsSent
+pub mod StartsSent

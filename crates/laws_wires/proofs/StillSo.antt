@@ -153,7 +153,7 @@ module _ (h : History) (v : Vat) (l : Labels) (said : ℕ → Session) (ps : ℕ
         let it = k.2 in
         let y = w.grown.still r.promise.0 it.0 it.1 in (
           resolve_weak h (own_label h v l E) (own_label h v m F) (export_label h v l E r.promise.0) (export_label h v m F r.promise.0) r.to (export_same r.promise.0 it.0 it.1 it.2)
-          (each_weak (descriptors_of_resolved r.to) k.1) k.0,
+              (each_weak (descriptors_of_resolved r.to) k.1) k.0,
           all_ours_grown E F w.grown (descriptors_of_resolved r.to) k.1,
           (y.0, y.1, subst (IsKept Q) (sym y.2) (w.kept r.promise.0 it.0 it.1 it.2)),
         )

@@ -3,3 +3,4 @@ pub mod WireLaws
 pub mod StepWires
 pub mod SentWires
 pub mod Sent
+pub mod FirstSent

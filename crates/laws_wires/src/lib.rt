@@ -6,4 +6,4 @@ mod laws;
 mod sent;
 
 pub use laws::{what_is_sent_is_read, wires_are_left, wires_last, wires_mean_at_first};
-pub use sent::{acts_send_meanings, steps_send_meanings};
+pub use sent::{acts_send_meanings, first_acts_send_meanings, steps_send_meanings};

@@ -1,5 +1,6 @@
 //! The functions run no code: what each ensures is the law.
 
+ghost use Rattle.laws_wires.specs.FirstSent.{CommandsSaySo, MessagesSaySo};
 ghost use Rattle.laws_wires.specs.Sent.{ActsSaySo, StepsSaySo};
 
 use laws_meanings::each_act_keeps_meanings;
@@ -17,3 +18,10 @@ pub fn steps_send_meanings()
 {
     each_act_keeps_meanings();
 }
+
+/// What the first act of a command sends means what it should, where the history has the command's entry; and so does what
+/// the first act of a message sends. What was settled then means something.
+pub fn first_acts_send_meanings()
+    ensures commands { CommandsSaySo }
+    ensures messages { MessagesSaySo }
+{}
