@@ -103,12 +103,12 @@ pub last_words_led : LastWordsAreLed
 last_words_led a b h v c first rest y f = upto (IsLed a b v) h (granted_entries h v c granted.Done) first rest y (granted_always (IsLed a b v) (no_effect a b v) v h h c granted.Done) f
 
 pub scenes_commands_keep : GivenAreNew → CommandsAreWritten → NodesAreThere → EachHasOneSource → EachEndsInTime → EmbargoesArePaired → ScenesCommandsKeep
-scenes_commands_keep new written whole one ends paired names a b x v l c g e t k over up r d within i =
+scenes_commands_keep new written whole one ends paired a b x v l c g e t k over up r d within i =
     let own = granted_entries x.journal v c g in
     let es = effect_entries v e in
     let s = core x.world v in
     let reached = reached_at a b v x (both_reached a b x k) in
-    let w = written names a b x v c g e t k over r d in
+    let w = written a b x v c g e t k over r d in
     let before = places_last (history a b x.journal) own v l quiet s i in
     let z = by s (x.journal ++ own) (its_vat a b x k v) (opens_or_not c) w reached before d in
     let m = z.0 in

@@ -218,8 +218,8 @@ delivered_one a b x v i c g z =
     let p = at_one_place a b x i z in
     omega arith
 
-pub commands_written : NumbersAreAsked → TasksAreOpen → PromisesAreOpen → CommandsAreWritten
-commands_written asked tasks promises names a b x v c g e t i up r d =
+pub commands_written : NamesItsCaps → NumbersAreAsked → TasksAreOpen → PromisesAreOpen → CommandsAreWritten
+commands_written names asked tasks promises a b x v c g e t i up r d =
     let s = core x.world v in
     let n : Before a b x.journal v s = (none_to_come a b x i v, (asked a b x i v).later s.next_call (omega arith), promises a b x i v up, λ k o f. (tasks a b x i v up k o f).1, delivered_one a b x v i, numbered_in a b x i, scenes_count a b x i v) in
     let k = done (λ (m : Moment). Written a b x.journal v s n c g × (Opens c → Opened a b x.journal v s n c g)) s c g e t (λ new j. (written a b x.journal v s n names c g new r j, opened a b x.journal v s n c g new r j)) (λ p q z w. z) d in

@@ -19,7 +19,6 @@ use Rattle.vat_machine.specs.Claims.{history}
 use Rattle.laws_runs.specs.Scenes.{Scene, IsScene, is_over}
 use Rattle.laws_meanings.specs.NodeMeanings.{IfLedToObject, IfLedToBroken}
 use Rattle.laws_meanings.specs.NodeLabels.{Labels, Places}
-use Rattle.laws_meanings.specs.WrittenCommands.{NamesItsCaps}
 
 -- Each of these entries, with what is before it.
 abbrev pub AllLed : Option ObjectId → Option ObjectId → List JournalEntry → List JournalEntry → Type 0
@@ -29,7 +28,7 @@ AllLed root_a root_b h es =
 
 abbrev pub ScenesCommandsKeep : Type 0
 ScenesCommandsKeep =
-    NamesItsCaps → (root_a root_b : Option ObjectId) (x : Scene) (v : Vat) (l : Labels) (c : Command) (g : Granted) (e : Effects) (t : State)
+    (root_a root_b : Option ObjectId) (x : Scene) (v : Vat) (l : Labels) (c : Command) (g : Granted) (e : Effects) (t : State)
     → IsScene root_a root_b x → is_over x v ≡ false → (core x.world v).down ≡ None → refused (core x.world v) c ≡ None → Does (core x.world v) c g e t → IsWithin t
     → Places (history root_a root_b x.journal) v l quiet (core x.world v)
     → ((m : Labels) × Places (history root_a root_b (x.journal ++ command_entries x.journal v c true (Answered (Ok g) e))) v m quiet t)

@@ -29,10 +29,10 @@ Opens c = ⊥
 abbrev pub NamesItsCaps : Type 0
 NamesItsCaps = (p : Payload) (path : List Op) (i : ℕ) → cap_at p path ≡ Cap i → i < caps_in p
 
--- Where payloads do that, this is so of each command that is done in a scene.
+-- So of each command that is done in a scene.
 abbrev pub CommandsAreWritten : Type 0
 CommandsAreWritten =
-    NamesItsCaps → (root_a root_b : Option ObjectId) (x : Scene) (v : Vat) (c : Command) (g : Granted) (e : Effects) (t : State)
+    (root_a root_b : Option ObjectId) (x : Scene) (v : Vat) (c : Command) (g : Granted) (e : Effects) (t : State)
     → IsScene root_a root_b x → is_over x v ≡ false → refused (core x.world v) c ≡ None → Does (core x.world v) c g e t
     → IsWritten (history root_a root_b (x.journal ++ granted_entries x.journal v c g)) v (core x.world v) c
     × (Opens c → IsWrittenOpen (history root_a root_b (x.journal ++ granted_entries x.journal v c g)) v (core x.world v) c)

@@ -294,11 +294,11 @@ pub fn payloads_name_their_own()
 {}
 
 /// In each scene a command that is done is the first in the history of which that is said: the number that it is given is new,
-/// what it settles was not settled, what it answers not answered. This where a payload names no other capabilities than go with
-/// it.
+/// what it settles was not settled, what it answers not answered.
 pub fn commands_are_written()
     ensures { CommandsAreWritten }
 {
+    payloads_name_their_own();
     own_numbers_were_asked();
     tasks_are_answered_once();
     promises_are_settled_once();
@@ -306,7 +306,7 @@ pub fn commands_are_written()
 
 /// What nodes mean at a vat of a scene lasts through each step of a command, with all that this writes: and each of its
 /// deliveries is to the object to which the history up to it leads the call's reference, each call that it ends was answered,
-/// or the history leads its reference to broken. This where a payload names no other capabilities than go with it.
+/// or the history leads its reference to broken.
 pub fn commands_keep_scenes_meanings()
     ensures steps { ScenesCommandsKeep }
     ensures last { LastWordsAreLed }

@@ -20,7 +20,7 @@ use Rattle.laws_runs.specs.Scenes.{Scene, IsScene}
 use Rattle.laws_meanings.specs.CommandMeanings.{OpensNothing, IsWritten, IsWrittenOpen}
 use Rattle.laws_meanings.specs.FirstActs.{FirstActsFollow, IsReady}
 use Rattle.laws_meanings.specs.LastingMeanings.{PlacesLast}
-use Rattle.laws_meanings.specs.WrittenCommands.{CommandsAreWritten, NamesItsCaps, Opens}
+use Rattle.laws_meanings.specs.WrittenCommands.{CommandsAreWritten, Opens}
 use Rattle.laws_sound.specs.OldestHeard.{OldestAreHeard, exports_mean}
 use Rattle.laws_sound.specs.SoundByWires.{BeginningsFollow, Means}
 
@@ -44,7 +44,7 @@ pub written_either : (h : History) (v : Vat) (s : State) (c : Command) → Opens
 written_either h v s c (inl o) w f = inl (o, w)
 written_either h v s c (inr o) w f = inr (f o)
 
-module _ (a b : Option ObjectId) (heard : OldestAreHeard) (written : CommandsAreWritten) (places : PlacesLast) (names : NamesItsCaps) (means : (x : Scene) → IsScene a b x → Means a b x) where
+module _ (a b : Option ObjectId) (heard : OldestAreHeard) (written : CommandsAreWritten) (places : PlacesLast) (means : (x : Scene) → IsScene a b x → Means a b x) where
   abbrev Ready : (x new : Scene) → scenes.Steps x new → Type 0
   Ready x new t = (es : List JournalEntry) × (more : List JournalEntry) × (new.journal ≡ es ++ more) × IsReady (history a b es) x new t
 
@@ -52,7 +52,7 @@ module _ (a b : Option ObjectId) (heard : OldestAreHeard) (written : CommandsAre
   ready x new (scenes.Commanded v c g told s o up r d w e) j =
       let z = means x j in
       let own = granted_entries x.journal v c g in
-      let k = written names a b x v c g told s j o r d in (
+      let k = written a b x v c g told s j o r d in (
         x.journal ++ own,
         effect_entries v told,
         ap (λ (y : Scene). y.journal) e ∙ sym (append_assoc x.journal own (effect_entries v told)),
@@ -68,4 +68,4 @@ module _ (a b : Option ObjectId) (heard : OldestAreHeard) (written : CommandsAre
   ready x new (scenes.Stops B o e) j = (x.journal, [], ap (λ (y : Scene). y.journal) e, tt)
 
 pub beginnings_follow : OldestAreHeard → CommandsAreWritten → PlacesLast → FirstActsFollow → BeginningsFollow
-beginnings_follow heard written places follow names a b means = follow a b (λ x new t j na nb. ready a b heard written places names means x new t j)
+beginnings_follow heard written places follow a b means = follow a b (λ x new t j na nb. ready a b heard written places means x new t j)

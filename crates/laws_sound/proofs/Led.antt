@@ -23,7 +23,6 @@ use Rattle.laws_meanings.specs.MessageMeanings.{IsHeard, MessagesKeepMeanings, w
 use Rattle.laws_meanings.specs.NodeMeanings.{IfLedToObject, IfLedToBroken}
 use Rattle.laws_meanings.specs.NodeLabels.{AreLed, EndsAreLed, Places}
 use Rattle.laws_meanings.specs.StepMeanings.{AllLed, LastWordsAreLed, ScenesCommandsKeep}
-use Rattle.laws_meanings.specs.WrittenCommands.{NamesItsCaps}
 use Rattle.laws_runs.proofs.Extends.{extends}
 use Rattle.laws_meanings.proofs.Entries.{EachAfter, each-append, upto}
 use Rattle.laws_meanings.proofs.Lasts.{ends_still, led_still}
@@ -43,7 +42,7 @@ module _ (a b : Option ObjectId) where
     one_by_one (h ++ y ∷ []) ys (λ before behind z e. subst (λ (j : List JournalEntry). Led j z) (sym (append_assoc h (y ∷ []) before)) (k (y ∷ before) behind z (let g : y ∷ ys ≡ y ∷ (before ++ z ∷ behind) = (rw e refl) in g))),
   )
 
-  module _ (heard : OldestAreHeard) (fit : CoresAreFit) (messages : MessagesKeepMeanings) (commands : ScenesCommandsKeep) (last : LastWordsAreLed) (names : NamesItsCaps) (means : (x : Scene) → IsScene a b x → Means a b x) where
+  module _ (heard : OldestAreHeard) (fit : CoresAreFit) (messages : MessagesKeepMeanings) (commands : ScenesCommandsKeep) (last : LastWordsAreLed) (means : (x : Scene) → IsScene a b x → Means a b x) where
     received : (x : Scene) (v : Vat) (m : Message) (ms : List Message) (told : Effects) (t : State) → IsScene a b x → inbox x.world v ≡ m ∷ ms → fault_of (core x.world v) m ≡ None → Handles (core x.world v) m told t → EachAfter Led x.journal (entry.Got v ∷ effect_entries v told)
     received x v m ms told t scene i f d =
         let h = history a b x.journal in
@@ -70,7 +69,7 @@ module _ (a b : Option ObjectId) where
     stepped x mid j (scenes.Commanded v c g told s o up r d w e) i =
         let z = means x j in
         let es = command_entries x.journal v c true (Answered (Ok g) told) in
-        rw e (put x es i (one_by_one x.journal es (commands names a b x v (z.0 v) c g told s j o up r d w (z.1.places v)).1))
+        rw e (put x es i (one_by_one x.journal es (commands a b x v (z.0 v) c g told s j o up r d w (z.1.places v)).1))
     stepped x mid j (scenes.Received v m ms told s o up p f d w e) i = rw e (put x (entry.Got v ∷ effect_entries v told) i (received x v m ms told s j p f d))
     stepped x mid j (scenes.GivesUp A c o r f e) i = rw e (put x (granted_entries x.journal A c granted.Done) i (one_by_one x.journal _ (last a b x.journal A c)))
     stepped x mid j (scenes.GivesUp B c o r f e) i = rw e (put x (granted_entries x.journal B c granted.Done) i (one_by_one x.journal _ (last a b x.journal B c)))
@@ -84,4 +83,4 @@ module _ (a b : Option ObjectId) where
     led x k = (λ before behind e f. (upto Led [] x.journal before behind e (good x k) f).0, λ before behind e f. (upto Led [] x.journal before behind e (good x k) f).1)
 
 pub scenes_led : OldestAreHeard → CoresAreFit → MessagesKeepMeanings → ScenesCommandsKeep → LastWordsAreLed → ScenesAreLed
-scenes_led heard fit messages commands last names a b means x k = led a b heard fit messages commands last names means x k
+scenes_led heard fit messages commands last a b means x k = led a b heard fit messages commands last means x k

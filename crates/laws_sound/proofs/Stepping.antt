@@ -131,12 +131,12 @@ module _ (plain : FirstActsMean) (opens : FirstOpeningsMean) where
       (opens h l s c g d (subst (λ (u : Vat). IsWrittenOpen h u s c) (sym fit.vat) (f o)) fit.whole fit.one_source fit.questions fit.paired (subst (λ (u : Vat). Places h u l quiet s) (sym fit.vat) i) k)
 
 pub commands_step : StepsSaySo → FirstActsMean → FirstOpeningsMean → CoresAreFit → CommandsAreWritten → PlacesLast → EffectsAreWritten → CommandsStep
-commands_step say plain opens fits written places effects names a b sends x new l v c g told t scene after i over r k journal =
+commands_step say plain opens fits written places effects a b sends x new l v c g told t scene after i over r k journal =
     let s = core x.world v in
     let own = granted_entries x.journal v c g in
     let h = history a b (x.journal ++ own) in
     let fit = fits a b x scene v in
-    let w = written names a b x v c g told t scene over r k in
+    let w = written a b x v c g told t scene over r k in
     let acts = does s c g told t k in
     let z = begun plain opens h v (l v) s c g acts.started fit (opens_or_not c) w.0 w.1 (places (history a b x.journal) own v (l v) quiet s (i.places v)) acts.starts in
     let kept = of_labels (l v) z.0 s z.1 in

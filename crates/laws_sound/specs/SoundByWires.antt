@@ -10,7 +10,6 @@ use Rattle.laws_scenes.specs.WhatIsLeft.{IsMeant}
 use Rattle.laws_meanings.specs.NodeMeanings.{IfLedToObject, IfLedToBroken}
 use Rattle.laws_meanings.specs.NodeLabels.{Labels}
 use Rattle.laws_meanings.specs.NoneLost.{BeginningsMean}
-use Rattle.laws_meanings.specs.WrittenCommands.{NamesItsCaps}
 use Rattle.laws_wires.specs.Wires.{WorldMeans}
 
 -- By some labels all that is in the scene means what it should.
@@ -35,16 +34,16 @@ ScenesMean = (root_a root_b : Option ObjectId) → StepsKeepMeanings root_a root
 -- what the history says.
 abbrev pub ScenesAreLed : Type 0
 ScenesAreLed =
-    NamesItsCaps → (root_a root_b : Option ObjectId) → ((x : Scene) → IsScene root_a root_b x → Means root_a root_b x)
+    (root_a root_b : Option ObjectId) → ((x : Scene) → IsScene root_a root_b x → Means root_a root_b x)
     → (x : Scene) → IsScene root_a root_b x → Upto IfLedToObject (history root_a root_b x.journal) × Upto IfLedToBroken (history root_a root_b x.journal)
 
 abbrev pub BeginningsFollow : Type 0
-BeginningsFollow = NamesItsCaps → (root_a root_b : Option ObjectId) → ((x : Scene) → IsScene root_a root_b x → Means root_a root_b x) → BeginningsMean root_a root_b
+BeginningsFollow = (root_a root_b : Option ObjectId) → ((x : Scene) → IsScene root_a root_b x → Means root_a root_b x) → BeginningsMean root_a root_b
 
 -- So all that is promised of what references stand for holds, and all that is promised of runs.
 abbrev pub ScenesAreMeant : Type 0
 ScenesAreMeant =
-    NamesItsCaps → (root_a root_b : Option ObjectId) → StepsKeepMeanings root_a root_b → (x : Scene) → IsScene root_a root_b x → IsMeant (history root_a root_b x.journal) x
+    (root_a root_b : Option ObjectId) → StepsKeepMeanings root_a root_b → (x : Scene) → IsScene root_a root_b x → IsMeant (history root_a root_b x.journal) x
 
 abbrev pub SoundByWires : Type 0
-SoundByWires = NamesItsCaps → ((root_a root_b : Option ObjectId) → StepsKeepMeanings root_a root_b) → EveryRunIsSound
+SoundByWires = ((root_a root_b : Option ObjectId) → StepsKeepMeanings root_a root_b) → EveryRunIsSound

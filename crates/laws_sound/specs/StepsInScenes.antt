@@ -31,7 +31,6 @@ use Rattle.laws_acts.specs.MessageActs.{Consumes}
 use Rattle.laws_runs.specs.Scenes.{Scene, IsScene, is_over}
 use Rattle.laws_meanings.specs.MessageMeanings.{AnswersOf, OutcomesKept}
 use Rattle.laws_meanings.specs.NodeLabels.{Labels, MomentMeans, Places, label}
-use Rattle.laws_meanings.specs.WrittenCommands.{NamesItsCaps}
 use Rattle.laws_wires.specs.Sent.{AllSaySo, SentMean}
 use Rattle.laws_wires.specs.Wires.{Session, WorldMeans, past_one, sessions_at}
 use Rattle.laws_sound.specs.OldestHeard.{exports_mean}
@@ -79,7 +78,7 @@ FirstMessagesSend root_a root_b =
 
 abbrev pub CommandsStep : Type 0
 CommandsStep =
-    NamesItsCaps → (root_a root_b : Option ObjectId) → FirstCommandsSend root_a root_b
+    (root_a root_b : Option ObjectId) → FirstCommandsSend root_a root_b
     → (x new : Scene) (l : Vat → Labels) (v : Vat) (c : Command) (g : Granted) (told : Effects) (t : State)
     → IsScene root_a root_b x → IsScene root_a root_b new → WorldMeans (history root_a root_b x.journal) x.world l → is_over x v ≡ false → refused (core x.world v) c ≡ None → Does (core x.world v) c g told t
     → new.journal ≡ (x.journal ++ granted_entries x.journal v c g) ++ effect_entries v told
@@ -100,4 +99,4 @@ MessagesStep =
 
 -- What first acts send does mean what it should.
 abbrev pub FirstActsSend : Type 0
-FirstActsSend = NamesItsCaps → (root_a root_b : Option ObjectId) → FirstCommandsSend root_a root_b × FirstMessagesSend root_a root_b
+FirstActsSend = (root_a root_b : Option ObjectId) → FirstCommandsSend root_a root_b × FirstMessagesSend root_a root_b

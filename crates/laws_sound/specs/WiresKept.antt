@@ -22,7 +22,6 @@ use Rattle.laws_acts.specs.MessageActs.{Consumes}
 use Rattle.laws_runs.specs.Scenes.{Scene, IsScene, is_over}
 use Rattle.laws_meanings.specs.MessageMeanings.{AnswersOf}
 use Rattle.laws_meanings.specs.NodeLabels.{Labels}
-use Rattle.laws_meanings.specs.WrittenCommands.{NamesItsCaps}
 use Rattle.laws_wires.specs.Wires.{WiresMean, WorldMeans, past_one, sessions_at}
 use Rattle.laws_sound.specs.OldestHeard.{exports_mean}
 use Rattle.laws_sound.specs.StepsInScenes.{HasStepped}
@@ -56,7 +55,7 @@ pub record WiresAreKept (root_a root_b : Option ObjectId) : Type 0 where
   pub messages : MessagesKeepWires root_a root_b
 
 abbrev pub MeaningsAreKept : Type 0
-MeaningsAreKept = NamesItsCaps → (root_a root_b : Option ObjectId) → WiresAreKept root_a root_b → StepsKeepMeanings root_a root_b
+MeaningsAreKept = (root_a root_b : Option ObjectId) → WiresAreKept root_a root_b → StepsKeepMeanings root_a root_b
 
 abbrev pub SoundBySteps : Type 0
-SoundBySteps = NamesItsCaps → ((root_a root_b : Option ObjectId) → WiresAreKept root_a root_b) → EveryRunIsSound
+SoundBySteps = ((root_a root_b : Option ObjectId) → WiresAreKept root_a root_b) → EveryRunIsSound
