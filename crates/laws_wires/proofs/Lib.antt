@@ -2,3 +2,4 @@ pub mod AtFirst
 pub mod LinksKept
 pub mod Behind
 pub mod SentRead
+pub mod NamedStay

@@ -1,0 +1,51 @@
+-- What the wires behind a step take as known of it, for steps of a vat that was between two steps, with the other.
+use Rattle.std.specs.Prelude.{◌≡◌, ℕ, None, Some, List, [], ◌∷◌}
+use Rattle.std.specs.FinMap as map
+use Rattle.finite_maps.specs.Tally.{Map}
+use Rattle.rpc_msg.specs.declared.message.Message.{Message}
+use Rattle.rpc_msg.specs.declared.message.Message.TheVariants as message
+use Rattle.rpc_msg.specs.declared.message.PlainMessage.{PlainMessage}
+use Rattle.rpc_msg.specs.declared.parts.Descriptor.{Descriptor}
+use Rattle.rpc_msg.specs.Messages.{descriptors_of}
+use Rattle.vat_journal.specs.Meaning.{History}
+use Rattle.vat_machine.specs.declared.calls.KeptOutcome.{KeptOutcome}
+use Rattle.vat_machine.specs.declared.calls.Promise.{Promise}
+use Rattle.vat_machine.specs.declared.command.Command.{Command}
+use Rattle.vat_machine.specs.declared.command.Effects.{Effects}
+use Rattle.vat_machine.specs.declared.command.Granted.{Granted}
+use Rattle.vat_machine.specs.declared.command.Level.TheVariants.{One}
+use Rattle.vat_machine.specs.declared.entries.Export.{Export}
+use Rattle.vat_machine.specs.State.{State}
+use Rattle.vat_machine.specs.Descriptors.{take_all}
+use Rattle.vat_machine.specs.Faults.{fault_of}
+use Rattle.vat_machine.specs.Steps.{Does, Handles}
+use Rattle.laws_routes.specs.Midway.{Midway}
+use Rattle.laws_routes.specs.Received.{IsMet}
+use Rattle.laws_routes.specs.Sayings.{Has, has_of}
+use Rattle.laws_meanings.specs.NodeLabels.{Labels}
+use Rattle.laws_wires.specs.Wires.{Session}
+use Rattle.laws_wires.specs.StepWires.{Around, OnTheWay, NamedAreKept}
+
+-- Promises and outcomes that are there keep their labels.
+pub record NodesKeepLabels (l m : Labels) (s : State) : Type 0 where
+  pub promises : (p : ℕ) (y : Promise) → map.get s.promises p ≡ Some y → m.promise p ≡ l.promise p
+  pub outcomes : (o : ℕ) (y : KeptOutcome) → map.get s.outcomes o ≡ Some y → m.outcome o ≡ l.outcome o
+
+-- What a vat has once it took these descriptors.
+abbrev pub has_taken : State → List Descriptor → Has
+has_taken s ds = has_of [] (take_all s ds).imports s.questions
+
+-- Behind a command what is named on the way is as it was.
+abbrev pub CommandsKeepNamed : Type 0
+CommandsKeepNamed =
+    (h : History) (w : Around) (out back : List Message) (now : ℕ → Session) (c : Command) (g : Granted) (effects : Effects)
+    → Midway w.s w.z out back → Midway w.z w.s back out → NodesKeepLabels w.l w.m w.s → Does w.s c g effects w.t
+    → NamedAreKept h w (record { out = out; back = back; has = has_of [] w.s.imports w.s.questions; now = now }) w.s.exports
+
+-- So it is behind a message that is taken, in the exports that this leaves.
+abbrev pub MessagesKeepNamed : Type 0
+MessagesKeepNamed =
+    (h : History) (w : Around) (out rest : List Message) (now : ℕ → Session) (x : PlainMessage) (effects : Effects)
+    → Midway w.s w.z out (message.Plain x ∷ rest) → Midway w.z w.s (message.Plain x ∷ rest) out → w.s.level ≡ One → IsMet w.s w.z out rest x → NodesKeepLabels w.l w.m w.s
+    → fault_of w.s (message.Plain x) ≡ None → Handles w.s (message.Plain x) effects w.t
+    → (kept : Map Export) × NamedAreKept h w (record { out = out; back = rest; has = has_taken w.s (descriptors_of (message.Plain x)); now = now }) kept
