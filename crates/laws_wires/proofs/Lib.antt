@@ -3,3 +3,4 @@ pub mod LinksKept
 pub mod Behind
 pub mod SentRead
 pub mod NamedStay
+pub mod ReturnsLeft

@@ -1,5 +1,5 @@
 -- What the wires behind a step take as known of it, for steps of a vat that was between two steps, with the other.
-use Rattle.std.specs.Prelude.{◌≡◌, ℕ, None, Some, List, [], ◌∷◌}
+use Rattle.std.specs.Prelude.{◌≡◌, ℕ, None, Some, IsSome, List, [], ◌∷◌}
 use Rattle.std.specs.FinMap as map
 use Rattle.finite_maps.specs.Tally.{Map}
 use Rattle.rpc_msg.specs.declared.message.Message.{Message}
@@ -15,11 +15,14 @@ use Rattle.vat_machine.specs.declared.command.Effects.{Effects}
 use Rattle.vat_machine.specs.declared.command.Granted.{Granted}
 use Rattle.vat_machine.specs.declared.command.Level.TheVariants.{One}
 use Rattle.vat_machine.specs.declared.entries.Export.{Export}
+use Rattle.vat_machine.specs.declared.entries.Question.{Question}
 use Rattle.vat_machine.specs.State.{State}
 use Rattle.vat_machine.specs.Descriptors.{take_all}
 use Rattle.vat_machine.specs.Faults.{fault_of}
 use Rattle.vat_machine.specs.Steps.{Does, Handles}
+use Rattle.vat_machine.specs.Sweeping.{IsNotSent}
 use Rattle.laws_routes.specs.Midway.{Midway}
+use Rattle.laws_routes.specs.Named.{EachReturn}
 use Rattle.laws_routes.specs.Received.{IsMet}
 use Rattle.laws_routes.specs.Sayings.{Has, has_of}
 use Rattle.laws_meanings.specs.NodeLabels.{Labels}
@@ -49,3 +52,22 @@ MessagesKeepNamed =
     → Midway w.s w.z out (message.Plain x ∷ rest) → Midway w.z w.s (message.Plain x ∷ rest) out → w.s.level ≡ One → IsMet w.s w.z out rest x → NodesKeepLabels w.l w.m w.s
     → fault_of w.s (message.Plain x) ≡ None → Handles w.s (message.Plain x) effects w.t
     → (kept : Map Export) × NamedAreKept h w (record { out = out; back = rest; has = has_taken w.s (descriptors_of (message.Plain x)); now = now }) kept
+
+-- ---- What the way back names of questions and imports
+
+-- The question was there, and is: of the same role, and finished where it was finished.
+abbrev pub IsLeft : State → State → ℕ → Type 0
+IsLeft s t q = (x : Question) × (y : Question) × (map.get s.questions q ≡ Some x) × (map.get t.questions q ≡ Some y) × (y.role ≡ x.role) × (IsNotSent y.finish → IsNotSent x.finish)
+
+-- So is each whose Return is on its way, behind a command, and behind a message that is taken.
+abbrev pub CommandsLeaveReturns : Type 0
+CommandsLeaveReturns = (s other t : State) (out back : List Message) (c : Command) (g : Granted) (effects : Effects) → Midway s other out back → Does s c g effects t → EachReturn (IsLeft s t) back
+
+abbrev pub MessagesLeaveReturns : Type 0
+MessagesLeaveReturns =
+    (s other t : State) (out rest : List Message) (x : PlainMessage) (effects : Effects)
+    → Midway s other out (message.Plain x ∷ rest) → s.level ≡ One → IsMet s other out rest x → fault_of s (message.Plain x) ≡ None → Handles s (message.Plain x) effects t → EachReturn (IsLeft s t) rest
+
+-- An import that is there behind it was there, or came with the message.
+abbrev pub CommandsBringNone : Type 0
+CommandsBringNone = (s t : State) (c : Command) (g : Granted) (effects : Effects) → Does s c g effects t → (e : ℕ) → IsSome (map.get t.imports e) → IsSome (map.get s.imports e)

@@ -1,6 +1,6 @@
 //! The functions run no code: what each ensures is the law.
 
-ghost use Rattle.laws_wires.specs.SceneWires.{CommandsKeepNamed, MessagesKeepNamed};
+ghost use Rattle.laws_wires.specs.SceneWires.{CommandsBringNone, CommandsKeepNamed, CommandsLeaveReturns, MessagesKeepNamed, MessagesLeaveReturns};
 
 use laws_acts::steps_are_acts;
 
@@ -10,6 +10,16 @@ use laws_acts::steps_are_acts;
 pub fn named_are_kept()
     ensures commands { CommandsKeepNamed }
     ensures messages { MessagesKeepNamed }
+{
+    steps_are_acts();
+}
+
+/// Behind a command, and behind a message that is taken, each question whose Return is on its way is there, of the same role; where
+/// its Finish was sent, it stays so. No import comes by a command.
+pub fn returns_are_awaited()
+    ensures commands { CommandsLeaveReturns }
+    ensures messages { MessagesLeaveReturns }
+    ensures imports { CommandsBringNone }
 {
     steps_are_acts();
 }
