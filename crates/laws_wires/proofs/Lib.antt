@@ -4,3 +4,4 @@ pub mod Behind
 pub mod SentRead
 pub mod NamedStay
 pub mod ReturnsLeft
+pub mod BackMet

@@ -16,7 +16,6 @@ use Rattle.vat_machine.specs.declared.calls.Caller.{Caller}
 use Rattle.vat_machine.specs.declared.calls.Caller.TheVariants as caller
 use Rattle.vat_machine.specs.declared.calls.Request.{Request}
 use Rattle.vat_machine.specs.declared.calls.Value.{Value}
-use Rattle.vat_machine.specs.declared.calls.KeptOutcome.{KeptOutcome}
 use Rattle.rpc_msg.specs.declared.parts.Target.{Target}
 use Rattle.vat_machine.specs.declared.entries.AnswerEntry.{AnswerEntry}
 use Rattle.vat_machine.specs.declared.entries.Finishing.{Finishing}
@@ -27,10 +26,9 @@ use Rattle.vat_machine.specs.declared.entries.Returned.{Returned}
 use Rattle.vat_machine.specs.declared.entries.Role.{Role}
 use Rattle.vat_machine.specs.State.{State}
 use Rattle.vat_machine.specs.Faults.{gave}
-use Rattle.vat_machine.specs.Flags.{give_back}
 use Rattle.vat_machine.specs.Progress.{Progress, begin, numbers, with_state}
 use Rattle.vat_machine.specs.Routing.{Asks}
-use Rattle.vat_machine.specs.Settling.{Fits, Tells, TellsPeer, known}
+use Rattle.vat_machine.specs.Settling.{Tells, TellsPeer, known}
 use Rattle.vat_machine.specs.Sweeping.{IsNotSent, closed_map, finished_by, got_of}
 use Rattle.laws_acts.specs.Acts.{Acts, ComesTo, Consumes, NoMore, StepsAreActs, Then, TurnsBy, came}
 use Rattle.laws_acts.specs.FirstActs.{asked}
@@ -39,9 +37,7 @@ use Rattle.laws_sessions.proofs.Paid.{release_state}
 use Rattle.laws_sessions.proofs.Same.{collects, describes_all, fits, gives, goes, obeys, resolves, says, takes, takes_resolve, tells_call}
 use Rattle.laws_exports.specs.Imports.{KeepsImport}
 use Rattle.laws_exports.proofs.Keeping as keeping
-use Rattle.laws_routes.specs.Midway.{Midway}
 use Rattle.laws_routes.specs.Named.{EachReturn, ReturnOf}
-use Rattle.laws_routes.specs.Premises.{EachOpen}
 use Rattle.laws_routes.specs.Received.{IfQuestion, IsMet}
 use Rattle.laws_wires.specs.SceneWires.{CommandsBringNone, CommandsLeaveReturns, IsLeft, MessagesLeaveReturns}
 

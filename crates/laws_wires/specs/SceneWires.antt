@@ -1,5 +1,5 @@
 -- What the wires behind a step take as known of it, for steps of a vat that was between two steps, with the other.
-use Rattle.std.specs.Prelude.{◌≡◌, ℕ, None, Some, IsSome, List, [], ◌∷◌}
+use Rattle.std.specs.Prelude.{◌≡◌, ℕ, true, None, Some, IsSome, List, [], ◌∷◌}
 use Rattle.std.specs.FinMap as map
 use Rattle.finite_maps.specs.Tally.{Map}
 use Rattle.rpc_msg.specs.declared.message.Message.{Message}
@@ -24,10 +24,10 @@ use Rattle.vat_machine.specs.Sweeping.{IsNotSent}
 use Rattle.laws_routes.specs.Midway.{Midway}
 use Rattle.laws_routes.specs.Named.{EachReturn}
 use Rattle.laws_routes.specs.Received.{IsMet}
-use Rattle.laws_routes.specs.Sayings.{Has, has_of}
-use Rattle.laws_meanings.specs.NodeLabels.{Labels}
-use Rattle.laws_wires.specs.Wires.{Session}
-use Rattle.laws_wires.specs.StepWires.{Around, OnTheWay, NamedAreKept}
+use Rattle.laws_routes.specs.Sayings.{Has, has_of, is_waiting}
+use Rattle.laws_meanings.specs.NodeLabels.{Labels, asked_label}
+use Rattle.laws_wires.specs.Wires.{Session, asked_at}
+use Rattle.laws_wires.specs.StepWires.{Around, NamedAreKept}
 
 -- Promises and outcomes that are there keep their labels.
 pub record NodesKeepLabels (l m : Labels) (s : State) : Type 0 where
@@ -71,3 +71,14 @@ MessagesLeaveReturns =
 -- An import that is there behind it was there, or came with the message.
 abbrev pub CommandsBringNone : Type 0
 CommandsBringNone = (s t : State) (c : Command) (g : Granted) (effects : Effects) → Does s c g effects t → (e : ℕ) → IsSome (map.get t.imports e) → IsSome (map.get s.imports e)
+
+-- Where each question keeps its label, and so does the outcome of a relay, the way back means the same to who asks: a question
+-- that waits did, and is of the same.
+abbrev pub RolesKeepLabels : Labels → Labels → State → Type 0
+RolesKeepLabels l m s = (q : ℕ) (x : Question) → map.get s.questions q ≡ Some x → IsNotSent x.finish → asked_label m q x.role ≡ asked_label l q x.role
+
+abbrev pub ReturnsAreMet : Type 0
+ReturnsAreMet =
+    (l m : Labels) (s t : State) (back : List Message) → RolesKeepLabels l m s → EachReturn (IsLeft s t) back
+    → EachReturn (λ q. is_waiting (map.get t.questions q) ≡ true → is_waiting (map.get s.questions q) ≡ true) back
+    × EachReturn (λ q. is_waiting (map.get s.questions q) ≡ true → asked_at m q (map.get t.questions q) ≡ asked_at l q (map.get s.questions q)) back
