@@ -5,3 +5,4 @@ pub mod SentRead
 pub mod NamedStay
 pub mod ReturnsLeft
 pub mod BackMet
+pub mod ImportsBrought

@@ -82,3 +82,9 @@ ReturnsAreMet =
     (l m : Labels) (s t : State) (back : List Message) → RolesKeepLabels l m s → EachReturn (IsLeft s t) back
     → EachReturn (λ q. is_waiting (map.get t.questions q) ≡ true → is_waiting (map.get s.questions q) ≡ true) back
     × EachReturn (λ q. is_waiting (map.get s.questions q) ≡ true → asked_at m q (map.get t.questions q) ≡ asked_at l q (map.get s.questions q)) back
+
+-- An import that is there behind a message was there, or came with its descriptors.
+abbrev pub MessagesBringTheirs : Type 0
+MessagesBringTheirs =
+    (s t : State) (x : PlainMessage) (effects : Effects) → s.level ≡ One → fault_of s (message.Plain x) ≡ None → Handles s (message.Plain x) effects t
+    → (e : ℕ) → IsSome (map.get t.imports e) → IsSome (map.get (take_all s (descriptors_of (message.Plain x))).imports e)

@@ -6,4 +6,4 @@ mod laws;
 mod scenes;
 
 pub use laws::{what_is_sent_is_read, wires_are_left, wires_last, wires_mean_at_first};
-pub use scenes::{named_are_kept, returns_are_awaited};
+pub use scenes::{imports_are_brought, named_are_kept, returns_are_awaited};

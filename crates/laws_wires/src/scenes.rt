@@ -1,6 +1,6 @@
 //! The functions run no code: what each ensures is the law.
 
-ghost use Rattle.laws_wires.specs.SceneWires.{CommandsBringNone, CommandsKeepNamed, CommandsLeaveReturns, MessagesKeepNamed, MessagesLeaveReturns, ReturnsAreMet};
+ghost use Rattle.laws_wires.specs.SceneWires.{CommandsBringNone, CommandsKeepNamed, CommandsLeaveReturns, MessagesBringTheirs, MessagesKeepNamed, MessagesLeaveReturns, ReturnsAreMet};
 
 use laws_acts::steps_are_acts;
 
@@ -15,12 +15,19 @@ pub fn named_are_kept()
 }
 
 /// Behind a command, and behind a message that is taken, each question whose Return is on its way is there, of the same role; where
-/// its Finish was sent, it stays so. So the way back is met as it was to be, where questions keep their labels. No import comes by a command.
+/// its Finish was sent, it stays so. So the way back is met as it was to be, where questions keep their labels.
 pub fn returns_are_awaited()
     ensures commands { CommandsLeaveReturns }
     ensures messages { MessagesLeaveReturns }
     ensures met { ReturnsAreMet }
-    ensures imports { CommandsBringNone }
+{
+    steps_are_acts();
+}
+
+/// No import comes by a command; by a message come those that its descriptors give.
+pub fn imports_are_brought()
+    ensures commands { CommandsBringNone }
+    ensures messages { MessagesBringTheirs }
 {
     steps_are_acts();
 }
