@@ -37,6 +37,7 @@ module _ (l m : Labels) (s t : State) (kept : RolesKeepLabels l m s) where
       ap (asked_at m q) h.3 ∙ (ap (asked_label m q) h.4 ∙ (kept q x h.2 (is_not_sent x.finish at) ∙ sym (ap (asked_at l q) h.2)))
 
 pub returns_are_met : ReturnsAreMet
-returns_are_met l m s t back kept h =
-    (return_map (IsLeft s t) (λ q. is_waiting (map.get t.questions q) ≡ true → is_waiting (map.get s.questions q) ≡ true) back (waited l m s t kept) h,
-    return_map (IsLeft s t) (λ q. is_waiting (map.get s.questions q) ≡ true → asked_at m q (map.get t.questions q) ≡ asked_at l q (map.get s.questions q)) back (of_same l m s t kept) h)
+returns_are_met l m s t back kept h = (
+  return_map (IsLeft s t) (λ q. is_waiting (map.get t.questions q) ≡ true → is_waiting (map.get s.questions q) ≡ true) back (waited l m s t kept) h,
+  return_map (IsLeft s t) (λ q. is_waiting (map.get s.questions q) ≡ true → asked_at m q (map.get t.questions q) ≡ asked_at l q (map.get s.questions q)) back (of_same l m s t kept) h,
+)

@@ -43,14 +43,11 @@ use Rattle.laws_routes.specs.KnownLaws.{StillThere}
 use Rattle.laws_routes.specs.Midway.{Midway}
 use Rattle.laws_routes.specs.QuietLaws.{MayLower, lowering}
 use Rattle.laws_routes.specs.Received.{IfAnswer, IfQuestion, IsMet}
-use Rattle.laws_routes.specs.Sayings.{has_of}
 use Rattle.laws_routes.proofs.ExportsLowered.{Lowered, by_lowered, each_lowered}
 use Rattle.laws_routes.proofs.MidwayTaken.{lowered_still, taken}
 use Rattle.laws_routes.proofs.SayingsCarried.{all_there}
 use Rattle.laws_meanings.specs.NodeLabels.{Labels, field_label, label}
-use Rattle.laws_wires.specs.Wires.{Session}
-use Rattle.laws_wires.specs.StepWires.{Around, NamedAreKept}
-use Rattle.laws_wires.specs.SceneWires.{CommandsKeepNamed, MessagesKeepNamed, NodesKeepLabels, has_taken}
+use Rattle.laws_wires.specs.SceneWires.{CommandsKeepNamed, MessagesKeepNamed, NodesKeepLabels}
 
 -- ---- Acts add exports
 
@@ -153,7 +150,7 @@ module _ (s other : State) (out rest : List Message) (level : s.level ≡ One) (
       let at = subst (IfQuestion s other out rest r) h.1 met in
       let may = subst (λ (t : State). MayLower (obey t r.release_param_caps (numbers y.given)) other out rest) (all_alone s ds) at.lowers in
       let is : first.state.exports ≡ (obey s r.release_param_caps (numbers y.given)).exports =
-          came_exports r y y.finish first h.3 ∙ obey_alone (take_all s ds) (take_all s ds).imports r.release_param_caps (numbers y.given) (all_alone s ds) in
+      came_exports r y y.finish first h.3 ∙ obey_alone (take_all s ds) (take_all s ds).imports r.release_param_caps (numbers y.given) (all_alone s ds) in
       subst (LeavesOf (plain.Return r)) (sym is) (obeyed (plain.Return r) mid r.release_param_caps (numbers y.given) may)
   leaves (plain.Finish f) first mid met h =
       let a : AnswerEntry = h.0 in
@@ -193,14 +190,16 @@ messages_keep_named law h w out rest now x effects mid theirs level met kept fau
     let more = a.2 in
     let left = leaves w.s w.z out rest level theirs.imported x first mid met a.1 in
     let between = left.midway in
-    let named = between.named in
-    (first.state.exports, record {
-      was = left.was;
-      is = subst (λ (t : State). StillThere first.state.exports t.exports) (sym more.3) (acts_add more.0 first more.1);
-      means = exports_mean h w.l w.m w.s kept w.v w.z out (message.Plain x ∷ rest) mid first.state.exports left.was;
-      named = named.0;
-      aimed = theirs.met;
-      named_back = named.1;
-      aimed_back = between.met;
-      imported = left.imported;
-    })
+    let named = between.named in (
+      first.state.exports,
+      record {
+        was = left.was;
+        is = subst (λ (t : State). StillThere first.state.exports t.exports) (sym more.3) (acts_add more.0 first more.1);
+        means = exports_mean h w.l w.m w.s kept w.v w.z out (message.Plain x ∷ rest) mid first.state.exports left.was;
+        named = named.0;
+        aimed = theirs.met;
+        named_back = named.1;
+        aimed_back = between.met;
+        imported = left.imported;
+      },
+    )

@@ -121,8 +121,8 @@ law = record {
   asks_root = λ d new g h. subst (λ (p : Progress). StillAt d p) (sym h.3) (put_free d.state.questions h.0 _ h.1);
   turns = λ d new x h r s. same d new h.ids.tables.questions;
   settles = λ d new told o x v fit mid there unknown f t h. (
-    let alike = fits d.state o x.caller x.waiting v fit mid f in
-    same d new (ap (λ (p : Progress). p.state.questions) h ∙ (tells (with_state d (known mid o x.caller x.waiting fit)) told x.caller fit t ∙ alike.ids.tables.questions)));
+      let alike = fits d.state o x.caller x.waiting v fit mid f in
+      same d new (ap (λ (p : Progress). p.state.questions) h ∙ (tells (with_state d (known mid o x.caller x.waiting fit)) told x.caller fit t ∙ alike.ids.tables.questions)));
   resolves = λ d new i x n h. (let k = resolves d i x n new h in same d new k.tables.questions);
   goes = λ d new h. (let k = goes d new h in same d new k.questions);
   ends = λ d new q x there due h. subst (λ (p : Progress). StillAt d p) (sym h) (ends d q x x.finish there);
