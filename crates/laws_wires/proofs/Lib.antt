@@ -9,3 +9,7 @@ pub mod StartsSent
 pub mod WholeSent
 pub mod HeardSent
 pub mod LinksRead
+pub mod NamedStay
+pub mod ReturnsLeft
+pub mod BackMet
+pub mod ImportsBrought

@@ -6,3 +6,4 @@ pub mod Sent
 pub mod FirstSent
 pub mod StepsSent
 pub mod SentLinks
+pub mod SceneWires

@@ -3,9 +3,11 @@
 #![tactic(auto)]
 
 mod laws;
+mod scenes;
 mod sent;
 
 pub use laws::{what_is_sent_is_read, wires_are_left, wires_last, wires_mean_at_first};
+pub use scenes::{imports_are_brought, named_are_kept, returns_are_awaited};
 pub use sent::{
     acts_send_meanings, commands_send_meanings, first_acts_send_meanings,
     links_are_sent_with_meanings, messages_send_meanings, steps_send_meanings,
