@@ -40,7 +40,7 @@ opens_or_not (command.Finish c) = inl tt
 opens_or_not (command.Advance r) = inl tt
 opens_or_not (command.Shut n) = inl tt
 
-written_either : (h : History) (v : Vat) (s : State) (c : Command) → OpensNothing c ⊎ Opens c → IsWritten h v s c → (Opens c → IsWrittenOpen h v s c) → (OpensNothing c × IsWritten h v s c) ⊎ IsWrittenOpen h v s c
+pub written_either : (h : History) (v : Vat) (s : State) (c : Command) → OpensNothing c ⊎ Opens c → IsWritten h v s c → (Opens c → IsWrittenOpen h v s c) → (OpensNothing c × IsWritten h v s c) ⊎ IsWrittenOpen h v s c
 written_either h v s c (inl o) w f = inl (o, w)
 written_either h v s c (inr o) w f = inr (f o)
 
@@ -52,8 +52,10 @@ module _ (a b : Option ObjectId) (heard : OldestAreHeard) (written : CommandsAre
   ready x new (scenes.Commanded v c g told s o up r d w e) j =
       let z = means x j in
       let own = granted_entries x.journal v c g in
-      let k = written a b x v c g told s j o r d in (
-        x.journal ++ own, effect_entries v told, ap (λ (y : Scene). y.journal) e ∙ sym (append_assoc x.journal own (effect_entries v told)),
+      let k = written names a b x v c g told s j o r d in (
+        x.journal ++ own,
+        effect_entries v told,
+        ap (λ (y : Scene). y.journal) e ∙ sym (append_assoc x.journal own (effect_entries v told)),
         (z.0 v, places (history a b x.journal) own v (z.0 v) quiet (core x.world v) (z.1.places v), written_either (history a b (x.journal ++ own)) v (core x.world v) c (opens_or_not c) k.0 k.1),
       )
   ready x new (scenes.Received v m ms told s o up p f d w e) j =

@@ -21,7 +21,7 @@ use Rattle.laws_meanings.proofs.Walked.{step_more}
 use Rattle.laws_wires.specs.StepWires.{WiresLive}
 use Rattle.laws_wires.specs.Wires.{WiresMean, WorldMeans}
 use Rattle.laws_sound.specs.SoundByWires.{GoesOn, Means, SoundByWires}
-use Rattle.laws_sound.specs.StepsInScenes.{CommandsStep, MessagesStep}
+use Rattle.laws_sound.specs.StepsInScenes.{CommandsStep, FirstActsSend, MessagesStep}
 use Rattle.laws_sound.specs.WiresKept.{BothMean, MeaningsAreKept, SoundBySteps}
 
 -- With these labels of one vat.
@@ -61,8 +61,8 @@ as_it_was : (w : World) (v : Vat) → put_inbox w v (inbox w v) ≡ w
 as_it_was w A = refl
 as_it_was w B = refl
 
-pub meanings_kept : CommandsStep → MessagesStep → PlacesLast → WiresLive → MeaningsAreKept
-meanings_kept commands messages places wires a b meant x new t go scene i = by t go
+pub meanings_kept : FirstActsSend → CommandsStep → MessagesStep → PlacesLast → WiresLive → MeaningsAreKept
+meanings_kept sends commands messages places wires names a b meant x new t go scene i = by t go
   where
     arrives : (v : Vat) (ms : List Message) (own effects es : List JournalEntry) (told : Effects) (s : State) (m : Labels) (w : World) → w ≡ put_inbox x.world v ms → new ≡ scenes.goes_on x (after w v told s) es → x.journal ++ es ≡ (x.journal ++ own) ++ effects
         → Places (history a b new.journal) v m quiet s → BothMean (history a b (x.journal ++ own)) x.world i.0 v s m (inbox x.world (other_vat v) ++ told.sends) ms → Means a b new
@@ -77,17 +77,17 @@ meanings_kept commands messages places wires a b meant x new t go scene i = by t
         let own = granted_entries x.journal v c g in
         let effects = effect_entries v told in
         let parts = sym (append_assoc x.journal own effects) in
-        let z = commands a b meant.commands_send x new i.0 v c g told s scene (step_more x new (begins a b) scene (scenes.Commanded v c g told s o up r d w e)) i.1 o r d (ap (λ (y : Scene). y.journal) e ∙ parts) in
+        let z = commands names a b (sends names a b).0 x new i.0 v c g told s scene (step_more x new (begins a b) scene (scenes.Commanded v c g told s o up r d w e)) i.1 o r d (ap (λ (y : Scene). y.journal) e ∙ parts) in
         let m = z.2.0 in
-        let both = meant.commands_keep x i.0 v c g told s m z.0 scene i.1 o r d z.1 z.2.1 z.2.3 in
+        let both = meant.commands x i.0 v c g told s m z.0 scene i.1 o r d z.1 z.2.1 z.2.3 in
         arrives v (inbox x.world v) own effects (own ++ effects) told s m x.world (sym (as_it_was x.world v)) e parts z.2.2 both
     by (scenes.Received v y ms told s o up p f d w e) go =
         let own = entry.Got v ∷ [] in
         let effects = effect_entries v told in
         let parts = sym (append_assoc x.journal own effects) in
-        let z = messages a b meant.messages_send x new i.0 v y ms told s scene (step_more x new (begins a b) scene (scenes.Received v y ms told s o up p f d w e)) i.1 p f d (ap (λ (k : Scene). k.journal) e ∙ parts) in
+        let z = messages a b (sends names a b).1 x new i.0 v y ms told s scene (step_more x new (begins a b) scene (scenes.Received v y ms told s o up p f d w e)) i.1 p f d (ap (λ (k : Scene). k.journal) e ∙ parts) in
         let m = z.2.0 in
-        let both = meant.messages_keep x i.0 v y ms told s m z.0 scene i.1 p f d z.1 z.2.1 z.2.2 z.2.4 in
+        let both = meant.messages x i.0 v y ms told s m z.0 scene i.1 p f d z.1 z.2.1 z.2.2 z.2.4 in
         arrives v ms own effects (own ++ effects) told s m (put_inbox x.world v ms) refl e parts z.2.3 both
     by (scenes.GivesUp v c o r f e) go = absurd go
     by (scenes.Stops v o e) go = absurd go

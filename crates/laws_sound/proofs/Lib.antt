@@ -7,3 +7,4 @@ pub mod MeantByWires
 pub mod PromisesStay
 pub mod Stepping
 pub mod KeptBySteps
+pub mod FirstSending

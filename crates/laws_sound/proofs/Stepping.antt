@@ -104,9 +104,10 @@ stepped say h v l n s d last said told t kept whole stay acts ends i g =
         exports = λ k x y at was same.
             let stands = whole.there x.node (in_exports s x.node (named named_by_export k x x.node s.exports at (inl refl))) in
             let r = z.2 k y was in
-            let y_kept : IsKept d.state.promises y.node = subst (IsKept d.state.promises) (sym same) (is_kept s d stay x.node stands) in
-            (
-              r.0, subst (λ (u : State). map.get u.exports k ≡ Some r.0) (sym ends.state) r.1, r.2 ∙ same,
+            let y_kept : IsKept d.state.promises y.node = subst (IsKept d.state.promises) (sym same) (is_kept s d stay x.node stands) in (
+              r.0,
+              subst (λ (u : State). map.get u.exports k ≡ Some r.0) (sym ends.state) r.1,
+              r.2 ∙ same,
               subst (λ (u : Node). label h v m u ≡ label h v n u) same (r.3 y_kept).1 ∙ label_kept h v l n s kept x.node stands,
             );
         sent = e.1;
@@ -139,7 +140,7 @@ commands_step say plain opens fits written places effects a b sends x new l v c 
     let acts = does s c g told t k in
     let z = begun plain opens h v (l v) s c g acts.started fit (opens_or_not c) w.0 w.1 (places (history a b x.journal) own v (l v) quiet s (i.places v)) acts.starts in
     let kept = of_labels (l v) z.0 s z.1 in
-    let g0 = sends x l v c g z.0 acts.started scene i r acts.starts kept z.1.imports z.2 in
+    let g0 = sends x l v c g told t z.0 acts.started scene i over r k acts.starts kept z.1.imports z.2 in
     let e = stepped say h v (l v) z.0 s acts.started acts.last (sessions_at (l v) s.answers) told t kept fit.whole (started s c g acts.started acts.starts) acts.acts acts.ends z.2 g0 in
     let m : Labels = record (z.0) { promise = e.0 } in
     (acts.started, acts.starts, (m, z.1.imports, effects a b new (x.journal ++ own) v m told t after journal e.1, e.2))

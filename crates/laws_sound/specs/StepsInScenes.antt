@@ -59,8 +59,8 @@ pub record HasStepped (h : History) (v : Vat) (l : Labels) (s first : State) (sa
 -- the message that it takes.
 abbrev pub FirstCommandsSend : Option ObjectId → Option ObjectId → Type 0
 FirstCommandsSend root_a root_b =
-    (x : Scene) (l : Vat → Labels) (v : Vat) (c : Command) (g : Granted) (m : Labels) (d : Moment)
-    → IsScene root_a root_b x → WorldMeans (history root_a root_b x.journal) x.world l → refused (core x.world v) c ≡ None → Starts (beginning (core x.world v)) c g d
+    (x : Scene) (l : Vat → Labels) (v : Vat) (c : Command) (g : Granted) (told : Effects) (t : State) (m : Labels) (d : Moment)
+    → IsScene root_a root_b x → WorldMeans (history root_a root_b x.journal) x.world l → is_over x v ≡ false → refused (core x.world v) c ≡ None → Does (core x.world v) c g told t → Starts (beginning (core x.world v)) c g d
     → AreKept (l v) m (core x.world v) → ((e : ℕ) → m.import e ≡ (l v).import e)
     → MomentMeans (history root_a root_b (x.journal ++ granted_entries x.journal v c g)) v m d
     → SentMean (history root_a root_b (x.journal ++ granted_entries x.journal v c g)) v m (sessions_at (l v) (core x.world v).answers) d
@@ -96,3 +96,7 @@ MessagesStep =
     → (d : Moment) × Consumes (beginning (core x.world v)) y d
     × ((m : Labels) × ((e : ℕ) → m.import e ≡ exports_mean (history root_a root_b x.journal) x.world l (other_vat v) e) × AnswersOf m.outcome (other_vat v) d.state y × Places (history root_a root_b new.journal) v m quiet t
     × HasStepped (history root_a root_b (x.journal ++ entry.Got v ∷ [])) v (l v) (core x.world v) d.state (past_one (other_vat v) (sessions_at (l v) (core x.world v).answers) y) told t m)
+
+-- What first acts send does mean what it should.
+abbrev pub FirstActsSend : Type 0
+FirstActsSend = NamesItsCaps → (root_a root_b : Option ObjectId) → FirstCommandsSend root_a root_b × FirstMessagesSend root_a root_b

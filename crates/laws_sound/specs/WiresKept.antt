@@ -24,7 +24,7 @@ use Rattle.laws_meanings.specs.MessageMeanings.{AnswersOf}
 use Rattle.laws_meanings.specs.NodeLabels.{Labels}
 use Rattle.laws_wires.specs.Wires.{WiresMean, WorldMeans, past_one, sessions_at}
 use Rattle.laws_sound.specs.OldestHeard.{exports_mean}
-use Rattle.laws_sound.specs.StepsInScenes.{FirstCommandsSend, FirstMessagesSend, HasStepped}
+use Rattle.laws_sound.specs.StepsInScenes.{HasStepped}
 use Rattle.laws_sound.specs.SoundByWires.{StepsKeepMeanings}
 
 -- Of the vat v, now in the state t with the labels m, and the other, which is as it was: the wires between them, with these
@@ -50,14 +50,12 @@ MessagesKeepWires root_a root_b =
     → BothMean (history root_a root_b (x.journal ++ entry.Got v ∷ [])) x.world l v t m (inbox x.world (other_vat v) ++ told.sends) ms
 
 -- What is left to show of each step.
-pub record StepsAreMeant (root_a root_b : Option ObjectId) : Type 0 where
-  pub commands_send : FirstCommandsSend root_a root_b
-  pub messages_send : FirstMessagesSend root_a root_b
-  pub commands_keep : CommandsKeepWires root_a root_b
-  pub messages_keep : MessagesKeepWires root_a root_b
+pub record WiresAreKept (root_a root_b : Option ObjectId) : Type 0 where
+  pub commands : CommandsKeepWires root_a root_b
+  pub messages : MessagesKeepWires root_a root_b
 
 abbrev pub MeaningsAreKept : Type 0
-MeaningsAreKept = (root_a root_b : Option ObjectId) → StepsAreMeant root_a root_b → StepsKeepMeanings root_a root_b
+MeaningsAreKept = NamesItsCaps → (root_a root_b : Option ObjectId) → WiresAreKept root_a root_b → StepsKeepMeanings root_a root_b
 
 abbrev pub SoundBySteps : Type 0
-SoundBySteps = ((root_a root_b : Option ObjectId) → StepsAreMeant root_a root_b) → EveryRunIsSound
+SoundBySteps = NamesItsCaps → ((root_a root_b : Option ObjectId) → WiresAreKept root_a root_b) → EveryRunIsSound

@@ -1,17 +1,22 @@
 //! The functions run no code: what each ensures is the law.
 
 ghost use Rattle.laws_sound.specs.OldestHeard.{OldestAreHeard, RootsAreHosted};
-ghost use Rattle.laws_sound.specs.StepsInScenes.{CommandsStep, MessagesStep};
+ghost use Rattle.laws_sound.specs.StepsInScenes.{CommandsStep, FirstActsSend, MessagesStep};
 ghost use Rattle.laws_sound.specs.WiresKept.{MeaningsAreKept, SoundBySteps};
 ghost use Rattle.laws_sound.specs.SoundByWires.{BeginningsFollow, ScenesAreLed, ScenesAreMeant, ScenesMean, SoundByWires};
 
 use laws_meanings::{
-    bootstraps_are_heard, calls_are_heard, commands_are_written, commands_keep_scenes_meanings, cores_are_fit, descriptors_are_read, effects_are_meanings, first_acts_follow, first_acts_of_commands_mean, first_acts_of_messages_mean, links_are_left, messages_keep_meanings, no_call_is_lost, node_meanings_last,
+    bootstraps_are_heard, calls_are_heard, commands_are_written, commands_keep_scenes_meanings,
+    cores_are_fit, descriptors_are_read, effects_are_meanings, first_acts_follow,
+    first_acts_of_commands_mean, first_acts_of_messages_mean, links_are_left,
+    messages_keep_meanings, no_call_is_lost, node_meanings_last,
 };
 use laws_runs::meanings_last;
 use laws_scenes::{canceled_were_given_up, sound_by_meanings};
 use laws_sessions::counts_agree_in_scenes;
-use laws_wires::{steps_send_meanings, wires_are_left, wires_mean_at_first};
+use laws_wires::{
+    first_acts_send_meanings, steps_send_meanings, wires_are_left, wires_mean_at_first,
+};
 
 /// In each scene the history has the bootstrap object of each vat.
 pub fn roots_are_hosted()
@@ -86,12 +91,23 @@ pub fn steps_keep_places()
     oldest_are_heard();
 }
 
-/// So all is kept by each step, and all that is promised of runs holds, where the first act of each step sends what means what it
-/// should, and the wires behind a step mean what they should by what its vat holds and sends.
+/// What the first act of each step in a scene sends means what it should, where all did before the step.
+pub fn first_acts_send()
+    ensures { FirstActsSend }
+{
+    first_acts_send_meanings();
+    cores_are_fit();
+    commands_are_written();
+    counts_agree_in_scenes();
+}
+
+/// So all is kept by each step, and all that is promised of runs holds, where the wires behind a step mean what they should by
+/// what its vat holds and sends.
 pub fn sound_by_steps()
     ensures kept { MeaningsAreKept }
     ensures runs { SoundBySteps }
 {
+    first_acts_send();
     steps_keep_places();
     node_meanings_last();
     wires_are_left();

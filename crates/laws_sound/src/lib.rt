@@ -4,4 +4,7 @@
 
 mod laws;
 
-pub use laws::{oldest_are_heard, roots_are_hosted, scenes_are_led, scenes_mean, sound_by_steps, sound_by_wires, steps_keep_places};
+pub use laws::{
+    first_acts_send, oldest_are_heard, roots_are_hosted, scenes_are_led, scenes_mean,
+    sound_by_steps, sound_by_wires, steps_keep_places,
+};
