@@ -52,7 +52,7 @@ module _ (a b : Option ObjectId) (heard : OldestAreHeard) (written : CommandsAre
   ready x new (scenes.Commanded v c g told s o up r d w e) j =
       let z = means x j in
       let own = granted_entries x.journal v c g in
-      let k = written names a b x v c g told s j o r d in (
+      let k = written a b x v c g told s j o r d in (
         x.journal ++ own,
         effect_entries v told,
         ap (λ (y : Scene). y.journal) e ∙ sym (append_assoc x.journal own (effect_entries v told)),

@@ -40,7 +40,7 @@ use Rattle.laws_meanings.specs.CommandMeanings.{OpensNothing, IsWritten, IsWritt
 use Rattle.laws_meanings.specs.FitCores.{CoresAreFit}
 use Rattle.laws_meanings.specs.MessageMeanings.{AnswersOf, IsAnswerOf, OutcomesKept}
 use Rattle.laws_meanings.specs.NodeLabels.{Labels, MomentMeans}
-use Rattle.laws_meanings.specs.WrittenCommands.{CommandsAreWritten, NamesItsCaps}
+use Rattle.laws_meanings.specs.WrittenCommands.{CommandsAreWritten}
 use Rattle.laws_meanings.proofs.OpensMean.{this_one}
 use Rattle.laws_wires.specs.FirstSent.{CommandsSaySo, MessagesSaySo}
 use Rattle.laws_wires.specs.Sent.{CallerSo, IsAwaited, SentMean}
@@ -141,12 +141,12 @@ module _ (h : History) (v u : Vat) (l m : Labels) (s : State) (y : Message) (ser
 -- ---- In scenes
 
 module _ (say : CommandsSaySo) (messages : MessagesSaySo) (fits : CoresAreFit) (written : CommandsAreWritten) (counts : CountsOfScenes) where
-  pub commands_send : NamesItsCaps → (a b : Option ObjectId) → FirstCommandsSend a b
-  commands_send names a b x l v c g told t m d scene i over r k starts kept imports moment =
+  pub commands_send : (a b : Option ObjectId) → FirstCommandsSend a b
+  commands_send a b x l v c g told t m d scene i over r k starts kept imports moment =
       let s = core x.world v in
       let h = history a b (x.journal ++ granted_entries x.journal v c g) in
       let fit = fits a b x scene v in
-      let w = written names a b x v c g told t scene over r k in
+      let w = written a b x v c g told t scene over r k in
       let either = written_either h v s c (opens_or_not c) w.0 w.1 in
       let said = sessions_at (l v) s.answers in
       subst (λ (u : Vat). SentMean h u m said d) fit.vat
@@ -164,4 +164,4 @@ module _ (say : CommandsSaySo) (messages : MessagesSaySo) (fits : CoresAreFit) (
       (all_so h v (other_vat v) (l v) n s y fit.whole.callers kept level free d answers consumes)
 
 pub first_acts_send : CommandsSaySo → MessagesSaySo → CoresAreFit → CommandsAreWritten → CountsOfScenes → FirstActsSend
-first_acts_send say messages fits written counts names a b = (commands_send say messages fits written counts names a b, messages_send say messages fits written counts a b)
+first_acts_send say messages fits written counts a b = (commands_send say messages fits written counts a b, messages_send say messages fits written counts a b)

@@ -62,7 +62,7 @@ as_it_was w A = refl
 as_it_was w B = refl
 
 pub meanings_kept : FirstActsSend → CommandsStep → MessagesStep → PlacesLast → WiresLive → MeaningsAreKept
-meanings_kept sends commands messages places wires names a b meant x new t go scene i = by t go
+meanings_kept sends commands messages places wires a b meant x new t go scene i = by t go
   where
     arrives : (v : Vat) (ms : List Message) (own effects es : List JournalEntry) (told : Effects) (s : State) (m : Labels) (w : World) → w ≡ put_inbox x.world v ms → new ≡ scenes.goes_on x (after w v told s) es → x.journal ++ es ≡ (x.journal ++ own) ++ effects
         → Places (history a b new.journal) v m quiet s → BothMean (history a b (x.journal ++ own)) x.world i.0 v s m (inbox x.world (other_vat v) ++ told.sends) ms → Means a b new
@@ -77,7 +77,7 @@ meanings_kept sends commands messages places wires names a b meant x new t go sc
         let own = granted_entries x.journal v c g in
         let effects = effect_entries v told in
         let parts = sym (append_assoc x.journal own effects) in
-        let z = commands names a b (sends names a b).0 x new i.0 v c g told s scene (step_more x new (begins a b) scene (scenes.Commanded v c g told s o up r d w e)) i.1 o r d (ap (λ (y : Scene). y.journal) e ∙ parts) in
+        let z = commands a b (sends a b).0 x new i.0 v c g told s scene (step_more x new (begins a b) scene (scenes.Commanded v c g told s o up r d w e)) i.1 o r d (ap (λ (y : Scene). y.journal) e ∙ parts) in
         let m = z.2.0 in
         let both = meant.commands x i.0 v c g told s m z.0 scene i.1 o r d z.1 z.2.1 z.2.3 in
         arrives v (inbox x.world v) own effects (own ++ effects) told s m x.world (sym (as_it_was x.world v)) e parts z.2.2 both
@@ -85,7 +85,7 @@ meanings_kept sends commands messages places wires names a b meant x new t go sc
         let own = entry.Got v ∷ [] in
         let effects = effect_entries v told in
         let parts = sym (append_assoc x.journal own effects) in
-        let z = messages a b (sends names a b).1 x new i.0 v y ms told s scene (step_more x new (begins a b) scene (scenes.Received v y ms told s o up p f d w e)) i.1 p f d (ap (λ (k : Scene). k.journal) e ∙ parts) in
+        let z = messages a b (sends a b).1 x new i.0 v y ms told s scene (step_more x new (begins a b) scene (scenes.Received v y ms told s o up p f d w e)) i.1 p f d (ap (λ (k : Scene). k.journal) e ∙ parts) in
         let m = z.2.0 in
         let both = meant.messages x i.0 v y ms told s m z.0 scene i.1 p f d z.1 z.2.1 z.2.2 z.2.4 in
         arrives v ms own effects (own ++ effects) told s m (put_inbox x.world v ms) refl e parts z.2.3 both

@@ -99,4 +99,4 @@ MessagesStep =
 
 -- What first acts send does mean what it should.
 abbrev pub FirstActsSend : Type 0
-FirstActsSend = NamesItsCaps → (root_a root_b : Option ObjectId) → FirstCommandsSend root_a root_b × FirstMessagesSend root_a root_b
+FirstActsSend = (root_a root_b : Option ObjectId) → FirstCommandsSend root_a root_b × FirstMessagesSend root_a root_b

@@ -55,7 +55,7 @@ pub record WiresAreKept (root_a root_b : Option ObjectId) : Type 0 where
   pub messages : MessagesKeepWires root_a root_b
 
 abbrev pub MeaningsAreKept : Type 0
-MeaningsAreKept = NamesItsCaps → (root_a root_b : Option ObjectId) → WiresAreKept root_a root_b → StepsKeepMeanings root_a root_b
+MeaningsAreKept = (root_a root_b : Option ObjectId) → WiresAreKept root_a root_b → StepsKeepMeanings root_a root_b
 
 abbrev pub SoundBySteps : Type 0
-SoundBySteps = NamesItsCaps → ((root_a root_b : Option ObjectId) → WiresAreKept root_a root_b) → EveryRunIsSound
+SoundBySteps = ((root_a root_b : Option ObjectId) → WiresAreKept root_a root_b) → EveryRunIsSound
