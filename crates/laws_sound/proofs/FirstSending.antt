@@ -151,7 +151,7 @@ module _ (say : CommandsSaySo) (messages : MessagesSaySo) (fits : CoresAreFit) (
       let said = sessions_at (l v) s.answers in
       subst (λ (u : Vat). SentMean h u m said d) fit.vat
       (say h m said s c g d (subst (λ (u : Vat). (OpensNothing c × IsWritten h u s c) ⊎ IsWrittenOpen h u s c) (sym fit.vat) either) starts (subst (λ (u : Vat). MomentMeans h u m d) (sym fit.vat) moment)
-      (λ o. callers_so h s.vat (l v) m s said fit.whole.callers kept.outcomes (λ q n f. refl) o (map.get s.outcomes o) refl)).1
+      (λ o. callers_so h s.vat (l v) m s said fit.whole.callers kept.outcomes (λ q n f. refl) o (map.get s.outcomes o) refl)).2
 
   pub messages_send : (a b : Option ObjectId) → FirstMessagesSend a b
   messages_send a b x l v y ms os d scene i inbox free consumes kept answers moment =
