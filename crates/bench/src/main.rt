@@ -3,14 +3,19 @@
 //! `bench pool N` pushes N calls to three waiting lists in turn and takes them out again, over and over.
 //! `bench payload FILE CAPS ROUNDS` reads a file's bytes as a payload that goes with CAPS capabilities, ROUNDS times.
 //! `bench trace FILE` reads a trace and checks it, apart and together.
+//! `bench core OPEN WAITING EXPORTS` takes calls from one core to another and back, beside so many open questions, waiting
+//! calls and exports, and embargoes.
 //! Without arguments it does nothing.
 #![tactic(auto)]
 
+mod core;
 mod payload;
 mod pool;
+mod side;
 mod trace;
 
 use anyhow::Result;
+use core::Load;
 use std::env;
 use std::env::Args;
 use std::process::ExitCode;
@@ -25,12 +30,15 @@ fn main(rt: HostRuntime) -> Result<ExitCode> {
         "pool" => measure_pool(&rt, &mut words),
         "payload" => measure_payload(&rt, &mut words),
         "trace" => measure_trace(&rt, &mut words),
+        "core" => measure_core(&rt, &mut words),
         _ => usage(&rt),
     }
 }
 
 fn usage(rt: &impl Print) -> Result<ExitCode> {
-    println!(rt; "usage: bench pool N | bench payload FILE CAPS ROUNDS | bench trace FILE")?;
+    println!(rt;
+        "usage: bench pool N | bench payload FILE CAPS ROUNDS | bench trace FILE | bench core OPEN WAITING EXPORTS"
+    )?;
     Ok(ExitCode::from(2))
 }
 
@@ -57,5 +65,19 @@ fn measure_trace(rt: &HostRuntime, words: &mut Args) -> Result<ExitCode> {
         return usage(rt);
     };
     trace::measure(rt, file.as_str())?;
+    Ok(ExitCode::SUCCESS)
+}
+
+fn measure_core(rt: &HostRuntime, words: &mut Args) -> Result<ExitCode> {
+    let (Some(open), Some(waiting), Some(exports)) = (words.next(), words.next(), words.next())
+    else {
+        return usage(rt);
+    };
+    let load = Load {
+        open: open.as_str().parse()?,
+        waiting: waiting.as_str().parse()?,
+        exports: exports.as_str().parse()?,
+    };
+    core::measure(rt, load)?;
     Ok(ExitCode::SUCCESS)
 }
