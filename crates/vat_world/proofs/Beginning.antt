@@ -1,5 +1,7 @@
 -- Two new vats are a world to which a run leads, with room to go down.
-use Rattle.std.proofs.Common.{◌≡◌, ℕ, ◌≤◌, Bool, true, false, Option, None, Some, List, [], sym, ap, subst, ◌∙◌, arith}
+use Rattle.std.proofs.Common.{◌≡◌, ℕ, ◌≤◌, Bool, false, Option, None, Some, List, [], sym, ap, subst, ◌∙◌, arith}
+use Rattle.std.proofs.Common.{Result, Ok, Err}
+use Rattle.std.specs.Result.{IfOk, IsErrAnd}
 use Rattle.rpc_msg.specs.declared.ids.Vat.TheVariants.{A, B}
 use Rattle.rpc_msg.specs.declared.ids.ObjectId.{ObjectId}
 use Rattle.vat_journal.specs.declared.entry.JournalEntry.{JournalEntry}
@@ -48,3 +50,8 @@ begun a b j root_a root_b e ha hb room = (
   },
   subst (λ (w : Seen). IsReached w) (sym e) (reached_new root_a root_b),
 )
+
+-- Where the room was refused there is none.
+pub none_made : {T E : Type 0} (Q : E → Type 0) (r : Result T E) (P : T → Type 0) → IsErrAnd r Q → IfOk r P
+none_made Q (Ok x) P h = absurd h
+none_made Q (Err e) P h = tt

@@ -6,7 +6,7 @@ use Rattle.rpc_msg.specs.declared.ids.ObjectId.{ObjectId}
 use Rattle.vat_journal.specs.declared.entry.Origin.{Origin}
 use Rattle.vat_journal.specs.declared.entry.JournalEntry.{JournalEntry}
 use Rattle.vat_journal.specs.declared.entry.JournalEntry.TheVariants as entry
-use Rattle.vat_journal.specs.History.{Ref, in_front, made_stamp, made, or_rest}
+use Rattle.vat_journal.specs.History.{Ref, in_front, made, or_rest}
 use Rattle.vat_machine.specs.declared.command.CallCommand.{CallCommand}
 use Rattle.vat_machine.specs.declared.command.Command.{Command}
 use Rattle.vat_machine.specs.declared.command.Command.TheVariants as command
@@ -22,7 +22,9 @@ use Rattle.vat_machine.specs.Journal.{born, born_promise, asked_entries, made_en
 use Rattle.laws_runs.specs.MadeCalls.{NumbersItsCalls, RunsCount}
 use Rattle.laws_runs.proofs.Reading.{all_that-append}
 use Rattle.vat_world.specs.declared.answer.StepAnswer.{StepAnswer as Given}
-use Rattle.vat_world.specs.World.{Seen, shut, new_seen, Steps, Runs, but_tables, events_of, IsReached}
+use Rattle.vat_world.specs.World.{Seen, shut, new_seen, Steps, Runs, IsReached, KeepsPromises}
+use Rattle.laws_worlds.specs.Promised.{WorldsKeepPromises, but_tables, events_of}
+use Rattle.laws_worlds.proofs.Kept.{made_kept}
 
 -- ---- No event writes counts
 
@@ -104,11 +106,6 @@ event_so h (event.Deliver v) room Empty = refl
 
 -- ---- Of what was written before, an event reads the made calls alone
 
-made_kept : (h : List JournalEntry) (r : Ref) → made (events_of h) r ≡ made h r
-made_kept [] r = refl
-made_kept (entry.Tables a b ∷ h) r = made_kept h r
-made_kept (e ∷ h) r = ap (in_front (made_stamp r e)) (made_kept h r)
-
 made_by : (h k : List JournalEntry) (v : Vat) (c : CallCommand) (g : Granted) → index_in h v c.reference ≡ index_in k v c.reference → made_entries h v c g ≡ made_entries k v c g
 made_by h k v c (granted.Call id) e =
     ap
@@ -179,6 +176,10 @@ reached_more w e result new r h =
       };
       shuts = λ v. h.shut_is v ∙ ap (λ (b : Bool). b || is_some (shut_with v e h.answer)) (r.shuts v) ∙ sym (shut_more v k.happened x);
     }
+
+-- So what is promised of such worlds is so of it.
+pub promised : (w : Seen) → WorldsKeepPromises → IsReached w → KeepsPromises w
+promised w law r = law w.journal (shut w) w.world r.run r.shuts
 
 -- ---- Counts
 

@@ -1,5 +1,5 @@
 -- Two vats with their journal: what an event does, and what every such world is.
-use Rattle.std.specs.Prelude.{◌≡◌, Bool, ◌||◌, false, is_some, Option, None, Some, List, [], ◌∷◌, ◌++◌, refl}
+use Rattle.std.specs.Prelude.{◌≡◌, Bool, ◌||◌, false, is_some, Option, List, [], ◌∷◌, ◌++◌, refl}
 use Rattle.std.specs.Coded.{Coded, code_by, coded×, coded_bool, coded_list}
 use Rattle.rpc_msg.specs.contracts.message.Message as message_row
 use Rattle.rpc_msg.specs.declared.ids.Vat.{Vat}
@@ -8,14 +8,13 @@ use Rattle.rpc_msg.specs.declared.ids.ObjectId.{ObjectId}
 use Rattle.rpc_msg.specs.declared.message.Message.{Message}
 use Rattle.vat_journal.specs.contracts.entry.JournalEntry as entry_row
 use Rattle.vat_journal.specs.declared.entry.JournalEntry.{JournalEntry}
-use Rattle.vat_journal.specs.declared.entry.JournalEntry.TheVariants as entry
-use Rattle.vat_journal.specs.History.{all_that}
 use Rattle.vat_machine.specs.State.{State, state_code}
 use Rattle.vat_machine.specs.declared.event.Event.{Event}
 use Rattle.vat_machine.specs.declared.event.Event.TheVariants as event
 use Rattle.vat_machine.specs.World.{Side, World, new_world, HappensBy, StepAnswer, Answered, Handled, Empty, shut_with, was_shut}
 use Rattle.vat_machine.specs.Journal.{event_entries}
 use Rattle.vat_machine.specs.Claims.{IsReached as LedTo}
+use Rattle.laws_worlds.specs.Promised.{IsPromised, events_of}
 use Rattle.vat_world.specs.declared.answer.StepAnswer.{StepAnswer as Given}
 use Rattle.vat_world.specs.declared.answer.StepAnswer.TheVariants as given
 use Rattle.vat_world.specs.Stages.{given_of, without_sends}
@@ -73,16 +72,12 @@ Runs w (e ∷ es) new = (mid : Seen) × (result : Given) × Steps w e result mid
 
 -- ---- What every world is
 
-abbrev pub but_tables : JournalEntry → Option JournalEntry
-but_tables (entry.Tables a b) = None
-but_tables e = Some e
-
--- The entries but those of counts, whose writing is no event.
-abbrev pub events_of : List JournalEntry → List JournalEntry
-events_of h = all_that but_tables h
-
 -- A run of two new vats leads to this world; the journal tells that run, and between its events the counts of both vats
 -- as often as they were asked for; and a vat is told to be taken down by a shut exactly where one did.
 pub record IsReached (w : Seen) : Type 0 where
   pub run : LedTo (record { world = w.world; journal = events_of w.journal })
   pub shuts : (v : Vat) → shut w v ≡ was_shut v run.happened
+
+-- What is promised of it (`laws_worlds/specs/Promised`).
+abbrev pub KeepsPromises : Seen → Type 0
+KeepsPromises w = IsPromised w.journal (shut w) w.world

@@ -1,16 +1,19 @@
-ghost use Rattle.std.specs.Prelude.{◌≡◌, ◌++◌, [], ◌∷◌, IfOk, OnOk, OnErr};
+ghost use Rattle.std.specs.Prelude.{◌≡◌, ◌↔◌, true, ◌++◌, [], ◌∷◌, IfOk, OnOk, OnErr};
 ghost use Rattle.vat_journal.specs.declared.entry.JournalEntry.{JournalEntry};
 ghost use Rattle.vat_machine.specs.World.{tables_entry};
-ghost use Rattle.vat_machine.specs.Pending.{is_idle};
+ghost use Rattle.vat_machine.specs.Pending.{is_idle, pending};
+ghost use Rattle.vat_machine.specs.Claims.{AreNumbered, CountsAgree, IsInOrder, IsQuietWhenDown};
 ghost use Rattle.vat_machine.specs.declared.event.Event.TheVariants as event;
 ghost use Rattle.vat_world.specs.declared.answer.StepAnswer.TheVariants as given;
-ghost use Rattle.vat_world.specs.World.{IsReached, Steps, Runs, new_seen, shut};
+ghost use Rattle.laws_worlds.specs.Promised.{AreEachAtOne, AreInFull, DownsAreKnown, DownsAreTold, RefusesNothing};
+ghost use Rattle.vat_world.specs.World.{IsReached, KeepsPromises, Steps, Runs, new_seen, shut};
 
 use crate::answer::StepAnswer;
 use crate::journal::Journal;
 use crate::side::Side;
 use crate::step::{deliver, obey};
 use laws_runs::calls_are_counted;
+use laws_worlds::worlds_keep_promises;
 use rpc_msg::{Memory, ObjectId, RefId, Vat};
 use std::alloc::Global;
 use std::marker::Model;
@@ -22,7 +25,7 @@ use vat_machine::{Command, Event};
 /// vats need to go down, so that want of memory takes a vat down and is written.
 ///
 /// Contracts see it as the world of `docs/protocol.md`, and every value of this type is one to which a run of two new vats
-/// leads, with the journal of that run: so what is promised of every run holds of it.
+/// leads, with the journal of that run: so what is promised of every run holds of it (`promises`).
 #[derive(Drop)]
 pub struct World {
     a: Side,
@@ -68,7 +71,19 @@ impl World {
     /// Lets an event happen, and answers it: what a command answers, what a received message did, or `Empty` where there is
     /// no message or the vat is down. What happened is at the end of the journal. A command that is refused is handed back.
     /// Where a link or the journal can't grow for it, the acting vat goes down with fault 33.
+    ///
+    /// Whatever happened before: the calls delivered through a reference are a beginning of those made through it, in order,
+    /// each once, all at one object; and what else is promised (`journal`).
     pub fn step(&mut self, event: Event) -> StepAnswer
+        ensures steps { Steps self.old event result self.new }
+        ensures promised { KeepsPromises self.new }
+    {
+        let answer = self.happen(event);
+        self.promises();
+        answer
+    }
+
+    fn happen(&mut self, event: Event) -> StepAnswer
         ensures { Steps self.old event result self.new }
     {
         match event {
@@ -112,21 +127,48 @@ impl World {
         }
     }
 
-    /// Lets events happen in order, as `step` does, whatever each answers.
+    /// Lets events happen in order, as `step` does, whatever each answers; with the same promises.
     pub fn run(&mut self, events: Vec<Event>)
-        ensures { Runs self.old events.items self.new }
+        ensures runs { Runs self.old events.items self.new }
+        ensures promised { KeepsPromises self.new }
     {
         for event in events {
-            let answer = self.step(event);
+            let answer = self.happen(event);
             drop(answer);
         }
+        self.promises();
     }
 
-    /// The entries of all that happened, the oldest first.
+    // Of every value of this type: a run of two new vats leads to it.
+    fn promises(&self)
+        ensures { KeepsPromises self.now }
+    {
+        worlds_keep_promises();
+        let _ = &self.journal;
+    }
+
+    /// The entries of all that happened, the oldest first: those of a run of two new vats (`reached`), whatever they were
+    /// commanded and whenever messages came.
+    ///
+    /// By it the calls delivered through a reference are a beginning of those made through it, in order (`in_order`); no two
+    /// of these are one (`numbered`), so each is delivered once; all are at one object (`at_one`); and while both vats are
+    /// up, once one was delivered, all are where none is held or on its way (`in_full`). A vat delivers nothing after it went
+    /// down (`quiet`). While both are up, the count of each export is what the other vat holds and what is on its way
+    /// (`counts`). No vat takes the other down, but by going down itself (`unrefused`, `downs`, `told`).
     pub fn journal(&self) -> &[JournalEntry]
         ensures entries { result.now ≡ self.now.journal }
         ensures reached { IsReached self.now }
+        ensures in_order { IsInOrder result.now }
+        ensures numbered { AreNumbered result.now }
+        ensures at_one { AreEachAtOne result.now }
+        ensures in_full { AreInFull result.now self.now.world }
+        ensures quiet { IsQuietWhenDown result.now }
+        ensures counts { CountsAgree self.now.world }
+        ensures unrefused { RefusesNothing self.now.world }
+        ensures downs { DownsAreKnown (shut self.now) result.now }
+        ensures told { DownsAreTold result.now self.now.world }
     {
+        self.promises();
         self.journal.entries()
     }
 
@@ -146,6 +188,14 @@ impl World {
     /// Whether no call of that reference of that vat is held, embargoed or in a Call message on its way: so all that were
     /// made through it, and not delivered, have another end. Takes no memory.
     pub fn idle(&self, vat: Vat, reference: RefId) -> bool
+        ensures idle { result ≡ is_idle self.now.world (record { vat = vat; number = reference.0 }) }
+        ensures none_pending { result ≡ true ↔ pending self.now.world (record { vat = vat; number = reference.0 }) ≡ [] }
+    {
+        self.promises();
+        self.none_waits(vat, reference)
+    }
+
+    fn none_waits(&self, vat: Vat, reference: RefId) -> bool
         ensures { result ≡ is_idle self.now.world (record { vat = vat; number = reference.0 }) }
     {
         if self.a.core.holds(vat, reference) || self.b.core.holds(vat, reference) {
