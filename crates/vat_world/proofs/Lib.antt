@@ -1,0 +1,7 @@
+mod Telling
+mod Noting
+mod Stepping
+mod Reaching
+mod Happened
+mod Standing
+mod Beginning

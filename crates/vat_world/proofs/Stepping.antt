@@ -1,0 +1,148 @@
+-- The step of one vat, from its core's step and how that was told.
+use Rattle.std.proofs.Common.{◌≡◌, inl, inr, ℕ, Bool, true, false, cond, Option, None, Some, is_some, IfSome, Result, Ok, Err, List, [], ◌∷◌, refl, sym, ap, subst, ◌∙◌}
+use Rattle.std.specs.Option.{option_to_list}
+use Rattle.capn_wire.specs.declared.faults.Memory.{Memory}
+use Rattle.rpc_msg.specs.declared.ids.Vat.{Vat}
+use Rattle.rpc_msg.specs.declared.message.PlainMessage.TheVariants as plain
+use Rattle.rpc_msg.specs.declared.message.Message.{Message}
+use Rattle.rpc_msg.specs.declared.message.Message.TheVariants as message
+use Rattle.vat_journal.specs.declared.entry.JournalEntry.{JournalEntry}
+use Rattle.vat_journal.specs.declared.entry.JournalEntry.TheVariants as entry
+use Rattle.vat_machine.specs.declared.command.Command.{Command}
+use Rattle.vat_machine.specs.declared.command.Granted.{Granted}
+use Rattle.vat_machine.specs.declared.command.Refusal.{Refusal}
+use Rattle.vat_machine.specs.declared.command.Effects.{Effects}
+use Rattle.vat_machine.specs.State.{State}
+use Rattle.vat_machine.specs.Progress.{quiet}
+use Rattle.vat_machine.specs.Down.{falling_by, IsUnchanged, Falls, ShutsFrom}
+use Rattle.vat_machine.specs.Steps.{Obeys, Refuses, LacksMemory, GoesDown, Shuts, IsDone, Receives, WasDown, FaultsBy, LacksRoom, IsHandled}
+use Rattle.vat_machine.specs.World.{given_up}
+use Rattle.vat_machine.specs.Journal.{own_entries, refused_entries}
+use Rattle.vat_machine.proofs.StaysDown.{command_down}
+use Rattle.laws_steps.proofs.UsedOnce.{command_leaves_up, message_leaves_up}
+use Rattle.laws_runs.specs.MadeCalls.{NumbersItsCalls}
+use Rattle.vat_core.specs.declared.obey.Answer.{Answer}
+use Rattle.vat_core.specs.declared.obey.Answer.TheVariants.{Done, Refused}
+use Rattle.vat_core.specs.Answers.{AnswersTo, answer_in, effects_in}
+use Rattle.vat_world.specs.declared.notes.Note.{Note}
+use Rattle.vat_world.specs.Notes.{index_of}
+use Rattle.vat_world.specs.Stages.{Stage, stepped, without_sends, given_of, entries_of, IsFall, IsOwn, HadOwn, Logs, ObeysUp, ObeysDown, ObeysBy, HandlesUp}
+use Rattle.vat_world.proofs.Noting.{IsNoteOf, own_so}
+
+-- ---- A step that takes a vat down says no more than an Abort
+
+stays_up : (o : Option ℕ) (x : Effects) → o ≡ None → IfSome o (IsFall x)
+stays_up o x e = subst (λ (p : Option ℕ). IfSome p (IsFall x)) (sym e) tt
+
+unchanged : (s : State) (x : Effects) (t : State) → s.down ≡ None → IsUnchanged s x t → IfSome t.down (IsFall x)
+unchanged s x t up h = stays_up t.down x (ap (λ (u : State). u.down) h.new_is ∙ up)
+
+falls : (s : State) (n : ℕ) (x : Effects) (t : State) → Falls s n x t → IfSome t.down (IsFall x)
+falls s n x t h = subst (λ (u : State). IfSome u.down (IsFall x)) (sym h.new_is) (inl h.effects_are)
+
+shuts : (s : State) (n : ℕ) (o : Option ℕ) (x : Effects) (t : State) → s.down ≡ None → ShutsFrom s n o x t → IfSome t.down (IsFall x)
+shuts s n None x t up h = falls s n x t h
+shuts s n (Some m) x t up h = unchanged s x t up h
+
+obeys_fall : (s : State) (c : Command) (a : Result Granted Refusal) (x : Effects) (t : State) → s.down ≡ None → Obeys s c a x t → IfSome t.down (IsFall x)
+obeys_fall s c a x t up (Refuses r f g u) = unchanged s x t up u
+obeys_fall s c a x t up (LacksMemory f g k u) = unchanged s x t up u
+obeys_fall s c a x t up (GoesDown f g k u) = falls s _ x t u
+obeys_fall s c a x t up (Shuts n f g h) = shuts s n s.down x t up h
+obeys_fall s c a x t up (IsDone g f k h w) = stays_up t.down x (command_leaves_up s c g x t h ∙ up)
+
+fault_falls : (m : Message) (n : ℕ) → IsFall (falling_by m n) n
+fault_falls (message.Plain (plain.Abort e)) n = inr refl
+fault_falls m n = inl refl
+
+pub receives_fall : (s : State) (m : Message) (x : Effects) (t : State) → s.down ≡ None → Receives s m x t → IfSome t.down (IsFall x)
+receives_fall s m x t up (WasDown d u) = unchanged s x t up u
+receives_fall s m x t up (FaultsBy n d f g h) =
+    subst (λ (u : State). IfSome u.down (IsFall x)) (sym h) (subst (λ (y : Effects). IsFall y n) (sym g) (fault_falls m n))
+receives_fall s m x t up (LacksRoom d f u) = falls s _ x t u
+receives_fall s m x t up (IsHandled d f h w) = stays_up t.down x (message_leaves_up s m x t f h ∙ up)
+
+pub done_falls : (s : State) (c : Command) (a : Answer) (g : Granted) (x : Effects) (t : State) → s.down ≡ None → a ≡ Done g x → AnswersTo s c a t → IfSome t.down (IsFall x)
+done_falls s c a g x t up e h = obeys_fall s c (Ok g) x t up (subst (λ (b : Answer). Obeys s c (answer_in b) (effects_in b) t) e h.obeys)
+
+-- ---- Messages
+
+either : {X : Type 0} (b : Bool) (x : X) → cond b x x ≡ x
+either true x = refl
+either false x = refl
+
+pub handles_by : (v : Vat) (g : Stage) (m : Message) (x : Effects) (t : State) (room : Bool) (given : Effects) (new : Stage)
+    → Receives g.acting.core m x t → Logs v (record g { acting = record (g.acting) { core = t } }) x (Ok (Some (entry.Got v))) true room given new → HandlesUp v g m given new
+handles_by v g m x t room given new r l = record {
+  told = l.told;
+  room = room;
+  s = l.s;
+  told_so = (x, t, r, l.tells);
+  new_is = l.new_is ∙ ap (λ (own : List JournalEntry). stepped v g l.s l.told own) (either room (entry.Got v ∷ []));
+  given_is = l.given_is;
+}
+
+-- ---- Commands
+
+pub refused_by : (v : Vat) (g : Stage) (c : Command) (a : Answer) (r : Refusal) (back : Command) (x : Effects) (t : State) (o : Option JournalEntry) (room : Bool) (given : Effects) (new : Stage)
+    → a ≡ Refused r back → AnswersTo g.acting.core c a t → option_to_list o ≡ refused_entries v r → x ≡ quiet
+    → Logs v (record g { acting = record (g.acting) { core = t } }) x (Ok o) false room given new → ObeysUp v g c (Refused r back) new
+refused_by v g c a r back x t o room given new e h own q l =
+    let k = subst (λ (b : Answer). AnswersTo g.acting.core c b t) e h in record {
+      answer = Err r;
+      told = l.told;
+      room = room;
+      s = l.s;
+      told_so = (Err r, x, t, subst (λ (y : Effects). Obeys g.acting.core c (Err r) y t) (sym q) k.obeys, sym (either room (Err r)), l.tells);
+      new_is = l.new_is ∙ ap (λ (xs : List JournalEntry). stepped v g l.s l.told (cond room xs [])) own;
+      given_is = ap (λ (b : Command). Refused r b) k.handed_back;
+    }
+
+done_writes : (v : Vat) (g : Stage) (c : Command) (granted : Granted) (x : Effects) (t : State) (i : ℕ) (note : Result Note Memory) (own : Result (Option JournalEntry) Memory) (room : Bool)
+    → NumbersItsCalls v g.acting.core g.journal → Obeys g.acting.core c (Ok granted) x t → i ≡ index_of g.acting.core c → IsNoteOf v i c note → IsOwn v note granted own → HadOwn room own
+    → cond room (entries_of own) [] ≡ cond room (own_entries g.journal v c (cond room (Ok granted) (given_up (Ok granted)))) []
+done_writes v g c granted x t i note own true counts k e noted is had = own_so v g.journal g.acting.core c granted x t i note own counts k e noted is had
+done_writes v g c granted x t i note own false counts k e noted is had = refl
+
+pub done_by : (v : Vat) (g : Stage) (c : Command) (a : Answer) (granted left : Granted) (x : Effects) (t : State) (i : ℕ) (note : Result Note Memory) (own : Result (Option JournalEntry) Memory) (room : Bool) (given : Effects) (new : Stage)
+    → NumbersItsCalls v g.acting.core g.journal → a ≡ Done granted x → AnswersTo g.acting.core c a t → i ≡ index_of g.acting.core c → IsNoteOf v i c note → IsOwn v note granted own
+    → Logs v (record g { acting = record (g.acting) { core = t } }) x own false room given new → Ok left ≡ cond room (Ok granted) (given_up (Ok granted)) → ObeysUp v g c (Done left given) new
+done_by v g c a granted left x t i note own room given new counts e h is_index noted is l f =
+    let k = subst (λ (b : Answer). Obeys g.acting.core c (answer_in b) (effects_in b) t) e h.obeys in record {
+      answer = cond room (Ok granted) (given_up (Ok granted));
+      told = l.told;
+      room = room;
+      s = l.s;
+      told_so = (Ok granted, x, t, k, refl, l.tells);
+      new_is = l.new_is ∙ ap (λ (xs : List JournalEntry). stepped v g l.s l.told xs) (done_writes v g c granted x t i note own room counts k is_index noted is l.had_own);
+      given_is = ap (λ (y : Effects). Done left y) l.given_is ∙ ap (λ (b : Result Granted Refusal). given_of c b l.told) f;
+    }
+
+-- At a vat that is down.
+down_by : (g : Stage) (c : Command) (a : Answer) (t : State) → is_some g.acting.core.down ≡ true → AnswersTo g.acting.core c a t → ObeysDown g c a (record g { acting = record (g.acting) { core = t } })
+down_by g c (Done granted x) t d h =
+    let k = command_down g.acting.core c (Ok granted) x t d h.obeys in record {
+      answer = Ok granted;
+      told = x;
+      obeys = subst (λ (u : State). Obeys g.acting.core c (Ok granted) x u) k.new_is h.obeys;
+      new_is = ap (λ (u : State). record g { acting = record (g.acting) { core = u } }) k.new_is;
+      given_is = ap (λ (y : Effects). Done granted y) (k.effects_are ∙ sym (ap without_sends k.effects_are));
+    }
+down_by g c (Refused r back) t d h =
+    let k = command_down g.acting.core c (Err r) quiet t d h.obeys in record {
+      answer = Err r;
+      told = quiet;
+      obeys = subst (λ (u : State). Obeys g.acting.core c (Err r) quiet u) k.new_is h.obeys;
+      new_is = ap (λ (u : State). record g { acting = record (g.acting) { core = u } }) k.new_is;
+      given_is = ap (λ (b : Command). Refused r b) h.handed_back;
+    }
+
+abbrev Remains : Vat → Stage → Command → Answer → State → Option ℕ → Type 0
+Remains v g c a t o = ObeysBy o v g c a (record g { acting = record (g.acting) { core = t } })
+
+some_down : (v : Vat) (g : Stage) (c : Command) (a : Answer) (t : State) (o : Option ℕ) → is_some o ≡ true → ObeysDown g c a (record g { acting = record (g.acting) { core = t } }) → Remains v g c a t o
+some_down v g c a t None e h = absurd (let f : false ≡ true = e in cc)
+some_down v g c a t (Some n) e h = h
+
+pub when_down : (v : Vat) (g : Stage) (c : Command) (a : Answer) (t : State) → is_some g.acting.core.down ≡ true → AnswersTo g.acting.core c a t → Remains v g c a t g.acting.core.down
+when_down v g c a t d h = some_down v g c a t g.acting.core.down d (down_by g c a t d h)

@@ -1,0 +1,14 @@
+use Rattle.std.proofs.Common.{sym}
+use Rattle.vat_world.specs.Rooms.{stage_of}
+use Rattle.vat_world.proofs.Telling.{overflow_down, overflow_up}
+use Rattle.vat_world.proofs.log.log_overflow.Goals as goal
+
+pub returns-in-Some-clause-overflows : goal.returns-in-Some-clause-overflows
+returns-in-Some-clause-overflows c =
+    overflow_down c.args.vat (stage_of c.args.acting.now c.args.peer.now c.args.journal.now) c.args.effects c.args.got _ _ _ _
+    (sym c.in-Some.ensures) c.received-own.ensures c.log_fall.ensures.stage c.log_fall.ensures.given
+
+pub returns-clause-overflows : goal.returns-clause-overflows
+returns-clause-overflows c =
+    overflow_up c.args.vat (stage_of c.args.acting.now c.args.peer.now c.args.journal.now) c.args.effects c.args.got _ _ _ _ _
+    (sym c.in_default.ensures) c.shut-fallen.ensures c.received-own-2.ensures c.log_fall-2.ensures.stage c.log_fall-2.ensures.given

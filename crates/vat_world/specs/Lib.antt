@@ -1,0 +1,4 @@
+pub mod Stages
+pub mod Rooms
+pub mod Notes
+pub mod World

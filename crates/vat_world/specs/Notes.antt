@@ -1,0 +1,62 @@
+-- What a command writes of itself, as it is noted before its step.
+use Rattle.std.specs.Prelude.{ℕ, ◌≤◌, Option, None, Some, List, [], ◌∷◌, length}
+use Rattle.std.specs.FinMap as map
+use Rattle.rpc_msg.specs.declared.ids.Vat.{Vat}
+use Rattle.vat_journal.specs.declared.entry.MadeCall.{MadeCall}
+use Rattle.vat_journal.specs.declared.entry.JournalEntry.{JournalEntry}
+use Rattle.vat_journal.specs.declared.entry.JournalEntry.TheVariants as entry
+use Rattle.vat_machine.specs.declared.command.CallCommand.{CallCommand}
+use Rattle.vat_machine.specs.declared.command.Command.{Command}
+use Rattle.vat_machine.specs.declared.command.Command.TheVariants as command
+use Rattle.vat_machine.specs.declared.command.Granted.{Granted}
+use Rattle.vat_machine.specs.declared.command.Granted.TheVariants as granted
+use Rattle.vat_machine.specs.State.{State}
+use Rattle.vat_machine.specs.Journal.{born, born_promise, asked_entries, advanced_entries, granted_entries}
+use Rattle.vat_core.specs.Counting.{made_of as count_of}
+use Rattle.vat_world.specs.declared.notes.Note.{Note}
+use Rattle.vat_world.specs.declared.notes.Note.TheVariants as note
+
+abbrev pub or_zero : Option ℕ → ℕ
+or_zero None = 0
+or_zero (Some n) = n
+
+-- How many calls the vat counts through the reference of a call.
+abbrev pub index_of : State → Command → ℕ
+index_of s (command.Call c) = or_zero (count_of (map.get s.refs c.reference.0))
+index_of s c = 0
+
+-- A made call whose number is still to be filled in.
+abbrev pub made_of : ℕ → CallCommand → MadeCall
+made_of index c = record {
+  reference = c.reference;
+  index = index;
+  call = record { 0 = 0 };
+  interface = c.interface;
+  method = c.method;
+  payload = c.payload;
+  refs = c.refs;
+}
+
+abbrev pub made_entries : Vat → MadeCall → Granted → List JournalEntry
+made_entries v m (granted.Call id) = entry.Made v (record m { call = id }) ∷ []
+made_entries v m answer = []
+
+-- What a note writes with this answer.
+abbrev pub note_entries : Vat → Note → Granted → List JournalEntry
+note_entries v (note.Born o) answer = born v o answer
+note_entries v note.Promise answer = born_promise v answer
+note_entries v note.Asked answer = asked_entries v answer
+note_entries v (note.Made m) answer = made_entries v m answer
+note_entries v (note.Advanced r) answer = advanced_entries v r answer
+note_entries v (note.Whole e) answer = e ∷ []
+note_entries v note.Nothing answer = []
+
+-- What a command writes, a call with that index.
+abbrev pub granted_by : ℕ → Vat → Command → Granted → List JournalEntry
+granted_by index v (command.Call c) answer = made_entries v (made_of index c) answer
+granted_by index v c answer = granted_entries [] v c answer
+
+-- A path that is not too long.
+abbrev pub IsShort : Command → Type 0
+IsShort (command.Field c path) = length path ≤ 16
+IsShort c = Unit {0}

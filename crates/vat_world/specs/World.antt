@@ -1,0 +1,83 @@
+-- Two vats with their journal: what an event does, and what every such world is.
+use Rattle.std.specs.Prelude.{◌≡◌, Bool, ◌||◌, false, is_some, Option, List, [], ◌∷◌, ◌++◌, refl}
+use Rattle.std.specs.Coded.{Coded, code_by, coded×, coded_bool, coded_list}
+use Rattle.rpc_msg.specs.contracts.message.Message as message_row
+use Rattle.rpc_msg.specs.declared.ids.Vat.{Vat}
+use Rattle.rpc_msg.specs.declared.ids.Vat.TheVariants.{A, B}
+use Rattle.rpc_msg.specs.declared.ids.ObjectId.{ObjectId}
+use Rattle.rpc_msg.specs.declared.message.Message.{Message}
+use Rattle.vat_journal.specs.contracts.entry.JournalEntry as entry_row
+use Rattle.vat_journal.specs.declared.entry.JournalEntry.{JournalEntry}
+use Rattle.vat_machine.specs.State.{State, state_code}
+use Rattle.vat_machine.specs.declared.event.Event.{Event}
+use Rattle.vat_machine.specs.declared.event.Event.TheVariants as event
+use Rattle.vat_machine.specs.World.{Side, World, new_world, HappensBy, StepAnswer, Answered, Handled, Empty, shut_with, was_shut}
+use Rattle.vat_machine.specs.Journal.{event_entries}
+use Rattle.vat_machine.specs.Claims.{IsReached as LedTo}
+use Rattle.laws_worlds.specs.Promised.{IsPromised, events_of}
+use Rattle.vat_world.specs.declared.answer.StepAnswer.{StepAnswer as Given}
+use Rattle.vat_world.specs.declared.answer.StepAnswer.TheVariants as given
+use Rattle.vat_world.specs.Stages.{given_of, without_sends}
+
+-- What contracts see of a world: its two vats and what is on its way, the journal, and which vats a shut took down.
+pub record Seen : Type 0 where
+  pub world : World
+  pub journal : List JournalEntry
+  pub shut_a : Bool
+  pub shut_b : Bool
+
+abbrev pub shut : Seen → Vat → Bool
+shut w A = w.shut_a
+shut w B = w.shut_b
+
+abbrev pub side_code : Coded Side
+side_code = code_by (State × List Message) (coded× state_code (coded_list message_row.the_row.coded)) (λ s. (s.core, s.inbox)) (λ p. record { core = p.0; inbox = p.1 }) (λ _. refl)
+
+abbrev pub seen_code : Coded Seen
+seen_code =
+    code_by ((Side × Side) × (List JournalEntry × (Bool × Bool)))
+    (coded× (coded× side_code side_code) (coded× (coded_list entry_row.the_row.coded) (coded× coded_bool coded_bool)))
+    (λ w. ((w.world.a, w.world.b), (w.journal, (w.shut_a, w.shut_b))))
+    (λ p. record { world = record { a = p.0.0; b = p.0.1 }; journal = p.1.0; shut_a = p.1.1.0; shut_b = p.1.1.1 })
+    (λ _. refl)
+
+-- Two new vats of level 1 with these bootstrap objects, and nothing happened.
+abbrev pub new_seen : Option ObjectId → Option ObjectId → Seen
+new_seen root_a root_b = record { world = new_world root_a root_b; journal = []; shut_a = false; shut_b = false }
+
+-- ---- Events
+
+-- What an event answers: what the definitions say, but for the messages, which are on their way. The arguments of a
+-- command that is refused are handed back.
+abbrev pub given_by : Event → StepAnswer → Given
+given_by (event.Command v c) (Answered answer told) = given.Answered (given_of c answer told)
+given_by (event.Deliver v) (Answered answer told) = given.Empty
+given_by e (Handled told) = given.Handled (without_sends told)
+given_by e Empty = given.Empty
+
+-- One event: what happens is what may happen in a world, its entries are at the end of the journal, and which vats a shut
+-- took down is told of it.
+pub record Steps (w : Seen) (e : Event) (result : Given) (new : Seen) : Type 0 where
+  pub answer : StepAnswer
+  pub had_room : Bool
+  pub happens : HappensBy w.world e answer had_room new.world
+  pub journal_is : new.journal ≡ w.journal ++ event_entries w.journal e had_room answer
+  pub shut_is : (v : Vat) → shut new v ≡ (shut w v || is_some (shut_with v e answer))
+  pub result_is : result ≡ given_by e answer
+
+-- Events in order, whatever each answers.
+abbrev pub Runs : Seen → List Event → Seen → Type 0
+Runs w [] new = new ≡ w
+Runs w (e ∷ es) new = (mid : Seen) × (result : Given) × Steps w e result mid × Runs mid es new
+
+-- ---- What every world is
+
+-- A run of two new vats leads to this world; the journal tells that run, and between its events the counts of both vats
+-- as often as they were asked for; and a vat is told to be taken down by a shut exactly where one did.
+pub record IsReached (w : Seen) : Type 0 where
+  pub run : LedTo (record { world = w.world; journal = events_of w.journal })
+  pub shuts : (v : Vat) → shut w v ≡ was_shut v run.happened
+
+-- What is promised of it (`laws_worlds/specs/Promised`).
+abbrev pub KeepsPromises : Seen → Type 0
+KeepsPromises w = IsPromised w.journal (shut w) w.world

@@ -1,0 +1,14 @@
+use vat_core::Answer;
+use vat_machine::Effects;
+
+/// What an event answers. The messages that its effects sent are on their way to the other vat, and their copies stand in
+/// the journal: so the effects name none.
+#[derive(Drop)]
+pub enum StepAnswer {
+    /// What the command answers.
+    Answered(Answer),
+    /// What the received message did.
+    Handled(Effects),
+    /// There was no message, or the vat is down.
+    Empty,
+}

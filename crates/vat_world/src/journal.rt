@@ -1,0 +1,95 @@
+ghost use Rattle.std.specs.Prelude.{◌≡◌, ◌+◌, ◌<◌, ◌≤◌, [], ◌∷◌, ◌++◌, length, OnOk, IfOk};
+ghost use Rattle.std.specs.Option.{option_to_list};
+
+use rpc_msg::Memory;
+use std::alloc::Global;
+use std::marker::Model;
+use vat_journal::JournalEntry;
+
+/// The entries for which room is kept: three for each vat to go down.
+const KEPT: usize = 6;
+
+/// The journal, with room for more: seen by contracts as its entries, and how many more fit at least.
+#[derive(Drop)]
+pub(crate) struct Journal {
+    entries: Vec<JournalEntry>,
+}
+
+impl Model for Journal {
+    ghost use Rattle.std.specs.Prelude.{ℕ, List, ◌-◌, vec_len, vec_capacity};
+    ghost use Rattle.vat_journal.specs.declared.entry.JournalEntry.{JournalEntry};
+
+    ghost Value = { List JournalEntry × ℕ };
+
+    ghost view = { λ a. (a.entries.items, vec_capacity a.entries - vec_len a.entries) };
+}
+
+impl Journal {
+    /// No entries, with the room that is kept.
+    pub(crate) fn new(alloc: Global) -> Result<Self, Memory>
+        ensures empty { IfOk result (λ journal. journal.0 ≡ []) }
+        ensures room { IfOk result (λ journal. journal.1 ≡ 6) }
+    {
+        match Vec::with_capacity(alloc, KEPT) {
+            Ok(entries) => Ok(Journal { entries }),
+            Err(_) => Err(Memory),
+        }
+    }
+
+    pub(crate) fn entries(&self) -> &[JournalEntry]
+        ensures { result.now ≡ self.now.0 }
+    {
+        self.entries.as_slice()
+    }
+
+    /// Makes room for that many more, beside the room that is kept.
+    pub(crate) fn prepare(&mut self, more: usize) -> Result<(), Memory>
+        ensures same { self.new.0 ≡ self.old.0 }
+        ensures ok { OnOk result (more + 6 ≤ self.new.1) }
+        ensures room { self.old.1 ≤ self.new.1 }
+    {
+        let Some(room) = more.checked_add(KEPT) else {
+            return Err(Memory);
+        };
+        match self.entries.reserve(room) {
+            Ok(()) => return Ok(()),
+            Err(_) => return Err(Memory),
+        }
+    }
+
+    /// Puts an entry at the end, where there is room.
+    pub(crate) fn push(&mut self, entry: JournalEntry)
+        requires { 0 < self.old.1 }
+        ensures entries { self.new.0 ≡ self.old.0 ++ entry ∷ [] }
+        ensures room { self.old.1 ≤ self.new.1 + 1 }
+    {
+        match self.entries.push(entry) {
+            Ok(()) => return,
+            Err(_) => unreachable!(),
+        }
+    }
+
+    /// Puts an entry at the end, if there is one.
+    pub(crate) fn push_if(&mut self, entry: Option<JournalEntry>)
+        requires { 0 < self.old.1 }
+        ensures entries { self.new.0 ≡ self.old.0 ++ option_to_list entry }
+        ensures room { self.old.1 ≤ self.new.1 + 1 }
+    {
+        match entry {
+            Some(entry) => self.push(entry),
+            None => {}
+        }
+    }
+
+    /// Puts these entries at the end, where there is room.
+    pub(crate) fn append(&mut self, mut more: Vec<JournalEntry>)
+        requires { length more.items ≤ self.old.1 }
+        ensures entries { self.new.0 ≡ self.old.0 ++ more.items }
+        ensures room { self.old.1 ≤ self.new.1 + length more.items }
+    {
+        match self.entries.append(&mut more) {
+            Ok(()) => return,
+            Err(_) => unreachable!(),
+        }
+    }
+}

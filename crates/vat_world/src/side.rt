@@ -1,0 +1,40 @@
+use crate::link::Link;
+use rpc_msg::{Memory, ObjectId, Vat};
+use std::alloc::Global;
+use vat_core::Core;
+use vat_machine::Level;
+use vat_outbox::Outbox;
+
+/// A vat of the world, the messages on their way to it, whether a shut took it down, and the memory of the copy of its
+/// Abort that goes into the journal.
+#[derive(Drop)]
+pub(crate) struct Side {
+    pub(crate) core: Core,
+    pub(crate) inbox: Link,
+    pub(crate) was_shut: bool,
+    pub(crate) spare: Outbox,
+}
+
+impl Side {
+    ghost use Rattle.std.specs.Prelude.{◌≡◌, [], false, IfOk};
+    ghost use Rattle.vat_machine.specs.State.{start};
+    ghost use Rattle.vat_machine.specs.declared.command.Level.TheVariants.{One};
+    ghost use Rattle.vat_world.specs.Rooms.{side_of, CanAbort};
+
+    /// A new vat of level 1 with that bootstrap object, if it has one.
+    pub(crate) fn new(alloc: Global, vat: Vat, bootstrap: Option<ObjectId>) -> Result<Side, Memory>
+        ensures new { IfOk result (λ side. side_of side ≡ record { core = start vat One bootstrap; inbox = [] }) }
+        ensures was_shut { IfOk result (λ side. side.was_shut ≡ false) }
+        ensures room { IfOk result (λ side. CanAbort side side) }
+    {
+        let core = Core::new(alloc, vat, Level::One, bootstrap)?;
+        let inbox = Link::new(alloc)?;
+        let spare = Outbox::new(alloc)?;
+        Ok(Side {
+            core,
+            inbox,
+            was_shut: false,
+            spare,
+        })
+    }
+}

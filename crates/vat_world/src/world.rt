@@ -1,0 +1,219 @@
+ghost use Rattle.std.specs.Prelude.{◌≡◌, ◌↔◌, true, ◌++◌, [], ◌∷◌, IfOk, OnOk, OnErr};
+ghost use Rattle.vat_journal.specs.declared.entry.JournalEntry.{JournalEntry};
+ghost use Rattle.vat_machine.specs.World.{tables_entry};
+ghost use Rattle.vat_machine.specs.Pending.{is_idle, pending};
+ghost use Rattle.vat_machine.specs.Claims.{AreNumbered, CountsAgree, IsInOrder, IsQuietWhenDown};
+ghost use Rattle.vat_machine.specs.declared.event.Event.TheVariants as event;
+ghost use Rattle.vat_world.specs.declared.answer.StepAnswer.TheVariants as given;
+ghost use Rattle.laws_worlds.specs.Promised.{AreEachAtOne, AreInFull, DownsAreKnown, DownsAreTold, RefusesNothing};
+ghost use Rattle.vat_world.specs.World.{IsReached, KeepsPromises, Steps, Runs, new_seen, shut};
+
+use crate::answer::StepAnswer;
+use crate::journal::Journal;
+use crate::side::Side;
+use crate::step::{deliver, obey};
+use laws_runs::calls_are_counted;
+use laws_worlds::worlds_keep_promises;
+use rpc_msg::{Memory, ObjectId, RefId, Vat};
+use std::alloc::Global;
+use std::marker::Model;
+use vat_core::Answer;
+use vat_journal::JournalEntry;
+use vat_machine::{Command, Event};
+
+/// Two vats of level 1, the messages on their way between them, and the journal of what happens. It keeps the room that both
+/// vats need to go down, so that want of memory takes a vat down and is written.
+///
+/// Contracts see it as the world of `docs/protocol.md`, and every value of this type is one to which a run of two new vats
+/// leads, with the journal of that run: so what is promised of every run holds of it (`promises`).
+#[derive(Drop)]
+pub struct World {
+    a: Side,
+    b: Side,
+    journal: Journal,
+    alloc: Global,
+}
+
+impl Model for World {
+    ghost use Rattle.vat_world.specs.World.{Seen, seen_code, IsReached};
+    ghost use Rattle.vat_world.specs.Rooms.{seen_of, HasRoom};
+
+    ghost Value = { Seen };
+
+    ghost coded = { seen_code };
+
+    ghost view = { λ w. seen_of w.a w.b w.journal };
+
+    ghost invariant = { λ w. HasRoom w.a w.b w.journal × IsReached (seen_of w.a w.b w.journal) };
+}
+
+impl World {
+    /// Two new vats of level 1 with those bootstrap objects, if they have one. `Memory` where the room that they keep was
+    /// refused.
+    pub fn new(
+        alloc: Global,
+        bootstrap_a: Option<ObjectId>,
+        bootstrap_b: Option<ObjectId>,
+    ) -> Result<World, Memory>
+        ensures { IfOk result (λ world. world ≡ new_seen bootstrap_a bootstrap_b) }
+    {
+        let a = Side::new(alloc, Vat::A, bootstrap_a)?;
+        let b = Side::new(alloc, Vat::B, bootstrap_b)?;
+        let journal = Journal::new(alloc)?;
+        Ok(World {
+            a,
+            b,
+            journal,
+            alloc,
+        })
+    }
+
+    /// Lets an event happen, and answers it: what a command answers, what a received message did, or `Empty` where there is
+    /// no message or the vat is down. What happened is at the end of the journal. A command that is refused is handed back.
+    /// Where a link or the journal can't grow for it, the acting vat goes down with fault 33.
+    ///
+    /// Whatever happened before: the calls delivered through a reference are a beginning of those made through it, in order,
+    /// each once, all at one object; and what else is promised (`journal`).
+    pub fn step(&mut self, event: Event) -> StepAnswer
+        ensures steps { Steps self.old event result self.new }
+        ensures promised { KeepsPromises self.new }
+    {
+        let answer = self.happen(event);
+        self.promises();
+        answer
+    }
+
+    fn happen(&mut self, event: Event) -> StepAnswer
+        ensures { Steps self.old event result self.new }
+    {
+        match event {
+            Event::Command(vat, command) => {
+                return StepAnswer::Answered(self.command(vat, command));
+            }
+            Event::Deliver(vat) => return self.deliver(vat),
+        }
+    }
+
+    fn command(&mut self, vat: Vat, command: Command) -> Answer
+        ensures { Steps self.old (event.Command vat command) (given.Answered result) self.new }
+    {
+        calls_are_counted();
+        match vat {
+            Vat::A => return obey(
+                self.alloc,
+                vat,
+                &mut self.a,
+                &mut self.b,
+                &mut self.journal,
+                command,
+            ),
+            Vat::B => return obey(
+                self.alloc,
+                vat,
+                &mut self.b,
+                &mut self.a,
+                &mut self.journal,
+                command,
+            ),
+        }
+    }
+
+    fn deliver(&mut self, vat: Vat) -> StepAnswer
+        ensures { Steps self.old (event.Deliver vat) result self.new }
+    {
+        match vat {
+            Vat::A => return deliver(self.alloc, vat, &mut self.a, &mut self.b, &mut self.journal),
+            Vat::B => return deliver(self.alloc, vat, &mut self.b, &mut self.a, &mut self.journal),
+        }
+    }
+
+    /// Lets events happen in order, as `step` does, whatever each answers; with the same promises.
+    pub fn run(&mut self, events: Vec<Event>)
+        ensures runs { Runs self.old events.items self.new }
+        ensures promised { KeepsPromises self.new }
+    {
+        for event in events {
+            let answer = self.happen(event);
+            drop(answer);
+        }
+        self.promises();
+    }
+
+    // Of every value of this type: a run of two new vats leads to it.
+    fn promises(&self)
+        ensures { KeepsPromises self.now }
+    {
+        worlds_keep_promises();
+        let _ = &self.journal;
+    }
+
+    /// The entries of all that happened, the oldest first: those of a run of two new vats (`reached`), whatever they were
+    /// commanded and whenever messages came.
+    ///
+    /// By it the calls delivered through a reference are a beginning of those made through it, in order (`in_order`); no two
+    /// of these are one (`numbered`), so each is delivered once; all are at one object (`at_one`); and while both vats are
+    /// up, once one was delivered, all are where none is held or on its way (`in_full`). A vat delivers nothing after it went
+    /// down (`quiet`). While both are up, the count of each export is what the other vat holds and what is on its way
+    /// (`counts`). No vat takes the other down, but by going down itself (`unrefused`, `downs`, `told`).
+    pub fn journal(&self) -> &[JournalEntry]
+        ensures entries { result.now ≡ self.now.journal }
+        ensures reached { IsReached self.now }
+        ensures in_order { IsInOrder result.now }
+        ensures numbered { AreNumbered result.now }
+        ensures at_one { AreEachAtOne result.now }
+        ensures in_full { AreInFull result.now self.now.world }
+        ensures quiet { IsQuietWhenDown result.now }
+        ensures counts { CountsAgree self.now.world }
+        ensures unrefused { RefusesNothing self.now.world }
+        ensures downs { DownsAreKnown (shut self.now) result.now }
+        ensures told { DownsAreTold result.now self.now.world }
+    {
+        self.promises();
+        self.journal.entries()
+    }
+
+    /// Puts the counts of both vats' exports and imports at the end of the journal. `Memory` where a growth was refused:
+    /// the world is as it was.
+    pub fn note_tables(&mut self) -> Result<(), Memory>
+        ensures ok { OnOk result (self.new ≡ record (self.old) { journal = self.old.journal ++ tables_entry self.old.world ∷ [] }) }
+        ensures err { OnErr result (self.new ≡ self.old) }
+    {
+        let a = self.a.core.counts()?;
+        let b = self.b.core.counts()?;
+        self.journal.prepare(1)?;
+        self.journal.push(JournalEntry::Tables(a, b));
+        Ok(())
+    }
+
+    /// Whether no call of that reference of that vat is held, embargoed or in a Call message on its way: so all that were
+    /// made through it, and not delivered, have another end. Takes no memory.
+    pub fn idle(&self, vat: Vat, reference: RefId) -> bool
+        ensures idle { result ≡ is_idle self.now.world (record { vat = vat; number = reference.0 }) }
+        ensures none_pending { result ≡ true ↔ pending self.now.world (record { vat = vat; number = reference.0 }) ≡ [] }
+    {
+        self.promises();
+        self.none_waits(vat, reference)
+    }
+
+    fn none_waits(&self, vat: Vat, reference: RefId) -> bool
+        ensures { result ≡ is_idle self.now.world (record { vat = vat; number = reference.0 }) }
+    {
+        if self.a.core.holds(vat, reference) || self.b.core.holds(vat, reference) {
+            return false;
+        }
+        if self.a.inbox.has_call(vat, reference) || self.b.inbox.has_call(vat, reference) {
+            return false;
+        }
+        true
+    }
+
+    /// Whether a shut took that vat down. Takes no memory.
+    pub fn was_shut(&self, vat: Vat) -> bool
+        ensures { result ≡ shut self.now vat }
+    {
+        match vat {
+            Vat::A => self.a.was_shut,
+            Vat::B => self.b.was_shut,
+        }
+    }
+}
