@@ -8,14 +8,14 @@
 //! Without arguments it does nothing.
 #![tactic(auto)]
 
-mod core;
+mod cores;
 mod payload;
 mod pool;
 mod side;
 mod trace;
 
 use anyhow::Result;
-use core::Load;
+use cores::Load;
 use std::env;
 use std::env::Args;
 use std::process::ExitCode;
@@ -78,6 +78,6 @@ fn measure_core(rt: &HostRuntime, words: &mut Args) -> Result<ExitCode> {
         waiting: waiting.as_str().parse()?,
         exports: exports.as_str().parse()?,
     };
-    core::measure(rt, load)?;
+    cores::measure(rt, load)?;
     Ok(ExitCode::SUCCESS)
 }
