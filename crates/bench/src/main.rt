@@ -5,6 +5,7 @@
 //! `bench trace FILE` reads a trace and checks it, apart and together.
 //! `bench core OPEN WAITING EXPORTS` takes calls from one core to another and back, beside so many open questions, waiting
 //! calls and exports, and embargoes.
+//! `bench world ROUNDS` does so over a `World`, which keeps the journal.
 //! Without arguments it does nothing.
 #![tactic(auto)]
 
@@ -13,6 +14,7 @@ mod payload;
 mod pool;
 mod side;
 mod trace;
+mod world;
 
 use anyhow::Result;
 use cores::Load;
@@ -31,13 +33,14 @@ fn main(rt: HostRuntime) -> Result<ExitCode> {
         "payload" => measure_payload(&rt, &mut words),
         "trace" => measure_trace(&rt, &mut words),
         "core" => measure_core(&rt, &mut words),
+        "world" => measure_world(&rt, &mut words),
         _ => usage(&rt),
     }
 }
 
 fn usage(rt: &impl Print) -> Result<ExitCode> {
     println!(rt;
-        "usage: bench pool N | bench payload FILE CAPS ROUNDS | bench trace FILE | bench core OPEN WAITING EXPORTS"
+        "usage: bench pool N | bench payload FILE CAPS ROUNDS | bench trace FILE | bench core OPEN WAITING EXPORTS | bench world ROUNDS"
     )?;
     Ok(ExitCode::from(2))
 }
@@ -79,5 +82,13 @@ fn measure_core(rt: &HostRuntime, words: &mut Args) -> Result<ExitCode> {
         exports: exports.as_str().parse()?,
     };
     cores::measure(rt, load)?;
+    Ok(ExitCode::SUCCESS)
+}
+
+fn measure_world(rt: &HostRuntime, words: &mut Args) -> Result<ExitCode> {
+    let Some(rounds) = words.next() else {
+        return usage(rt);
+    };
+    world::measure(rt, rt.alloc(), rounds.as_str().parse()?)?;
     Ok(ExitCode::SUCCESS)
 }

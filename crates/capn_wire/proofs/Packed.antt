@@ -5,13 +5,14 @@ use Rattle.std.proofs.lemmas.List.{get_or-drop, get_or-take, get_or_past, length
 use Rattle.std.proofs.lemmas.Nat.{shr-shr, shr_high, mod_low, pow_pos}
 use Rattle.std.proofs.lemmas.Bool.{cases_lt}
 use Rattle.std.proofs.Math.Nat.{mul-le-mul_right}
-use Rattle.capn_wire.specs.declared.pointer.Width.{Width}
-use Rattle.capn_wire.specs.declared.pointer.Width.TheVariants as width
-use Rattle.capn_wire.specs.Pointers.{bits_of}
-use Rattle.capn_wire.specs.Reading.{element, elements}
-use Rattle.capn_wire.specs.Placing.{joined, packed_words, packed_size}
-use Rattle.capn_wire.specs.Fitting.{AreOf}
-use Rattle.capn_wire.proofs.Building.{elements_void}
+use Rattle.wire_trees.specs.declared.width.Width.{Width}
+use Rattle.wire_trees.specs.declared.width.Width.TheVariants as width
+use Rattle.wire_trees.specs.Widths.{bits_of, packed_size}
+use Rattle.wire_reading.specs.Reading.{element, elements}
+use Rattle.wire_writing.specs.Placing.{joined, packed_words}
+use Rattle.wire_writing.specs.Fitting.{AreOf}
+use Rattle.wire_reading.proofs.Building.{elements_void}
+use Rattle.wire_writing.proofs.Filled.{are_drop, are_take}
 
 digit : (b : ℕ) (xs : List ℕ) (k : ℕ) → AreOf b xs → k < length xs → joined b xs / 2 ^ (k * b) % 2 ^ b ≡ get_or xs k 0
 digit b [] k fit lt = absurd (omega arith)
@@ -25,16 +26,6 @@ digit b (x ∷ xs) (suc k) fit lt =
     ∙ ap (λ (n : ℕ). n % 2 ^ b) (sym (shr-shr (joined b xs * 2 ^ b + x) b (k * b)))
     ∙ ap (λ (n : ℕ). n / 2 ^ (k * b) % 2 ^ b) (shr_high (joined b xs) b x (fit 0))
     ∙ digit b xs k (λ i. fit (suc i)) (omega arith)
-
-pub are_drop : (b n : ℕ) (xs : List ℕ) → AreOf b xs → AreOf b (drop n xs)
-are_drop b n xs fit i = rw get_or-drop (fit (n + i))
-
-pub are_take : (b n : ℕ) (xs : List ℕ) → AreOf b xs → AreOf b (take n xs)
-are_take b n xs fit i =
-    elim (cases_lt i n) [
-      | inl lt ↦ rw (get_or-take n xs i 0 lt) (fit i)
-      | inr le ↦ rw (get_or_past (take n xs) i 0 (omega (arith, length-take n xs))) (pow_pos b)
-    ]
 
 module _ (b per : ℕ) (some : 0 < b) (whole : per * b ≡ 64) where
   low_place : (k : ℕ) → k < per → k * b < 64

@@ -3,29 +3,33 @@ use Rattle.std.proofs.Common.{◌≡◌, ℕ, zero, suc, ◌+◌, ◌-◌, ◌*�
 use Rattle.std.specs.Prelude.{⊤}
 use Rattle.std.proofs.lemmas.List.{length-append, get_or_at, drop_at, take_at, take-append-drop, length-take-le}
 use Rattle.std.proofs.lemmas.Bool.{eqb-true, eqb-false, ltb-false, le-ltb, and_parts, or_parts, not-false}
-use Rattle.capn_wire.specs.declared.pointer.Width.{Width}
-use Rattle.capn_wire.specs.declared.pointer.Width.TheVariants as width
-use Rattle.capn_wire.specs.declared.pointer.Shape.{Shape}
-use Rattle.capn_wire.specs.declared.pointer.Shape.TheVariants as shape
-use Rattle.capn_wire.specs.declared.pointer.Pointer.{Pointer}
-use Rattle.capn_wire.specs.declared.pointer.Pointer.TheVariants as pointer
-use Rattle.capn_wire.specs.declared.referent.Referent.{Referent}
-use Rattle.capn_wire.specs.declared.referent.Referent.TheVariants as referent
-use Rattle.capn_wire.specs.declared.layout.Layout.{Layout}
-use Rattle.capn_wire.specs.declared.layout.Layout.TheVariants as layout
-use Rattle.capn_wire.specs.Pointers.{bits_of, decoded, tag_of}
-use Rattle.capn_wire.specs.Following.{◌>>=◌, visit, target, leads, followed, most_visited}
-use Rattle.capn_wire.specs.Layouts.{laid, weight, tagged}
-use Rattle.capn_wire.specs.Trees as tree
-use Rattle.capn_wire.specs.Trees.{Tree, Trees, Elements, Structs}
-use Rattle.capn_wire.specs.Reading.{Reading, elements, pointers_at, structs_at, content_of, reading}
-use Rattle.capn_wire.specs.Placing.{packed_words, packed_size, size_number, struct_word, list_word, struct_pointer, offset_of, trees_count, structs_count, placed, placed_all, placed_list, placed_structs}
-use Rattle.capn_wire.specs.Fitting.{AreOf, Fits, FitsAll, FitsList, FitsStructs}
-use Rattle.capn_wire.specs.Writable.{Part, parts, parts_of_all, parts_of_list, parts_of_structs, are_even, is_uneven, is_content, is_too_deep, is_beyond, is_too_wide, words_visited, all_words}
-use Rattle.capn_wire.proofs.Places.{read_as}
-use Rattle.capn_wire.proofs.Joining.{reading_null, reading_capability, deep_content, struct_is, packed_is, pointers_is, structs_is}
+use Rattle.wire_trees.specs.declared.width.Width.{Width}
+use Rattle.wire_trees.specs.declared.width.Width.TheVariants as width
+use Rattle.wire_reading.specs.declared.pointer.Shape.{Shape}
+use Rattle.wire_reading.specs.declared.pointer.Shape.TheVariants as shape
+use Rattle.wire_reading.specs.declared.pointer.Pointer.{Pointer}
+use Rattle.wire_reading.specs.declared.pointer.Pointer.TheVariants as pointer
+use Rattle.wire_reading.specs.declared.referent.Referent.{Referent}
+use Rattle.wire_reading.specs.declared.referent.Referent.TheVariants as referent
+use Rattle.wire_reading.specs.declared.layout.Layout.{Layout}
+use Rattle.wire_reading.specs.declared.layout.Layout.TheVariants as layout
+use Rattle.wire_trees.specs.Widths.{bits_of, packed_size}
+use Rattle.wire_reading.specs.Pointers.{decoded, tag_of}
+use Rattle.wire_reading.specs.Following.{◌>>=◌, visit, target, leads, followed}
+use Rattle.wire_trees.specs.Limits.{most_visited}
+use Rattle.wire_reading.specs.Layouts.{laid, weight, tagged}
+use Rattle.wire_trees.specs.Trees as tree
+use Rattle.wire_trees.specs.Trees.{Tree, Trees, Elements, Structs, trees_count, structs_count}
+use Rattle.wire_reading.specs.Reading.{Reading, elements, pointers_at, structs_at, content_of, reading}
+use Rattle.wire_writing.specs.Placing.{packed_words, size_number, struct_word, list_word, struct_pointer, offset_of, placed, placed_all, placed_list, placed_structs}
+use Rattle.wire_writing.specs.Fitting.{AreOf, Fits, FitsAll, FitsList, FitsStructs}
+use Rattle.wire_trees.specs.Writable.{Part, parts, parts_of_all, parts_of_list, parts_of_structs, are_even, is_content, is_too_deep, is_too_wide, words_visited, all_words}
+use Rattle.wire_reading.proofs.Rooted.{read_as}
+use Rattle.wire_reading.proofs.Joining.{reading_null, reading_capability, deep_content, struct_is, packed_is, pointers_is, structs_is}
 use Rattle.capn_wire.proofs.Packed.{elements_again}
 use Rattle.capn_wire.proofs.Words.{decoded_struct, tag_again, decoded_packed, decoded_pointers, decoded_structs, decoded_capability, target_ahead, target_here}
+use Rattle.wire_trees.proofs.Parts.{AreGood, IsGood, words_append, even_parts}
+use Rattle.wire_writing.proofs.Lengths.{length-packed, length-placed_all, length-placed_structs}
 
 -- the segment has these words from word i on
 pub record Has (seg : List ℕ) (i : ℕ) (ws : List ℕ) : Type 0 where
@@ -70,14 +74,6 @@ has_drop seg i ws h = ap (drop i) h.whole ∙ drop_at h.front (ws ++ h.back) i h
 has_words : (seg : List ℕ) (i : ℕ) (ws : List ℕ) → Has seg i ws → take (length ws) (drop i seg) ≡ ws
 has_words seg i ws h = ap (take (length ws)) (has_drop seg i ws h) ∙ take_at ws h.back (length ws) refl
 
--- a part that is no reason to refuse
-abbrev pub IsGood : ℕ → Part → Type 0
-IsGood caps p = ((is_uneven p.what ≡ false) × (is_too_deep p ≡ false)) × ((is_beyond caps p.what ≡ false) × (is_too_wide p.what ≡ false))
-
-abbrev pub AreGood : ℕ → List Part → Type 0
-AreGood caps [] = ⊤
-AreGood caps (p ∷ ps) = IsGood caps p × AreGood caps ps
-
 good_left : (caps : ℕ) (ps qs : List Part) → AreGood caps (ps ++ qs) → AreGood caps ps
 good_left caps [] qs g = tt
 good_left caps (p ∷ ps) qs g = (g.0, good_left caps ps qs g.1)
@@ -85,39 +81,6 @@ good_left caps (p ∷ ps) qs g = (g.0, good_left caps ps qs g.1)
 good_right : (caps : ℕ) (ps qs : List Part) → AreGood caps (ps ++ qs) → AreGood caps qs
 good_right caps [] qs g = g
 good_right caps (p ∷ ps) qs g = good_right caps ps qs g.1
-
-pub words_append : (count : Tree → ℕ) (ps qs : List Part) → all_words count (ps ++ qs) ≡ all_words count ps + all_words count qs
-words_append count [] qs = omega arith
-words_append count (p ∷ ps) qs = let h = words_append count ps qs in omega (arith, h)
-
-pub length-packed : (b n : ℕ) (xs : List ℕ) → length (packed_words b n xs) ≡ n
-length-packed b zero xs = refl
-length-packed b (suc n) xs = ap suc (length-packed b n (drop (64 / b) xs))
-
-pub length-placed_all : (ts : Trees) (at next : ℕ) → length (placed_all ts at next).0 ≡ trees_count ts
-length-placed_all tree.no_trees at next = refl
-length-placed_all (tree.tree t ts) at next = ap suc (length-placed_all ts (at + 1) (next + length (placed t at next).1))
-
-pub even_parts : (d p : ℕ) (ws : List ℕ) (ts : Trees) (ss : Structs) → are_even d p (tree.struct_of ws ts ss) ≡ true → (length ws ≡ d) × (trees_count ts ≡ p) × (are_even d p ss ≡ true)
-even_parts d p ws ts ss e =
-    let a = and_parts (eqb (length ws) d) (eqb (trees_count ts) p && are_even d p ss) e in
-    let b = and_parts (eqb (trees_count ts) p) (are_even d p ss) a.1 in
-    (eqb-true (length ws) d a.0, eqb-true (trees_count ts) p b.0, b.1)
-
-pub length-placed_structs : (ss : Structs) (d p at next : ℕ) → are_even d p ss ≡ true → length (placed_structs ss at next).0 ≡ structs_count ss * (d + p)
-length-placed_structs tree.no_structs d p at next e = omega arith
-length-placed_structs (tree.struct_of ws ts ss) d p at next e =
-    let f = even_parts d p ws ts ss e in
-    let own = (placed_all ts (at + length ws) next).0 in
-    let rest = (placed_structs ss (at + length ws + trees_count ts) (next + length (placed_all ts (at + length ws) next).1)).0 in
-    let a = length-append ws (own ++ rest) in
-    let b = length-append own rest in
-    let c = length-placed_all ts (at + length ws) next in
-    let g = length-placed_structs ss d p (at + length ws + trees_count ts) (next + length (placed_all ts (at + length ws) next).1) f.2 in
-    let more : suc (structs_count ss) * (d + p) ≡ (d + p) + structs_count ss * (d + p) = omega arith in
-    let fd = f.0 in
-    let fp = f.1 in
-    a ∙ omega (arith, b, c, g, more, fd, fp)
 
 abbrev content_at : ℕ → Shape → Referent
 content_at start s = referent.Content (record { segment = 0; start = Some start; shape = s })

@@ -2,38 +2,29 @@
 use Rattle.std.proofs.Common.{◌≡◌, ℕ, zero, suc, ◌+◌, ◌<◌, ◌≤◌, Bool, true, false, cond, eqb, ltb, List, take, drop, length, Option, Some, None, Result, Ok, Err, refl, sym, ap, subst, ◌∙◌, arith}
 use Rattle.std.specs.Prelude.{IsOk}
 use Rattle.std.proofs.lemmas.List.{drop_all}
-use Rattle.capn_wire.specs.declared.faults.PayloadFault.{PayloadFault}
-use Rattle.capn_wire.specs.declared.faults.PayloadFault.TheVariants.{OutOfBounds}
-use Rattle.capn_wire.specs.declared.pointer.Pointer.{Pointer}
-use Rattle.capn_wire.specs.declared.pointer.Pointer.TheVariants as pointer
-use Rattle.capn_wire.specs.declared.referent.Content.{Content}
-use Rattle.capn_wire.specs.declared.referent.Referent.{Referent}
-use Rattle.capn_wire.specs.declared.referent.Referent.TheVariants as referent
-use Rattle.capn_wire.specs.declared.layout.Layout.{Layout}
-use Rattle.capn_wire.specs.declared.layout.Layout.TheVariants as layout
+use Rattle.wire_trees.specs.declared.faults.PayloadFault.{PayloadFault}
+use Rattle.wire_trees.specs.declared.faults.PayloadFault.TheVariants.{OutOfBounds}
+use Rattle.wire_reading.specs.declared.pointer.Pointer.{Pointer}
+use Rattle.wire_reading.specs.declared.pointer.Pointer.TheVariants as pointer
+use Rattle.wire_reading.specs.declared.referent.Content.{Content}
+use Rattle.wire_reading.specs.declared.referent.Referent.{Referent}
+use Rattle.wire_reading.specs.declared.referent.Referent.TheVariants as referent
+use Rattle.wire_reading.specs.declared.layout.Layout.{Layout}
+use Rattle.wire_reading.specs.declared.layout.Layout.TheVariants as layout
 use Rattle.capn_wire.specs.declared.path.Op.{Op}
 use Rattle.capn_wire.specs.declared.path.CapAt.{CapAt}
 use Rattle.capn_wire.specs.declared.path.CapAt.TheVariants as cap_at
-use Rattle.capn_wire.specs.Pointers.{bits_of, decoded}
-use Rattle.capn_wire.specs.Segments.{segment_of, word_at, size_of}
-use Rattle.capn_wire.specs.Following.{◌>>=◌, visit, target, pad_words, pad_at, far, capability, leads, followed}
-use Rattle.capn_wire.specs.Layouts.{laid, weight}
-use Rattle.capn_wire.specs.Trees as tree
-use Rattle.capn_wire.specs.Trees.{Tree, Trees, pointer_at}
-use Rattle.capn_wire.specs.Reading.{Reading, elements, pointers_at, structs_at, content_of, shallow, deep, reading, most_levels, root_of, message_of}
-use Rattle.capn_wire.specs.Framing.{framing}
+use Rattle.wire_trees.specs.Widths.{bits_of}
+use Rattle.wire_reading.specs.Pointers.{decoded}
+use Rattle.wire_reading.specs.Segments.{segment_of, word_at, size_of}
+use Rattle.wire_reading.specs.Following.{◌>>=◌, visit, target, pad_words, pad_at, far, capability, leads, followed}
+use Rattle.wire_reading.specs.Layouts.{laid, weight}
+use Rattle.wire_trees.specs.Trees as tree
+use Rattle.wire_trees.specs.Trees.{Tree, Trees, pointer_at}
+use Rattle.wire_reading.specs.Reading.{Reading, elements, pointers_at, structs_at, content_of, shallow, deep, reading, root_of}
+use Rattle.wire_trees.specs.Limits.{most_levels}
 use Rattle.capn_wire.specs.Walking.{field, found_at, capability_at, meaning, StandsFor}
-use Rattle.capn_wire.specs.Payloads.{tree_read}
-
--- the value of a step that did not fail
-pub bind_ok : {A B : Type 0} (r : Result A PayloadFault) (f : A → Result B PayloadFault) (y : B) → (r >>= f) ≡ Ok y → (x : A) × (r ≡ Ok x) × (f x ≡ Ok y)
-bind_ok (Ok x) f y e = (x, refl, e)
-bind_ok (Err d) f y e = absurd cc
-
--- a test that did not fail
-pub passed : {A : Type 0} (b : Bool) (d : PayloadFault) (r : Result A PayloadFault) (y : A) → cond b (Err d) r ≡ Ok y → (b ≡ false) × (r ≡ Ok y)
-passed true d r y e = absurd cc
-passed false d r y e = (refl, e)
+use Rattle.wire_reading.proofs.Rooted.{bind_ok, passed, read_as, first_is}
 
 abbrev some : Tree → Option Tree
 some t = Some t
@@ -43,17 +34,6 @@ done x = Ok x
 
 ok_is : {A : Type 0} (x y : A) → done x ≡ done y → x ≡ y
 ok_is x y e = cc
-
-abbrev pub read_as : {A : Type 0} → A → ℕ → Reading A
-read_as a n = Ok (a, n)
-
-first_of : {A : Type 0} → A → Reading A → A
-first_of d (Ok x) = x.0
-first_of d (Err e) = d
-
-pub first_is : {A : Type 0} (a b : A) (m n : ℕ) → read_as a m ≡ read_as b n → a ≡ b
-unfolding first_of
-first_is a b m n e = ap (first_of a) e
 
 fresh_pad : (b : Bool) → visit 0 (pad_words b) ≡ Ok (pad_words b)
 fresh_pad true = refl
@@ -234,22 +214,6 @@ not_struct m caps c t place n stands is_laid none =
     let same : r.place ≡ place = ok_is r.place place (sym r.is_laid ∙ sym is_laid) in
     no_field m (reading m caps r.levels) c.segment place r.before t r.after n (subst (λ (l : Layout). content_of m (reading m caps r.levels) c.segment l r.before ≡ Ok (t, r.after)) same r.is_read) none
 
--- the tree of the root
-pub root_read : (m : List (List ℕ)) (caps : ℕ) → IsOk (root_of m caps) → (after : ℕ) × (root_of m caps ≡ Ok (tree_read (root_of m caps), after))
-root_read m caps ok = cases (root_of m caps) ok
-  where
-    cases : (r : Reading Tree) → IsOk r → (after : ℕ) × (r ≡ Ok (tree_read r, after))
-    cases (Ok x) ok = (x.1, refl)
-    cases (Err e) ok = absurd cc
-
-pub root_there : (m : List (List ℕ)) (caps : ℕ) → IsOk (root_of m caps) → 0 < length (segment_of m 0)
-unfolding root_of
-root_there m caps ok = cases (length (segment_of m 0)) ok
-  where
-    cases : (n : ℕ) → IsOk (cond (eqb n 0) (Err OutOfBounds) (reading m caps most_levels 0 0 0)) → 0 < n
-    cases zero h = absurd cc
-    cases (suc n) h = omega arith
-
 -- no capability stands where a content does
 content_found : (m : List (List ℕ)) (read : ℕ → ℕ → ℕ → Reading Tree) (s : ℕ) (place : Layout) (v : ℕ) (t : Tree) (after : ℕ) → content_of m read s place v ≡ Ok (t, after) → cap_at.NotCap ≡ found_at (Some t)
 unfolding content_of
@@ -282,28 +246,3 @@ pub found_last : (m : List (List ℕ)) (caps : ℕ) (r q : Referent) (t : Tree) 
     → capability_at t (drop i path) ≡ whole → answer_of q ≡ whole
 found_last m caps r q t path i whole stands is_q past so_far =
     ap answer_of (sym is_q) ∙ found_there m caps r t stands ∙ ap (capability_at t) (sym (drop_all i path past)) ∙ so_far
-
-abbrev refused : PayloadFault → Reading Tree
-refused e = Err e
-
--- a message that is read has its segments
-pub framed_read : (bytes : List ℕ) (caps : ℕ) (m : List (List ℕ)) → IsOk (message_of bytes caps) → Ok m ≡ framing bytes
-    → IsOk (root_of m caps) × (tree_read (root_of m caps) ≡ tree_read (message_of bytes caps))
-unfolding message_of
-framed_read bytes caps m ok is_framed =
-    let same : root_of m caps ≡ message_of bytes caps = ap (λ (f : Result (List (List ℕ)) PayloadFault). f >>= λ n. root_of n caps) is_framed in
-    (subst (λ (r : Reading Tree). IsOk r) (sym same) ok, ap tree_read same)
-
-pub not_unframed : (bytes : List ℕ) (caps : ℕ) (e : PayloadFault) → IsOk (message_of bytes caps) → Err e ≡ framing bytes → ⊥
-unfolding message_of
-not_unframed bytes caps e ok is_framed =
-    let same : message_of bytes caps ≡ Err e = ap (λ (f : Result (List (List ℕ)) PayloadFault). f >>= λ n. root_of n caps) (sym is_framed) in
-    absurd (let no : IsOk (refused e) = subst (λ (r : Reading Tree). IsOk r) same ok in cc)
-
-pub root_is : (m : List (List ℕ)) (caps : ℕ) → IsOk (root_of m caps) → root_of m caps ≡ reading m caps most_levels 0 0 0
-unfolding root_of
-root_is m caps ok = cases (eqb (length (segment_of m 0)) 0) ok
-  where
-    cases : (b : Bool) → IsOk (cond b (Err OutOfBounds) (reading m caps most_levels 0 0 0)) → cond b (Err OutOfBounds) (reading m caps most_levels 0 0 0) ≡ reading m caps most_levels 0 0 0
-    cases true h = absurd cc
-    cases false h = refl

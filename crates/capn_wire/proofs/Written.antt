@@ -1,21 +1,25 @@
 -- The bytes that are written for a tree are a message that says it.
-use Rattle.std.proofs.Common.{◌≡◌, ℕ, suc, ◌+◌, ◌^◌, ◌<◌, ◌≤◌, false, eqb, List, [], ◌∷◌, ◌++◌, length, get_or, refl, sym, ap, ◌∙◌, arith}
+use Rattle.std.proofs.Common.{◌≡◌, ℕ, suc, ◌+◌, ◌^◌, ◌<◌, ◌≤◌, false, eqb, List, [], ◌∷◌, ◌++◌, length, get_or, refl, sym, ap, subst, ◌∙◌, Option, None, arith}
+use Rattle.std.specs.Prelude.{MatchOption}
+use Rattle.wire_trees.specs.declared.faults.WriteFault.{WriteFault}
 use Rattle.std.specs.List.{flat_map, AllByRecursion}
 use Rattle.std.proofs.lemmas.List.{append-nil}
 use Rattle.std.proofs.lemmas.Bool.{ne_eqb}
 use Rattle.std.proofs.lemmas.List.Concat.{flat_map-cons}
 use Rattle.std.proofs.lemmas.List.Sums.{sum_by-cons}
 use Rattle.byteorder.specs.Endian.{little_bytes}
-use Rattle.capn_wire.specs.Trees.{Tree}
-use Rattle.capn_wire.specs.Reading.{root_of}
-use Rattle.capn_wire.specs.Framing.{body_of, IsFramed}
-use Rattle.capn_wire.specs.Payloads.{Says}
-use Rattle.capn_wire.specs.Placing.{placed, segment_for, one_segment, written}
-use Rattle.capn_wire.specs.Fitting.{Fits}
-use Rattle.capn_wire.specs.Writable.{parts, words_taken, words_visited, all_words}
-use Rattle.capn_wire.proofs.Placed.{Has, AreGood, reads}
-use Rattle.capn_wire.proofs.Sized.{taken_by}
-use Rattle.capn_wire.proofs.Found.{good_sizes}
+use Rattle.wire_trees.specs.Trees.{Tree}
+use Rattle.wire_reading.specs.Reading.{root_of}
+use Rattle.wire_reading.specs.Framing.{body_of, IsFramed}
+use Rattle.capn_wire.specs.Payloads.{Contents, IsEncoded, Says, tree_of}
+use Rattle.capn_wire.proofs.Saying.{says_encoded, says_tree}
+use Rattle.wire_writing.specs.Placing.{placed, segment_for, one_segment, written}
+use Rattle.wire_writing.specs.Fitting.{AreOf, Fits}
+use Rattle.wire_trees.specs.Writable.{parts, words_taken, words_visited, all_words, refusal}
+use Rattle.capn_wire.proofs.Placed.{Has, reads}
+use Rattle.wire_trees.proofs.Parts.{AreGood}
+use Rattle.wire_writing.proofs.Sized.{taken_by}
+use Rattle.wire_writing.proofs.Writing.{can_write, good_sizes}
 
 all_fit : (xs : List ℕ) → ((i : ℕ) → get_or xs i 0 < 2 ^ 64) → AllByRecursion (λ w. w < 2 ^ 64) xs
 all_fit [] fit = tt
@@ -50,3 +54,17 @@ written_says t caps fits good small few fit =
       visited = 0 + all_words words_visited (parts t 64);
       read = rw some (reads (segment_for t) caps short t 64 0 1 0 fits good nothing (omega arith) refl behind);
     }
+
+-- What is written reads as the tree.
+pub says_written : (t : Tree) (caps : ℕ) (bytes : List ℕ) → refusal t caps ≡ None → Fits t → AreOf 64 (segment_for t) → bytes ≡ written t
+    → IsEncoded (record { bytes = bytes; caps = caps }) × (tree_of (record { bytes = bytes; caps = caps }) ≡ t)
+says_written t caps bytes none fits small made =
+    let can = can_write t caps none in
+    let says = written_says t caps fits can.0 can.1 can.2 small in
+    let p : Contents = record { bytes = written t; caps = caps } in
+    subst (λ (bs : List ℕ). IsEncoded (record { bytes = bs; caps = caps }) × (tree_of (record { bytes = bs; caps = caps }) ≡ t)) (sym made)
+    (says_encoded p (segment_for t ∷ []) t says, says_tree p (segment_for t ∷ []) t says)
+
+-- Without a reason, what is asked then is all that is asked.
+pub no_reason : (t : Tree) (caps : ℕ) (A : Type 0) (F : WriteFault → Type 0) → refusal t caps ≡ None → A → MatchOption (refusal t caps) A F
+no_reason t caps A F none a = subst (λ (o : Option WriteFault). MatchOption o A F) (sym none) a

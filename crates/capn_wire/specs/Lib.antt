@@ -1,17 +1,2 @@
-pub mod Fitting
-pub mod Following
-pub mod Framing
-pub mod Index
-pub mod Laying
-pub mod Layouts
-pub mod Measuring
-pub mod Numbers
 pub mod Payloads
-pub mod Placing
-pub mod Pointers
-pub mod Reading
-pub mod Segments
-pub mod Trees
-pub mod Views
 pub mod Walking
-pub mod Writable

@@ -2,9 +2,9 @@
 use Rattle.std.specs.Prelude.{◌≡◌, ◌<◌, ℕ, slice_index, Bool, ◌==◌, ◌&&◌, nat_eq, List, [], ◌∷◌, Ok, Err, IsOk}
 use Rattle.std.specs.Cmp.{IsEquivalence, and_equiv, on_equiv, nat_eq_equiv}
 use Rattle.std.specs.Cmp.Lexicographic.{pointwise, nat_list_eq_equiv}
-use Rattle.capn_wire.specs.Trees.{Tree, null}
-use Rattle.capn_wire.specs.Reading.{Reading, root_of, message_of}
-use Rattle.capn_wire.specs.Framing.{IsFramed}
+use Rattle.wire_trees.specs.Trees.{Tree, null}
+use Rattle.wire_reading.specs.Reading.{root_of, message_of, tree_read}
+use Rattle.wire_reading.specs.Framing.{IsFramed}
 
 -- its bytes, and how many capabilities go with it
 pub record Contents : Type 0 where
@@ -19,10 +19,6 @@ IsEncoded p = IsOk (message_of p.bytes p.caps)
 pub record IsPayload (p : Contents) : Type 0 where
   pub encoded : IsEncoded p
   pub bytes : (i : ℕ) → slice_index p.bytes i < 256
-
-abbrev pub tree_read : Reading Tree → Tree
-tree_read (Ok x) = x.0
-tree_read (Err e) = null
 
 -- the tree that a payload is
 abbrev pub tree_of : Contents → Tree

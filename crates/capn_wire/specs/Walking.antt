@@ -5,9 +5,9 @@ use Rattle.capn_wire.specs.declared.path.Op.{Op}
 use Rattle.capn_wire.specs.declared.path.Op.TheVariants as op
 use Rattle.capn_wire.specs.declared.path.CapAt.{CapAt}
 use Rattle.capn_wire.specs.declared.path.CapAt.TheVariants as cap_at
-use Rattle.capn_wire.specs.declared.referent.Referent.{Referent}
-use Rattle.capn_wire.specs.Trees.{Tree, null, struct, list, capability, pointer_at}
-use Rattle.capn_wire.specs.Reading.{Reading, shallow, deep, reading}
+use Rattle.wire_reading.specs.declared.referent.Referent.{Referent}
+use Rattle.wire_trees.specs.Trees.{Tree, null, struct, list, capability, pointer_at}
+use Rattle.wire_reading.specs.Reading.{Reading, shallow, deep, reading}
 
 -- a pointer of a struct; every pointer of null is null; a list and a capability have none
 abbrev pub field : Tree → ℕ → Option Tree

@@ -1,14 +1,11 @@
 //! The walk of a path, by the places in a message.
 ghost use Rattle.std.specs.Prelude.{◌≡◌, IsOk, MatchOption};
-ghost use Rattle.capn_wire.specs.Reading.{root_of};
-ghost use Rattle.capn_wire.specs.Payloads.{tree_read};
-ghost use Rattle.capn_wire.specs.Trees.{Tree};
+ghost use Rattle.wire_reading.specs.Reading.{root_of, tree_read};
+ghost use Rattle.wire_trees.specs.Trees.{Tree};
 ghost use Rattle.capn_wire.specs.Walking.{field, capability_at, StandsFor};
 
-use crate::layout::{Layout, lay_out};
-use crate::message::Message;
 use crate::path::{CapAt, Op};
-use crate::referent::{Referent, follow};
+use wire_reading::{Layout, Message, Referent, follow, lay_out};
 
 /// A pointer of what stands at a place: null past the end and behind null, none in a list or a capability.
 fn field_of(message: &Message, caps: u32, referent: Referent, number: u16) -> Option<Referent>

@@ -1,26 +1,42 @@
-//! Payloads in the Cap'n Proto encoding: a validating reader, the walk to a capability, and a writer.
+//! Payloads in the Cap'n Proto encoding: read, written, and looked into.
+//!
+//! A payload is the bytes of a message and the number of the capabilities that go beside it. What it says is a [`Tree`].
+//! A struct of one data word, with a text and the only capability behind it, is written, read, and asked where its
+//! capability is:
+//!
+//! ```text
+//! let mut pointers = Pointers::new(alloc);
+//! let text = Vec::from_slice(alloc, b"hello\0")?;
+//! pointers.push(Tree::List(Items::Bytes(text))).map_err(|(fault, _)| fault)?;
+//! pointers.push(Tree::Cap(0)).map_err(|(fault, _)| fault)?;
+//! let words = vec![in alloc; 7]?;
+//! let tree = Tree::Struct { words, pointers };
+//!
+//! let written = Payload::write(alloc, &tree, 1)?;
+//! let payload = Payload::read(alloc, written.bytes(), written.caps())?;
+//! payload.cap_at(&[Op::Field(1)]); // CapAt::Cap(0)
+//! payload.cap_at(&[Op::Field(0)]); // CapAt::NotCap: the text
+//! payload.cap_at(&[Op::Field(2)]); // CapAt::Null: there is no third pointer
+//! ```
+//!
+//! Read and written are at most 16 segments (written is one) of at most 65,536 words together, with contents that nest
+//! at most 64 levels deep and of which at most 65,536 words are visited, those of a content each time that a pointer
+//! leads to it. A tree may be 128 levels deep, and is refused where it is written if it has more than 64.
+//!
+//! Bytes that are no payload are refused by the first check that fails, as a [`PayloadFault`] with its number; nothing is
+//! read of them. So a [`Payload`] can't be malformed, and `cap_at` and `tree` of one have no faults but want of memory.
+//! What is written reads back as the tree ([`write_and_read`]). The rules and the order of the checks are in
+//! docs/encoding.md.
 #![tactic(auto)]
 
-mod build;
 mod faults;
 mod find;
-mod layout;
-mod measure;
-mod message;
-mod numbers;
 mod path;
 mod payload;
-mod place;
-mod pointer;
-mod referent;
 mod round_trip;
-mod span;
-mod tree;
-mod walk;
-mod write;
 
-pub use faults::{Memory, PayloadFault, WriteFault};
+pub use faults::Memory;
 pub use path::{CapAt, Op};
 pub use payload::Payload;
 pub use round_trip::write_and_read;
-pub use tree::{Fields, Items, Tree};
+pub use wire_trees::{Fields, Items, PayloadFault, Pointers, Tree, WriteFault};

@@ -1,25 +1,18 @@
 //! A payload: bytes of the encoding that were read once, and the number of its capabilities.
 ghost use Rattle.std.specs.Prelude.{◌≡◌, ◌⊎◌, ℕ, List, IfOk, IfErr, MatchOption, MatchResult, Err};
-ghost use Rattle.capn_wire.specs.Reading.{message_of, visited_of};
-ghost use Rattle.capn_wire.specs.declared.faults.PayloadFault.TheVariants as faults;
-ghost use Rattle.capn_wire.specs.declared.faults.WriteFault.TheVariants as write_faults;
+ghost use Rattle.wire_reading.specs.Reading.{message_of};
+ghost use Rattle.wire_trees.specs.declared.faults.PayloadFault.TheVariants as faults;
+ghost use Rattle.wire_trees.specs.declared.faults.WriteFault.TheVariants as write_faults;
 
-use crate::build::build;
-use crate::faults::{Memory, PayloadFault, WriteFault};
+use crate::faults::Memory;
 use crate::find::find;
-use crate::measure::{Measure, measure_tree};
-use crate::message::Message;
 use crate::path::{CapAt, Op};
-use crate::place::place;
-use crate::tree::Tree;
-use crate::walk::walk_pointer;
-use crate::write::{message_of, refusal_of};
 use std::alloc::{AllocError, Global};
 use std::marker::Model;
 use std::sync::Arc;
-
-/// The limit on the nesting of contents.
-pub const MOST_LEVELS: u32 = 64;
+use wire_reading::{Message, build_tree, visited_words};
+use wire_trees::{PayloadFault, Tree, WriteFault};
+use wire_writing::write_tree;
 
 /// Bytes of the encoding, and the number of the capabilities that go with them. It can't be malformed.
 /// Copies share their bytes.
@@ -40,25 +33,13 @@ impl Model for Payload {
     ghost invariant = { λ a. IsPayload (record { bytes = (arc_value a.bytes).items; caps = a.caps }) };
 }
 
-/// The visited words of a message, or the first check that fails.
-#[tactic(auto, unfolding(crate::specs::Reading::message_of, crate::specs::Reading::root_of))]
-fn visited_words(bytes: &[u8], caps: u32) -> Result<u32, PayloadFault>
-    ensures { result ≡ visited_of (message_of bytes.now caps) }
-{
-    let message = Message::parse(bytes)?;
-    if message.size(0).unwrap_or(0) == 0 {
-        return Err(PayloadFault::OutOfBounds);
-    }
-    walk_pointer(&message, caps, 0, 0, MOST_LEVELS, 0)
-}
-
 impl Payload {
     ghost use Rattle.capn_wire.specs.Payloads.{IsEncoded, IsPayload, Says, tree_of, null_payload, root_payload};
-    ghost use Rattle.capn_wire.specs.Trees.{Tree as SpecTree, null, capability};
-    ghost use Rattle.capn_wire.specs.Views.{view};
+    ghost use Rattle.wire_trees.specs.Trees.{Tree as SpecTree, null, capability};
+    ghost use Rattle.wire_trees.specs.Views.{view};
     ghost use Rattle.capn_wire.specs.Walking.{capability_at};
-    ghost use Rattle.capn_wire.specs.Placing.{written};
-    ghost use Rattle.capn_wire.specs.Writable.{refusal};
+    ghost use Rattle.wire_writing.specs.Placing.{written};
+    ghost use Rattle.wire_trees.specs.Writable.{refusal};
 
     /// Reads a message of the encoding that goes with `caps` capabilities: "Serialization Over a Stream"
     /// and "Encoding" of the Cap'n Proto specification, within the limits of docs/encoding.md.
@@ -110,16 +91,7 @@ impl Payload {
         // What is written reads as the tree.
         ensures tree { IfOk result (λ p. IsEncoded p × (tree_of p ≡ view tree.now)) }
     {
-        let measure = measure_tree(tree, caps, MOST_LEVELS, Measure::start(1));
-        if let Some(fault) = refusal_of(measure) {
-            return Err(fault);
-        }
-        let Ok(words) = place(alloc, tree, measure.words) else {
-            return Err(WriteFault::Memory);
-        };
-        let Ok(message) = message_of(alloc, &words) else {
-            return Err(WriteFault::Memory);
-        };
+        let message = write_tree(alloc, tree, caps)?;
         let Ok(payload) = Payload::sharing(alloc, message, caps) else {
             return Err(WriteFault::Memory);
         };
@@ -180,7 +152,7 @@ impl Payload {
         let Ok(message) = Message::parse(self.bytes.as_slice()) else {
             unreachable!()
         };
-        let tree = build(alloc, &message, self.caps)?;
+        let tree = build_tree(alloc, &message, self.caps)?;
         Ok(tree)
     }
 

@@ -8,3 +8,14 @@ pub mod Received
 pub mod EachStep
 pub mod Viewed
 pub mod Walked
+pub mod Parts
+pub mod Tables
+pub mod Likeness
+pub mod References
+pub mod Questions
+pub mod Imports
+pub mod Promises
+pub mod Nothing
+pub mod Taken
+pub mod Loose
+pub mod Resolves

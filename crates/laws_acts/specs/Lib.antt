@@ -5,3 +5,5 @@ pub mod MessageActs
 pub mod SmallActs
 pub mod Acts
 pub mod Sent
+pub mod Alike
+pub mod Laws

@@ -3,5 +3,9 @@
 #![tactic(auto)]
 
 mod laws;
+mod places;
 
 pub use laws::{steps_are_acts, steps_are_small_acts};
+pub use places::{
+    loose_by_names_that_went, places_follow_tables, taken_calls_stay_named, unnamed_has_no_export,
+};

@@ -94,7 +94,7 @@ module _ (h : History) (v : Vat) (l : Labels) where
     where
       by : (DeliveredIn h.journal v t i.0 ⊎ IsIn t i.0 e.deliveries) → DeliveredIn h.journal v t i.0 ⊎ IsIn t i.0 (e.deliveries ++ d ∷ [])
       by (inl a) = inl a
-      by (inr a) = inr (in-before h v t i.0 e.deliveries (d ∷ []) a)
+      by (inr a) = inr (in-before t i.0 e.deliveries (d ∷ []) a)
 
   still_tasks : (e : Effects) (d : Ended) (t : ℕ) (o : Option ℕ) → TaskMeans h v l e t o → TaskMeans h v l (record e { answers = e.answers ++ d ∷ [] }) t o
   still_tasks e d t None i = tt
@@ -151,7 +151,7 @@ module _ (h : History) (v : Vat) (l : Labels) where
       let refs = all_refs (λ j r. RefMeans h v l more j r) s c.request.caps (λ j. more_given h v l d.effects x j (map.get s.refs j) (i.0.0 j))
       (λ j m g. let b = y.0.1 j m g in (b.0, inr (inl (given-behind h v (s.next_ref + j) b.0 d.effects.deliveries (x ∷ []) (inl (j, at_new s.next_ref c.request.caps j m g, b.1)))), b.2))
       in
-      keeps d new (rw k ((refs, i.0.1, i.0.2, i.0.3, i.0.4, at_put (λ j t. TaskMeans h v l more j t) s.tasks s.next_task c.outcome (c.request.stamp, inr (in-behind h v s.next_task c.request.stamp d.effects.deliveries (x ∷ []) (inl (refl, refl))), y.0.0) (λ j g. more_tasks h v l d.effects x j (map.get s.tasks j) (i.0.5 j)), i.0.6, i.0.7, i.0.8), y.1, i.2, i.3, i.4, led-append h v d.effects.deliveries (x ∷ []) i.5 (z.2, tt), i.6, i.7))
+      keeps d new (rw k ((refs, i.0.1, i.0.2, i.0.3, i.0.4, at_put (λ j t. TaskMeans h v l more j t) s.tasks s.next_task c.outcome (c.request.stamp, inr (in-behind s.next_task c.request.stamp d.effects.deliveries (x ∷ []) (inl (refl, refl))), y.0.0) (λ j g. more_tasks h v l d.effects x j (map.get s.tasks j) (i.0.5 j)), i.0.6, i.0.7, i.0.8), y.1, i.2, i.3, i.4, led-append h v d.effects.deliveries (x ∷ []) i.5 (z.2, tt), i.6, i.7))
   acted d new i (act.Waits c n rest p calls e f j k) =
       let s = d.state in
       let y : CallAt h v l n c × RoutedMean h v l rest = subst (RoutedMean h v l) e i.1 in

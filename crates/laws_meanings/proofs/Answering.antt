@@ -1,11 +1,10 @@
 -- What a Return says, while its question is wanted, is what was answered to the delivery of the call, or that it is broken;
 -- so each call ends so, in each scene.
-use Rattle.std.proofs.Common.{◌≡◌, inl, inr, ℕ, suc, ◌≤◌, true, false, Option, None, Some, List, [], ◌∷◌, ◌++◌, length, map, append_assoc, refl, sym, ap, subst, ◌∙◌, arith, ◌+◌}
+use Rattle.std.proofs.Common.{◌≡◌, inl, inr, ℕ, ◌≤◌, true, false, Option, None, Some, List, [], ◌∷◌, ◌++◌, length, map, append_assoc, refl, sym, ap, subst, ◌∙◌, arith, ◌+◌}
 use Rattle.std.specs.FinMap as map
 use Rattle.finite_maps.specs.Tally.{Map}
 use Rattle.rpc_msg.specs.declared.ids.Vat.{Vat}
 use Rattle.rpc_msg.specs.declared.ids.Vat.TheVariants.{A, B}
-use Rattle.rpc_msg.specs.declared.ids.RefId.{RefId}
 use Rattle.rpc_msg.specs.declared.ids.Stamp.{Stamp}
 use Rattle.rpc_msg.specs.declared.ids.ObjectId.{ObjectId}
 use Rattle.rpc_msg.specs.declared.message.Message.{Message}
@@ -29,7 +28,6 @@ use Rattle.vat_machine.specs.declared.command.Effects.{Effects}
 use Rattle.vat_machine.specs.declared.entries.AnswerEntry.{AnswerEntry}
 use Rattle.vat_machine.specs.declared.entries.Question.{Question}
 use Rattle.vat_machine.specs.State.{State}
-use Rattle.vat_machine.specs.Commands.{heads}
 use Rattle.vat_machine.specs.Messages.{value_of_results}
 use Rattle.vat_machine.specs.Routing.{failed, reason_text}
 use Rattle.vat_machine.specs.Sweeping.{IsNotSent}
@@ -39,9 +37,9 @@ use Rattle.vat_machine.specs.Claims.{Upto, history}
 use Rattle.laws_nodes.specs.Sources.{EachHasOneSource}
 use Rattle.laws_acts.specs.MessageActs.{Back, Brings, returning}
 use Rattle.laws_acts.specs.MessageActs as heard
-use Rattle.laws_sessions.specs.Worlds.{Stand}
-use Rattle.laws_sessions.specs.Between.{HoldsIn}
-use Rattle.laws_sessions.specs.Scenes.{InScenes, OldestAreMet}
+use Rattle.laws_runs.specs.Worlds.{Stand}
+use Rattle.laws_runs.specs.Between.{HoldsIn}
+use Rattle.laws_runs.specs.SceneSessions.{InScenes, OldestAreMet}
 use Rattle.laws_runs.proofs.Counting.{scenes_count}
 use Rattle.laws_runs.proofs.Reading.{still_first}
 use Rattle.laws_runs.specs.Scenes as scenes
@@ -49,6 +47,7 @@ use Rattle.laws_runs.specs.Scenes.{Scene, IsScene, begins}
 use Rattle.laws_meanings.specs.OnePlace.{deliveries_of}
 use Rattle.laws_meanings.specs.Identities.{asked_in, asked_last, last_asked, asked_of, DeliveredIn}
 use Rattle.laws_meanings.specs.AnsweredEnds.{AnsweredOrBroken, IfCallEnds, CallsEndAsAnswered}
+use Rattle.laws_messages.proofs.Filled.{heads_length}
 use Rattle.laws_meanings.proofs.Entries.{Claim, EachAfter, each-append, each_always, upto, is_effect, granted_always}
 use Rattle.laws_meanings.proofs.Identified.{last-append}
 use Rattle.laws_meanings.proofs.LastAsked.{of_own}
@@ -193,10 +192,6 @@ silent_taken B w ms told t k q r = fewer q w.a.inbox told.sends (none_asked B (a
 wanted_was : (W : Type 0) (o : Option Question) → Waits W o → IsWanted o → W
 wanted_was W None i w = absurd i
 wanted_was W (Some x) i w = i.1 w.1
-
-heads_length : (s : State) (refs : List RefId) → length (heads s refs) ≡ length refs
-heads_length s [] = refl
-heads_length s (r ∷ rs) = ap suc (heads_length s rs)
 
 -- A call that broke in the step is over.
 fewer_now : (z : Stamp) (x : Scene) (v : Vat) (told : Effects) (t : State) (own : List JournalEntry) → Fewer z 0 x → deliveries_of z own ≡ 0 → Leaves z t told + 1 ≤ waiting z (core x.world v) + times_made z own → Gone (scenes.goes_on x (after x.world v told t) (own ++ effect_entries v told)) z

@@ -32,7 +32,6 @@ use Rattle.vat_machine.specs.declared.command.Effects.{Effects}
 use Rattle.vat_machine.specs.declared.command.Level.TheVariants.{One}
 use Rattle.vat_machine.specs.declared.entries.Role.TheVariants as role
 use Rattle.vat_machine.specs.declared.entries.Question.{Question}
-use Rattle.vat_machine.specs.declared.entries.Finishing.TheVariants as finishing
 use Rattle.vat_machine.specs.State.{State, start}
 use Rattle.vat_machine.specs.Faults.{fault_of}
 use Rattle.vat_machine.specs.Progress.{new_refs, outcome_of, caps_of}
@@ -59,6 +58,7 @@ use Rattle.laws_meanings.proofs.Numbers.{no_effects, other_none, OutcomesCalled,
 use Rattle.laws_meanings.proofs.Asked as asked
 use Rattle.laws_meanings.proofs.Asked.{same_next}
 use Rattle.laws_meanings.proofs.Walked.{in_each}
+use Rattle.laws_meanings.proofs.WhoseFirst.{still_unsent}
 
 module _ (v : Vat) (h : List JournalEntry) (S : Value → Type 0) (E : Outcome → List RefId → Type 0) (ends_so : (x : Value) (k : ℕ) → S x → E (outcome_of x) (new_refs k (caps_of x))) where
   abbrev Fine : Moment → Type 0
@@ -134,16 +134,12 @@ module _ (v : Vat) (h : List JournalEntry) (S : Value → Type 0) (E : Outcome �
       (b : Back) (x : Question) (c : CallId) → Brings s m b → map.get s.questions b.question ≡ Some x → IsNotSent x.finish → x.role ≡ role.Direct c
       → IsCall v h c.0 ⊎ S (value_of_results b.said)
 
-  not_sent : (x : Question) → (x.finish ≡ finishing.Owed) ⊎ (x.finish ≡ finishing.Waived) → IsNotSent x.finish
-  not_sent x (inl e) = subst IsNotSent (sym e) tt
-  not_sent x (inr e) = subst IsNotSent (sym e) tt
-
   consumed : (s : State) (m : Message) (new : Moment) → SaysSo s m → Begins s → Consumes (beginning s) m new → Fine new
   consumed s m new n i (heard.OpensRoot q o e f j u) = rw u (puts_outcome v h s.outcomes o _ tt i.0, i.1, tt, tt, tt)
   consumed s m new n i (heard.OpensCall c o e f j u) = rw u (puts_outcome v h s.outcomes o _ tt i.0, i.1, tt, tt, tt)
   consumed s m new n i (heard.Loses b x e f j k u) = rw u (i.0, cuts_question v h s.questions b.question i.1, tt, tt, tt)
   consumed s m new n i (heard.ComesToCall b x c e f j k l u) =
-      rw u (i.0, puts_question v h s.questions b.question _ (subst (QuestionAsked v h) f (i.1 b.question)) i.1, tt, (n b x c e f (not_sent x k) l, tt), tt)
+      rw u (i.0, puts_question v h s.questions b.question _ (subst (QuestionAsked v h) f (i.1 b.question)) i.1, tt, (n b x c e f (still_unsent x k) l, tt), tt)
   consumed s m new n i (heard.ComesToRelay b x o e f j k l u) =
       rw u (i.0, puts_question v h s.questions b.question _ (subst (QuestionAsked v h) f (i.1 b.question)) i.1, tt, tt, tt)
   consumed s m new n i (heard.IsFinished x z e f j u) = rw u (i.0, i.1, tt, tt, tt)

@@ -106,19 +106,19 @@ module _ (h : History) (v : Vat) (l : Labels) where
   coming-append [] ys i j = j
   coming-append (x ∷ xs) ys i j = (i.0, coming-append xs ys i.1 j)
 
+pub in-before : (t : ℕ) (z : Stamp) (ds es : List Delivery) → IsIn t z ds → IsIn t z (ds ++ es)
+in-before t z [] es i = absurd i
+in-before t z (d ∷ ds) es (inl i) = inl i
+in-before t z (d ∷ ds) es (inr i) = inr (in-before t z ds es i)
+
+pub in-behind : (t : ℕ) (z : Stamp) (ds es : List Delivery) → IsIn t z es → IsIn t z (ds ++ es)
+in-behind t z [] es i = i
+in-behind t z (d ∷ ds) es i = inr (in-behind t z ds es i)
+
 module _ (h : History) (v : Vat) where
   pub led-append : (xs ys : List Delivery) → AreLed h v xs → AreLed h v ys → AreLed h v (xs ++ ys)
   led-append [] ys i j = j
   led-append (x ∷ xs) ys i j = (i.0, led-append xs ys i.1 j)
-
-  pub in-before : (t : ℕ) (z : Stamp) (ds es : List Delivery) → IsIn t z ds → IsIn t z (ds ++ es)
-  in-before t z [] es i = absurd i
-  in-before t z (d ∷ ds) es (inl i) = inl i
-  in-before t z (d ∷ ds) es (inr i) = inr (in-before t z ds es i)
-
-  pub in-behind : (t : ℕ) (z : Stamp) (ds es : List Delivery) → IsIn t z es → IsIn t z (ds ++ es)
-  in-behind t z [] es i = i
-  in-behind t z (d ∷ ds) es i = inr (in-behind t z ds es i)
 
   pub given-before : (k : ℕ) (x : Meant) (ds es : List Delivery) → IsGiven h v k x ds → IsGiven h v k x (ds ++ es)
   given-before k x [] es i = absurd i

@@ -28,12 +28,12 @@ use Rattle.vat_machine.specs.Journal.{went_down, effect_entries, born, born_prom
 use Rattle.laws_steps.specs.Callers.{AnswersWith}
 use Rattle.vat_machine.specs.Progress.{numbers}
 use Rattle.laws_acts.specs.Sent.{Ids, Noted, messages}
-use Rattle.laws_sessions.specs.Questions as session
-use Rattle.laws_sessions.specs.Questions.{Asker, Answerer, Out, Ret, Row}
-use Rattle.laws_sessions.specs.Views.{answered_by, answerer_of, if_flag, only, out_of, outs}
+use Rattle.laws_runs.specs.Questions as session
+use Rattle.laws_runs.specs.Questions.{Asker, Answerer, Out, Ret, Row}
+use Rattle.laws_runs.specs.Views.{answered_by, answerer_of, if_flag, only, out_of, outs}
 use Rattle.laws_runs.proofs.Reading as reading
 use Rattle.laws_meanings.specs.Identities.{asked_by, asked_in, asked_last, asked_one, last_asked, DeliveredIn}
-use Rattle.laws_meanings.proofs.Whose.{IsIn}
+use Rattle.laws_meanings.specs.NodeLabels.{IsIn}
 
 -- ---- What was asked last
 

@@ -10,7 +10,7 @@ use Rattle.capn_wire.specs.declared.path.CapAt.{CapAt}
 use Rattle.capn_wire.specs.declared.path.CapAt.TheVariants.{Cap, Null, NotCap}
 use Rattle.capn_wire.specs.Payloads.{tree_of}
 use Rattle.capn_wire.specs.declared.path.Op.TheVariants as op
-use Rattle.capn_wire.specs.Trees.{Tree}
+use Rattle.wire_trees.specs.Trees.{Tree}
 use Rattle.capn_wire.specs.Walking.{capability_at, field, walk, found_at}
 use Rattle.std.specs.Option.{option_and_then}
 use Rattle.vat_journal.specs.declared.report.Outcome.{Outcome}

@@ -40,7 +40,7 @@ use Rattle.laws_runs.specs.Scenes as scenes
 use Rattle.laws_runs.specs.Scenes.{Scene, IsScene, LeadsTo}
 use Rattle.laws_runs.specs.MadeCalls.{NumbersItsCalls}
 use Rattle.laws_runs.proofs.Counting.{scenes_count}
-use Rattle.laws_answers.proofs.Filled.{heads_length, read_length, out_length}
+use Rattle.laws_messages.proofs.Filled.{heads_length, read_length, out_length}
 use Rattle.laws_meanings.specs.AsMade.{WasMade, CallsMade, PromiseMade, OutcomeMade, EmbargoMade, MessageMade, LinkMade, IfMade, CallsAreAsMade, DeliveriesAreAsMade}
 use Rattle.laws_meanings.proofs.Entries.{is_effect, granted_always, Claim, EachAfter, each-append, each_always, upto}
 use Rattle.laws_meanings.proofs.Stamped.{call_made, numbered_in}

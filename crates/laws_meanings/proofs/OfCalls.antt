@@ -1,12 +1,12 @@
 -- What is of a call stays of it with what each vat writes.
-use Rattle.std.proofs.Common.{◌≡◌, ◌⊎◌, inl, inr, ℕ, false, Option, None, Some, List, ◌∷◌, ◌++◌, refl, sym, ap, subst, ◌∙◌}
+use Rattle.std.proofs.Common.{◌≡◌, ◌⊎◌, inl, inr, ℕ, Option, None, Some, List, ◌∷◌, ◌++◌, refl, sym, ap, subst, ◌∙◌}
 use Rattle.std.specs.FinMap as map
 use Rattle.rpc_msg.specs.declared.ids.Vat.{Vat}
 use Rattle.rpc_msg.specs.declared.ids.Stamp.{Stamp}
 use Rattle.rpc_msg.specs.declared.message.Message.{Message}
 use Rattle.rpc_msg.specs.Vats.{other_vat}
 use Rattle.vat_journal.specs.declared.entry.JournalEntry.{JournalEntry}
-use Rattle.vat_journal.specs.History.{same_vat, or_rest}
+use Rattle.vat_journal.specs.History.{or_rest}
 use Rattle.vat_journal.specs.Sources.{Asking, asking_one}
 use Rattle.vat_machine.specs.declared.calls.Caller.{Caller}
 use Rattle.vat_machine.specs.declared.calls.Caller.TheVariants as caller
@@ -21,7 +21,7 @@ use Rattle.laws_runs.proofs.Reading.{still_first}
 use Rattle.laws_meanings.specs.Identities.{asked_in, asked_last, last_asked, asked_of, DeliveredIn, IfNone, IsOf, PromiseIs, KeptIs, EmbargoIs, TaskIs, QuestionIs, AreAskedLast}
 use Rattle.laws_meanings.proofs.Identified.{Soft, Apps, soft_promise, soft_kept, soft_embargo, soft_task, soft_question, last-append}
 use Rattle.laws_meanings.proofs.LastAsked.{none_more, of_effects, of_other_effects, asked-append, ahead, behind, in_effects}
-use Rattle.laws_meanings.proofs.Whose.{IsIn}
+use Rattle.laws_meanings.specs.NodeLabels.{IsIn}
 
 -- ---- What a state has, seen with less and with more
 
@@ -75,12 +75,9 @@ quiet_mine h es v s n i =
     (λ c a e. f (caller.Application c) a e) (λ q a e. same_last h es v q a (n v q) e) (λ k z t. ahead v k z h es t) i
 
 -- The vat's own effects.
-pub apart : (v : Vat) → same_vat (other_vat v) v ≡ false
-apart v = reading.other v
-
 effects_still : (h : List JournalEntry) (v : Vat) (x : Effects) → Still (asked_of h v) (asked_of (h ++ effect_entries v x) v)
 effects_still h v x (caller.Application c) a i = still_first (asking_one v c.0) h (effect_entries v x) a i
-effects_still h v x (caller.Peer q) a i = same_last h (effect_entries v x) (other_vat v) q.0 a (of_other_effects (other_vat v) q.0 v (apart v) x) i
+effects_still h v x (caller.Peer q) a i = same_last h (effect_entries v x) (other_vat v) q.0 a (of_other_effects (other_vat v) q.0 v (reading.other v) x) i
 
 pub moved : (h : List JournalEntry) (v : Vat) (t : State) (x : Effects) → Parts (asked_of h v) (λ q. or_rest (asked_last q x.sends) (last_asked h v q)) (λ k z. DeliveredIn h v k z ⊎ IsIn k z x.deliveries) t → Mine (h ++ effect_entries v x) v t
 moved h v t x i =

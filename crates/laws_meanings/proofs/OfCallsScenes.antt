@@ -35,15 +35,16 @@ use Rattle.laws_steps.proofs.Reached.{go_on}
 use Rattle.laws_nodes.specs.Sources.{sources, EachHasOneSource}
 use Rattle.laws_acts.specs.FirstActs as first
 use Rattle.laws_acts.specs.Sent.{Noted, messages}
-use Rattle.laws_sessions.specs.Views.{asker_of, answerer_of, outs, rets}
-use Rattle.laws_sessions.specs.Worlds.{Stand}
-use Rattle.laws_sessions.specs.Between.{HoldsIn}
-use Rattle.laws_sessions.specs.Scenes.{InScenes}
+use Rattle.laws_runs.specs.Views.{asker_of, answerer_of, outs, rets}
+use Rattle.laws_runs.specs.Worlds.{Stand}
+use Rattle.laws_runs.specs.Between.{HoldsIn}
+use Rattle.laws_runs.specs.SceneSessions.{InScenes}
 use Rattle.laws_runs.specs.MadeCalls.{NumbersItsCalls}
 use Rattle.laws_runs.proofs.Counting.{scenes_count}
 use Rattle.laws_runs.specs.Scenes as scenes
 use Rattle.laws_runs.specs.Scenes.{Scene, IsScene, begins}
 use Rattle.laws_meanings.specs.Identities.{asked_in, asked_last, last_asked, asked_of, DeliveredIn, PromiseIs, KeptIs, EmbargoIs, TaskIs, QuestionIs, AreAskedLast, OutcomesAreOfCalls}
+use Rattle.laws_runs.proofs.Reading as reading
 use Rattle.laws_meanings.proofs.Identified.{last-append}
 use Rattle.laws_meanings.proofs.LastAsked.{none_more, of_effects, of_other_effects, of_own, asked-append, first_asks, while_working}
 use Rattle.laws_meanings.proofs.Asking.{next_is, numbers_asked}
@@ -52,7 +53,7 @@ use Rattle.laws_meanings.proofs.Whose as whose
 use Rattle.laws_meanings.proofs.Whose.{any_break}
 use Rattle.laws_acts.proofs.Commanded.{does}
 use Rattle.laws_acts.proofs.Received.{handles}
-use Rattle.laws_meanings.proofs.Whose.{IsIn}
+use Rattle.laws_meanings.specs.NodeLabels.{IsIn}
 use Rattle.laws_meanings.proofs.WhoseFirst as walk
 use Rattle.finite_maps.proofs.Tested.{itself}
 use Rattle.rpc_msg.specs.declared.ids.QuestionId.{QuestionId}
@@ -60,8 +61,8 @@ use Rattle.rpc_msg.specs.declared.message.Call.{Call}
 use Rattle.vat_machine.specs.declared.entries.AnswerEntry.{AnswerEntry}
 use Rattle.laws_nodes.specs.Sources.{waits_for}
 use Rattle.laws_acts.specs.Sent.{Ids}
-use Rattle.laws_sessions.specs.Questions.{Asker, Answerer, Ret, Row}
-use Rattle.laws_meanings.proofs.OfCalls.{Parts, Mine, NoneOpen, carry, quiet_mine, moved, theirs, sent_last, still_last, rest_last, same_last, apart}
+use Rattle.laws_runs.specs.Questions.{Asker, Answerer, Ret, Row}
+use Rattle.laws_meanings.proofs.OfCalls.{Parts, Mine, NoneOpen, carry, quiet_mine, moved, theirs, sent_last, still_last, rest_last, same_last}
 
 -- ---- What a command asks
 
@@ -186,7 +187,7 @@ es_asks own v x q e = asked-append own (effect_entries v x) v q ∙ ap (λ (o : 
     by (Some y) = refl
 
 pub es_none : (own : List JournalEntry) (v : Vat) (x : Effects) (q : ℕ) → last_asked own (other_vat v) q ≡ None → last_asked (own ++ effect_entries v x) (other_vat v) q ≡ None
-es_none own v x q e = none_more (other_vat v) q own (effect_entries v x) (of_other_effects (other_vat v) q v (apart v) x) ∙ e
+es_none own v x q e = none_more (other_vat v) q own (effect_entries v x) (of_other_effects (other_vat v) q v (reading.other v) x) ∙ e
 
 pub twice : (v : Vat) → other_vat (other_vat v) ≡ v
 twice A = refl

@@ -24,11 +24,11 @@ use Rattle.vat_machine.specs.Progress.{numbers}
 use Rattle.vat_machine.specs.Sweeping.{IsNotSent}
 use Rattle.vat_machine.specs.World.{World, core, inbox}
 use Rattle.laws_acts.specs.Sent.{Ids, Noted, messages}
-use Rattle.laws_sessions.specs.Questions as session
-use Rattle.laws_sessions.specs.Questions.{Asker, Answerer, Out, Ret, Row}
-use Rattle.laws_sessions.specs.Views.{asked_by, asker_of, answered_by, answerer_of, if_flag, only, out_of, ret_of, outs, rets}
-use Rattle.laws_sessions.specs.Worlds.{AreRows, Stand}
-use Rattle.laws_sessions.specs.Between.{HoldsIn}
+use Rattle.laws_runs.specs.Questions as session
+use Rattle.laws_runs.specs.Questions.{Asker, Answerer, Out, Ret, Row}
+use Rattle.laws_runs.specs.Views.{asked_by, asker_of, answered_by, answerer_of, if_flag, only, out_of, ret_of, outs, rets}
+use Rattle.laws_runs.specs.Worlds.{AreRows, Stand}
+use Rattle.laws_runs.specs.Between.{HoldsIn}
 use Rattle.laws_meanings.specs.Identities.{asked_last}
 use Rattle.laws_meanings.proofs.LastAsked.{while_returning}
 use Rattle.laws_meanings.proofs.Awaited.{IsWanted, Waits}

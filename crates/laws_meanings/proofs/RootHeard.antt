@@ -7,13 +7,13 @@ use Rattle.rpc_msg.specs.Vats.{other_vat}
 use Rattle.rpc_msg.specs.Paths.{fields}
 use Rattle.capn_wire.specs.declared.path.Op.{Op}
 use Rattle.capn_wire.specs.declared.path.Op.TheVariants as op
-use Rattle.capn_wire.specs.Trees.{Tree, capability}
+use Rattle.wire_trees.specs.Trees.{Tree, capability}
 use Rattle.capn_wire.specs.Payloads.{tree_of}
 use Rattle.capn_wire.specs.Walking.{capability_at}
-use Rattle.capn_wire.specs.Reading.{message_of, root_of, reading, deep}
-use Rattle.capn_wire.specs.Following.{leads}
-use Rattle.capn_wire.specs.Framing.{framing, segment_count, sizes}
-use Rattle.capn_wire.specs.Segments.{little_numbers, segments_in}
+use Rattle.wire_reading.specs.Reading.{message_of, root_of, reading, deep}
+use Rattle.wire_reading.specs.Following.{leads}
+use Rattle.wire_reading.specs.Framing.{framing, segment_count, sizes}
+use Rattle.wire_reading.specs.Segments.{little_numbers, segments_in}
 use Rattle.vat_journal.specs.Sources.{OfBootstrap}
 use Rattle.vat_journal.specs.Meaning.{History, Meaning, ObjectAt, Broken, root, object_or_broken, bootstrap_meaning, root_field}
 use Rattle.vat_machine.specs.Claims.{object_number}

@@ -38,13 +38,13 @@ use Rattle.laws_acts.specs.FirstActs as first
 use Rattle.laws_acts.specs.Sent.{Ids, Noted, messages}
 use Rattle.laws_runs.specs.Scenes as scenes
 use Rattle.laws_runs.specs.Scenes.{Scene, IsScene, begins}
-use Rattle.laws_sessions.specs.Questions as session
-use Rattle.laws_sessions.specs.Questions.{Asker, Answerer, Out, Ret, Row}
-use Rattle.laws_sessions.specs.Views.{asker_of, answered_by, answerer_of, if_flag, only, out_of, ret_of, outs, rets, IsReady}
-use Rattle.laws_sessions.specs.Worlds.{AreRows, Stand}
-use Rattle.laws_sessions.specs.Between.{HoldsIn}
-use Rattle.laws_sessions.specs.Agreed.{IsMet}
-use Rattle.laws_sessions.specs.Scenes.{InScenes, OldestAreMet}
+use Rattle.laws_runs.specs.Questions as session
+use Rattle.laws_runs.specs.Questions.{Asker, Answerer, Out, Ret, Row}
+use Rattle.laws_runs.specs.Views.{asker_of, answered_by, answerer_of, if_flag, only, out_of, ret_of, outs, rets, IsReady}
+use Rattle.laws_runs.specs.Worlds.{AreRows, Stand}
+use Rattle.laws_runs.specs.Between.{HoldsIn}
+use Rattle.laws_runs.specs.Agreed.{IsMet}
+use Rattle.laws_runs.specs.SceneSessions.{InScenes, OldestAreMet}
 use Rattle.laws_meanings.specs.Bootstraps.{IsCall, WasAsked, RoleAsked, QuestionAsked, SaysRoot, RootsReturn, RootsAreReturned, RootsAreLeft, BootstrapsEnd}
 use Rattle.laws_meanings.proofs.Numbers.{QuestionsAsked, still_call}
 use Rattle.laws_meanings.proofs.Asking.{asks_now, numbers_asked}

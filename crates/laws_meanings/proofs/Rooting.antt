@@ -45,7 +45,7 @@ use Rattle.laws_acts.specs.MessageActs as heard
 use Rattle.laws_acts.specs.SmallActs.{Act, release_messages}
 use Rattle.laws_acts.specs.SmallActs as act
 use Rattle.laws_acts.proofs.EachStep.{done, handled, at_end}
-use Rattle.laws_answers.proofs.Filled.{out_length}
+use Rattle.laws_messages.proofs.Filled.{beside_length, out_length}
 use Rattle.laws_meanings.specs.Bootstraps.{SaysRoot}
 
 -- ---- Values
@@ -80,10 +80,6 @@ fits_root r s o who w (value.Results payload caps) fit new h k =
 -- A body says it, whoever reads it.
 abbrev pub BodyRoot : Option ℕ → ReturnBody → Type 0
 BodyRoot r y = (s : State) → SaysRoot r (value_of_results (results_of s y))
-
-pub beside_length : (s : State) (ds : List Descriptor) → length (nodes (read_beside s ds)) ≡ length ds
-beside_length s [] = refl
-beside_length s (d ∷ ds) = ap suc (beside_length s ds)
 
 said_root : (r : Option ℕ) (s : State) (b : Bool) (v : Value) (y : ReturnBody) (ds : List Descriptor) (es : Map Export) → b ≡ false → Says s b v y ds es → SaysRoot r v → BodyRoot r y
 said_root r s true v y ds es e h k = absurd (let bad : true ≡ false = e in cc)

@@ -43,22 +43,15 @@ use Rattle.laws_acts.specs.Moments.{Moment, Saying, held_to}
 use Rattle.laws_acts.specs.FirstActs.{asked, asking}
 use Rattle.laws_acts.specs.SmallActs.{Act, IsStill, kept_known, delivery, release_messages, Acts, NoMore, Then}
 use Rattle.laws_acts.specs.SmallActs as act
-use Rattle.laws_answers.proofs.Filled.{out_length}
+use Rattle.laws_messages.proofs.Filled.{beside_length, out_length}
 use Rattle.laws_meanings.specs.Identities.{asked_in, asked_last, IfNone, IsOf, Is, CallIs, CallsAre, HeldAre, PromiseIs, KeptIs, EmbargoIs, TaskIs, QuestionIs}
+use Rattle.laws_meanings.specs.NodeLabels.{IsIn}
 use Rattle.laws_meanings.proofs.Identified.{Soft, soft_held, soft_promise, soft_kept, soft_embargo, soft_task, soft_question, softly, known_soft, gone_soft, calls-append, held-append, Promises, fits_promises, closes, last-append}
+use Rattle.laws_meanings.proofs.Labelled.{in-before}
 use Rattle.laws_meanings.proofs.Made.{new_refs_length}
 use Rattle.laws_meanings.proofs.Rooting as rooting
 
 -- ---- Deliveries
-
-abbrev pub IsIn : ℕ → Stamp → List Delivery → Type 0
-IsIn k s [] = ⊥
-IsIn k s (d ∷ ds) = ((d.task.0 ≡ k) × (d.stamp ≡ s)) ⊎ IsIn k s ds
-
-in_front : (k : ℕ) (s : Stamp) (xs ys : List Delivery) → IsIn k s xs → IsIn k s (xs ++ ys)
-in_front k s [] ys i = absurd i
-in_front k s (x ∷ xs) ys (inl i) = inl i
-in_front k s (x ∷ xs) ys (inr i) = inr (in_front k s xs ys i)
 
 at_last : (k : ℕ) (s : Stamp) (xs : List Delivery) (x : Delivery) → x.task.0 ≡ k → x.stamp ≡ s → IsIn k s (xs ++ x ∷ [])
 at_last k s [] x e f = inl (e, f)
@@ -83,7 +76,7 @@ module _ (C : Caller → Option Asking) (L : ℕ → Option Asking) (T : ℕ →
   says : (a : Asking) (s : State) (v : Value) (y : ReturnBody) (ds : List Descriptor) (es : Map Export) → Says s false v y ds es → IsFor a v → BodyIs a y
   says a s (value.Exception exception) y ds es h i = subst (BodyIs a) (sym h.0) (λ t. i)
   says a s (value.Results payload caps) y ds es h i =
-      subst (BodyIs a) (sym h.0) (λ t. subst (λ (n : ℕ). W a (outcome.Results payload) n) (out_length s s.exports caps ds es h.1 ∙ sym (rooting.beside_length t ds)) i)
+      subst (BodyIs a) (sym h.0) (λ t. subst (λ (n : ℕ). W a (outcome.Results payload) n) (out_length s s.exports caps ds es h.1 ∙ sym (beside_length t ds)) i)
 
   -- A Return says it, or its question is no longer wanted.
   abbrev pub SaysIt : ℕ → ReturnBody → Type 0
@@ -268,7 +261,7 @@ module _ (C : Caller → Option Asking) (L : ℕ → Option Asking) (T : ℕ →
     where
       more : (l : ℕ) (t : Stamp) → Given d.effects.deliveries l t → Given (d.effects.deliveries ++ delivery d.state c u ∷ []) l t
       more l t (inl g) = inl g
-      more l t (inr g) = inr (in_front l t d.effects.deliveries (delivery d.state c u ∷ []) g)
+      more l t (inr g) = inr (in-before l t d.effects.deliveries (delivery d.state c u ∷ []) g)
   acted d new br i (act.Waits c n rest p calls e f j k) =
       let s = d.state in
       let y : CallIs C s.outcomes c × Yet s.outcomes rest = subst (Yet s.outcomes) e i.1 in

@@ -61,6 +61,10 @@ use Rattle.laws_meanings.specs.Identities.{IfNone, IsOf, Is, CallsAre, HeldAre, 
 use Rattle.laws_meanings.proofs.Identified.{calls-append, Promises}
 use Rattle.laws_meanings.proofs.Whose as whose
 
+pub still_unsent : (x : Question) → (x.finish ≡ finishing.Owed) ⊎ (x.finish ≡ finishing.Waived) → IsNotSent x.finish
+still_unsent x (inl e) = subst IsNotSent (sym e) tt
+still_unsent x (inr e) = subst IsNotSent (sym e) tt
+
 module _ (C : Caller → Option Asking) (os : Map KeptOutcome) (u : ℕ) (y : KeptOutcome) where
   abbrev ns : Map KeptOutcome
   ns = map.insert os u y
@@ -229,10 +233,6 @@ module _ (C : Caller → Option Asking) (L : ℕ → Option Asking) (T : ℕ →
     pub says : (b : Back) (x : Question) (a : Asking) → Brings s m b → map.get s.questions b.question ≡ Some x → x.returned ≡ None → IsNotSent x.finish → L b.question ≡ Some a → whose.IsFor C L T W U E broken a (value_of_results b.said)
     pub finish : (f : Finish) (a : AnswerEntry) → m ≡ message.Plain (plain.Finish f) → map.get s.answers f.question.0 ≡ Some a → a.returned ≡ None → U f.question.0
 
-  not_sent : (x : Question) → (x.finish ≡ finishing.Owed) ⊎ (x.finish ≡ finishing.Waived) → IsNotSent x.finish
-  not_sent x (inl e) = subst IsNotSent (sym e) tt
-  not_sent x (inr e) = subst IsNotSent (sym e) tt
-
   -- A question that has returned.
   came : (s : State) (b : Back) (x : Question) → Places s → (q : ℕ) → QuestionIs C s.outcomes (L q) (map.get (map.insert s.questions b.question (heard.answered x b.waives b.said)) q)
   came s b x i = at_put (λ k o. QuestionIs C s.outcomes (L k) o) s.questions b.question (heard.answered x b.waives b.said) tt (λ k n. i.1 k)
@@ -256,10 +256,10 @@ module _ (C : Caller → Option Asking) (L : ℕ → Option Asking) (T : ℕ →
       rw u ((i.0.0, at_cut (λ h o. QuestionIs C s.outcomes (L h) o) s.questions b.question tt (λ h o. i.0.1 h), i.0.2, i.0.3, i.0.4), tt, tt, tt, tt, i.1, tt, tt, tt)
   consumed s m new n i (heard.ComesToCall b x c e f j k l u) =
       let r = role_of s b x (role.Direct c) i.0 f j l in
-      rw u ((i.0.0, came s b x i.0, i.0.2, i.0.3, i.0.4), tt, tt, tt, ((r.0, r.1, n.says b x r.0 e f j (not_sent x k) r.2), tt), i.1, tt, tt, tt)
+      rw u ((i.0.0, came s b x i.0, i.0.2, i.0.3, i.0.4), tt, tt, tt, ((r.0, r.1, n.says b x r.0 e f j (still_unsent x k) r.2), tt), i.1, tt, tt, tt)
   consumed s m new n i (heard.ComesToRelay b x o e f j k l u) =
       let r = role_of s b x (role.Relay o) i.0 f j l in
-      rw u ((i.0.0, came s b x i.0, i.0.2, i.0.3, i.0.4), tt, ((OfCall r.0, r.2, n.says b x (OfCall r.0) e f j (not_sent x k) r.1), tt), tt, tt, i.1, tt, tt, tt)
+      rw u ((i.0.0, came s b x i.0, i.0.2, i.0.3, i.0.4), tt, ((OfCall r.0, r.2, n.says b x (OfCall r.0) e f j (still_unsent x k) r.1), tt), tt, tt, i.1, tt, tt, tt)
   consumed s m new n i (heard.IsFinished x z e f j u) = rw u (i.0, tt, tt, tt, tt, by z.returned refl, tt, tt, tt)
     where
       by : (r : Option (List ExportId)) → z.returned ≡ r → whose.Answers C L T W U E broken (finished_map s.answers x.question.0 z r)

@@ -18,7 +18,6 @@ use Rattle.vat_journal.specs.declared.entry.JournalEntry.{JournalEntry}
 use Rattle.vat_journal.specs.declared.entry.JournalEntry.TheVariants as entry
 use Rattle.vat_journal.specs.History.{same_vat, or_rest, if_so, stamp_of, made_one, made_with}
 use Rattle.vat_journal.specs.Sources.{OfBootstrap, OfCall, asking, source_of_origin, source_one, source, Fate, FixedTo, WasRejected, fate_one, fate}
-use Rattle.vat_machine.specs.Payloads.{caps_in}
 use Rattle.vat_machine.specs.declared.entries.Reference.{Reference}
 use Rattle.vat_machine.specs.declared.command.CallCommand.{CallCommand}
 use Rattle.vat_machine.specs.declared.command.Command.{Command}
@@ -42,6 +41,7 @@ use Rattle.laws_runs.specs.Scenes.{Scene, IsScene}
 use Rattle.laws_runs.specs.MadeCalls.{NumbersItsCalls}
 use Rattle.laws_runs.proofs.Reading as reading
 use Rattle.laws_runs.proofs.Counting.{scenes_count}
+use Rattle.laws_messages.proofs.Filled.{same_count}
 use Rattle.laws_meanings.specs.Bootstraps.{NumbersAreAsked}
 use Rattle.laws_meanings.specs.CommandMeanings.{AnswersWith, IsWritten, IsWrittenOpen}
 use Rattle.laws_meanings.specs.Fates.{PromisesAreOpen}
@@ -83,9 +83,6 @@ at_place : (rs : List RefId) (i : ℕ) → i < length rs → (r : RefId) × (sli
 at_place [] i l = absurd (omega arith)
 at_place (r ∷ rs) zero l = (r, refl)
 at_place (r ∷ rs) (suc i) l = at_place rs i (omega arith)
-
-same_count : (payload : Payload) (refs : List RefId) → wrong_caps payload refs ≡ None → caps_in payload ≡ length refs
-same_count payload refs e = let f : nat_eq (caps_in payload) (length refs) ≡ true = not_not (nat_eq (caps_in payload) (length refs)) (checks.not_so (not (nat_eq (caps_in payload) (length refs))) refusal.CapCount e) in grind arith
 
 answers_with : (s : State) (t : TaskId) (payload : Payload) (refs : List RefId) → NamesItsCaps → refused s (command.Answer t payload refs) ≡ None → AnswersWith s payload refs
 answers_with s t payload refs names r =

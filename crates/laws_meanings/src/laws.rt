@@ -23,10 +23,9 @@ ghost use Rattle.laws_meanings.specs.WrittenCommands.{CommandsAreWritten, NamesI
 ghost use Rattle.laws_meanings.specs.StepMeanings.{ScenesCommandsKeep, LastWordsAreLed};
 ghost use Rattle.laws_meanings.specs.LastingMeanings.{PlacesLast, MomentsLast, EffectsAreWritten, EntriesAreLed};
 
-use laws_answers::named_answers_are_there;
+use laws_messages::named_answers_are_there;
 use laws_nodes::{embargoes_pair, outcomes_have_sources, questions_end};
-use laws_runs::meanings_last;
-use laws_sessions::counts_agree_in_scenes;
+use laws_runs::{counts_agree_in_scenes, meanings_last};
 use laws_steps::nodes_are_there;
 
 /// In each scene every call that waits or is on its way, and every delivery in the history up to it, has the interface,

@@ -52,7 +52,7 @@ past_opened q g now then (message.Unimplemented m) h e = cc
 
 -- ---- A question that no message asks
 
-flipped : (j k : ℕ) → nat_eq j k ≡ false → nat_eq k j ≡ false
+pub flipped : (j k : ℕ) → nat_eq j k ≡ false → nat_eq k j ≡ false
 flipped j k e = grind (arith, e)
 
 module _ (g : Ghost) (q : ℕ) where

@@ -192,7 +192,7 @@ return_closes w d q a v new e finished may h ask = λ g m us t i. (g, m, Done, t
 
 -- ---- A Finish
 
-obeyed_answers : (s : State) (b : Bool) (es : List ℕ) → (obey s b es).answers ≡ s.answers
+pub obeyed_answers : (s : State) (b : Bool) (es : List ℕ) → (obey s b es).answers ≡ s.answers
 obeyed_answers s true es = refl
 obeyed_answers s false es = refl
 

@@ -2,8 +2,6 @@
 use Rattle.std.specs.FinMap as map
 use Rattle.std.proofs.Common.{◌≡◌, ℕ, nat_eq, true, false, List, [], ◌∷◌, ◌++◌, Option, None, Some, IsSome, refl, sym, ap, ap₂, subst, ◌∙◌, ◌||◌, Bool}
 use Rattle.rpc_msg.specs.declared.ids.Vat.{Vat}
-use Rattle.rpc_msg.specs.declared.parts.Descriptor.{Descriptor}
-use Rattle.rpc_msg.specs.declared.parts.Descriptor.TheVariants as descriptor
 use Rattle.rpc_msg.specs.declared.parts.Target.{Target}
 use Rattle.rpc_msg.specs.declared.parts.Target.TheVariants.{ImportedCap, PromisedAnswer}
 use Rattle.rpc_msg.specs.declared.message.Call as calls
@@ -13,15 +11,13 @@ use Rattle.rpc_msg.specs.declared.message.Message.TheVariants as message
 use Rattle.rpc_msg.specs.Paths.{fields}
 use Rattle.vat_journal.specs.History.{caller}
 use Rattle.vat_machine.specs.declared.calls.WaitingCall.{WaitingCall}
-use Rattle.vat_machine.specs.declared.command.Level.{Level}
-use Rattle.vat_machine.specs.declared.command.Level.TheVariants.{Zero, One}
 use Rattle.vat_machine.specs.declared.node.Node.{Node}
 use Rattle.vat_machine.specs.declared.entries.AnswerEntry.{AnswerEntry}
 use Rattle.vat_machine.specs.declared.entries.Export.{Export}
 use Rattle.vat_machine.specs.State.{State}
 use Rattle.vat_machine.specs.Nodes.{is_field, is_wire, settle}
 use Rattle.vat_machine.specs.Progress.{Progress, with_state}
-use Rattle.vat_machine.specs.Descriptors.{answer_node, export_node, take_all, take_at, take_each, take_one, taken_of}
+use Rattle.vat_machine.specs.Descriptors.{answer_node, export_node, take_all, taken_of}
 use Rattle.vat_machine.specs.Faults.{target_node}
 use Rattle.vat_machine.specs.Messages.{TakesCall, opened, received_request}
 use Rattle.vat_machine.specs.Routing.{Routes}
@@ -38,6 +34,7 @@ use Rattle.laws_routes.specs.Ties.{Around, Ghosts, Tied, TiedBy}
 use Rattle.laws_routes.specs.Premises.{ExportsAreOwn, MayGoTo, MayKeep}
 use Rattle.laws_routes.specs.Laws.{Comes, with_back}
 use Rattle.laws_routes.specs.TakingLaws.{IsAnswered, MayTakeCall}
+use Rattle.laws_acts.proofs.Alone.{all_alone}
 use Rattle.laws_routes.proofs.CallTaken.{comes}
 use Rattle.laws_routes.proofs.CallRouted.{routed}
 use Rattle.laws_routes.proofs.CallsRouted.{first_known, law}
@@ -51,26 +48,6 @@ use Rattle.laws_routes.proofs.SayingsCarried.{each_return, said_of_fewer}
 use Rattle.rpc_msg.specs.Messages.{given}
 use Rattle.std.specs.Prelude.{is_some}
 use Rattle.rpc_msg.specs.Vats.{other_vat}
-
--- ---- Descriptors change imports alone
-
-one_alone : (s : State) (d : Descriptor) → take_one s d ≡ record s { imports = (take_one s d).imports }
-one_alone s descriptor.None = refl
-one_alone s (descriptor.SenderHosted e) = refl
-one_alone s (descriptor.SenderPromise e) = refl
-one_alone s (descriptor.ReceiverHosted e) = refl
-one_alone s (descriptor.ReceiverAnswer q path) = refl
-
-each_alone : (s : State) (ds : List Descriptor) → take_each s ds ≡ record s { imports = (take_each s ds).imports }
-each_alone s [] = refl
-each_alone s (d ∷ ds) = each_alone (take_one s d) ds ∙ ap (λ (z : State). record z { imports = (take_each (take_one s d) ds).imports }) (one_alone s d)
-
-at_alone : (l : Level) (s : State) (ds : List Descriptor) → take_at l s ds ≡ record s { imports = (take_at l s ds).imports }
-at_alone Zero s ds = refl
-at_alone One s ds = each_alone s ds
-
-pub taken_alone : (s : State) (ds : List Descriptor) → take_all s ds ≡ record s { imports = (take_all s ds).imports }
-taken_alone s ds = at_alone s.level s ds
 
 -- ---- The point of a target
 
@@ -172,7 +149,7 @@ call_taken w d g m c rest new t i h may =
     let f = a.0 in
     let e = a.2 in
     let q : WaitingCall = record { request = received_request s c; outcome = o } in
-    from (take_all s c.descriptors) (taken_alone s c.descriptors) f a.1 o q refl h.1 may.keeps may.answered may.own may.goes h.2
+    from (take_all s c.descriptors) (all_alone s c.descriptors) f a.1 o q refl h.1 may.keeps may.answered may.own may.goes h.2
   where
     from : (z : State) → z ≡ record (d.state) { imports = z.imports } → (f : Ghosts) → Tied (with_back w (message.Plain (plain.Call c) ∷ rest)) (with_state d z) f m → (o : ℕ) (q : WaitingCall) → q.request.stamp ≡ c.stamp
         → map.get d.state.outcomes o ≡ None → MayKeep z o → IsAnswered d.state c.target → ExportsAreOwn d.state

@@ -31,6 +31,7 @@ use Rattle.vat_machine.specs.Messages.{TakesCall, opened, received_request, reso
 use Rattle.vat_machine.specs.Nodes.{settle}
 use Rattle.vat_machine.specs.Progress.{Progress, with_state}
 use Rattle.vat_machine.specs.Routing.{Routes}
+use Rattle.laws_steps.proofs.NamedMessages.{free_answer}
 use Rattle.laws_routes.specs.Laws.{with_back}
 use Rattle.laws_routes.specs.Named.{EachMet}
 use Rattle.laws_routes.specs.Premises.{EachMayTake, EachOpen, ExportsAreOwn, MayGoTo, MayKeep}
@@ -39,9 +40,9 @@ use Rattle.laws_routes.specs.SayingLaws.{EachReadable, IsReadableIn}
 use Rattle.laws_routes.specs.TakingLaws.{MayTakeCall}
 use Rattle.laws_routes.specs.Ties.{Around}
 use Rattle.laws_routes.specs.Midway.{AllAreHeld, IsHeld, Midway, MidwayAt}
-use Rattle.laws_routes.proofs.CallAnswered.{taken_alone}
+use Rattle.laws_acts.proofs.Alone.{all_alone}
 use Rattle.laws_routes.proofs.FromMidway.{may_go, may_keep}
-use Rattle.laws_routes.proofs.MessagesTaken.{free_entry, opened_still, target_answered, target_held}
+use Rattle.laws_routes.proofs.MessagesTaken.{opened_still, target_answered, target_held}
 use Rattle.laws_routes.proofs.MidwayGone.{met_fewer}
 use Rattle.laws_routes.proofs.MidwayKept.{all_still}
 use Rattle.laws_routes.proofs.MidwayRouted.{as_routed}
@@ -76,7 +77,7 @@ module _ (s : State) (I : Map Import) where
 
 pub all_readable : (s : State) (ds : List Descriptor) → s.level ≡ One → descriptors_fault s ds ≡ None → EachReadable (take_all s ds) ds
 all_readable s ds level e =
-    subst (λ (z : State). EachReadable z ds) (sym (taken_alone s ds))
+    subst (λ (z : State). EachReadable z ds) (sym (all_alone s ds))
     (each_readable s (take_all s ds).imports [] ds (subst (λ (l : Level). faults_at l s ds ≡ None) level e) (all_given s ds level))
 
 -- ---- A Call
@@ -117,9 +118,9 @@ call w d c rest new h level fine once a =
     let ds = c.descriptors in
     let out = w.out ++ d.effects.sends in
     let back = message.Plain (plain.Call c) ∷ rest in
-    let none : map.get s.answers c.question.0 ≡ None = free_entry (map.get s.answers c.question.0) _ (first_none _ _ fine) in
+    let none : map.get s.answers c.question.0 ≡ None = free_answer (map.get s.answers c.question.0) _ (first_none _ _ fine) in
     let k = taken s w.other out (plain.Call c) rest h level in
-    let goes = subst (GoesOn w d c rest new a.0 none a.1 once) (sym (taken_alone s ds)) (goes_on w d c rest new a.0 none a.1 once (take_all s ds).imports (subst (λ (z : State). Midway z w.other out rest) (taken_alone s ds) k) (all_given s ds level)) a.2 in
+    let goes = subst (GoesOn w d c rest new a.0 none a.1 once) (sym (all_alone s ds)) (goes_on w d c rest new a.0 none a.1 once (take_all s ds).imports (subst (λ (z : State). Midway z w.other out rest) (all_alone s ds) k) (all_given s ds level)) a.2 in
     let named = h.named in (
       record {
         own = λ e x f. (let b = h.exports e x f in b.0);
@@ -170,8 +171,8 @@ resolve w d e (resolved.Cap c) r rest new q h level fine a =
     let there = all_given s ds level in
     let named = h.named in
     let met = subst (λ (x : ResolvedTo). EachMet w.other.exports s.exports (descriptors_of_resolved x)) q named.1.0 in
-    let held : IsHeld u (read s c) = subst (λ (z : State). IsHeld z (read s c)) (sym (taken_alone s ds)) (subst (IsHeld (record s { imports = u.imports })) (read_still s u.imports s.level c)
-    (read_held (record s { imports = u.imports }) w.other out rest (subst (λ (z : State). Midway z w.other out rest) (taken_alone s ds) k) c there.0)) in (
+    let held : IsHeld u (read s c) = subst (λ (z : State). IsHeld z (read s c)) (sym (all_alone s ds)) (subst (IsHeld (record s { imports = u.imports })) (read_still s u.imports s.level c)
+    (read_held (record s { imports = u.imports }) w.other out rest (subst (λ (z : State). Midway z w.other out rest) (all_alone s ds) k) c there.0)) in (
       (
         λ e x f. (let b = h.exports e x f in b.0),
         each_may_take s w.other out (message.Plain (plain.Resolve r) ∷ rest) h s.exports ds met,

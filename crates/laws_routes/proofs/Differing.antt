@@ -3,7 +3,7 @@ use Rattle.std.proofs.Common.{◌≡◌, ℕ, nat_eq, true, false, cond, refl, s
 use Rattle.rpc_msg.specs.declared.ids.Vat.{Vat}
 use Rattle.rpc_msg.specs.declared.ids.Vat.TheVariants.{A, B}
 use Rattle.rpc_msg.specs.Vats.{other_vat}
-use Rattle.laws_routes.specs.Points.{Group, Apart, OfPromise, OfOutcome, end}
+use Rattle.laws_routes.specs.Points.{Point, AnObject, APromise, AField, Nowhere, Group, Apart, OfPromise, OfOutcome, group_of, vat_of, end}
 use Rattle.laws_routes.specs.Ghosts.{ref_at, with_at}
 
 pub vats_differ : (v : Vat) → other_vat v ≡ v → ⊥
@@ -36,6 +36,20 @@ abbrev vat_in : Group → Vat → Vat
 vat_in Apart v = v
 vat_in (OfPromise u i) v = u
 vat_in (OfOutcome u i) v = u
+
+abbrev IsOf : Group → Type 0
+IsOf Apart = ⊥
+IsOf (OfPromise v i) = Unit {0}
+IsOf (OfOutcome v i) = Unit {0}
+
+pub not_apart : (g : Group) → IsOf g → Apart ≡ g → ⊥
+not_apart g i e = subst IsOf (sym e) i
+
+pub group_vat : (x : Point) (v : Vat) (g : Group) → IsOf g → group_of x ≡ g → vat_of x ≡ vat_in g v
+group_vat (AnObject u n) v g i e = absurd (not_apart g i e)
+group_vat (APromise u j) v g i e = ap (λ z. vat_in z v) e
+group_vat (AField u j path) v g i e = ap (λ z. vat_in z v) e
+group_vat (Nowhere u) v g i e = absurd (not_apart g i e)
 
 abbrev id_in : Group → ℕ
 id_in Apart = 0

@@ -9,13 +9,14 @@ use Rattle.vat_machine.specs.declared.command.Level.TheVariants.{One}
 use Rattle.vat_machine.specs.Faults.{plain_fault, resolve_fault}
 use Rattle.vat_machine.specs.Messages.{TakesPlain}
 use Rattle.vat_machine.specs.Progress.{Progress}
+use Rattle.laws_steps.proofs.NamedMessages.{free_answer}
 use Rattle.laws_routes.specs.Laws.{with_back}
 use Rattle.laws_routes.specs.StepLaws.{MayTakePlain}
 use Rattle.laws_routes.specs.Ties.{Around}
 use Rattle.laws_routes.specs.Midway.{Midway, MidwayAt}
 use Rattle.laws_routes.specs.Received.{IsMet}
 use Rattle.laws_routes.proofs.CallsReceived.{call, first_none, resolve, rest_none}
-use Rattle.laws_routes.proofs.MessagesTaken.{bootstrap, disembargo, finish, free_entry, release}
+use Rattle.laws_routes.proofs.MessagesTaken.{bootstrap, disembargo, finish, release}
 use Rattle.laws_routes.proofs.MidwaySaid.{goes_out}
 use Rattle.laws_routes.proofs.MidwayTaken.{off}
 use Rattle.laws_routes.proofs.ReturnsReceived.{returns}
@@ -26,7 +27,7 @@ module _ (w : Around) (d : Progress) (rest : List Message) (new : Progress) (lev
 
   each : (x : PlainMessage) → Before x → plain_fault d.state x ≡ None → IsMet d.state w.other (w.out ++ d.effects.sends) rest x → (a : TakesPlain d x new) → MayTakePlain (with_back w rest) d x new a × MidwayAt (with_back w rest) new
   each (plain.Abort exception) h fine m a = absurd a
-  each (plain.Bootstrap q) h fine m a = bootstrap w d q rest new (off d.state w.other (w.out ++ d.effects.sends) (plain.Bootstrap q) rest refl h level) level (free_entry (map.get d.state.answers q.0) _ fine) m a
+  each (plain.Bootstrap q) h fine m a = bootstrap w d q rest new (off d.state w.other (w.out ++ d.effects.sends) (plain.Bootstrap q) rest refl h level) level (free_answer (map.get d.state.answers q.0) _ fine) m a
   each (plain.Call c) h fine m a = call w d c rest new h level fine m a
   each (plain.Return r) h fine m a = let b = returns w d r rest new h level (map.get d.state.questions r.answer.0) refl m fine a in (b.0, b.1)
   each (plain.Finish x) h fine m a = finish w d x rest new h level (map.get d.state.answers x.question.0) refl m a

@@ -1,6 +1,5 @@
 -- The embargoes of a vat are right in each state to which a step leads.
 use Rattle.std.specs.FinMap as map
-use Rattle.std.specs.Ordering.{nat_cmp}
 use Rattle.std.proofs.Common.{◌≡◌, ℕ, ◌+◌, ◌-◌, ◌<◌, zero, suc, Bool, true, false, cond, nat_eq, nat_le, List, [], ◌∷◌, Option, None, Some, refl, sym, ap, subst, ◌∙◌, arith}
 use Rattle.finite_maps.specs.Tally.{Map}
 use Rattle.finite_maps.proofs.Tested.{apart, at_cut, at_put}
@@ -53,6 +52,7 @@ use Rattle.laws_acts.specs.Moments.{Moment, beginning}
 use Rattle.laws_acts.specs.SmallActs.{Act}
 use Rattle.laws_acts.specs.SmallActs as act
 use Rattle.laws_acts.proofs.EachStep.{done, handled}
+use Rattle.laws_steps.proofs.Reached.{no_entry}
 use Rattle.laws_routes.specs.Premises.{ExportsAreOwn, IsOnlyEmbargo}
 use Rattle.laws_routes.specs.Sides.{IsEmbargoOf}
 use Rattle.laws_routes.specs.FirstActs.{EmbargoesAreNamed}
@@ -429,9 +429,6 @@ messages_keep s m x t i own fine h =
     let k = handled (λ d. EmbargoesAreRight d.state) s m x t fine (consumed s i own m) acted h in
     let e = k.ends in
     rw e.state k.holds
-
-no_entry : {X : Type 0} (P : Option X → Type 0) (k : ℕ) → P None → (let m : Map X = map.empty in P (map.get m k))
-no_entry P k h = rw (map.get-empty nat_cmp k) h
 
 pub new_right : (v : Vat) (l : Level) (b : Option ObjectId) → EmbargoesAreRight (start v l b)
 new_right v l b = record {

@@ -18,23 +18,15 @@ use Rattle.call_order.specs.Machine.{Kind, Net}
 use Rattle.call_order.specs.Machine as routing
 use Rattle.call_order.specs.Events.{Fate, Merges, place_of, kind_of, new_stop, new_kind, settled}
 use Rattle.call_order.proofs.Choices.{by_choice}
-use Rattle.laws_routes.specs.Points.{Point, AnObject, APromise, AField, Group, Apart, OfPromise, OfOutcome, group_of, routes}
+use Rattle.laws_routes.specs.Points.{Point, AnObject, APromise, AField, Group, OfOutcome, group_of, routes}
 use Rattle.laws_routes.specs.Ghosts.{Ghost, point, far}
 use Rattle.laws_routes.specs.Sides.{Side, Stops, IsFinal, IsLinked, LinkedTo, SameEnd, EndsAs, own_kind}
 use Rattle.laws_routes.specs.Premises.{LinksRest}
 use Rattle.laws_routes.specs.Laws.{fate_as, fate_of_field}
-use Rattle.laws_routes.proofs.Differing.{not_outcome, outcome_id}
+use Rattle.laws_routes.proofs.Differing.{not_apart, not_outcome, outcome_id}
 use Rattle.laws_routes.proofs.WhereNodesEnd.{ends_same, settles_here}
 use Rattle.laws_routes.proofs.CallsRouted.{law}
 use Rattle.laws_routes.proofs.GroupSettles.{linked_after, linked_to_after}
-
-abbrev IsOf : Group → Type 0
-IsOf Apart = ⊥
-IsOf (OfPromise v i) = Unit {0}
-IsOf (OfOutcome v i) = Unit {0}
-
-not_apart : (v : Vat) (i : ℕ) → Apart ≡ OfOutcome v i → ⊥
-not_apart v i e = subst IsOf (sym e) tt
 
 -- Two points that end as one node end at one stop, or at two that do the same for good.
 both_end : (v : Vat) (g : Ghost) (n : Net routes) (x y : Point) (z : Node) → EndsAs v g n x z → EndsAs v g n y z → SameEnd n x y
@@ -89,7 +81,7 @@ module _ (v : Vat) (s : State) (g : Ghost) (next : ℕ) (m : routing.State route
   -- ---- Other nodes
 
   not_group : (k : Node) → is_wire k ≡ false → IsThere t k → ((path : List Op) → k ≡ node.Field o path → ⊥) → group_of (point v g k) ≡ group → ⊥
-  not_group (node.Object j) w i n f = not_apart v id f
+  not_group (node.Object j) w i n f = not_apart (OfOutcome v id) tt f
   not_group (node.Promise p) w i n f = not_outcome v v (g.promise p) id f
   not_group (node.Field q path) w i n f = by (nat_eq q o) refl
     where
@@ -98,7 +90,7 @@ module _ (v : Vat) (s : State) (g : Ghost) (next : ℕ) (m : routing.State route
       by false c = differ q (subst (λ (z : Option KeptOutcome). IsSome z) (get_other s.outcomes o (record { caller = x.caller; value = Some fit; waiting = x.waiting }) q c) i) c f
   not_group (node.Import j) w i n f = cc
   not_group (node.Pipe q path) w i n f = cc
-  not_group (node.Broken reason) w i n f = not_apart v id f
+  not_group (node.Broken reason) w i n f = not_apart (OfOutcome v id) tt f
 
   old_linked : (k : Node) → is_wire k ≡ false → IsThere t k → ((path : List Op) → k ≡ node.Field o path → ⊥) → IsLinked v g m.net k (link t k)
   old_linked (node.Object j) w i n = h.stops (node.Object j) w i

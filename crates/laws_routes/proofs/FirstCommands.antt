@@ -73,7 +73,7 @@ heads_held s other out back h (r ∷ refs) = (by (map.get s.refs r.0) refl, head
 new_ref : (w : Around) (d : Progress) (n : Node) (new : Progress) → MidwayAt w d → IsHeld d.state n → new ≡ with_state d (with_refs d.state (n ∷ [])) → MidwayAt w new
 new_ref w d n new h i e = subst (MidwayAt w) (sym e) (refs_still (n ∷ []) d.state w.other (w.out ++ d.effects.sends) w.back h (i, tt))
 
-fields_again : (path : List Op) → fields (fields path) ≡ fields path
+pub fields_again : (path : List Op) → fields (fields path) ≡ fields path
 fields_again [] = refl
 fields_again (Noop ∷ path) = fields_again path
 fields_again (Field i ∷ path) = ap (λ ops. Field i ∷ ops) (fields_again path)

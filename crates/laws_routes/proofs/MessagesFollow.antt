@@ -53,7 +53,7 @@ use Rattle.laws_routes.specs.Midway.{ArisenAreHeld, Midway, MidwayAt}
 use Rattle.laws_routes.specs.FirstActs.{CallsHaveSources, EmbargoesAreNamed}
 use Rattle.laws_routes.specs.Received.{IsMet}
 use Rattle.laws_routes.specs.WholeSteps.{MidwayBehind}
-use Rattle.laws_routes.proofs.CallAnswered.{taken_alone}
+use Rattle.laws_acts.proofs.Alone.{all_alone}
 use Rattle.laws_routes.proofs.EachReceived.{messages_may}
 use Rattle.laws_routes.proofs.FirstCommands.{others_kept}
 use Rattle.laws_routes.proofs.MidwayDrained.{failures_held, none_carry}
@@ -68,7 +68,7 @@ refs_level [] s = refl
 refs_level (n ∷ ns) s = refs_level ns _
 
 taken_level : (s : State) (ds : List _) → (take_all s ds).level ≡ s.level
-taken_level s ds = ap (λ (z : State). z.level) (taken_alone s ds)
+taken_level s ds = ap (λ (z : State). z.level) (all_alone s ds)
 
 obeyed_level : (s : State) (flag : Bool) (ids : List ℕ) → (obey s flag ids).level ≡ s.level
 obeyed_level s true ids = refl

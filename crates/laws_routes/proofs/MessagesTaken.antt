@@ -45,6 +45,7 @@ use Rattle.laws_routes.specs.TakingLaws.{IsAnswered, MayBounce, MayTakeBootstrap
 use Rattle.laws_routes.specs.Ties.{Around}
 use Rattle.laws_routes.specs.Midway.{AllAreHeld, HeldCallsAreHeld, IsAwaited, IsHeld, IsOutcomeOf, Midway, MidwayAt}
 use Rattle.laws_routes.specs.Received.{EchoIsMet, IfAnswer, IfEmbargo, LoopIsMet}
+use Rattle.laws_routes.proofs.AnswerCloses.{obeyed_answers}
 use Rattle.laws_routes.proofs.ExportsLowered.{by_lowered, each_lowered}
 use Rattle.laws_routes.proofs.FromMidway.{at_end, links_rest, may_keep}
 use Rattle.laws_routes.proofs.MidwayRouted.{all_may_go}
@@ -89,10 +90,6 @@ module _ (s other : State) (out rest : List Message) (h : Midway s other out res
       (at_cut (λ k o. (c : AnswerEntry) → o ≡ Some c → IsOutcomeOf k (map.get s.outcomes c.outcome)) s.answers q (λ c f. cc) (λ k n c f. h.answers k c f))
       (λ o. at_cut (λ k z. IsOpenFor k (map.get s.outcomes o) → AnswersWith o z) s.answers q (λ i. (let u : AnswersWith o (Some a) = subst (AnswersWith o) at (h.pending o q i) in let v : Some ids ≡ None = sym e ∙ u.1 in cc)) (λ k n i. h.pending o k i))
       (at_cut (λ k o. (c : AnswerEntry) → o ≡ Some c → c.returned ≡ None → IsAwaited other rest k c.finished) s.answers q (λ c f g. cc) (λ k n c f g. h.awaited k c f g))
-
-obeyed_answers : (s : State) (flag : Bool) (ids : List ℕ) → (obey s flag ids).answers ≡ s.answers
-obeyed_answers s true ids = refl
-obeyed_answers s false ids = refl
 
 closes_if : (other : State) (rest : List Message) (q : ℕ) (z : Option (List ExportId)) → MayClose other rest q → MayCloseIf other rest q z
 closes_if other rest q None c = tt
@@ -271,10 +268,6 @@ opened_still s other out rest q o ids h none free once = (
     pending : (j k : ℕ) → IsOpenFor k (map.get O j) → AnswersWith j (map.get A k)
     pending j k = at_put (λ j z. IsOpenFor k z → AnswersWith j (map.get A k)) s.outcomes o x
         (λ i. subst (λ (k : ℕ). AnswersWith o (map.get A k)) (asked_by k i.1) (subst (AnswersWith o) (sym (get-insert_same s.answers q a)) (refl, refl))) (λ j n i. old j k (h.pending j k i)) j
-
-pub free_entry : {X : Type 0} (o : Option X) (n : ℕ) → if_so (is_some o) n ≡ None → o ≡ None
-free_entry None n e = refl
-free_entry (Some x) n e = cc
 
 root_held : (s : State) (b : Option ObjectId) → AllAreHeld s (caps_of (bootstrap_value b))
 root_held s None = tt

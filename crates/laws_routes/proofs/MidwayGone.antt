@@ -1,6 +1,6 @@
 -- What no place names goes: it is still so in the middle of the step.
 use Rattle.std.specs.FinMap as map
-use Rattle.std.proofs.Common.{◌≡◌, ◌⊎◌, inl, inr, ℕ, zero, suc, Bool, true, false, ◌||◌, nat_eq, List, [], ◌∷◌, ◌++◌, Option, None, Some, IsSome, refl, sym, ap, subst, ◌∙◌}
+use Rattle.std.proofs.Common.{◌≡◌, ◌⊎◌, inl, inr, ℕ, zero, suc, Bool, true, false, nat_eq, List, [], ◌∷◌, ◌++◌, Option, None, Some, IsSome, refl, sym, ap, subst, ◌∙◌}
 use Rattle.finite_maps.specs.Tally.{Map}
 use Rattle.finite_maps.proofs.Tested.{at_cut, itself}
 use Rattle.rpc_msg.specs.declared.ids.EmbargoId.{EmbargoId}
@@ -39,12 +39,9 @@ use Rattle.laws_routes.specs.Sayings.{Has, has_behind, has_of, is_among}
 use Rattle.laws_routes.specs.Ties.{Around}
 use Rattle.laws_routes.specs.Midway.{AllAreHeld, CallsAreHeld, HeldCallsAreHeld, IsHeld, IsOutcomeOf, Midway, MidwayAt}
 use Rattle.laws_routes.proofs.Placed as placed
+use Rattle.laws_routes.proofs.SayingsCarried.{or_fewer}
 
 -- ---- Fewer imports on the receiver's side
-
-or_fewer : (a b c : Bool) → (c ≡ true → b ≡ true) → (a || c) ≡ true → (a || b) ≡ true
-or_fewer true b c f e = refl
-or_fewer false b c f e = f e
 
 module _ (E F : Map Export) where
   resolve_fewer : (has left : Has) (m : PlainMessage) → ((e : ℕ) → left.import e ≡ true → has.import e ≡ true) → ResolveMet E has m → ResolveMet E left m

@@ -5,7 +5,7 @@ use Rattle.std.specs.Ordering.{nat_cmp}
 use Rattle.std.proofs.Common.{◌≡◌, ◌⊎◌, inl, inr, ℕ, nat_eq, true, false, List, [], ◌∷◌, ◌++◌, append_assoc, append-nil, Option, None, Some, IsSome, refl, sym, ap, subst, ◌∙◌, T}
 use Rattle.finite_maps.specs.Tally.{Map}
 use Rattle.finite_maps.proofs.Sorted.{behind, first_entry, later_entry, sorted_tail}
-use Rattle.finite_maps.proofs.Tested.{at_cut, at_put, get_other, itself}
+use Rattle.finite_maps.proofs.Tested.{at_cut, at_put, itself}
 use Rattle.rpc_msg.specs.declared.message.Message.{Message}
 use Rattle.rpc_msg.specs.declared.message.Message.TheVariants as message
 use Rattle.rpc_msg.specs.declared.message.PlainMessage.{PlainMessage}
@@ -25,7 +25,8 @@ use Rattle.vat_machine.specs.Progress.{Progress, export_id, send, with_state}
 use Rattle.vat_machine.specs.Sweeping.{Asked, FinishesEach, Over, Sweeps, Thing, Withers, closed, closed_map, finished_by, got_of, release_each}
 use Rattle.laws_steps.specs.Callers.{HasOutcome, IsAskedFor, IsFor, peer}
 use Rattle.laws_steps.specs.NodesThere.{IsWhole, Stands}
-use Rattle.laws_steps.proofs.Below.{Below, below_same, below_then, closes_below, collects_below, collects_questions, gives_below, goes_questions}
+use Rattle.laws_steps.proofs.Below.{Below, below_same, below_then, collects_below, collects_questions, goes_questions}
+use Rattle.laws_steps.proofs.Swept.{closed_other, finished_below, given_questions, released}
 use Rattle.laws_routes.specs.Named.{EachReturn, ReturnOf}
 use Rattle.laws_routes.specs.Premises.{EachOpen, IsUnfinished, OpenOf}
 use Rattle.laws_routes.specs.Ties.{Around}
@@ -33,6 +34,10 @@ use Rattle.laws_routes.specs.Midway.{IsHeld, IsOutcomeOf, Midway, MidwayAt}
 use Rattle.laws_routes.proofs.MidwayBelow.{below_still}
 use Rattle.laws_routes.proofs.MidwaySaid.{goes_out}
 use Rattle.laws_routes.proofs.ReturnSent.{collected_links}
+
+pub first : {A B C : Type 0} → A ⊎ (B × C) → A ⊎ B
+first (inl a) = inl a
+first (inr b) = inr b.0
 
 -- ---- What is sent
 
@@ -87,13 +92,6 @@ module _ (s other : State) (back : List Message) where
 
 -- ---- The questions that are over
 
-closed_other : (m : Map Question) (q : ℕ) (x : Question) (o : Option Returned) (k : ℕ) → nat_eq k q ≡ false → map.get (closed_map m q x o) k ≡ map.get m k
-closed_other m q x o k e = by o
-  where
-    by : (o : Option Returned) → map.get (closed_map m q x o) k ≡ map.get m k
-    by None = get_other m q (record x { finish = finishing.Sent }) k e
-    by (Some said) = at_cut (λ j z. nat_eq j q ≡ false → z ≡ map.get m j) m q (λ f. (let bad : true ≡ false = sym (itself q) ∙ f in cc)) (λ j n f. refl) k e
-
 -- Each was there.
 withers_from : (d : Progress) (over : Map Question) → Withers d over → (q : ℕ) (x : Question) → map.get over q ≡ Some x → map.get d.state.questions q ≡ Some x
 withers_from d over (Over tight none) q x e = absurd (let bad : None ≡ Some x = sym (map.get-empty nat_cmp q) ∙ e in cc)
@@ -114,22 +112,10 @@ listed s (x ∷ xs) o f =
 
 -- ---- They are finished
 
-finished_below : (d : Progress) (q : ℕ) (x : Question) (f : Finishing) → Below d.state (finished_by d q x f).state
-finished_below d q x finishing.Owed =
-    let ids = got_of x.returned in
-    let t = give_if d.state (flag_for d.state ids) ids in
-    below_then d.state t (closed t q x) (gives_below d.state (flag_for d.state ids) ids) (closes_below t q x)
-finished_below d q x finishing.Sent = below_same d.state
-finished_below d q x finishing.Waived = closes_below d.state q x
-
 finished_parts : (d : Progress) (q : ℕ) (x : Question) (f : Finishing) → Parts d (finished_by d q x f)
 finished_parts d q x finishing.Owed = (message.Plain (plain.Finish (record { question = record { 0 = q }; release_result_caps = flag_for d.state (got_of x.returned) })) ∷ [], (tt, tt), refl)
 finished_parts d q x finishing.Sent = parts_none d d refl
 finished_parts d q x finishing.Waived = parts_none d (with_state d (closed d.state q x)) refl
-
-given_questions : (s : State) (b : _) (ids : List ℕ) → (give_if s b ids).questions ≡ s.questions
-given_questions s false ids = refl
-given_questions s true ids = refl
 
 -- A question that went was there, with its Return.
 abbrev Lost : State → ℕ → Type 0
@@ -180,10 +166,6 @@ module _ (s : State) where
 
 -- ---- Imports are released
 
-released_state : (d : Progress) (xs : List (ℕ × ℕ)) → (release_each d xs).state ≡ d.state
-released_state d [] = refl
-released_state d (x ∷ xs) = released_state (send d (plain.Release (record { export = export_id x.0; count = x.1 }))) xs
-
 released_parts : (d : Progress) (xs : List (ℕ × ℕ)) → Parts d (release_each d xs)
 released_parts d [] = parts_none d d refl
 released_parts d (x ∷ xs) =
@@ -207,10 +189,6 @@ module _ (P Q : ℕ → Type 0) where
       asks : (k : ℕ) → Q k ⊎ (nat_eq k k ≡ false) → Q k
       asks k (inl i) = i
       asks k (inr e) = absurd (never k e)
-
-      first : {A B C : Type 0} → A ⊎ (B × C) → A ⊎ B
-      first (inl a) = inl a
-      first (inr b) = inr b.0
 
       one : (m : Message) → OpenOf P m → ((k : ℕ) → P k → Q k ⊎ EachOpen (λ j. nat_eq j k ≡ false) (m ∷ ms)) → OpenOf Q m
       one (message.Plain (plain.Abort exception)) i f = tt
@@ -239,10 +217,6 @@ module _ (P Q : ℕ → Type 0) where
       comes : (k : ℕ) → Q k ⊎ (nat_eq k k ≡ false) → Q k
       comes k (inl i) = i
       comes k (inr e) = absurd (never k e)
-
-      first : {A B C : Type 0} → A ⊎ (B × C) → A ⊎ B
-      first (inl a) = inl a
-      first (inr b) = inr b.0
 
       one : (m : PlainMessage) → ReturnOf P m → ((k : ℕ) → P k → Q k ⊎ EachReturn (λ j. nat_eq j k ≡ false) (message.Plain m ∷ ms)) → ReturnOf Q m
       one (plain.Abort exception) i f = tt
@@ -301,7 +275,7 @@ swept w d new m h whole =
     let t = tight.state in
     let from = listed s (map.entries over) (map.entries_sorted over) (λ q x e. withers_from d over h.1 q x (map.get-entries over q ∙ e)) in
     let left = left_then s d mid tight (finishes_left s (map.entries over) d mid from h.2.1) (collects_left s tight mid h.2.2.1) in
-    let same : new.state ≡ t = ap (λ (z : Progress). z.state) h.2.2.2 ∙ released_state tight (map.entries tight.released) in
+    let same : new.state ≡ t = ap (λ (z : Progress). z.state) h.2.2.2 ∙ released tight (map.entries tight.released) in
     let at_end = ended s t w.other (w.out ++ d.effects.sends) w.back m left.0 (subst IsWhole same whole) left.2 in
     let said = parts_then d tight last left.1 (released_parts tight (map.entries tight.released)) in
     let more = parted t w.other w.back (w.out ++ d.effects.sends) said.0 said.1 at_end in

@@ -36,7 +36,7 @@ use Rattle.laws_routes.specs.Premises.{EachLoop, EachMayTake, EachOpen, EachTarg
 use Rattle.laws_routes.specs.QuietLaws.{IsAsked, IsFinished, MayClose, MayLower, NoneAims, NoneNames, Unless, opens}
 use Rattle.laws_routes.specs.Sayings.{Has, has_behind, has_of, is_among}
 use Rattle.laws_routes.specs.Midway.{AllAreHeld, HeldCallsAreHeld, IsAwaited, IsHeld, IsOutcomeOf, Midway}
-use Rattle.laws_routes.proofs.CallAnswered.{taken_alone}
+use Rattle.laws_acts.proofs.Alone.{all_alone}
 use Rattle.laws_routes.proofs.ExportsLowered.{Lowered}
 use Rattle.laws_routes.proofs.FromMidway.{may_take}
 use Rattle.laws_routes.proofs.MidwayGone.{met_fewer}
@@ -239,7 +239,7 @@ pub all_given : (s : State) (ds : List Descriptor) → s.level ≡ One → AllGi
 all_given s ds level = at_one s ds level (λ (z : State). AllGivenIn z.imports ds) (given_each ds s)
 
 pub taken : (s other : State) (out : List Message) (x : PlainMessage) (rest : List Message) → Midway s other out (message.Plain x ∷ rest) → s.level ≡ One → Midway (take_all s (descriptors_of (message.Plain x))) other out rest
-taken s other out x rest h level = subst (λ (z : State). Midway z other out rest) (sym (taken_alone s ds)) still
+taken s other out x rest h level = subst (λ (z : State). Midway z other out rest) (sym (all_alone s ds)) still
   where
     ds : List Descriptor
     ds = descriptors_of (message.Plain x)

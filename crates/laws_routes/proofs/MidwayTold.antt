@@ -28,7 +28,7 @@ use Rattle.vat_machine.specs.declared.node.Node.TheVariants as node
 use Rattle.vat_machine.specs.State.{State}
 use Rattle.vat_machine.specs.Lists.{how_many}
 use Rattle.vat_machine.specs.Nodes.{is_import, link, settle}
-use Rattle.vat_machine.specs.Collecting.{AnswerIsOther, CallerIsDone, Collects, Goes, ImportGoes, IsLooseOutcome, IsLooseValue, Loose, OutcomeGoes, PromiseGoes, Tight}
+use Rattle.vat_machine.specs.Collecting.{Collects, Goes, ImportGoes, Loose, OutcomeGoes, PromiseGoes, Tight}
 use Rattle.vat_machine.specs.Descriptors.{DescribesAll}
 use Rattle.vat_machine.specs.Flags.{flag_for, give_if}
 use Rattle.vat_machine.specs.Places.{imports_of, named_by_answer, named_by_taken, names, places}
@@ -39,6 +39,7 @@ use Rattle.laws_steps.specs.Settled.{IsAmong, IsThere}
 use Rattle.laws_steps.proofs.Below.{gives_below, places_below}
 use Rattle.laws_steps.proofs.GivenBack.{of_returned, of_taken, still_here}
 use Rattle.laws_steps.proofs.NamedNodes.{Asked, NoneAtZero, Present}
+use Rattle.laws_steps.proofs.NamedPieces.{Standing, stays_collected}
 use Rattle.laws_routes.specs.Named.{EachMet}
 use Rattle.laws_routes.specs.MakingLaws.{EmbargoIsThere}
 use Rattle.laws_routes.specs.OutcomeLaws.{PeerIsTold, ReturnGoesAs, ReturnMayGo}
@@ -90,36 +91,6 @@ says_still s other out back false (value.Exception exception) said ds new m i h 
 says_still s other out back false (value.Results payload caps) said ds new m i h =
     let a = all_described caps s other out back ds new m i h.1 in
     (a.0, subst (BodyMet new.exports other.exports) (sym h.0) (λ q flag. a.1))
-
--- ---- What no place names goes, and neither the answer nor its outcome do
-
-abbrev Standing : ℕ → ℕ → KeptOutcome → AnswerEntry → State → Type 0
-Standing o q x a s = (map.get s.outcomes o ≡ Some x) × (map.get s.answers q ≡ Some a)
-
-module _ (o q : ℕ) (x : KeptOutcome) (a : AnswerEntry) (own : a.outcome ≡ o) (its : x.caller ≡ peer q) where
-  not_loose : (s : State) → Standing o q x a s → IsLooseOutcome s o (Some x) → ⊥
-  not_loose s e l = by x.value l
-    where
-      by : (z : Option Value) → IsLooseValue s o x z → ⊥
-      by None k = absurd k
-      by (Some v) k =
-          let other : AnswerIsOther o (Some a) = subst (AnswerIsOther o) e.1 (subst (CallerIsDone s o) its k.1) in
-          other own
-
-  stays_through : (d new : Progress) → Standing o q x a d.state → Goes d new → Standing o q x a new.state
-  stays_through d new e (PromiseGoes p h f) = subst (λ (z : Progress). Standing o q x a z.state) (sym f) e
-  stays_through d new e (ImportGoes k h f) = subst (λ (z : Progress). Standing o q x a z.state) (sym f) e
-  stays_through d new e (OutcomeGoes k h f) = subst (λ (z : Progress). Standing o q x a z.state) (sym f) (by (nat_eq o k) refl)
-    where
-      by : (b : Bool) → nat_eq o k ≡ b → (map.get (map.remove d.state.outcomes k) o ≡ Some x) × (map.get d.state.answers q ≡ Some a)
-      by false g = (get_left d.state.outcomes k o g ∙ e.0, e.1)
-      by true g =
-          let j : IsLooseOutcome d.state o (map.get d.state.outcomes o) = subst (λ (m : ℕ). IsLooseOutcome d.state m (map.get d.state.outcomes m)) (sym (equal o k g)) h in
-          absurd (not_loose d.state e (subst (IsLooseOutcome d.state o) e.0 j))
-
-  stays_collected : (new d : Progress) → Standing o q x a d.state → Collects new d → Standing o q x a new.state
-  stays_collected new d e (Tight h) = e
-  stays_collected new d e (Loose {mid = mid} g rest) = stays_collected new mid (stays_through d mid e g) rest
 
 -- ---- The answer's Return was sent
 

@@ -21,14 +21,14 @@ use Rattle.call_order.specs.Machine as routing
 use Rattle.call_order.specs.Events.{Fate, Leaves, Merges, Breaks, Settle, Allowed, new_stop, settled}
 use Rattle.call_order.specs.Moves.{Moves, Done, Next, Settles}
 use Rattle.call_order.proofs.Choices.{by_choice, changed_other}
-use Rattle.laws_routes.specs.Points.{Point, AnObject, APromise, AField, Nowhere, Group, Apart, OfPromise, OfOutcome, group_of, vat_of, end, routes}
+use Rattle.laws_routes.specs.Points.{Point, AnObject, APromise, AField, Nowhere, Group, OfPromise, OfOutcome, group_of, vat_of, end, routes}
 use Rattle.laws_routes.specs.Ghosts.{Ghost, point}
 use Rattle.laws_routes.specs.Sides.{Side, Stops, IsLinked, Queue, AllHeld, HeldFor, PromiseWaits, OutcomeHolds, IsOpenPromise, IsOpenOutcome, Lists, Ids}
 use Rattle.laws_routes.specs.Premises.{LinksRest}
 use Rattle.laws_routes.specs.Ties.{Around, Ghosts, Tied}
 use Rattle.laws_routes.specs.Laws.{fate_as, fate_of_field}
 use Rattle.laws_routes.specs.OutcomeLaws.{AreHeldToGo}
-use Rattle.laws_routes.proofs.Differing.{not_outcome, outcome_elsewhere, outcome_id}
+use Rattle.laws_routes.proofs.Differing.{group_vat, not_apart, not_outcome, outcome_elsewhere, outcome_id}
 use Rattle.laws_routes.proofs.CallWaits.{lists_same}
 use Rattle.laws_routes.proofs.FieldStops.{known_stops}
 use Rattle.laws_routes.proofs.GroupSettles.{ids_after, linked_after, outcome_after, promise_after}
@@ -36,25 +36,6 @@ use Rattle.laws_routes.proofs.UnbornKept.{unborn_fewer, unborn_settled, unborn_e
 use Rattle.laws_routes.specs.Sayings.{bare, has_of}
 use Rattle.laws_routes.proofs.SayingsKept.{all_said, known_stays}
 use Rattle.laws_routes.specs.Views.{sessions_at}
-
-abbrev IsOf : Group → Type 0
-IsOf Apart = ⊥
-IsOf (OfPromise v i) = Unit {0}
-IsOf (OfOutcome v i) = Unit {0}
-
-not_apart : (v : Vat) (i : ℕ) → Apart ≡ OfOutcome v i → ⊥
-not_apart v i e = subst IsOf (sym e) tt
-
-abbrev vat_of_group : Group → Vat → Vat
-vat_of_group Apart v = v
-vat_of_group (OfPromise u i) v = u
-vat_of_group (OfOutcome u i) v = u
-
-group_vat : (x : Point) (v : Vat) (i : ℕ) → group_of x ≡ OfOutcome v i → vat_of x ≡ v
-group_vat (AnObject u n) v i e = absurd (not_apart v i e)
-group_vat (APromise u j) v i e = ap (λ z. vat_of_group z v) e
-group_vat (AField u j path) v i e = ap (λ z. vat_of_group z v) e
-group_vat (Nowhere u) v i e = absurd (not_apart v i e)
 
 -- Where a fate merges is a point of the vat.
 abbrev IsIn : Vat → Fate routes → Type 0
@@ -170,7 +151,7 @@ module _ (v : Vat) (s : State) (g : Ghost) (next : ℕ) (m : routing.State route
       go (c ∷ cs) (y ∷ ys) a = let b = a.0 in let was = was_open c.path in ((ap (λ z. new_stop group fate z (m.net.kind z)) (b.0 ∙ sym was.0), b.1, b.2), go cs ys a.1)
 
   pub learnt_allowed : Allowed m (Settle group fate)
-  learnt_allowed y into k a f = ap end (subst (IsIn v) f (field_in v g (known s o x.caller x.waiting fit) o y) ∙ sym (group_vat y v id a))
+  learnt_allowed y into k a f = ap end (subst (IsIn v) f (field_in v g (known s o x.caller x.waiting fit) o y) ∙ sym (group_vat y v (OfOutcome v id) tt a))
 
 -- The other vat is not concerned.
 learnt_there : (v : Vat) (t : State) (f : Ghost) (next : ℕ) (m : routing.State routes) (i : ℕ) (fate : Point → Fate routes) → Side (other_vat v) t f next m
@@ -201,12 +182,12 @@ learnt_there v t f next m i fate h = record {
     after = settled m.net group fate
 
     elsewhere : (k : Node) → is_wire k ≡ false → group_of (point u f k) ≡ group → ⊥
-    elsewhere (node.Object o) w e = not_apart v i e
+    elsewhere (node.Object o) w e = not_apart (OfOutcome v i) tt e
     elsewhere (node.Promise p) w e = not_outcome u v (f.promise p) i e
     elsewhere (node.Field o path) w e = outcome_elsewhere v (f.outcome o) i e
     elsewhere (node.Import k) w e = cc
     elsewhere (node.Pipe q path) w e = cc
-    elsewhere (node.Broken reason) w e = not_apart v i e
+    elsewhere (node.Broken reason) w e = not_apart (OfOutcome v i) tt e
 
 pub outcome_known : (w : Around) (d : Progress) (g : Ghosts) (m : routing.State routes) (o : ℕ) (x : KeptOutcome) (fit : Value) → Tied w d g m → map.get d.state.outcomes o ≡ Some x → x.value ≡ None
     → LinksRest (known d.state o x.caller x.waiting fit)

@@ -22,13 +22,13 @@ use Rattle.call_order.specs.Invariant.{InPlace, InvariantWith}
 use Rattle.call_order.specs.Moves.{Moves, Done, Next, Settles}
 use Rattle.call_order.proofs.Moves.{moves_keep}
 use Rattle.call_order.proofs.Choices.{by_choice, changed_other}
-use Rattle.laws_routes.specs.Points.{Point, AnObject, APromise, AField, Nowhere, Group, Apart, OfPromise, OfOutcome, group_of, vat_of, end, routes}
+use Rattle.laws_routes.specs.Points.{Point, APromise, AField, Group, OfPromise, OfOutcome, group_of, vat_of, end, routes}
 use Rattle.laws_routes.specs.Ghosts.{Ghost, point, far}
 use Rattle.laws_routes.specs.Sides.{Side, Stops, IsLinked, LinkedTo, EndsAs, Queue, AllWait, PromiseWaits, OutcomeHolds, IsOpenPromise, IsOpenOutcome, Lists, Ids}
 use Rattle.laws_routes.specs.Ties.{Around, Ghosts, Tied}
 use Rattle.laws_routes.specs.Laws.{Comes, AreToGo, AllMayGo, MayFix, fate_to}
 use Rattle.laws_routes.proofs.NewReferences.{moves_on}
-use Rattle.laws_routes.proofs.Differing.{not_promise, promise_elsewhere, promise_id}
+use Rattle.laws_routes.proofs.Differing.{group_vat, not_apart, not_promise, promise_elsewhere, promise_id}
 use Rattle.laws_routes.proofs.WhereNodesEnd.{ends}
 use Rattle.laws_routes.proofs.CallWaits.{lists_same}
 use Rattle.laws_routes.proofs.CallsRouted.{law, list_routed}
@@ -39,14 +39,6 @@ use Rattle.laws_routes.specs.Sayings.{bare, has_of}
 use Rattle.laws_routes.proofs.SayingsKept.{all_said, known_stays}
 use Rattle.laws_routes.specs.Views.{sessions_at}
 
-abbrev IsOf : Group → Type 0
-IsOf Apart = ⊥
-IsOf (OfPromise v i) = Unit {0}
-IsOf (OfOutcome v i) = Unit {0}
-
-not_apart : (v : Vat) (i : ℕ) → Apart ≡ OfPromise v i → ⊥
-not_apart v i e = subst IsOf (sym e) tt
-
 own_of_far : (v : Vat) (g : Ghost) (n : Node) → far v g n ≡ None → is_wire n ≡ false
 own_of_far v g (node.Object o) e = refl
 own_of_far v g (node.Promise p) e = refl
@@ -54,17 +46,6 @@ own_of_far v g (node.Field o path) e = refl
 own_of_far v g (node.Import i) e = cc
 own_of_far v g (node.Pipe q path) e = cc
 own_of_far v g (node.Broken reason) e = refl
-
-abbrev vat_of_group : Group → Vat → Vat
-vat_of_group Apart v = v
-vat_of_group (OfPromise u i) v = u
-vat_of_group (OfOutcome u i) v = u
-
-group_vat : (x : Point) (v : Vat) (i : ℕ) → group_of x ≡ OfPromise v i → vat_of x ≡ v
-group_vat (AnObject u n) v i e = absurd (not_apart v i e)
-group_vat (APromise u j) v i e = ap (λ z. vat_of_group z v) e
-group_vat (AField u j path) v i e = ap (λ z. vat_of_group z v) e
-group_vat (Nowhere u) v i e = absurd (not_apart v i e)
 
 some_promise : (o : Option Promise) (x : Promise) → o ≡ Some x → IsSome o
 some_promise o x e = subst (λ (z : Option Promise). IsSome z) (sym e) refl
@@ -127,7 +108,7 @@ module _ (v : Vat) (s : State) (g : Ghost) (next : ℕ) (m : routing.State route
       inl (placed ∙ (ap (place_of here) a ∙ sym (target_stays (settle s to) may.no_circle may.there_too (ends law v s g m.net h.stops may.rest to own (may.there own)))))
 
   fixed_stops : Stops v (record s { promises = put }) g after
-  fixed_stops (node.Object o) w i = linked_after m.net group fate v g (node.Object o) None (not_apart v id) (h.stops (node.Object o) w i)
+  fixed_stops (node.Object o) w i = linked_after m.net group fate v g (node.Object o) None (not_apart (OfPromise v id) tt) (h.stops (node.Object o) w i)
   fixed_stops (node.Promise q) w i =
       at_put (λ q o. IsSome o → IsLinked v g after (node.Promise q) (promise_link o)) s.promises p (promise.Fixed to)
       (λ j. led (far v g to) refl)
@@ -135,7 +116,7 @@ module _ (v : Vat) (s : State) (g : Ghost) (next : ℕ) (m : routing.State route
   fixed_stops (node.Field o path) w i = linked_after m.net group fate v g (node.Field o path) (link s (node.Field o path)) (not_promise v v (g.outcome o) id) (h.stops (node.Field o path) w i)
   fixed_stops (node.Import k) w i = cc
   fixed_stops (node.Pipe q path) w i = cc
-  fixed_stops (node.Broken reason) w i = linked_after m.net group fate v g (node.Broken reason) None (not_apart v id) (h.stops (node.Broken reason) w i)
+  fixed_stops (node.Broken reason) w i = linked_after m.net group fate v g (node.Broken reason) None (not_apart (OfPromise v id) tt) (h.stops (node.Broken reason) w i)
 
   fixed_before : (q : ℕ) → IsSome (map.get put q) → IsSome (map.get s.promises q)
   fixed_before = at_put (λ q o. IsSome o → IsSome (map.get s.promises q)) s.promises p (promise.Fixed to) (λ i. there) (λ q n i. i)
@@ -204,7 +185,7 @@ module _ (v : Vat) (s : State) (g : Ghost) (next : ℕ) (m : routing.State route
       by None j =
           let b : Merges (m.net.stop (point v g to)) ≡ Merges into = sym (ap (fate_to m.net (point v g to)) j) ∙ f in
           let c : m.net.stop (point v g to) ≡ into = cc in
-          ap (λ z. end (vat_of z)) (sym c) ∙ (place.homes (point v g to) ∙ (ap end (own_vat v g to (own_of_far v g to j)) ∙ sym (ap end (group_vat x v id a))))
+          ap (λ z. end (vat_of z)) (sym c) ∙ (place.homes (point v g to) ∙ (ap end (own_vat v g to (own_of_far v g to j)) ∙ sym (ap end (group_vat x v (OfPromise v id) tt a))))
 
 -- The other vat is not concerned.
 pub settled_there : (v : Vat) (t : State) (f : Ghost) (next : ℕ) (m : routing.State routes) (i : ℕ) (fate : Point → Fate routes) → Side (other_vat v) t f next m
@@ -235,12 +216,12 @@ settled_there v t f next m i fate h = record {
     after = settled m.net group fate
 
     elsewhere : (k : Node) → is_wire k ≡ false → group_of (point u f k) ≡ group → ⊥
-    elsewhere (node.Object o) w e = not_apart v i e
+    elsewhere (node.Object o) w e = not_apart (OfPromise v i) tt e
     elsewhere (node.Promise p) w e = promise_elsewhere v (f.promise p) i e
     elsewhere (node.Field o path) w e = not_promise u v (f.outcome o) i e
     elsewhere (node.Import k) w e = cc
     elsewhere (node.Pipe q path) w e = cc
-    elsewhere (node.Broken reason) w e = not_apart v i e
+    elsewhere (node.Broken reason) w e = not_apart (OfPromise v i) tt e
 
 -- The promise is fixed and its list is routed; the Resolves are yet to be sent.
 pub promise_fixed : (w : Around) (d : Progress) (g : Ghosts) (m : routing.State routes) (p : ℕ) (calls : List WaitingCall) (to : Node) (new : Progress) → Tied w d g m → InvariantWith m []

@@ -38,7 +38,7 @@ use Rattle.laws_routes.specs.SayingLaws.{EachReadable, IsReadable, IsReadableIn,
 use Rattle.laws_routes.specs.QuietLaws.{MayLower}
 use Rattle.laws_routes.specs.TakingLaws.{MayTakeReturn}
 use Rattle.laws_routes.proofs.ApplicationTold.{application_told}
-use Rattle.laws_routes.proofs.CallAnswered.{taken_alone}
+use Rattle.laws_acts.proofs.Alone.{all_alone}
 use Rattle.laws_routes.proofs.ExportsLowered.{obeyed}
 use Rattle.laws_routes.proofs.ImportsTaken.{descriptors_taken}
 use Rattle.laws_routes.proofs.ReturnSent.{Fewer, fewer_tied}
@@ -152,7 +152,7 @@ pub return_taken : (w : Around) (d : Progress) (g : Ghosts) (m : routing.State r
     → map.get d.state.questions r.answer.0 ≡ Some x → MayTakeReturn (with_back w rest) d r x → TakesReturn d r (Some x) new → Comes (with_back w rest) new m [] []
 return_taken w d g m r x rest new t e may h =
     let a = descriptors_taken w' d g m ds (silent_taken w d g m (message.Plain (plain.Return r)) rest t tt) may.own may.takes in
-    from (take_all d.state ds) (taken_alone d.state ds) a.0 a.1 a.2 may.lowers may.readable h
+    from (take_all d.state ds) (all_alone d.state ds) a.0 a.1 a.2 may.lowers may.readable h
   where
     w' : Around
     w' = with_back w rest
@@ -237,7 +237,7 @@ resolve_taken w d g m r rest t own may readable = by r.to t may readable
         → (d.state.level ≡ One → IsReadableIn (take_all d.state (descriptors_of_resolved to)) to) → (f : Ghosts) × Tied w' (with_state d (take_resolve d.state e to)) f m × SameButImports g f
     by (resolved.Cap c) t k l =
         let a = descriptors_taken w' d g m (c ∷ []) (silent_taken w d g m (message.Plain (plain.Resolve (record { promise = r.promise; to = resolved.Cap c }))) rest t tt) own k in
-        from (take_all d.state (c ∷ [])) (taken_alone d.state (c ∷ [])) a.0 a.1 a.2 l
+        from (take_all d.state (c ∷ [])) (all_alone d.state (c ∷ [])) a.0 a.1 a.2 l
       where
         taken : (I : Map Import) (f : Ghosts) → Tied w' (with_state d (record (d.state) { imports = I })) f m → SameButImports g f → (d.state.level ≡ One → IsReadable (record (d.state) { imports = I }) c)
             → Tied w' (with_state d (resolve_import (record (d.state) { imports = I }) e (resolution.To c (read d.state c)) before)) f m

@@ -47,7 +47,7 @@ use Rattle.laws_routes.specs.StepLaws.{MayReturn}
 use Rattle.laws_routes.specs.Ties.{Around}
 use Rattle.laws_routes.specs.Midway.{AllAreHeld, ArisenAreHeld, IsHeld, Midway, MidwayAt}
 use Rattle.laws_routes.specs.Received.{IfQuestion}
-use Rattle.laws_routes.proofs.CallAnswered.{taken_alone}
+use Rattle.laws_acts.proofs.Alone.{all_alone}
 use Rattle.laws_routes.proofs.CallsReceived.{all_readable, first_none, known_held_by, rest_none}
 use Rattle.laws_routes.proofs.MessagesTaken.{obeyed_still}
 use Rattle.laws_routes.proofs.MidwayRouted.{all_held, asked, held_exports, met_alike, refs_still}
@@ -224,7 +224,7 @@ module _ (w : Around) (d : Progress) (r : Return) (rest : List Message) (new : P
       let u = take_all s ds in
       let I = u.imports in
       let k : Midway u w.other out rest = taken s w.other out (plain.Return r) rest h level in
-      let alone : u ≡ record s { imports = I } = taken_alone s ds in
+      let alone : u ≡ record s { imports = I } = all_alone s ds in
       let held_here : SaidIsHeld (record s { imports = I }) (results_of (record s { imports = I }) r.body) = results_held (record s { imports = I }) w.other out rest (subst (λ (z : State). Midway z w.other out rest) alone k) r.body (all_given s ds level) in
       let held_there : SaidIsHeld u (results_of s r.body) = subst (λ (z : State). SaidIsHeld z (results_of s r.body)) (sym alone) (subst (SaidIsHeld (record s { imports = I })) (results_still s I r.body) held_here) in
       let v = obey u flag ids in

@@ -40,6 +40,15 @@ pub if_said : (P Q : Type 0) (b : Bool) → (P → Q) → SaidIfThere b P → Sa
 if_said P Q true f h = f h
 if_said P Q false f h = tt
 
+pub if_fewer : (P : Type 0) (a b : Bool) → (b ≡ true → a ≡ true) → SaidIfThere a P → SaidIfThere b P
+if_fewer P a false f h = tt
+if_fewer P true true f h = h
+if_fewer P false true f h = let e : false ≡ true = f refl in cc
+
+pub or_fewer : (a b c : Bool) → (c ≡ true → b ≡ true) → (a || c) ≡ true → (a || b) ≡ true
+or_fewer true b c f e = refl
+or_fewer false b c f e = f e
+
 module _ (n : Net routes) (v : Vat) (E : Map Export) (g : Ghost) (u : Vat) (F : Map Export) (f : Ghost) where
   sent : (has : Has) (now : ℕ → ℕ) (ms : List Message) (m : PlainMessage) → AllSaid n v E g u F f has now ms → SaidBy n v E g u F f (has_past has ms) (past g now ms) m → AllSaid n v E g u F f has now (ms ++ message.Plain m ∷ [])
   sent has now [] m h k = (k, tt)
@@ -52,15 +61,6 @@ module _ (n : Net routes) (v : Vat) (E : Map Export) (g : Ghost) (u : Vat) (F : 
   sent_back has now (message.Unimplemented x ∷ ms) m h k = (h.0, sent_back has now ms m h.1 k)
 
   -- ---- Fewer imports
-
-  if_fewer : (P : Type 0) (a b : Bool) → (b ≡ true → a ≡ true) → SaidIfThere a P → SaidIfThere b P
-  if_fewer P a false f h = tt
-  if_fewer P true true f h = h
-  if_fewer P false true f h = let e : false ≡ true = f refl in cc
-
-  or_fewer : (a b c : Bool) → (c ≡ true → b ≡ true) → (a || c) ≡ true → (a || b) ≡ true
-  or_fewer true b c f e = refl
-  or_fewer false b c f e = f e
 
   one_fewer : (has left : Has) (now : ℕ → ℕ) (m : PlainMessage) → ((e : ℕ) → left.import e ≡ true → has.import e ≡ true) → ReturnOf (λ q. left.question q ≡ true → has.question q ≡ true) m → SaidBy n v E g u F f has now m → SaidBy n v E g u F f left now m
   one_fewer has left now (plain.Abort exception) a r h = tt

@@ -47,21 +47,9 @@ settles_or_not (command.Advance r) = inr (λ i. i)
 settles_or_not (command.Shut n) = inr (λ i. i)
 
 -- What was made is of no account to it.
-made_as : (w : Around) (c : Command) → made_by w c ≡ record w { made = (made_by w c).made }
-made_as w (command.Host o) = refl
-made_as w (command.CloneRef r) = refl
-made_as w (command.DropRef r) = refl
-made_as w command.Bootstrap = refl
-made_as w (command.Call c) = refl
-made_as w (command.Field c path) = refl
-made_as w command.Promise = refl
-made_as w (command.Resolve p r) = refl
-made_as w (command.Reject p exception) = refl
-made_as w (command.Answer t payload refs) = refl
-made_as w (command.Fail t exception) = refl
-made_as w (command.Finish c) = refl
-made_as w (command.Advance r) = refl
-made_as w (command.Shut n) = refl
+pub made_as : (w : Around) (c : Command) → made_by w c ≡ record w { made = (made_by w c).made }
+made_as w (command.Call k) = refl
+made_as w c = refl
 
 pub commands : (w : Around) (s : State) (c : Command) (granted : Granted) (effects : Effects) (new : State) → Midway s w.other w.out w.back → s.vat ≡ w.vat → s.level ≡ One → refused s c ≡ None → IsWhole new
     → (h : Does s c granted effects new) → ((Settles c → ⊥) → MidwayAt w h.acted) → MayAct w (begin s) c granted h.acted h.acts × AllMaySettle (made_by w c) h.ends.drained h.acted h.ends.drains × MidwayBehind w new effects

@@ -38,7 +38,7 @@ use Rattle.laws_routes.specs.WholeSteps.{MidwayBehind}
 
 -- ---- What is taken as known of the oldest message on its way to s, with rest behind it and out on the way to the other vat
 
--- Of a Return, to the question x. By the counts of two vats, which agree (`laws_sessions`), what its flag lets go is named by nobody;
+-- Of a Return, to the question x. By the counts of two vats, which agree (`laws_runs`), what its flag lets go is named by nobody;
 -- by the session of its question it is canceled only where the Finish was sent, and that question is neither asked nor returned on
 -- the way.
 pub record ReturnIsMet (s other : State) (out rest : List Message) (r : Return) (x : Question) : Type 0 where
@@ -48,12 +48,12 @@ pub record ReturnIsMet (s other : State) (out rest : List Message) (r : Return) 
   pub once : EachReturn (λ k. nat_eq k r.answer.0 ≡ false) rest
 
 -- Of a Finish, for the answer a. By the counts what its flag lets go is named by nobody; by the session of its question (and by
--- `laws_answers`, which says where answers are named) nothing behind it is aimed at that answer or names it.
+-- `laws_messages`, which says where answers are named) nothing behind it is aimed at that answer or names it.
 pub record FinishIsMet (s other : State) (out rest : List Message) (x : Finish) (a : AnswerEntry) : Type 0 where
   pub lowers : MayLower (obey s x.release_result_caps (gave a.returned)) other out rest
   pub closes : MayClose other rest x.question.0
 
--- Of an echo, of the embargo b. One Disembargo of it is about (`laws_answers`); that its reference has no other, and that it is of an
+-- Of an echo, of the embargo b. One Disembargo of it is about (`laws_messages`); that its reference has no other, and that it is of an
 -- own node, each step keeps (`embargoes_are_right`).
 pub record EchoIsMet (s : State) (out rest : List Message) (e : ℕ) (b : Embargo) : Type 0 where
   pub only : IsOnlyEmbargo s e b.reference.0

@@ -7,3 +7,13 @@ pub mod Quiet
 pub mod SoundScenes
 pub mod Sides
 pub mod Woven
+pub mod Questions
+pub mod Exports
+pub mod Names
+pub mod Views
+pub mod Between
+pub mod Worlds
+pub mod Imports
+pub mod Entries
+pub mod Agreed
+pub mod SceneSessions

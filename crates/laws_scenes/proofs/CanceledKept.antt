@@ -27,14 +27,14 @@ use Rattle.vat_machine.specs.Steps.{Does, Handles}
 use Rattle.vat_machine.specs.Sweeping.{IsNotSent}
 use Rattle.vat_machine.specs.World.{World}
 use Rattle.laws_acts.specs.Sent.{Ids, Noted, messages}
-use Rattle.laws_sessions.specs.Between.{HoldsIn, IsKept, StillHolds}
-use Rattle.laws_sessions.specs.Questions as session
-use Rattle.laws_sessions.specs.Questions.{Answerer, Asker, Closing, EarlyBehind, EarlyCrossed, EarlyHeld, EarlyReturning, EarlySent, EarlyWaits, Held, Idle, Out, Ret, Returned as IsReturned, Returning, Row, Sent, SentBehind}
-use Rattle.laws_sessions.specs.Views.{answered_by, answerer_of, asked_by, asker_of, only, out_of, outs, ret_of, rets}
-use Rattle.laws_sessions.specs.Worlds.{Stand}
-use Rattle.laws_sessions.proofs.Kept.{messages-append}
+use Rattle.laws_runs.specs.Between.{HoldsIn, IsKept, StillHolds}
+use Rattle.laws_runs.specs.Questions as session
+use Rattle.laws_runs.specs.Questions.{Answerer, Asker, Closing, EarlyBehind, EarlyCrossed, EarlyHeld, EarlyReturning, EarlySent, EarlyWaits, Held, Idle, Out, Ret, Returned as IsReturned, Returning, Row, Sent, SentBehind}
+use Rattle.laws_runs.specs.Views.{answered_by, answerer_of, asked_by, asker_of, only, out_of, outs, ret_of, rets}
+use Rattle.laws_runs.specs.Worlds.{Stand}
+use Rattle.laws_runs.proofs.Kept.{messages-append}
 use Rattle.laws_routes.specs.SayingLaws.{IsNotCanceled}
-use Rattle.laws_between.specs.Meeting.{IfThere, OfOldest}
+use Rattle.laws_scenes.specs.Meeting.{IfThere, OfOldest}
 use Rattle.laws_scenes.specs.Canceled.{CancelsOnlyGivenUp}
 use Rattle.laws_scenes.proofs.CanceledSent.{AreClosed, IfCanceled, IsClosed, does, handles, if_canceled, joined}
 

@@ -8,8 +8,8 @@ use Rattle.vat_machine.specs.World.{core}
 use Rattle.laws_steps.specs.NodesThere.{IsWhole, NodesThereInRuns}
 use Rattle.laws_runs.specs.Scenes.{Scene, IsScene}
 use Rattle.laws_runs.specs.Shown.{ScenesAreReached}
-use Rattle.laws_sessions.specs.Scenes.{CountsOfScenes}
-use Rattle.laws_between.specs.Meeting.{AcrossInScenes, OldestAreMet}
+use Rattle.laws_runs.specs.SceneSessions.{CountsOfScenes}
+use Rattle.laws_scenes.specs.Meeting.{AcrossInScenes, OldestAreMet}
 use Rattle.laws_scenes.specs.Canceled.{CanceledWereGivenUp}
 use Rattle.laws_scenes.proofs.Walking.{Facts}
 

@@ -115,10 +115,6 @@ no_call_made w (command.Call k) i = absurd i
 no_call_made w c i = refl
 
 -- All else is as it was.
-pub only_made : (w : Around) (c : Command) → made_by w c ≡ record w { made = (made_by w c).made }
-only_made w (command.Call k) = refl
-only_made w c = refl
-
 pub same_ref_itself : (v : Vat) (n : ℕ) → same_ref (ref_at v n) (ref_at v n) ≡ true
 same_ref_itself v n = ap (λ (b : Bool). b && nat_eq n n) (itself v) ∙ tested.itself n
 

@@ -9,3 +9,11 @@ pub mod Arriving
 pub mod TiedScenes
 pub mod Arrived
 pub mod Sound
+pub mod Both
+pub mod Links
+pub mod Questions
+pub mod Loops
+pub mod Exports
+pub mod Oldest
+pub mod Lowered
+pub mod TakenWell

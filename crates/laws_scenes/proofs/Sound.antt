@@ -5,7 +5,7 @@ use Rattle.rpc_msg.specs.declared.ids.Stamp.{Stamp}
 use Rattle.vat_journal.specs.History.{delivered, made}
 use Rattle.vat_machine.specs.Claims.{IsInFull, history}
 use Rattle.laws_runs.specs.Scenes.{Scene, IsScene}
-use Rattle.laws_answers.specs.Sound.{Rest, SoundByTheRest}
+use Rattle.laws_messages.specs.Sound.{Rest, SoundByTheRest}
 use Rattle.laws_scenes.specs.InFull.{ScenesArriveInFull}
 use Rattle.laws_scenes.specs.Ordered.{ScenesAreOrdered}
 use Rattle.laws_scenes.specs.Refused.{DisembargosTurn}

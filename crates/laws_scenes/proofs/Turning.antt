@@ -15,8 +15,8 @@ use Rattle.vat_machine.specs.Faults.{target_node}
 use Rattle.vat_machine.specs.Nodes.{is_wire, settle}
 use Rattle.vat_machine.specs.Progress.{begin}
 use Rattle.vat_machine.specs.World.{core, inbox}
-use Rattle.laws_answers.specs.Named.{FindsTarget, FindsTargets, NamedAnswersAreThere}
-use Rattle.laws_answers.specs.Taken.{IsOldest}
+use Rattle.laws_messages.specs.Named.{FindsTarget, FindsTargets, NamedAnswersAreThere}
+use Rattle.laws_messages.specs.Taken.{IsOldest}
 use Rattle.laws_routes.specs.ChainLaws.{VatsStayTied}
 use Rattle.laws_routes.specs.Laws.{with_back}
 use Rattle.laws_routes.specs.Midway.{LinksRestFollows}

@@ -32,6 +32,7 @@ use Rattle.laws_steps.specs.NodesThere.{IsWhole}
 use Rattle.laws_runs.specs.Scenes.{Scene, IsScene, begins, stopped, Steps, Commanded, Received, GivesUp, Stops, LeadsTo, NoMore, Then}
 use Rattle.laws_runs.proofs.MakesNone.{MakesNone, call_or_not, falls_no_call, granted_none}
 use Rattle.laws_runs.proofs.KeptCounts as counts
+use Rattle.laws_runs.proofs.QuietRuns.{acted}
 use Rattle.laws_routes.specs.Between.{Across, Inside, JoinsFollow, NewVatsAreSo, SplitsFollow}
 use Rattle.laws_routes.specs.ChainLaws as chain
 use Rattle.laws_routes.specs.Embargoes.{CommandsKeepEmbargoes, EmbargoesAreRight, MessagesKeepEmbargoes, NewEmbargoesAreRight, RightEmbargoesAreOnly}
@@ -42,10 +43,11 @@ use Rattle.laws_routes.specs.Premises.{IsOnlyEmbargo}
 use Rattle.laws_routes.specs.Received.{IsMet, MessagesFollow}
 use Rattle.laws_routes.specs.StepLaws.{made_by}
 use Rattle.laws_routes.specs.Ties.{Around, all_at}
-use Rattle.laws_between.specs.Meeting.{IfThere, IsLeft, LoopIsLeft, OfBoth, OfOldest}
+use Rattle.laws_scenes.specs.Meeting.{IfThere, IsLeft, LoopIsLeft, OfBoth, OfOldest}
 use Rattle.laws_scenes.specs.Canceled.{CancelsOnlyGivenUp}
 use Rattle.laws_scenes.specs.Walked.{Counts, IsBetweenSteps, Leads, all_told, seen}
-use Rattle.laws_scenes.proofs.Histories.{TellsNone, commands_count, commands_tell, granted_tell, messages_count, messages_tell, none_behind_all, none_counts, only_made}
+use Rattle.laws_routes.proofs.StepsFollow.{made_as}
+use Rattle.laws_scenes.proofs.Histories.{TellsNone, commands_count, commands_tell, granted_tell, messages_count, messages_tell, none_behind_all, none_counts}
 
 -- ---- What is known of each scene, and of each step
 
@@ -138,7 +140,7 @@ module _ (root_a root_b : Option ObjectId) where
         let calls = (facts.whole v).callers.calls in
         let follows = l.commands a s c g x t (midway v) (named v) calls (ready.vat v) (facts.level v) f whole d in
         let last = behind (made_by a c) x in
-        let same : made_by a c ≡ record a { made = (made_by a c).made } = only_made a c in
+        let same : made_by a c ≡ record a { made = (made_by a c).made } = made_as a c in
         record {
           inside = (l.splits t a.other (a.out ++ x.sends) a.back follows.2).0;
           right = l.commands_right s c g x t (ready.right v) d;
@@ -249,10 +251,6 @@ module _ (root_a root_b : Option ObjectId) where
   last_words x A es n t k = words x.world x.journal es n t k
   last_words x B es n t k = words x.world x.journal es n t k
 
-  core_after : (w : World) (v : Vat) (x : Effects) (t : State) → core (after w v x t) v ≡ t
-  core_after w A x t = refl
-  core_after w B x t = refl
-
   core_took : (w : World) (v : Vat) (ms : List Message) (x : Effects) (t : State) → core (after (put_inbox w v ms) v x t) v ≡ t
   core_took w A ms x t = refl
   core_took w B ms x t = refl
@@ -264,7 +262,7 @@ module _ (root_a root_b : Option ObjectId) where
   module _ (l : Laws) (facts : (x : Scene) → IsScene root_a root_b x → Facts x.world) where
     stepped : (x y : Scene) → Facts x.world → Facts y.world → Steps x y → IsReady x → IsReady y
     stepped x y now then (Commanded v c g told t over up f d w e) k =
-        let whole : IsWhole t = subst IsWhole (core_after x.world v told t) (subst (λ (z : Scene). IsWhole (core z.world v)) e (then.whole v)) in
+        let whole : IsWhole t = subst IsWhole (acted x.world v told t) (subst (λ (z : Scene). IsWhole (core z.world v)) e (then.whole v)) in
         subst (λ (z : Scene). IsReady z) (sym e)
         (subst (λ (z : World). Ready z (x.journal ++ command_entries x.journal v c true (Answered (Ok g) told))) (same_inbox x.world v told t)
         (went_on l x.world now x.journal k v (inbox x.world v) told t _ (commanded l x.world now x.journal k v c g told t f d whole)))

@@ -5,9 +5,9 @@ use Rattle.rpc_msg.specs.declared.message.PlainMessage.TheVariants as plain
 use Rattle.vat_machine.specs.declared.entries.Question.{Question}
 use Rattle.vat_machine.specs.State.{State}
 use Rattle.vat_machine.specs.Sweeping.{IsNotSent}
-use Rattle.laws_sessions.specs.Scenes.{InScenes}
+use Rattle.laws_runs.specs.SceneSessions.{InScenes}
 use Rattle.laws_routes.specs.SayingLaws.{IsNotCanceled}
-use Rattle.laws_between.specs.Meeting.{IfThere, OfOldest}
+use Rattle.laws_scenes.specs.Meeting.{IfThere, OfOldest}
 
 -- Of a question whose Finish was not sent no Return is canceled.
 abbrev pub CancelsOnlyGivenUp : State → PlainMessage → Type 0

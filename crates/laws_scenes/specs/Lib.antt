@@ -4,3 +4,4 @@ pub mod Ordered
 pub mod Refused
 pub mod InFull
 pub mod WhatIsLeft
+pub mod Meeting

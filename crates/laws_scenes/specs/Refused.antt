@@ -8,9 +8,9 @@ use Rattle.vat_machine.specs.Faults.{fault_of}
 use Rattle.vat_machine.specs.World.{core, inbox}
 use Rattle.laws_runs.specs.Scenes.{Scene, IsScene}
 use Rattle.laws_runs.specs.SoundScenes.{MayFault, OldestAreTaken}
-use Rattle.laws_sessions.specs.Scenes.{InScenes}
-use Rattle.laws_answers.specs.Left.{IsLastWord}
-use Rattle.laws_answers.specs.Taken.{Premises}
+use Rattle.laws_runs.specs.SceneSessions.{InScenes}
+use Rattle.laws_messages.specs.Left.{IsLastWord}
+use Rattle.laws_messages.specs.Taken.{Premises}
 
 -- The target of a Disembargo that is to turn back settles to a wire.
 abbrev pub DisembargosTurn : Type 0

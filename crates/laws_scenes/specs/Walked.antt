@@ -18,7 +18,7 @@ use Rattle.laws_routes.specs.Midway.{Midway}
 use Rattle.laws_routes.specs.PairLaws.{beginning}
 use Rattle.laws_routes.specs.Received.{IsMet}
 use Rattle.laws_routes.specs.Ties.{Around}
-use Rattle.laws_between.specs.Meeting.{OfBoth, OfOldest}
+use Rattle.laws_scenes.specs.Meeting.{OfBoth, OfOldest}
 
 -- ---- What the journal tells
 

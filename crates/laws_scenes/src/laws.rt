@@ -7,14 +7,13 @@ ghost use Rattle.laws_scenes.specs.Refused.{AllFallsAreKnown, DisembargosTurn, R
 ghost use Rattle.laws_scenes.specs.WhatIsLeft.{SoundByMeanings};
 ghost use Rattle.laws_scenes.specs.Walked.{ScenesAreBetweenSteps};
 
-use laws_answers::{named_answers_are_there, no_message_is_refused, sound_by_the_rest};
-use laws_between::{oldest_are_met, vats_meet};
+use crate::{oldest_are_met, vats_meet};
+use laws_messages::{named_answers_are_there, no_message_is_refused, sound_by_the_rest};
 use laws_routes::{
     calls_may_go, disembargos_meet_wires, embargoes_are_right, steps_begin_and_end_with_it,
     steps_keep_order, steps_may_be_done, vats_are_tied,
 };
-use laws_runs::{calls_are_numbered, every_run_is_shown};
-use laws_sessions::{counts_agree_in_scenes, sessions_stand};
+use laws_runs::{calls_are_numbered, counts_agree_in_scenes, every_run_is_shown, sessions_stand};
 use laws_steps::nodes_are_there;
 
 /// In each scene no Return is canceled of a question whose Finish was not sent.

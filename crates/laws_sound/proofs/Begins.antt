@@ -22,7 +22,7 @@ use Rattle.laws_meanings.specs.FirstActs.{FirstActsFollow, IsReady}
 use Rattle.laws_meanings.specs.LastingMeanings.{PlacesLast}
 use Rattle.laws_meanings.specs.WrittenCommands.{CommandsAreWritten, Opens}
 use Rattle.laws_sound.specs.OldestHeard.{OldestAreHeard, exports_mean}
-use Rattle.laws_sound.specs.SoundByWires.{BeginningsFollow, Means}
+use Rattle.laws_sound.specs.ScenesMean.{BeginningsFollow, Means, ScenesMean}
 
 pub opens_or_not : (c : Command) → OpensNothing c ⊎ Opens c
 opens_or_not command.Bootstrap = inr tt
@@ -67,5 +67,5 @@ module _ (a b : Option ObjectId) (heard : OldestAreHeard) (written : CommandsAre
   ready x new (scenes.Stops A o e) j = (x.journal, [], ap (λ (y : Scene). y.journal) e, tt)
   ready x new (scenes.Stops B o e) j = (x.journal, [], ap (λ (y : Scene). y.journal) e, tt)
 
-pub beginnings_follow : OldestAreHeard → CommandsAreWritten → PlacesLast → FirstActsFollow → BeginningsFollow
-beginnings_follow heard written places follow a b means = follow a b (λ x new t j na nb. ready a b heard written places means x new t j)
+pub beginnings_follow : OldestAreHeard → CommandsAreWritten → PlacesLast → FirstActsFollow → ScenesMean → BeginningsFollow
+beginnings_follow heard written places follow means a b = follow a b (λ x new t j na nb. ready a b heard written places (means a b) x new t j)

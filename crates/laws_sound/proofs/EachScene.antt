@@ -20,7 +20,7 @@ use Rattle.laws_meanings.proofs.Walked.{in_each}
 use Rattle.laws_wires.specs.StepWires.{WiresLive}
 use Rattle.laws_wires.specs.WireLaws.{NewVatsMean, unlabelled}
 use Rattle.laws_wires.specs.Wires.{WorldMeans}
-use Rattle.laws_sound.specs.SoundByWires.{Means, ScenesMean}
+use Rattle.laws_sound.specs.ScenesMean.{Means, MeaningsAreKept, ScenesMean}
 
 module _ (places : PlacesLast) (wires : WiresLive) where
   pub world_lasts : (h : History) (more : List JournalEntry) (w : World) (l : Vat → Labels) → WorldMeans h w l → WorldMeans (with_more h more) w l
@@ -33,11 +33,11 @@ module _ (places : PlacesLast) (wires : WiresLive) where
   stays a b x A es i = (i.0, world_lasts (history a b x.journal) es x.world i.0 i.1)
   stays a b x B es i = (i.0, world_lasts (history a b x.journal) es x.world i.0 i.1)
 
-  pub scenes_mean : NewVatsMean → ScenesMean
-  scenes_mean new a b keeps x k = in_each a b (Means a b) stepped ((λ v. unlabelled), new (history a b []) a b) x k
+  pub scenes_mean : NewVatsMean → MeaningsAreKept → ScenesMean
+  scenes_mean new keeps a b x k = in_each a b (Means a b) stepped ((λ v. unlabelled), new (history a b []) a b) x k
     where
       stepped : (x mid : Scene) → scenes.IsScene a b x → scenes.Steps x mid → Means a b x → Means a b mid
-      stepped x mid j (scenes.Commanded v c g told s o up r d w e) i = keeps x mid (scenes.Commanded v c g told s o up r d w e) tt j i
-      stepped x mid j (scenes.Received v m ms told s o up p f d w e) i = keeps x mid (scenes.Received v m ms told s o up p f d w e) tt j i
+      stepped x mid j (scenes.Commanded v c g told s o up r d w e) i = keeps a b x mid (scenes.Commanded v c g told s o up r d w e) tt j i
+      stepped x mid j (scenes.Received v m ms told s o up p f d w e) i = keeps a b x mid (scenes.Received v m ms told s o up p f d w e) tt j i
       stepped x mid j (scenes.GivesUp v c o r f e) i = subst (Means a b) (sym e) (stays a b x v (granted_entries x.journal v c granted.Done) i)
       stepped x mid j (scenes.Stops v o e) i = subst (Means a b) (sym e) (stays a b x v [] i)

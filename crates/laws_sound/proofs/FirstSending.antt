@@ -32,9 +32,9 @@ use Rattle.laws_acts.specs.Moments.{Moment, beginning}
 use Rattle.laws_acts.specs.MessageActs.{Consumes}
 use Rattle.laws_acts.specs.MessageActs as heard
 use Rattle.laws_acts.proofs.Checks.{first}
-use Rattle.laws_answers.proofs.About.{levels}
+use Rattle.laws_messages.proofs.About.{levels}
 use Rattle.laws_routes.specs.Sayings.{IsSilentPlain}
-use Rattle.laws_sessions.specs.Scenes.{CountsOfScenes}
+use Rattle.laws_runs.specs.SceneSessions.{CountsOfScenes}
 use Rattle.laws_steps.specs.Callers.{AnswersWith, CallersAreServed, IsOpenFor}
 use Rattle.laws_meanings.specs.CommandMeanings.{OpensNothing, IsWritten, IsWrittenOpen}
 use Rattle.laws_meanings.specs.FitCores.{CoresAreFit}

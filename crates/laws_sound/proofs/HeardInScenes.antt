@@ -36,19 +36,19 @@ use Rattle.vat_machine.specs.Faults.{fault_of}
 use Rattle.vat_machine.specs.Sweeping.{IsNotSent}
 use Rattle.vat_machine.specs.World.{core, inbox}
 use Rattle.laws_steps.specs.NodesThere.{IsWhole}
-use Rattle.laws_sessions.specs.Scenes.{CountsOfScenes}
-use Rattle.laws_answers.proofs.About.{levels}
+use Rattle.laws_runs.specs.SceneSessions.{CountsOfScenes}
+use Rattle.laws_messages.proofs.About.{levels}
 use Rattle.laws_runs.specs.Scenes.{Scene, IsScene}
 use Rattle.laws_routes.specs.SayingLaws.{IsNotCanceled}
 use Rattle.laws_routes.specs.Sayings.{SaidIfThere, has_of, is_waiting, not_sent}
-use Rattle.laws_between.specs.Meeting.{IfThere}
+use Rattle.laws_scenes.specs.Meeting.{IfThere}
 use Rattle.laws_scenes.specs.Canceled.{CanceledWereGivenUp, CancelsOnlyGivenUp}
 use Rattle.laws_meanings.specs.FitCores.{CoresAreFit}
 use Rattle.laws_meanings.specs.NodeMeanings.{Meant, field_meant}
 use Rattle.laws_meanings.specs.NodeLabels.{Labels, LeadsTo, asked_label, field_label}
 use Rattle.laws_meanings.specs.MessageMeanings.{ImportsKept, IsHeard, ResolveRead, answer_label, wire_label, wire_target_label, with_imports}
 use Rattle.laws_meanings.specs.ReadMessages.{MessagesAreHeard, PlainRead, ReturnRead, cap_read, place_read}
-use Rattle.laws_wires.specs.Wires.{ImportAgrees, LinkMeans, MessageMeans, Reader, ResolveMeans, ReturnMeans, Session, asked_at, cap_label, export_label, index_label, read_label, reader, resolved_label, session_of, sessions_at, target_label}
+use Rattle.laws_wires.specs.Wires.{ImportAgrees, LinkMeans, MessageMeans, Reader, ResolveMeans, ReturnMeans, Session, asked_at, export_label, read_label, reader, resolved_label, session_of, sessions_at, target_label}
 use Rattle.laws_sound.specs.OldestHeard.{OldestAreHeard, RootsAreHosted}
 
 -- What is known of a vat that receives.
@@ -88,12 +88,12 @@ module _ (laws : MessagesAreHeard) (h : History) (u : Vat) (s : State) (l : Labe
 
   -- ---- A Return
 
-  index_same : (ds : List Descriptor) (i : ℕ) → index_label (read_label h by now) ds i ≡ place_read (wire_label h t.vat k t is) ds i
+  index_same : (ds : List Descriptor) (i : ℕ) → place_read (read_label h by now) ds i ≡ place_read (wire_label h t.vat k t is) ds i
   index_same [] i = refl
   index_same (d ∷ ds) zero = read_same d
   index_same (d ∷ ds) (suc i) = index_same ds i
 
-  cap_same : (ds : List Descriptor) (c : CapAt) → cap_label (read_label h by now) ds c ≡ cap_read (wire_label h t.vat k t is) ds c
+  cap_same : (ds : List Descriptor) (c : CapAt) → cap_read (read_label h by now) ds c ≡ cap_read (wire_label h t.vat k t is) ds c
   cap_same ds (Cap i) = index_same ds i
   cap_same ds Null = refl
   cap_same ds NotCap = refl

@@ -20,9 +20,9 @@ use Rattle.laws_meanings.specs.NodeLabels.{Labels, Places}
 use Rattle.laws_meanings.proofs.Walked.{step_more}
 use Rattle.laws_wires.specs.StepWires.{WiresLive}
 use Rattle.laws_wires.specs.Wires.{WiresMean, WorldMeans}
-use Rattle.laws_sound.specs.SoundByWires.{GoesOn, Means, SoundByWires}
-use Rattle.laws_sound.specs.StepsInScenes.{CommandsStep, FirstActsSend, MessagesStep}
-use Rattle.laws_sound.specs.WiresKept.{BothMean, MeaningsAreKept, SoundBySteps}
+use Rattle.laws_sound.specs.ScenesMean.{GoesOn, Means, MeaningsAreKept}
+use Rattle.laws_sound.specs.StepsInScenes.{CommandsStep, MessagesStep}
+use Rattle.laws_sound.specs.WiresKept.{BothMean, WiresAreKept, WiresAreKeptInScenes}
 
 -- With these labels of one vat.
 abbrev with_labels : (Vat → Labels) → Vat → Labels → Vat → Labels
@@ -61,8 +61,8 @@ as_it_was : (w : World) (v : Vat) → put_inbox w v (inbox w v) ≡ w
 as_it_was w A = refl
 as_it_was w B = refl
 
-pub meanings_kept : FirstActsSend → CommandsStep → MessagesStep → PlacesLast → WiresLive → MeaningsAreKept
-meanings_kept sends commands messages places wires a b meant x new t go scene i = by t go
+pub meanings_kept : CommandsStep → MessagesStep → PlacesLast → WiresLive → WiresAreKeptInScenes → MeaningsAreKept
+meanings_kept commands messages places wires kept a b x new t go scene i = by t go
   where
     arrives : (v : Vat) (ms : List Message) (own effects es : List JournalEntry) (told : Effects) (s : State) (m : Labels) (w : World) → w ≡ put_inbox x.world v ms → new ≡ scenes.goes_on x (after w v told s) es → x.journal ++ es ≡ (x.journal ++ own) ++ effects
         → Places (history a b new.journal) v m quiet s → BothMean (history a b (x.journal ++ own)) x.world i.0 v s m (inbox x.world (other_vat v) ++ told.sends) ms → Means a b new
@@ -72,12 +72,15 @@ meanings_kept sends commands messages places wires a b meant x new t go scene i 
         let z = together places wires a b x i.0 own effects told s m v ms i.1 (subst (λ (j : List JournalEntry). Places (history a b j) v m quiet s) journal mine) both in
         (with_labels i.0 v m, subst (λ (j : List JournalEntry). WorldMeans (history a b j) new.world (with_labels i.0 v m)) (sym journal) (subst (λ (y : World). WorldMeans (history a b ((x.journal ++ own) ++ effects)) y (with_labels i.0 v m)) (sym world) z))
 
+    meant : WiresAreKept a b
+    meant = kept a b
+
     by : (t : scenes.Steps x new) → GoesOn x new t → Means a b new
     by (scenes.Commanded v c g told s o up r d w e) go =
         let own = granted_entries x.journal v c g in
         let effects = effect_entries v told in
         let parts = sym (append_assoc x.journal own effects) in
-        let z = commands a b (sends a b).0 x new i.0 v c g told s scene (step_more x new (begins a b) scene (scenes.Commanded v c g told s o up r d w e)) i.1 o r d (ap (λ (y : Scene). y.journal) e ∙ parts) in
+        let z = commands a b x new i.0 v c g told s scene (step_more x new (begins a b) scene (scenes.Commanded v c g told s o up r d w e)) i.1 o r d (ap (λ (y : Scene). y.journal) e ∙ parts) in
         let m = z.2.0 in
         let both = meant.commands x i.0 v c g told s m z.0 scene i.1 o r d z.1 z.2.1 z.2.3 in
         arrives v (inbox x.world v) own effects (own ++ effects) told s m x.world (sym (as_it_was x.world v)) e parts z.2.2 both
@@ -85,12 +88,9 @@ meanings_kept sends commands messages places wires a b meant x new t go scene i 
         let own = entry.Got v ∷ [] in
         let effects = effect_entries v told in
         let parts = sym (append_assoc x.journal own effects) in
-        let z = messages a b (sends a b).1 x new i.0 v y ms told s scene (step_more x new (begins a b) scene (scenes.Received v y ms told s o up p f d w e)) i.1 p f d (ap (λ (k : Scene). k.journal) e ∙ parts) in
+        let z = messages a b x new i.0 v y ms told s scene (step_more x new (begins a b) scene (scenes.Received v y ms told s o up p f d w e)) i.1 p f d (ap (λ (k : Scene). k.journal) e ∙ parts) in
         let m = z.2.0 in
         let both = meant.messages x i.0 v y ms told s m z.0 scene i.1 p f d z.1 z.2.1 z.2.2 z.2.4 in
         arrives v ms own effects (own ++ effects) told s m (put_inbox x.world v ms) refl e parts z.2.3 both
     by (scenes.GivesUp v c o r f e) go = absurd go
     by (scenes.Stops v o e) go = absurd go
-
-pub sound_by_steps : MeaningsAreKept → SoundByWires → SoundBySteps
-sound_by_steps kept sound meant = sound (λ a b. kept a b (meant a b))

@@ -29,7 +29,7 @@ use Rattle.laws_meanings.proofs.Lasts.{ends_still, led_still}
 use Rattle.laws_meanings.proofs.Walked.{in_each}
 use Rattle.laws_meanings.proofs.Written.{IsLed, each_led}
 use Rattle.laws_sound.specs.OldestHeard.{OldestAreHeard, exports_mean}
-use Rattle.laws_sound.specs.SoundByWires.{Means, ScenesAreLed}
+use Rattle.laws_sound.specs.ScenesMean.{Means, ScenesAreLed, ScenesMean}
 
 module _ (a b : Option ObjectId) where
   abbrev Led : List JournalEntry → JournalEntry → Type 0
@@ -82,5 +82,5 @@ module _ (a b : Option ObjectId) where
     pub led : (x : Scene) → IsScene a b x → Upto IfLedToObject (history a b x.journal) × Upto IfLedToBroken (history a b x.journal)
     led x k = (λ before behind e f. (upto Led [] x.journal before behind e (good x k) f).0, λ before behind e f. (upto Led [] x.journal before behind e (good x k) f).1)
 
-pub scenes_led : OldestAreHeard → CoresAreFit → MessagesKeepMeanings → ScenesCommandsKeep → LastWordsAreLed → ScenesAreLed
-scenes_led heard fit messages commands last a b means x k = led a b heard fit messages commands last means x k
+pub scenes_led : OldestAreHeard → CoresAreFit → MessagesKeepMeanings → ScenesCommandsKeep → LastWordsAreLed → ScenesMean → ScenesAreLed
+scenes_led heard fit messages commands last means a b x k = led a b heard fit messages commands last (means a b) x k

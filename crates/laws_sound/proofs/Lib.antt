@@ -3,8 +3,15 @@ pub mod HeardInScenes
 pub mod EachScene
 pub mod Led
 pub mod Begins
-pub mod MeantByWires
+pub mod Meant
 pub mod PromisesStay
 pub mod Stepping
 pub mod KeptBySteps
 pub mod FirstSending
+pub mod WiresAt
+pub mod WiresLeaving
+pub mod Kept
+pub mod Bootstraps
+pub mod Sounding
+pub mod Promising
+pub mod Wrongs

@@ -38,9 +38,12 @@ use Rattle.laws_meanings.specs.NodeLabels.{Labels, MomentMeans, Places, field_la
 use Rattle.laws_meanings.specs.WrittenCommands.{CommandsAreWritten, Opens}
 use Rattle.laws_meanings.proofs.CommandsMean.{up}
 use Rattle.laws_wires.specs.Sent.{AllSaySo, IsKept, SentMean, StepsSaySo}
+use Rattle.laws_wires.specs.SceneSessions.{AnswersStay}
+use Rattle.laws_wires.proofs.AnswersLeft.{acts_leave_answers}
+use Rattle.laws_wires.specs.SceneOut.{ActsAskSo, AreAskedSo, CommandsAskSo, MessagesAskSo}
 use Rattle.laws_wires.specs.Wires.{Session, past_one, sessions_at}
 use Rattle.laws_sound.specs.OldestHeard.{OldestAreHeard, exports_mean}
-use Rattle.laws_sound.specs.StepsInScenes.{AreKept, CommandsStep, HasStepped, MessagesStep}
+use Rattle.laws_sound.specs.StepsInScenes.{AreKept, CommandsStep, FirstActsSend, HasStepped, MessagesStep}
 use Rattle.laws_sound.proofs.Begins.{opens_or_not}
 use Rattle.laws_sound.proofs.PromisesStay.{Stay, started, consumed}
 
@@ -89,18 +92,20 @@ is_kept s d stay (node.Broken reason) i = tt
 abbrev Led : (h : History) (v : Vat) (l : Labels) (s first : State) (said : ℕ → Session) (told : Effects) (t : State) (n : Labels) → Type 0
 Led h v l s first said told t n = (ps : ℕ → Option Meant) × Places h v (record n { promise = ps }) told t × HasStepped h v l s first said told t (record n { promise = ps })
 
-stepped : StepsSaySo → (h : History) (v : Vat) (l n : Labels) (s : State) (d last : Moment) (said : ℕ → Session) (told : Effects) (t : State)
-    → AreKept l n s → IsWhole s → Stay s d → Acts last d → IsEnd last told t → MomentMeans h v n d → SentMean h v n said d → Led h v l s d.state said told t n
-stepped say h v l n s d last said told t kept whole stay acts ends i g =
+stepped : StepsSaySo → ActsAskSo → (h : History) (v : Vat) (l n : Labels) (s : State) (d last : Moment) (said : ℕ → Session) (told : Effects) (t : State)
+    → AreKept l n s → IsWhole s → Stay s d → Acts last d → IsEnd last told t → MomentMeans h v n d → SentMean h v n said d → AreAskedSo v n s d.effects.sends d.state → Led h v l s d.state said told t n
+stepped say ask h v l n s d last said told t kept whole stay acts ends i g asked =
     let z = say h v n said d last acts i g in
     let m : Labels = record n { promise = z.0 } in
-    let e = at_end (λ u y. Places h v m y u × AllSaySo h v m u.exports u.promises said y.sends) last told t ends (up h v m last.effects last.state z.3.0, z.4.0) in (
+    let a = ask h v n s d last acts i asked in
+    let e = at_end (λ u y. Places h v m y u × AllSaySo h v m u.exports u.promises said y.sends × AreAskedSo v m s y.sends u) last told t ends (up h v m last.effects last.state z.3.0, z.4.0, a) in (
       z.0,
       e.0,
       record {
         imports = kept.imports;
         outcomes = kept.outcomes;
         questions = kept.questions;
+        answers = subst (λ (u : State). AnswersStay d.state u) (sym ends.state) (acts_leave_answers last d acts);
         exports = λ k x y at was same.
             let stands = whole.there x.node (in_exports s x.node (named named_by_export k x x.node s.exports at (inl refl))) in
             let r = z.2 k y was in
@@ -111,6 +116,7 @@ stepped say h v l n s d last said told t kept whole stay acts ends i g =
               subst (λ (u : Node). label h v m u ≡ label h v n u) same (r.3 y_kept).1 ∙ label_kept h v l n s kept x.node stands,
             );
         sent = e.1;
+        asked = e.2;
       },
     )
 
@@ -130,25 +136,30 @@ module _ (plain : FirstActsMean) (opens : FirstOpeningsMean) where
       subst (λ (u : Vat). (m : Labels) × LabelsKept l m s × MomentMeans h u m d) fit.vat
       (opens h l s c g d (subst (λ (u : Vat). IsWrittenOpen h u s c) (sym fit.vat) (f o)) fit.whole fit.one_source fit.questions fit.paired (subst (λ (u : Vat). Places h u l quiet s) (sym fit.vat) i) k)
 
-pub commands_step : StepsSaySo → FirstActsMean → FirstOpeningsMean → CoresAreFit → CommandsAreWritten → PlacesLast → EffectsAreWritten → CommandsStep
-commands_step say plain opens fits written places effects a b sends x new l v c g told t scene after i over r k journal =
+opens_as_written : (h : History) (v : Vat) (s : State) (c : Command) → OpensNothing c ⊎ Opens c → (Opens c → IsWrittenOpen h v s c) → OpensNothing c ⊎ IsWrittenOpen h v s c
+opens_as_written h v s c (inl o) f = inl o
+opens_as_written h v s c (inr o) f = inr (f o)
+
+pub commands_step : StepsSaySo → ActsAskSo → CommandsAskSo → FirstActsMean → FirstOpeningsMean → CoresAreFit → CommandsAreWritten → PlacesLast → EffectsAreWritten → FirstActsSend → CommandsStep
+commands_step say ask first plain openings fits written places effects sends a b x new l v c g told t scene after i over r k journal =
     let s = core x.world v in
     let own = granted_entries x.journal v c g in
     let h = history a b (x.journal ++ own) in
     let fit = fits a b x scene v in
     let w = written a b x v c g told t scene over r k in
     let acts = does s c g told t k in
-    let z = begun plain opens h v (l v) s c g acts.started fit (opens_or_not c) w.0 w.1 (places (history a b x.journal) own v (l v) quiet s (i.places v)) acts.starts in
+    let z = begun plain openings h v (l v) s c g acts.started fit (opens_or_not c) w.0 w.1 (places (history a b x.journal) own v (l v) quiet s (i.places v)) acts.starts in
     let kept = of_labels (l v) z.0 s z.1 in
-    let g0 = sends x l v c g told t z.0 acts.started scene i over r k acts.starts kept z.1.imports z.2 in
-    let e = stepped say h v (l v) z.0 s acts.started acts.last (sessions_at (l v) s.answers) told t kept fit.whole (started s c g acts.started acts.starts) acts.acts acts.ends z.2 g0 in
+    let g0 = (sends a b).0 x l v c g told t z.0 acts.started scene i over r k acts.starts kept z.1.imports z.2 in
+    let asked = first h v z.0 s c g acts.started (opens_as_written h v s c (opens_or_not c) w.1) acts.starts z.2 in
+    let e = stepped say ask h v (l v) z.0 s acts.started acts.last (sessions_at (l v) s.answers) told t kept fit.whole (started s c g acts.started acts.starts) acts.acts acts.ends z.2 g0 asked in
     let m : Labels = record (z.0) { promise = e.0 } in
     (acts.started, acts.starts, (m, z.1.imports, effects a b new (x.journal ++ own) v m told t after journal e.1, e.2))
 
 -- ---- A message
 
-pub messages_step : StepsSaySo → OldestAreHeard → ConsumingMeans → CoresAreFit → MomentsLast → EffectsAreWritten → MessagesStep
-messages_step say heard consumes fits lasts effects a b sends x new l v y ms told t scene after i inbox free k journal =
+pub messages_step : StepsSaySo → ActsAskSo → MessagesAskSo → OldestAreHeard → ConsumingMeans → CoresAreFit → MomentsLast → EffectsAreWritten → FirstActsSend → MessagesStep
+messages_step say ask first heard consumes fits lasts effects sends a b x new l v y ms told t scene after i inbox free k journal =
     let s = core x.world v in
     let before = history a b x.journal in
     let own = entry.Got v ∷ [] in
@@ -163,7 +174,8 @@ messages_step say heard consumes fits lasts effects a b sends x new l v y ms tol
     let answers = subst (λ (w : Vat). AnswersOf z.0 (other_vat w) acts.consumed.state y) fit.vat z.2 in
     let moment : MomentMeans h v n acts.consumed = lasts before own v n acts.consumed (subst (λ (w : Vat). MomentMeans before w n acts.consumed) fit.vat z.3) in
     let kept : AreKept (l v) n s = (record { promises = λ p q e. refl; imports = u.0; outcomes = z.1; questions = λ p q e. refl }) in
-    let g0 = sends x l v y ms z.0 acts.consumed scene i inbox free acts.consumes z.1 answers moment in
-    let e = stepped say h v (l v) n s acts.consumed acts.last said told t kept fit.whole (consumed s y acts.consumed acts.consumes) acts.acts acts.ends moment g0 in
+    let g0 = (sends a b).1 x l v y ms z.0 acts.consumed scene i inbox free acts.consumes z.1 answers moment in
+    let asked = first v n s y acts.consumed acts.consumes in
+    let e = stepped say ask h v (l v) n s acts.consumed acts.last said told t kept fit.whole (consumed s y acts.consumed acts.consumes) acts.acts acts.ends moment g0 asked in
     let m : Labels = record n { promise = e.0 } in
     (acts.consumed, acts.consumes, (m, (λ p. refl), answers, effects a b new (x.journal ++ own) v m told t after journal e.1, e.2))

@@ -1,4 +1,7 @@
 pub mod OldestHeard
-pub mod SoundByWires
+pub mod ScenesMean
 pub mod StepsInScenes
 pub mod WiresKept
+pub mod WiresLeft
+pub mod Promised
+pub mod Wrong

@@ -32,6 +32,8 @@ use Rattle.laws_runs.specs.Scenes.{Scene, IsScene, is_over}
 use Rattle.laws_meanings.specs.MessageMeanings.{AnswersOf, OutcomesKept}
 use Rattle.laws_meanings.specs.NodeLabels.{Labels, MomentMeans, Places, label}
 use Rattle.laws_wires.specs.Sent.{AllSaySo, SentMean}
+use Rattle.laws_wires.specs.SceneSessions.{AnswersStay}
+use Rattle.laws_wires.specs.SceneOut.{AreAskedSo}
 use Rattle.laws_wires.specs.Wires.{Session, WorldMeans, past_one, sessions_at}
 use Rattle.laws_sound.specs.OldestHeard.{exports_mean}
 
@@ -45,18 +47,20 @@ pub record AreKept (l m : Labels) (s : State) : Type 0 where
   pub questions : (q : ℕ) (y : Question) → map.get s.questions q ≡ Some y → m.question q ≡ l.question q
 
 -- Of the vat v, which was in the state s with the labels l, in the state `first` behind the first act of its step, and is in the
--- state t with the labels m. An export that the first act left of its node stays, and means what it did.
+-- state t with the labels m. An export that the first act left of its node stays, and means what it did; an answer that it left
+-- stays, of its outcome, or closes.
 pub record HasStepped (h : History) (v : Vat) (l : Labels) (s first : State) (said : ℕ → Session) (told : Effects) (t : State) (m : Labels) : Type 0 where
   pub imports : (e : ℕ) (y : Import) → map.get s.imports e ≡ Some y → m.import e ≡ l.import e
   pub outcomes : (o : ℕ) (y : KeptOutcome) → map.get s.outcomes o ≡ Some y → m.outcome o ≡ l.outcome o
   pub questions : (q : ℕ) (y : Question) → map.get s.questions q ≡ Some y → m.question q ≡ l.question q
+  pub answers : AnswersStay first t
   pub exports : (e : ℕ) (x y : Export) → map.get s.exports e ≡ Some x → map.get first.exports e ≡ Some y → y.node ≡ x.node → (z : Export) × (map.get t.exports e ≡ Some z) × (z.node ≡ x.node) × (label h v m x.node ≡ label h v l x.node)
   pub sent : AllSaySo h v m t.exports t.promises said told.sends
+  pub asked : AreAskedSo v m s told.sends t
 
 -- ---- What the first act sends
 
--- Where the first act of a step sends what means what it should. Of a Return it is said by what the vat's answers stand for behind
--- the message that it takes.
+-- It means what it should. Of a Return it is said by what the vat's answers stand for behind the message that it takes.
 abbrev pub FirstCommandsSend : Option ObjectId → Option ObjectId → Type 0
 FirstCommandsSend root_a root_b =
     (x : Scene) (l : Vat → Labels) (v : Vat) (c : Command) (g : Granted) (told : Effects) (t : State) (m : Labels) (d : Moment)
@@ -74,12 +78,14 @@ FirstMessagesSend root_a root_b =
     → SentMean (history root_a root_b (x.journal ++ entry.Got v ∷ [])) v (record (l v) { import = exports_mean (history root_a root_b x.journal) x.world l (other_vat v); outcome = os })
     (past_one (other_vat v) (sessions_at (l v) (core x.world v).answers) y) d
 
+abbrev pub FirstActsSend : Type 0
+FirstActsSend = (root_a root_b : Option ObjectId) → FirstCommandsSend root_a root_b × FirstMessagesSend root_a root_b
+
 -- ---- Then the step
 
 abbrev pub CommandsStep : Type 0
 CommandsStep =
-    (root_a root_b : Option ObjectId) → FirstCommandsSend root_a root_b
-    → (x new : Scene) (l : Vat → Labels) (v : Vat) (c : Command) (g : Granted) (told : Effects) (t : State)
+    (root_a root_b : Option ObjectId) (x new : Scene) (l : Vat → Labels) (v : Vat) (c : Command) (g : Granted) (told : Effects) (t : State)
     → IsScene root_a root_b x → IsScene root_a root_b new → WorldMeans (history root_a root_b x.journal) x.world l → is_over x v ≡ false → refused (core x.world v) c ≡ None → Does (core x.world v) c g told t
     → new.journal ≡ (x.journal ++ granted_entries x.journal v c g) ++ effect_entries v told
     → (d : Moment) × Starts (beginning (core x.world v)) c g d
@@ -89,14 +95,9 @@ CommandsStep =
 -- Imports that come mean what the other vat exports as them.
 abbrev pub MessagesStep : Type 0
 MessagesStep =
-    (root_a root_b : Option ObjectId) → FirstMessagesSend root_a root_b
-    → (x new : Scene) (l : Vat → Labels) (v : Vat) (y : Message) (ms : List Message) (told : Effects) (t : State)
+    (root_a root_b : Option ObjectId) (x new : Scene) (l : Vat → Labels) (v : Vat) (y : Message) (ms : List Message) (told : Effects) (t : State)
     → IsScene root_a root_b x → IsScene root_a root_b new → WorldMeans (history root_a root_b x.journal) x.world l → inbox x.world v ≡ y ∷ ms → fault_of (core x.world v) y ≡ None → Handles (core x.world v) y told t
     → new.journal ≡ (x.journal ++ entry.Got v ∷ []) ++ effect_entries v told
     → (d : Moment) × Consumes (beginning (core x.world v)) y d
     × ((m : Labels) × ((e : ℕ) → m.import e ≡ exports_mean (history root_a root_b x.journal) x.world l (other_vat v) e) × AnswersOf m.outcome (other_vat v) d.state y × Places (history root_a root_b new.journal) v m quiet t
     × HasStepped (history root_a root_b (x.journal ++ entry.Got v ∷ [])) v (l v) (core x.world v) d.state (past_one (other_vat v) (sessions_at (l v) (core x.world v).answers) y) told t m)
-
--- What first acts send does mean what it should.
-abbrev pub FirstActsSend : Type 0
-FirstActsSend = (root_a root_b : Option ObjectId) → FirstCommandsSend root_a root_b × FirstMessagesSend root_a root_b

@@ -1,4 +1,4 @@
--- What each step keeps of meanings, from what it keeps of the wires.
+-- The wires behind a step in a scene.
 use Rattle.std.specs.Prelude.{◌≡◌, ℕ, false, None, Option, List, [], ◌∷◌, ◌++◌}
 use Rattle.rpc_msg.specs.declared.ids.Vat.{Vat}
 use Rattle.rpc_msg.specs.declared.ids.ObjectId.{ObjectId}
@@ -10,7 +10,7 @@ use Rattle.vat_machine.specs.declared.command.Command.{Command}
 use Rattle.vat_machine.specs.declared.command.Effects.{Effects}
 use Rattle.vat_machine.specs.declared.command.Granted.{Granted}
 use Rattle.vat_machine.specs.State.{State}
-use Rattle.vat_machine.specs.Claims.{EveryRunIsSound, history}
+use Rattle.vat_machine.specs.Claims.{history}
 use Rattle.vat_machine.specs.Faults.{fault_of}
 use Rattle.vat_machine.specs.Journal.{granted_entries}
 use Rattle.vat_machine.specs.Refusals.{refused}
@@ -25,7 +25,6 @@ use Rattle.laws_meanings.specs.NodeLabels.{Labels}
 use Rattle.laws_wires.specs.Wires.{WiresMean, WorldMeans, past_one, sessions_at}
 use Rattle.laws_sound.specs.OldestHeard.{exports_mean}
 use Rattle.laws_sound.specs.StepsInScenes.{HasStepped}
-use Rattle.laws_sound.specs.SoundByWires.{StepsKeepMeanings}
 
 -- Of the vat v, now in the state t with the labels m, and the other, which is as it was: the wires between them, with these
 -- messages on their way.
@@ -49,13 +48,10 @@ MessagesKeepWires root_a root_b =
     → HasStepped (history root_a root_b (x.journal ++ entry.Got v ∷ [])) v (l v) (core x.world v) d.state (past_one (other_vat v) (sessions_at (l v) (core x.world v).answers) y) told t m
     → BothMean (history root_a root_b (x.journal ++ entry.Got v ∷ [])) x.world l v t m (inbox x.world (other_vat v) ++ told.sends) ms
 
--- What is left to show of each step.
+-- So it is behind each step.
 pub record WiresAreKept (root_a root_b : Option ObjectId) : Type 0 where
   pub commands : CommandsKeepWires root_a root_b
   pub messages : MessagesKeepWires root_a root_b
 
-abbrev pub MeaningsAreKept : Type 0
-MeaningsAreKept = (root_a root_b : Option ObjectId) → WiresAreKept root_a root_b → StepsKeepMeanings root_a root_b
-
-abbrev pub SoundBySteps : Type 0
-SoundBySteps = ((root_a root_b : Option ObjectId) → WiresAreKept root_a root_b) → EveryRunIsSound
+abbrev pub WiresAreKeptInScenes : Type 0
+WiresAreKeptInScenes = (root_a root_b : Option ObjectId) → WiresAreKept root_a root_b

@@ -3,8 +3,12 @@
 #![tactic(auto)]
 
 mod laws;
+mod worlds;
 
 pub use laws::{
-    first_acts_send, oldest_are_heard, roots_are_hosted, scenes_are_led, scenes_mean,
-    sound_by_steps, sound_by_wires, steps_keep_places,
+    every_run_is_sound, first_acts_send, meanings_are_kept, oldest_are_heard, roots_are_hosted,
+    scenes_are_led, scenes_are_meant, scenes_mean, steps_keep_places, wires_are_kept,
+};
+pub use worlds::{
+    bootstraps_stay, worlds_are_sound, worlds_keep_promises, wrong_journals_are_refused,
 };

@@ -118,7 +118,7 @@ none_there : {X : Type 0} (o : Option X) (n : ℕ) (rest : Option ℕ) → or_re
 none_there None n rest e = refl
 none_there (Some x) n rest e = cc
 
-free_answer : {X : Type 0} (o : Option X) (n : ℕ) → if_so (is_some o) n ≡ None → o ≡ None
+pub free_answer : {X : Type 0} (o : Option X) (n : ℕ) → if_so (is_some o) n ≡ None → o ≡ None
 free_answer None n e = refl
 free_answer (Some x) n e = cc
 

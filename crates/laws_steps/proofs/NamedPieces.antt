@@ -84,7 +84,7 @@ by_value P (value.Results payload caps) h = h
 by_value P (value.Exception exception) h = h
 
 -- Of an outcome of the peer that is known, while its answer waits for it.
-abbrev Standing : ℕ → ℕ → KeptOutcome → AnswerEntry → State → Type 0
+abbrev pub Standing : ℕ → ℕ → KeptOutcome → AnswerEntry → State → Type 0
 Standing o q x a s = (map.get s.outcomes o ≡ Some x) × (map.get s.answers q ≡ Some a)
 
 -- Of an outcome that is settled: it is known, with a value that is there; and its caller was told.
@@ -312,7 +312,7 @@ module _ {w : Asked} {T : Map Question → Type 0} where
 
 -- ---- A caller is told
 
-module _ (o q : ℕ) (x : KeptOutcome) (v : Value) (a : AnswerEntry) (own : a.outcome ≡ o) (its : x.caller ≡ peer q) (is_known : x.value ≡ Some v) where
+module _ (o q : ℕ) (x : KeptOutcome) (a : AnswerEntry) (own : a.outcome ≡ o) (its : x.caller ≡ peer q) where
   not_loose : (s : State) → Standing o q x a s → IsLooseOutcome s o (Some x) → ⊥
   not_loose s e l = by x.value l
     where
@@ -333,10 +333,11 @@ module _ (o q : ℕ) (x : KeptOutcome) (v : Value) (a : AnswerEntry) (own : a.ou
           let j : IsLooseOutcome d.state o (map.get d.state.outcomes o) = subst (λ (m : ℕ). IsLooseOutcome d.state m (map.get d.state.outcomes m)) (sym (equal o k g)) h in
           absurd (not_loose d.state e (subst (IsLooseOutcome d.state o) e.0 j))
 
-  stays_collected : (new d : Progress) → Standing o q x a d.state → Collects new d → Standing o q x a new.state
+  pub stays_collected : (new d : Progress) → Standing o q x a d.state → Collects new d → Standing o q x a new.state
   stays_collected new d e (Tight h) = e
   stays_collected new d e (Loose {mid = mid} g rest) = stays_collected new mid (stays_through d mid e g) rest
 
+module _ (o q : ℕ) (x : KeptOutcome) (v : Value) (a : AnswerEntry) (own : a.outcome ≡ o) (its : x.caller ≡ peer q) (is_known : x.value ≡ Some v) where
   -- What its Call gave is named no more.
   fewer : (s : State) (f : Bool) (gave : List ℕ) → a.returned ≡ None → Standing o q x a s → (e : ℕ) → how_many (nat_eq e) (numbers a.taken) + names (record s { answers = returned_map s.answers q a f gave }) (is_import e) ≤ names s (is_import e)
   fewer s f gave waits st e =
@@ -399,7 +400,7 @@ module _ {w : Asked} where
       let stands : Standing o q x a h.2 = (ap (λ (m : Map KeptOutcome). map.get m o) same.1 ∙ e, ap (λ (m : Map AnswerEntry). map.get m q) same.2 ∙ f) in
       let then = g.0 in
       let left : Fine w then.state = collects then mid one.0 g.1 in
-      let still = stays_collected o q x v a own its is_known then mid stands g.1 in
+      let still = stays_collected o q x a own its then mid stands g.1 in
       let last = given_back o q x v a own its is_known then.state a.finished (given h.1) none left still in
       rw g.2 (last.0, ap (λ (m : Map KeptOutcome). map.get m o) last.1 ∙ still.0)
 

@@ -41,7 +41,7 @@ use Rattle.laws_steps.proofs.NamedMessages.{does, handles}
 
 -- ---- A new vat
 
-no_entry : {X : Type 0} (P : Option X → Type 0) (k : ℕ) → P None → (let m : Map X = map.empty in P (map.get m k))
+pub no_entry : {X : Type 0} (P : Option X → Type 0) (k : ℕ) → P None → (let m : Map X = map.empty in P (map.get m k))
 no_entry P k h = rw (map.get-empty nat_cmp k) h
 
 -- Of a vat whose tables are empty, whatever it is.

@@ -87,12 +87,12 @@ finished d q x finishing.Waived e h = closes d.state q x h tt
 closed_below : (s : State) (b : Bool) (ids : List ℕ) (q : ℕ) (x : Question) → Below s (closed (give_if s b ids) q x)
 closed_below s b ids q x = let t = give_if s b ids in below_then s t (closed t q x) (gives_below s b ids) (closes_below t q x)
 
-finished_below : (d : Progress) (q : ℕ) (x : Question) (f : Finishing) → Below d.state (finished_by d q x f).state
+pub finished_below : (d : Progress) (q : ℕ) (x : Question) (f : Finishing) → Below d.state (finished_by d q x f).state
 finished_below d q x finishing.Owed = closed_below d.state (flag_for d.state (got_of x.returned)) (got_of x.returned) q x
 finished_below d q x finishing.Sent = below_same d.state
 finished_below d q x finishing.Waived = closes_below d.state q x
 
-given_questions : (s : State) (b : Bool) (ids : List ℕ) → (give_if s b ids).questions ≡ s.questions
+pub given_questions : (s : State) (b : Bool) (ids : List ℕ) → (give_if s b ids).questions ≡ s.questions
 given_questions s false ids = refl
 given_questions s true ids = refl
 
@@ -101,7 +101,7 @@ finished_questions d q x finishing.Owed h = ap (λ (m : Map Question). closed_ma
 finished_questions d q x finishing.Sent h = absurd h
 finished_questions d q x finishing.Waived h = refl
 
-closed_other : (m : Map Question) (q : ℕ) (x : Question) (o : Option Returned) (k : ℕ) → nat_eq k q ≡ false → map.get (closed_map m q x o) k ≡ map.get m k
+pub closed_other : (m : Map Question) (q : ℕ) (x : Question) (o : Option Returned) (k : ℕ) → nat_eq k q ≡ false → map.get (closed_map m q x o) k ≡ map.get m k
 closed_other m q x None k e = get_other m q (record x { finish = finishing.Sent }) k e
 closed_other m q x (Some said) k e = get_left m q k e
 
@@ -237,7 +237,7 @@ pub record Whole (s : State) : Type 0 where
   pub fine : Fine (askers s.questions) s
   pub tight : IsTight s
 
-released : (d : Progress) (xs : List (ℕ × ℕ)) → (release_each d xs).state ≡ d.state
+pub released : (d : Progress) (xs : List (ℕ × ℕ)) → (release_each d xs).state ≡ d.state
 released d [] = refl
 released d (x ∷ xs) = released _ xs
 

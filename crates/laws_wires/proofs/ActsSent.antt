@@ -1,12 +1,8 @@
 -- Each small act sends what means what it should.
 use Rattle.std.specs.FinMap as map
 use Rattle.std.proofs.Common.{◌≡◌, ◌⊎◌, inl, inr, ℕ, Bool, true, false, List, [], ◌∷◌, ◌++◌, Option, None, Some, is_some, ◌||◌, refl, sym, subst, ap, ◌∙◌}
-use Rattle.std.specs.List.{slice_get}
 use Rattle.finite_maps.specs.Tally.{Map}
 use Rattle.finite_maps.proofs.Tested.{at_put, at_cut}
-use Rattle.capn_wire.specs.declared.path.Op.{Op}
-use Rattle.rpc_msg.specs.declared.ids.ExportId.{ExportId}
-use Rattle.rpc_msg.specs.declared.ids.QuestionId.{QuestionId}
 use Rattle.rpc_msg.specs.declared.ids.Vat.{Vat}
 use Rattle.rpc_msg.specs.declared.parts.Descriptor.{Descriptor}
 use Rattle.rpc_msg.specs.declared.parts.Target.{Target}
@@ -16,12 +12,11 @@ use Rattle.rpc_msg.specs.declared.message.ReturnBody.TheVariants as body
 use Rattle.rpc_msg.specs.declared.message.ResolvedTo.TheVariants as resolved
 use Rattle.rpc_msg.specs.declared.message.PlainMessage.{PlainMessage}
 use Rattle.rpc_msg.specs.declared.message.PlainMessage.TheVariants as plain
-use Rattle.rpc_msg.specs.declared.message.Message.{Message}
 use Rattle.rpc_msg.specs.declared.message.Message.TheVariants as message
 use Rattle.rpc_msg.specs.Messages.{descriptors_of_body}
 use Rattle.vat_journal.specs.History as history
 use Rattle.vat_journal.specs.Sources.{Asking}
-use Rattle.vat_journal.specs.Meaning.{History, Broken}
+use Rattle.vat_journal.specs.Meaning.{History}
 use Rattle.vat_machine.specs.Payloads.{cap_at}
 use Rattle.vat_machine.specs.declared.node.Node.{Node}
 use Rattle.vat_machine.specs.declared.node.Node.TheVariants as node
@@ -39,24 +34,23 @@ use Rattle.vat_machine.specs.State.{State}
 use Rattle.vat_machine.specs.Advancing.{wire_target}
 use Rattle.vat_machine.specs.Descriptors.{export_node}
 use Rattle.vat_machine.specs.Nodes.{settle}
-use Rattle.vat_machine.specs.Progress.{export_id}
 use Rattle.vat_machine.specs.Settling.{exports_where, or_failed, resolve_message}
 use Rattle.laws_acts.specs.GoingOut.{GoesOut, GoOut, Says}
 use Rattle.laws_acts.specs.FirstActs.{asking}
-use Rattle.laws_acts.specs.Moments.{Moment, Saying, Owing, TheOutcome, why_of, is_of, owing, is_collecting}
+use Rattle.laws_acts.specs.Moments.{Moment, Saying, Owing, TheOutcome, why_of, is_of, owing}
 use Rattle.laws_acts.specs.SmallActs.{Act, Acts, NoMore, Then, kept_known, release_messages}
 use Rattle.laws_acts.specs.SmallActs as act
 use Rattle.laws_routes.proofs.ExportsGrown.{Grown, none_grown}
 use Rattle.laws_meanings.specs.MessageMeanings.{EachActMeans}
-use Rattle.laws_meanings.specs.NodeMeanings.{Meant, Itself, OfRef, There, field_meant}
+use Rattle.laws_meanings.specs.NodeMeanings.{Meant, OfRef, There, field_meant}
 use Rattle.laws_meanings.specs.NodeLabels.{Labels, LeadsTo, Means, CallAt, ValueMeans, ValueIs, CallerIs, PromiseMeans, OutcomeMeans, ComingMeans, RoutedMean, ClearingMeans, MomentMeans, label}
 use Rattle.laws_meanings.proofs.Labelled.{settles}
 use Rattle.laws_meanings.proofs.Fitting.{Fitted, fitted}
-use Rattle.laws_wires.specs.Wires.{Session, ReturnMeans, export_label}
+use Rattle.laws_wires.specs.Wires.{Session, ReturnMeans}
 use Rattle.laws_wires.specs.SentWires.{own_label, own_target}
-use Rattle.laws_wires.specs.Sent.{AreOurs, IsKept, SaysSo, AllSaySo, SayingSo, IsToldSo, AllToldSo, IsAwaited, CallerSo, HasLabel, IsOwed, AllOwed, IsSettledSo, SentMean, AreWeaker, ExportsStay, ActsSaySo, StepsSaySo}
-use Rattle.laws_wires.proofs.SentSo.{AllGone, Gone, all_go, caps_to, export_node_grown, goes_so}
-use Rattle.laws_wires.proofs.StillSo.{Alike, Onto, all-append, all_released, all_still, awaited_known, callers_still, kept_all, kept_put, kept_unnamed, listed, onto_same, owed_still, saying_still, says_still, settled_none, settled_not, settled_still, stays, told_still}
+use Rattle.laws_wires.specs.Sent.{AreOurs, IsKept, SaysSo, AllSaySo, SayingSo, IsToldSo, AllToldSo, IsAwaited, CallerSo, IsOwed, AllOwed, IsSettledSo, SentMean, AreWeaker, ExportsStay, ActsSaySo, StepsSaySo}
+use Rattle.laws_wires.proofs.SentSo.{AllGone, Gone, all_go, caps_to, goes_so}
+use Rattle.laws_wires.proofs.StillSo.{Onto, all-append, all_released, all_still, awaited_known, callers_still, kept_all, kept_put, kept_unnamed, listed, onto_same, owed_still, saying_still, says_still, settled_none, settled_not, settled_still, stays, told_still}
 
 -- ---- What is newly sent
 

@@ -34,7 +34,7 @@ module _ (l m : Labels) (s t : State) (kept : RolesKeepLabels l m s) where
   of_same q h i =
       let x : Question = h.0 in
       let at : not_sent x.finish ≡ true = ap is_waiting (sym h.2) ∙ i in
-      ap (asked_at m q) h.3 ∙ (ap (asked_label m q) h.4 ∙ (kept q x h.2 (is_not_sent x.finish at) ∙ sym (ap (asked_at l q) h.2)))
+      ap (asked_at m q) h.3 ∙ (ap (asked_label m q) h.4 ∙ (kept q x h.2 ∙ sym (ap (asked_at l q) h.2)))
 
 pub returns_are_met : ReturnsAreMet
 returns_are_met l m s t back kept h = (

@@ -1,7 +1,7 @@
 -- The wires behind a step.
 use mathlib.Core.Path.{fun_ext}
 use Rattle.std.specs.FinMap as map
-use Rattle.std.proofs.Common.{◌≡◌, ◌⊎◌, inl, inr, ℕ, nat_eq, true, false, cond, arith, List, [], ◌∷◌, ◌++◌, Option, None, Some, IsSome, refl, sym, subst, ap, ◌∙◌}
+use Rattle.std.proofs.Common.{◌≡◌, ◌⊎◌, inl, inr, ℕ, nat_eq, true, false, cond, List, [], ◌∷◌, ◌++◌, Option, None, Some, IsSome, refl, sym, subst, ap, ◌∙◌}
 use Rattle.finite_maps.specs.Tally.{Map}
 use Rattle.rpc_msg.specs.declared.ids.Vat.{Vat}
 use Rattle.rpc_msg.specs.declared.message.PlainMessage.TheVariants as plain
@@ -25,6 +25,7 @@ use Rattle.laws_routes.specs.QuietLaws.{IsAsked, IsFinished, MayClose, NoneAims,
 use Rattle.laws_routes.specs.Sayings.{has_of}
 use Rattle.laws_meanings.specs.NodeMeanings.{Meant}
 use Rattle.laws_meanings.specs.NodeLabels.{Labels, asked_label, label}
+use Rattle.laws_routes.proofs.AlikeSessions.{flipped}
 use Rattle.laws_routes.proofs.SayingsCarried.{each_return}
 use Rattle.laws_wires.specs.Wires.{Session, Reader, LinkMeans, WiresMean, ImportAgrees, QuestionAgrees, IsSession, asked_at, export_label, past, past_one, reader, sessions_at}
 use Rattle.laws_wires.specs.WireLaws.{IsAlike}
@@ -136,9 +137,6 @@ pub back_is_left : BackIsLeft
 back_is_left h w x kept n b m = back_left h w x kept n b m
 
 -- ---- What v knows of u
-
-flipped : (j k : ℕ) → nat_eq j k ≡ false → nat_eq k j ≡ false
-flipped j k e = grind (arith, e)
 
 off_one : (v : Vat) (q : ℕ) (now : ℕ → Session) (m : Message) → OpenOf (λ k. nat_eq k q ≡ false) m → past_one v now m q ≡ now q
 off_one v q now (message.Plain (plain.Abort exception)) h = refl

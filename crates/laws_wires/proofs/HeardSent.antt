@@ -1,8 +1,7 @@
 -- What a whole step of a message sends.
 use Rattle.std.specs.FinMap as map
-use Rattle.std.proofs.Common.{◌≡◌, ◌⊎◌, inl, inr, ℕ, true, Option, None, Some, refl, sym, subst, ap, ◌∙◌}
+use Rattle.std.proofs.Common.{◌≡◌, inl, ℕ, Option, None, Some, refl, sym, subst, ap, ◌∙◌}
 use Rattle.finite_maps.specs.Tally.{Map}
-use Rattle.rpc_msg.specs.declared.ids.QuestionId.{QuestionId}
 use Rattle.rpc_msg.specs.declared.ids.Vat.{Vat}
 use Rattle.rpc_msg.specs.declared.message.Message.{Message}
 use Rattle.vat_journal.specs.Sources.{Asking}
@@ -14,8 +13,6 @@ use Rattle.vat_machine.specs.declared.calls.Caller.TheVariants as caller
 use Rattle.vat_machine.specs.declared.calls.KeptOutcome.{KeptOutcome}
 use Rattle.vat_machine.specs.declared.calls.Promise.{Promise}
 use Rattle.vat_machine.specs.declared.calls.Value.{Value}
-use Rattle.vat_machine.specs.declared.command.Effects.{Effects}
-use Rattle.vat_machine.specs.declared.entries.AnswerEntry.{AnswerEntry}
 use Rattle.vat_machine.specs.declared.entries.Export.{Export}
 use Rattle.vat_machine.specs.Places.{named_by_export}
 use Rattle.vat_machine.specs.State.{State}
@@ -24,7 +21,7 @@ use Rattle.laws_acts.specs.MessageActs.{Consumes}
 use Rattle.laws_acts.specs.MessageActs as taken
 use Rattle.laws_acts.specs.SmallActs.{StepsAreSmallActs}
 use Rattle.laws_acts.proofs.EachStep.{at_end}
-use Rattle.laws_steps.specs.NodesThere.{IsWhole, Stands}
+use Rattle.laws_steps.specs.NodesThere.{Stands}
 use Rattle.laws_steps.proofs.Among.{named, in_exports}
 use Rattle.laws_meanings.specs.MessageMeanings.{ConsumingMeans, ImportsKept, OutcomesKept}
 use Rattle.laws_meanings.specs.NodeMeanings.{Meant}
@@ -33,7 +30,7 @@ use Rattle.laws_meanings.proofs.CommandsMean.{up}
 use Rattle.laws_wires.specs.Wires.{Session, session_of, sessions_at}
 use Rattle.laws_wires.specs.Sent.{IsKept, IsAwaited, CallerSo, AllSaySo, StepsSaySo}
 use Rattle.laws_wires.specs.FirstSent.{MessagesSaySo}
-use Rattle.laws_wires.specs.StepsSent.{PeersAreServed, KeepsBehind, MessagesSend}
+use Rattle.laws_wires.specs.StepsSent.{PeersAreServed, MessagesSend}
 use Rattle.laws_wires.proofs.WholeSent.{is_kept, some_of}
 
 module _ (h : History) (v : Vat) (l : Labels) (s : State) (served : PeersAreServed s) where

@@ -27,9 +27,9 @@ use Rattle.vat_machine.specs.Lists.{updated}
 use Rattle.vat_machine.specs.Messages.{resolve_import, set_resolution, take_resolve}
 use Rattle.vat_machine.specs.Progress.{Progress, begin, numbers}
 use Rattle.laws_acts.specs.Acts.{ComesTo, Consumes, StepsAreActs, TurnsBy, came}
-use Rattle.laws_sessions.proofs.Same.{obeys}
-use Rattle.laws_exports.specs.Imports.{KeepsImport}
-use Rattle.laws_exports.proofs.Keeping as keeping
+use Rattle.laws_runs.proofs.Same.{obeys}
+use Rattle.laws_messages.specs.Imports.{KeepsImport}
+use Rattle.laws_messages.proofs.Keeping as keeping
 use Rattle.laws_wires.specs.SceneWires.{MessagesBringTheirs}
 
 -- What is there in n is there in m.
@@ -87,7 +87,7 @@ first_within s (plain.Release r) first h = alike _ _ (ap (λ (p : Progress). p.s
 first_within s (plain.Disembargo d) first h = alike _ _ (turned s d.context first h ∙ none_taken s)
 first_within s (plain.Other n) first h = alike _ _ (ap (λ (p : Progress). p.state.imports) h ∙ none_taken s)
 
-kept_there : (x y : Option Import) → KeepsImport x y → IsSome y → IsSome x
+pub kept_there : (x y : Option Import) → KeepsImport x y → IsSome y → IsSome x
 kept_there x None k j = cc
 kept_there None (Some y) k j = absurd k
 kept_there (Some x) (Some y) k j = refl

@@ -13,3 +13,11 @@ pub mod NamedStay
 pub mod ReturnsLeft
 pub mod BackMet
 pub mod ImportsBrought
+pub mod AskedSo
+pub mod BackHeld
+pub mod AnswersLeft
+pub mod SessionsLeft
+pub mod AskedOnce
+pub mod ReadSo
+pub mod ReadActs
+pub mod OutMet

@@ -1,6 +1,6 @@
 -- What is on its way keeps meaning what it should.
 use Rattle.std.specs.FinMap as map
-use Rattle.std.proofs.Common.{◌≡◌, ◌⊎◌, inl, inr, ℕ, nat_eq, zero, suc, Bool, true, false, ◌||◌, cond, arith, List, [], ◌∷◌, ◌++◌, Option, None, Some, IsSome, refl, sym, subst, ap, ◌∙◌, slice_get}
+use Rattle.std.proofs.Common.{◌≡◌, ◌⊎◌, inl, inr, ℕ, nat_eq, zero, suc, Bool, true, false, cond, arith, List, [], ◌∷◌, ◌++◌, Option, None, Some, IsSome, refl, sym, subst, ap, ◌∙◌, slice_get}
 use Rattle.capn_wire.specs.declared.path.Op.{Op}
 use Rattle.capn_wire.specs.declared.path.CapAt.{CapAt}
 use Rattle.capn_wire.specs.declared.path.CapAt.TheVariants.{Cap, Null, NotCap}
@@ -34,15 +34,13 @@ use Rattle.laws_routes.specs.Named.{AllMet, EachMet, EachReturn, NamesMet, Resol
 use Rattle.laws_routes.specs.Premises.{EachTargetCap, OfCap, TargetCap}
 use Rattle.laws_routes.specs.QuietLaws.{AimsElsewhere, EachOff, IsOffAnswer, IsAsked, IsOffDescriptor, NoneAims, NoneNames, Unless, opens}
 use Rattle.laws_routes.specs.Sayings.{Has, IsSilentPlain, SaidIfThere, has_behind, is_among}
+use Rattle.laws_routes.proofs.SayingsCarried.{if_fewer, if_said, or_fewer}
 use Rattle.laws_meanings.specs.NodeMeanings.{Meant, Itself, OfRef, field_meant, ByEnd, Leads}
 use Rattle.laws_meanings.specs.NodeLabels.{LeadsTo, IsAnsweredOrBroken, field_label}
+use Rattle.laws_meanings.specs.ReadMessages.{cap_read, place_read}
 use Rattle.laws_meanings.proofs.Links.{links_last}
-use Rattle.laws_wires.specs.Wires.{Session, Reader, read_label, target_label, index_label, cap_label, resolved_label, CallMeans, ReturnMeans, ResolveMeans, MessageMeans, LinkMeans, has_past, past, past_one}
+use Rattle.laws_wires.specs.Wires.{Session, Reader, read_label, target_label, resolved_label, CallMeans, ReturnMeans, ResolveMeans, MessageMeans, LinkMeans, has_past, past, past_one}
 use Rattle.laws_wires.specs.WireLaws.{IsAlike, LinksAreClosed, LinksAreFewer, LinksAreJoined, LinksAreMet, LinksAreSent, LinksAreSentBack, LinksLive}
-
-pub if_said : (P Q : Type 0) (b : Bool) → (P → Q) → SaidIfThere b P → SaidIfThere b Q
-if_said P Q true f h = f h
-if_said P Q false f h = tt
 
 pub if_asked : (P Q : Type 0) (b : Bool) → (b ≡ true → P → Q) → SaidIfThere b P → SaidIfThere b Q
 if_asked P Q true f h = f refl h
@@ -62,15 +60,6 @@ module _ (h : History) (v : Vat) (x : Reader) where
   sent_back has now (message.Unimplemented y ∷ ms) m l k = (l.0, sent_back has now ms m l.1 k)
 
   -- ---- Fewer imports, fewer questions
-
-  if_fewer : (P : Type 0) (a b : Bool) → (b ≡ true → a ≡ true) → SaidIfThere a P → SaidIfThere b P
-  if_fewer P a false f k = tt
-  if_fewer P true true f k = k
-  if_fewer P false true f k = let e : false ≡ true = f refl in cc
-
-  or_fewer : (a b c : Bool) → (c ≡ true → b ≡ true) → (a || c) ≡ true → (a || b) ≡ true
-  or_fewer true b c f e = refl
-  or_fewer false b c f e = f e
 
   one_fewer : (has left : Has) (now : ℕ → Session) (m : PlainMessage) → ((e : ℕ) → left.import e ≡ true → has.import e ≡ true) → ReturnOf (λ q. left.question q ≡ true → has.question q ≡ true) m → MessageMeans h v x has now m → MessageMeans h v x left now m
   one_fewer has left now (plain.Abort exception) a r l = tt
@@ -105,12 +94,12 @@ module _ (h : History) (read then : Descriptor → Option Meant) where
   abbrev pub EachAlike : List Descriptor → Type 0
   EachAlike ds = (i : ℕ) (d : Descriptor) → slice_get ds i ≡ Some d → then d ≡ read d
 
-  index_alike : (ds : List Descriptor) (i : ℕ) → EachAlike ds → index_label then ds i ≡ index_label read ds i
+  index_alike : (ds : List Descriptor) (i : ℕ) → EachAlike ds → place_read then ds i ≡ place_read read ds i
   index_alike [] i f = refl
   index_alike (d ∷ ds) zero f = f 0 d refl
   index_alike (d ∷ ds) (suc i) f = index_alike ds i (λ j c e. f (suc j) c e)
 
-  cap_alike : (ds : List Descriptor) (c : CapAt) → EachAlike ds → cap_label then ds c ≡ cap_label read ds c
+  cap_alike : (ds : List Descriptor) (c : CapAt) → EachAlike ds → cap_read then ds c ≡ cap_read read ds c
   cap_alike ds (Cap i) f = index_alike ds i f
   cap_alike ds Null f = refl
   cap_alike ds NotCap f = refl
@@ -360,7 +349,7 @@ module _ (h : History) (more : List JournalEntry) where
 
   return_on : (read : Descriptor → Option Meant) (a : Vat × Asking) (b : ReturnBody) → ReturnMeans h read a b → ReturnMeans on read a b
   return_on read a (body.Results payload ds) k = (
-    λ path. subst (λ (y : Meant). LeadsTo on y (cap_label read ds (cap_at payload path))) (sym (field_on a.0 a.1 path)) (leads_on (field_meant h a.0 a.1 path) (cap_label read ds (cap_at payload path)) (k.0 path)),
+    λ path. subst (λ (y : Meant). LeadsTo on y (cap_read read ds (cap_at payload path))) (sym (field_on a.0 a.1 path)) (leads_on (field_meant h a.0 a.1 path) (cap_read read ds (cap_at payload path)) (k.0 path)),
     λ i d g. (let y = k.1 i d g in (y.0, end_on a.0 i a.1 y.0 y.1, leads_on y.0 (read d) y.2)),
     answered_on a.1 k.2,
   )

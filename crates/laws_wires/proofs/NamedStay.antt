@@ -1,95 +1,86 @@
 -- What is named on the way is as it was, behind a step.
 use Rattle.std.specs.FinMap as map
-use Rattle.std.proofs.Common.{◌≡◌, ℕ, Bool, true, false, List, [], ◌∷◌, Option, None, Some, IsSome, refl, sym, subst, ap, ◌∙◌}
+use Rattle.std.proofs.Common.{◌≡◌, ℕ, Bool, true, false, List, [], ◌∷◌, Some, IsSome, refl, sym, subst, ◌∙◌}
 use Rattle.finite_maps.specs.Tally.{Map}
-use Rattle.rpc_msg.specs.declared.message.DisembargoContext.{DisembargoContext}
-use Rattle.rpc_msg.specs.declared.message.DisembargoContext.TheVariants.{SenderLoopback, ReceiverLoopback}
+use Rattle.rpc_msg.specs.declared.message.Finish.{Finish}
 use Rattle.rpc_msg.specs.declared.message.Message.{Message}
 use Rattle.rpc_msg.specs.declared.message.Message.TheVariants as message
 use Rattle.rpc_msg.specs.declared.message.PlainMessage.{PlainMessage}
 use Rattle.rpc_msg.specs.declared.message.PlainMessage.TheVariants as plain
+use Rattle.rpc_msg.specs.declared.message.Release.{Release}
 use Rattle.rpc_msg.specs.declared.message.Return.{Return}
 use Rattle.rpc_msg.specs.declared.parts.Descriptor.{Descriptor}
 use Rattle.rpc_msg.specs.Messages.{descriptors_of, descriptors_of_body}
 use Rattle.vat_journal.specs.Meaning.{History}
-use Rattle.vat_machine.specs.declared.calls.KeptOutcome.{KeptOutcome}
-use Rattle.vat_machine.specs.declared.calls.Promise.{Promise}
+use Rattle.vat_machine.specs.declared.command.Command.{Command}
+use Rattle.vat_machine.specs.declared.command.Granted.{Granted}
 use Rattle.vat_machine.specs.declared.command.Level.{Level}
 use Rattle.vat_machine.specs.declared.command.Level.TheVariants.{One, Zero}
 use Rattle.vat_machine.specs.declared.entries.AnswerEntry.{AnswerEntry}
 use Rattle.vat_machine.specs.declared.entries.Export.{Export}
-use Rattle.vat_machine.specs.declared.entries.Finishing.{Finishing}
-use Rattle.vat_machine.specs.declared.entries.Finishing.TheVariants as finishing
 use Rattle.vat_machine.specs.declared.entries.Import.{Import}
 use Rattle.vat_machine.specs.declared.entries.Question.{Question}
 use Rattle.vat_machine.specs.declared.node.Node.{Node}
-use Rattle.vat_machine.specs.declared.node.Node.TheVariants as node
 use Rattle.vat_machine.specs.State.{State}
 use Rattle.vat_machine.specs.Descriptors.{take_all, take_at}
 use Rattle.vat_machine.specs.Faults.{gave}
 use Rattle.vat_machine.specs.Flags.{lower_by, lower_each, obey}
-use Rattle.vat_machine.specs.Nodes.{is_wire}
-use Rattle.vat_machine.specs.Progress.{Progress, begin, numbers}
-use Rattle.laws_acts.specs.Acts.{Acts, ComesTo, Consumes, StepsAreActs, TurnsBy, came}
-use Rattle.laws_acts.specs.Sent.{all_sent}
-use Rattle.laws_acts.proofs.Alone.{all_alone, resolve_alone}
-use Rattle.laws_sessions.specs.Exports as export
-use Rattle.laws_sessions.specs.Exports.{Out}
-use Rattle.laws_exports.specs.Kinds.{Grows, one_more}
-use Rattle.laws_exports.specs.Views.{outs_for}
-use Rattle.laws_exports.proofs.Grown.{acts}
-use Rattle.laws_steps.specs.Settled.{IsThere}
+use Rattle.vat_machine.specs.Nodes.{settle}
+use Rattle.vat_machine.specs.Progress.{numbers}
+use Rattle.laws_acts.specs.FirstActs.{Starts}
+use Rattle.laws_acts.specs.FirstActs as first
+use Rattle.laws_acts.specs.GoingOut.{GoOut}
+use Rattle.laws_acts.specs.MessageActs.{Back, Brings, ByEchoedCall, ByEchoedRoot, ByReturn, Consumes}
+use Rattle.laws_acts.specs.MessageActs as taken
+use Rattle.laws_acts.specs.Moments.{Moment, beginning}
+use Rattle.laws_acts.proofs.Alone.{all_alone}
 use Rattle.laws_routes.specs.KnownLaws.{StillThere}
 use Rattle.laws_routes.specs.Midway.{Midway}
 use Rattle.laws_routes.specs.QuietLaws.{MayLower, lowering}
 use Rattle.laws_routes.specs.Received.{IfAnswer, IfQuestion, IsMet}
+use Rattle.laws_routes.proofs.ExportsGrown.{Grown, none_grown}
 use Rattle.laws_routes.proofs.ExportsLowered.{Lowered, by_lowered, each_lowered}
-use Rattle.laws_routes.proofs.MidwayTaken.{lowered_still, taken}
+use Rattle.laws_routes.proofs.MidwayTaken as midway
+use Rattle.laws_routes.proofs.MidwayTaken.{lowered_still}
 use Rattle.laws_routes.proofs.SayingsCarried.{all_there}
-use Rattle.laws_meanings.specs.NodeLabels.{Labels, field_label, label}
-use Rattle.laws_wires.specs.SceneWires.{CommandsKeepNamed, MessagesKeepNamed, NodesKeepLabels}
+use Rattle.laws_messages.proofs.Oldest.{same_plain}
+use Rattle.laws_meanings.specs.NodeLabels.{Labels, label}
+use Rattle.laws_wires.specs.SceneWires.{CommandsKeepNamed, MessagesKeepNamed}
+use Rattle.laws_wires.proofs.SentSo.{goes_so, grown_on}
 
--- ---- Acts add exports
+-- ---- The first act of a command adds exports
 
-kept_by : (x : Export) (ms : List Out) (last : Option Export) → Grows (Some x) ms last → (y : Export) × (last ≡ Some y) × (y.node ≡ x.node)
-kept_by x [] last g = (x, sym g, refl)
-kept_by x (export.Give k ∷ ms) last g = let a = kept_by (one_more g.0 (Some x)) ms last g.3 in (a.0, a.1, a.2 ∙ sym g.2)
-kept_by x (export.Resolve ∷ ms) last g = kept_by x ms last g
+module _ (h : History) (l : Labels) (s : State) where
+  gone_out : (E : Map Export) (ns : List Node) (ds : List Descriptor) (F : Map Export) → GoOut s E ns ds F → Grown E F
+  gone_out E [] [] F g = subst (Grown E) (sym g) (none_grown E)
+  gone_out E [] (d ∷ ds) F g = absurd g
+  gone_out E (n ∷ ns) [] F g = absurd g
+  gone_out E (n ∷ ns) (d ∷ ds) F g = let one = goes_so h s.vat l E (settle s n) d g.0 g.1 in grown_on E g.0 F one.grown (gone_out g.0 ns ds F g.2)
 
-acts_add : (last d : Progress) → Acts last d → StillThere d.state.exports last.state.exports
-acts_add last d list e x i =
-    let ms = outs_for e (all_sent list) in
-    kept_by x ms (map.get last.state.exports e) (subst (λ (o : Option Export). Grows o ms (map.get last.state.exports e)) i (acts last d list e))
-
--- ---- Labels of own nodes
-
-module _ (h : History) (l m : Labels) (s : State) (kept : NodesKeepLabels l m s) where
-  own_label : (v : _) (n : Node) → is_wire n ≡ false → IsThere s n → label h v m n ≡ label h v l n
-  own_label v (node.Object o) w i = refl
-  own_label v (node.Promise p) w i = by (map.get s.promises p) refl i
-    where
-      by : (o : Option Promise) → map.get s.promises p ≡ o → IsSome o → m.promise p ≡ l.promise p
-      by None e k = cc
-      by (Some y) e k = kept.promises p y e
-  own_label v (node.Field o path) w i = by (map.get s.outcomes o) refl i
-    where
-      by : (z : Option KeptOutcome) → map.get s.outcomes o ≡ z → IsSome z → field_label h (m.outcome o) path ≡ field_label h (l.outcome o) path
-      by None e k = cc
-      by (Some y) e k = ap (λ a. field_label h a path) (kept.outcomes o y e)
-  own_label v (node.Import e) w i = cc
-  own_label v (node.Pipe q path) w i = cc
-  own_label v (node.Broken reason) w i = refl
-
-  exports_mean : (v : _) (other : State) (out back : List Message) → Midway s other out back → (F : Map Export) → StillThere F s.exports → (e : ℕ) (y : Export) → map.get F e ≡ Some y → label h v m y.node ≡ label h v l y.node
-  exports_mean v other out back mid F was e y i =
-      let a = was e y i in
-      let x : Export = a.0 in
-      let b = mid.exports e x a.1 in
-      let same : x.node ≡ y.node = a.2 in
-      let held = b.1 in
-      subst (λ (n : Node). label h v m n ≡ label h v l n) same (own_label v x.node b.0 held.0)
+  started : (c : Command) (g : Granted) (d : Moment) → Starts (beginning s) c g d → StillThere s.exports d.state.exports
+  started c g d (first.Hosts o e a u) = rw u (all_there s.exports)
+  started c g d (first.Clones r x e f a u) = rw u (all_there s.exports)
+  started c g d (first.Drops r x e f a u) = rw u (all_there s.exports)
+  started c g d (first.AsksRoot q e f a u) = rw u (all_there s.exports)
+  started c g d (first.CallsOut k x q t ds es e f j n o r a u) = let out = gone_out s.exports _ ds es r in rw u (λ i y f. out.still i y f)
+  started c g d (first.CallsHere k x o e f j n r a u) = rw u (all_there s.exports)
+  started c g d (first.CallsLater k x o q b e f j n r a u) = rw u (all_there s.exports)
+  started c g d (first.NamesField k path from e f a u) = rw u (all_there s.exports)
+  started c g d (first.Promises p e f a u) = rw u (all_there s.exports)
+  started c g d (first.Fixes p r x key calls e f j n a u) = rw u (all_there s.exports)
+  started c g d (first.Rejects p why key calls e f j a u) = rw u (all_there s.exports)
+  started c g d (first.Answers t payload refs o e f a u) = rw u (all_there s.exports)
+  started c g d (first.Fails t why o e f a u) = rw u (all_there s.exports)
+  started c g d (first.Finishes k from e f a u) = rw u (all_there s.exports)
+  started c g d (first.StaysPut r x e f a u) = rw u (all_there s.exports)
+  started c g d (first.Breaks r x reason e f i j a u) = rw u (all_there s.exports)
+  started c g d (first.Switches r x by n e f i j k m a u) = rw u (all_there s.exports)
+  started c g d (first.Turns r x by n t q e f i j k m o b a u) = rw u (all_there s.exports)
 
 -- ---- The exports that a message leaves
+
+not_plain : {A : Type 0} (m k : PlainMessage) → message.Plain m ≡ message.Unimplemented k → A
+not_plain m k e = absurd (let bad : message.Plain m ≡ message.Unimplemented k = e in cc)
 
 nothing : (l : Level) (t : State) → t ≡ record t { imports = (take_at l t []).imports }
 nothing Zero t = refl
@@ -112,7 +103,7 @@ module _ (s other : State) (out rest : List Message) (level : s.level ≡ One) (
 
   module _ (x : PlainMessage) (mid : Midway s other out (message.Plain x ∷ rest)) where
     base : Midway (record s { imports = imports_of x }) other out rest
-    base = subst (λ (z : State). Midway z other out rest) (all_alone s (descriptors_of (message.Plain x))) (taken s other out x rest mid level)
+    base = subst (λ (z : State). Midway z other out rest) (all_alone s (descriptors_of (message.Plain x))) (midway.taken s other out x rest mid level)
 
     all_left : LeavesOf x s.exports
     all_left = record { was = all_there s.exports; midway = base; imported = exported }
@@ -124,58 +115,63 @@ module _ (s other : State) (out rest : List Message) (level : s.level ≡ One) (
     obeyed true ids may = fewer (lower_each s.exports ids) (each_lowered s.exports ids) may
     obeyed false ids may = all_left
 
-    same : (first : Progress) → first.state.exports ≡ s.exports → LeavesOf x first.state.exports
-    same first e = subst (LeavesOf x) (sym e) all_left
+    same : (E : Map Export) → E ≡ s.exports → LeavesOf x E
+    same E e = subst (LeavesOf x) (sym e) all_left
 
-  obey_alone : (t : State) (I : Map Import) (flag : Bool) (ids : List ℕ) → t ≡ record s { imports = I } → (obey t flag ids).exports ≡ (obey s flag ids).exports
-  obey_alone t I true ids e = ap (λ (z : State). lower_each z.exports ids) e
-  obey_alone t I false ids e = ap (λ (z : State). z.exports) e
+  -- Of a message that is as it was to be.
+  abbrev LeavesIf : Map Export → PlainMessage → Type 0
+  LeavesIf E x = Midway s other out (message.Plain x ∷ rest) → IsMet s other out rest x → LeavesOf x E
 
-  came_exports : (r : Return) (y : Question) (f : Finishing) (first : Progress) → ComesTo (begin s) r y f first → first.state.exports ≡ (came s r y).exports
-  came_exports r y finishing.Sent first h = rw h refl
-  came_exports r y finishing.Owed first h = rw h refl
-  came_exports r y finishing.Waived first h = rw h refl
+  by_return : (r : Return) (y : Question) → map.get s.questions r.answer.0 ≡ Some y → LeavesIf (obey s r.release_param_caps (numbers y.given)).exports (plain.Return r)
+  by_return r y there mid met =
+      let at = subst (IfQuestion s other out rest r) there met in
+      let may = subst (λ (t : State). MayLower (obey t r.release_param_caps (numbers y.given)) other out rest) (all_alone s (descriptors_of_body r.body)) at.lowers in
+      obeyed (plain.Return r) mid r.release_param_caps (numbers y.given) may
 
-  turned : (c : DisembargoContext) (first : Progress) → TurnsBy (begin s) c first → first.state.exports ≡ s.exports
-  turned (SenderLoopback y) first h = rw h.1 refl
-  turned (ReceiverLoopback y) first h = rw h.2 refl
-
-  leaves : (x : PlainMessage) (first : Progress) → Midway s other out (message.Plain x ∷ rest) → IsMet s other out rest x → Consumes x (begin s) first → LeavesOf x first.state.exports
-  leaves (plain.Abort exception) first mid met h = absurd h
-  leaves (plain.Bootstrap q) first mid met h = same (plain.Bootstrap q) mid first (rw h.3 refl)
-  leaves (plain.Call c) first mid met h = same (plain.Call c) mid first (ap (λ (p : Progress). p.state.exports) h.3 ∙ ap (λ (t : State). t.exports) (all_alone s c.descriptors))
-  leaves (plain.Return r) first mid met h =
-      let y : Question = h.0 in
-      let ds : List Descriptor = descriptors_of_body r.body in
-      let at = subst (IfQuestion s other out rest r) h.1 met in
-      let may = subst (λ (t : State). MayLower (obey t r.release_param_caps (numbers y.given)) other out rest) (all_alone s ds) at.lowers in
-      let is : first.state.exports ≡ (obey s r.release_param_caps (numbers y.given)).exports =
-      came_exports r y y.finish first h.3 ∙ obey_alone (take_all s ds) (take_all s ds).imports r.release_param_caps (numbers y.given) (all_alone s ds) in
-      subst (LeavesOf (plain.Return r)) (sym is) (obeyed (plain.Return r) mid r.release_param_caps (numbers y.given) may)
-  leaves (plain.Finish f) first mid met h =
-      let a : AnswerEntry = h.0 in
-      let at = subst (IfAnswer s other out rest f) h.1 met in
+  by_finish : (f : Finish) (a : AnswerEntry) → map.get s.answers f.question.0 ≡ Some a → LeavesIf (obey s f.release_result_caps (gave a.returned)).exports (plain.Finish f)
+  by_finish f a there mid met =
+      let at = subst (IfAnswer s other out rest f) there met in
       let may = subst (λ (t : State). MayLower (obey t f.release_result_caps (gave a.returned)) other out rest) (none_taken s) at.lowers in
-      let is : first.state.exports ≡ (obey s f.release_result_caps (gave a.returned)).exports = rw h.3 refl in
-      subst (LeavesOf (plain.Finish f)) (sym is) (obeyed (plain.Finish f) mid f.release_result_caps (gave a.returned) may)
-  leaves (plain.Resolve r) first mid met h = same (plain.Resolve r) mid first (ap (λ (p : Progress). p.state.exports) h ∙ ap (λ (t : State). t.exports) (resolve_alone s r.promise.0 r.to))
-  leaves (plain.Release r) first mid met h =
-      let is : first.state.exports ≡ lower_by s.exports r.export.0 r.count = rw h refl in
+      obeyed (plain.Finish f) mid f.release_result_caps (gave a.returned) may
+
+  by_release : (r : Release) → LeavesIf (lower_by s.exports r.export.0 r.count) (plain.Release r)
+  by_release r mid met =
       let may = subst (λ (t : State). MayLower (lowering t r.export.0 r.count) other out rest) (none_taken s) met in
-      subst (LeavesOf (plain.Release r)) (sym is) (fewer (plain.Release r) mid (lower_by s.exports r.export.0 r.count) (by_lowered s.exports r.export.0 r.count) may)
-  leaves (plain.Disembargo d) first mid met h = same (plain.Disembargo d) mid first (turned d.context first h)
-  leaves (plain.Other n) first mid met h = same (plain.Other n) mid first (rw h refl)
+      fewer (plain.Release r) mid (lower_by s.exports r.export.0 r.count) (by_lowered s.exports r.export.0 r.count) may
+
+  brings : (x : PlainMessage) (b : Back) (y : Question) → Brings s (message.Plain x) b → map.get s.questions b.question ≡ Some y → LeavesIf (obey s b.flag (numbers y.given)).exports x
+  brings x b y (ByReturn r e f) there =
+      same_plain (LeavesIf (obey s b.flag (numbers y.given)).exports) x (plain.Return r) e
+      (subst (λ (k : Back). LeavesIf (obey s k.flag (numbers y.given)).exports (plain.Return r)) (sym f) (by_return r y (subst (λ (k : Back). map.get s.questions k.question ≡ Some y) f there)))
+  brings x b y (ByEchoedRoot q e f) there = not_plain x (plain.Bootstrap q) e
+  brings x b y (ByEchoedCall c e f) there = not_plain x (plain.Call c) e
+
+  leaves : (x : PlainMessage) (d : Moment) → Consumes (beginning s) (message.Plain x) d → LeavesIf d.state.exports x
+  leaves x d (taken.OpensRoot q o e f i u) = λ mid met. same x mid d.state.exports (rw u refl)
+  leaves x d (taken.OpensCall c o e f i u) = λ mid met. same x mid d.state.exports (rw u refl)
+  leaves x d (taken.Loses b y e f i j u) = rw u (brings x b y e f)
+  leaves x d (taken.ComesToCall b y c e f i j k u) = rw u (brings x b y e f)
+  leaves x d (taken.ComesToRelay b y o e f i j k u) = rw u (brings x b y e f)
+  leaves x d (taken.IsFinished k a e f i u) = rw u (same_plain (LeavesIf (obey s k.release_result_caps (gave a.returned)).exports) x (plain.Finish k) e (by_finish k a f))
+  leaves x d (taken.IsResolved r e u) = λ mid met. same x mid d.state.exports (rw u refl)
+  leaves x d (taken.IsReleased r e u) = rw u (same_plain (LeavesIf (lower_by s.exports r.export.0 r.count)) x (plain.Release r) e (by_release r))
+  leaves x d (taken.SendsBack t to k e f u) = λ mid met. same x mid d.state.exports (rw u refl)
+  leaves x d (taken.Lifts t k b e f u) = λ mid met. same x mid d.state.exports (rw u refl)
+  leaves x d (taken.SendsForeign p e f u) = λ mid met. same x mid d.state.exports (rw u refl)
+  leaves x d (taken.SendsOther n e u) = λ mid met. same x mid d.state.exports (rw u refl)
+  leaves x d (taken.TakesBack r e u) = not_plain x (plain.Resolve r) e
+  leaves x d (taken.Ignores r e u) = not_plain x (plain.Release r) e
 
 -- ---- The laws
 
-pub commands_keep_named : StepsAreActs → CommandsKeepNamed
-commands_keep_named law h w out back now c g effects mid theirs kept does =
-    let a = law.commands w.s c g effects w.t does in
+pub commands_keep_named : CommandsKeepNamed
+commands_keep_named h w out back now c g d mid theirs starts kept =
     let met = mid.named in
+    let still = started h w.l w.s c g d starts in
     record {
       was = all_there w.s.exports;
-      is = subst (λ (t : State). StillThere w.s.exports t.exports) (sym a.3) (acts_add a.0 (begin w.s) a.1);
-      means = exports_mean h w.l w.m w.s kept w.v w.z out back mid w.s.exports (all_there w.s.exports);
+      is = λ e x i. (let y = still e x i in let z = kept e x y.0 i y.1 y.2 in (z.0, z.1, z.2));
+      means = λ e x i. (let y = still e x i in let z = kept e x y.0 i y.1 y.2 in z.3);
       named = met.0;
       aimed = theirs.met;
       named_back = met.1;
@@ -183,23 +179,18 @@ commands_keep_named law h w out back now c g effects mid theirs kept does =
       imported = theirs.imported;
     }
 
-pub messages_keep_named : StepsAreActs → MessagesKeepNamed
-messages_keep_named law h w out rest now x effects mid theirs level met kept fault handles =
-    let a = law.messages w.s x effects w.t level fault handles in
-    let first : Progress = a.0 in
-    let more = a.2 in
-    let left = leaves w.s w.z out rest level theirs.imported x first mid met a.1 in
+pub messages_keep_named : MessagesKeepNamed
+messages_keep_named h w out rest now x d mid theirs level met consumes kept =
+    let left = leaves w.s w.z out rest level theirs.imported x d consumes mid met in
     let between = left.midway in
-    let named = between.named in (
-      first.state.exports,
-      record {
-        was = left.was;
-        is = subst (λ (t : State). StillThere first.state.exports t.exports) (sym more.3) (acts_add more.0 first more.1);
-        means = exports_mean h w.l w.m w.s kept w.v w.z out (message.Plain x ∷ rest) mid first.state.exports left.was;
-        named = named.0;
-        aimed = theirs.met;
-        named_back = named.1;
-        aimed_back = between.met;
-        imported = left.imported;
-      },
-    )
+    let named = between.named in
+    record {
+      was = left.was;
+      is = λ e y i. (let x = left.was e y i in let z = kept e x.0 y x.1 i (sym x.2) in (z.0, z.1, z.2 ∙ x.2));
+      means = λ e y i. (let x = left.was e y i in let z = kept e x.0 y x.1 i (sym x.2) in subst (λ (n : Node). label h w.v w.m n ≡ label h w.v w.l n) x.2 z.3);
+      named = named.0;
+      aimed = theirs.met;
+      named_back = named.1;
+      aimed_back = between.met;
+      imported = left.imported;
+    }

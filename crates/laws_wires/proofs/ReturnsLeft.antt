@@ -20,7 +20,6 @@ use Rattle.rpc_msg.specs.declared.parts.Target.{Target}
 use Rattle.vat_machine.specs.declared.entries.AnswerEntry.{AnswerEntry}
 use Rattle.vat_machine.specs.declared.entries.Finishing.{Finishing}
 use Rattle.vat_machine.specs.declared.entries.Finishing.TheVariants as finishing
-use Rattle.vat_machine.specs.declared.entries.Import.{Import}
 use Rattle.vat_machine.specs.declared.entries.Question.{Question}
 use Rattle.vat_machine.specs.declared.entries.Returned.{Returned}
 use Rattle.vat_machine.specs.declared.entries.Role.{Role}
@@ -32,14 +31,15 @@ use Rattle.vat_machine.specs.Settling.{Tells, TellsPeer, known}
 use Rattle.vat_machine.specs.Sweeping.{IsNotSent, closed_map, finished_by, got_of}
 use Rattle.laws_acts.specs.Acts.{Acts, ComesTo, Consumes, NoMore, StepsAreActs, Then, TurnsBy, came}
 use Rattle.laws_acts.specs.FirstActs.{asked}
-use Rattle.laws_sessions.proofs.EachAct.{OfActs, by_act}
-use Rattle.laws_sessions.proofs.Paid.{release_state}
-use Rattle.laws_sessions.proofs.Same.{collects, describes_all, fits, gives, goes, obeys, resolves, says, takes, takes_resolve, tells_call}
-use Rattle.laws_exports.specs.Imports.{KeepsImport}
-use Rattle.laws_exports.proofs.Keeping as keeping
+use Rattle.laws_runs.proofs.EachAct.{OfActs, by_act}
+use Rattle.laws_runs.proofs.Paid.{release_state}
+use Rattle.laws_runs.proofs.Same.{collects, describes_all, fits, gives, goes, obeys, resolves, says, takes, takes_resolve, tells_call}
+use Rattle.laws_messages.specs.Imports.{KeepsImport}
+use Rattle.laws_messages.proofs.Keeping as keeping
 use Rattle.laws_routes.specs.Named.{EachReturn, ReturnOf}
 use Rattle.laws_routes.specs.Received.{IfQuestion, IsMet}
 use Rattle.laws_wires.specs.SceneWires.{CommandsBringNone, CommandsLeaveReturns, IsLeft, MessagesLeaveReturns}
+use Rattle.laws_wires.proofs.ImportsBrought.{kept_there}
 
 -- ---- One entry
 
@@ -94,7 +94,7 @@ tells_peer d new q v (Some a) h =
     let back = gives g.0.state (numbers a.taken) in
     ap (λ (p : Progress). p.state.questions) g.2 ∙ (back.questions ∙ (left.questions ∙ said.tables.questions))
 
-tells : (d new : Progress) (who : Caller) (v : Value) → Tells d who v new → new.state.questions ≡ d.state.questions
+pub tells : (d new : Progress) (who : Caller) (v : Value) → Tells d who v new → new.state.questions ≡ d.state.questions
 tells d new (caller.Application c) v h = let k = tells_call d c.0 v (map.get d.state.calls c.0) new h in k.0.ids.tables.questions
 tells d new (caller.Peer q) v h = tells_peer d new q v (map.get d.state.answers q.0) h
 
@@ -202,12 +202,7 @@ commands_leave_returns law s other t out back c g effects mid does =
 pub commands_bring_none : StepsAreActs → CommandsBringNone
 commands_bring_none law s t c g effects does e i =
     let a = law.commands s c g effects t does in
-    by (map.get s.imports e) (map.get t.imports e) (subst (λ (z : State). KeepsImport (map.get s.imports e) (map.get z.imports e)) (sym a.3) (keeping.acts a.0 (begin s) a.1 e)) i
-  where
-    by : (x y : Option Import) → KeepsImport x y → IsSome y → IsSome x
-    by x None k j = cc
-    by None (Some y) k j = absurd k
-    by (Some x) (Some y) k j = refl
+    kept_there (map.get s.imports e) (map.get t.imports e) (subst (λ (z : State). KeepsImport (map.get s.imports e) (map.get z.imports e)) (sym a.3) (keeping.acts a.0 (begin s) a.1 e)) i
 
 -- ---- Behind a message
 

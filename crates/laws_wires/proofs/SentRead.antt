@@ -1,7 +1,6 @@
 -- What is sent is read as it was meant.
 use Rattle.std.proofs.Common.{◌≡◌, inl, inr, ℕ, zero, suc, Bool, true, false, List, [], ◌∷◌, None, Some, refl, sym, subst, ap, ◌∙◌}
 use Rattle.capn_wire.specs.declared.path.Op.{Op}
-use Rattle.capn_wire.specs.declared.path.Op.TheVariants as op
 use Rattle.finite_maps.specs.Tally.{Map}
 use Rattle.rpc_msg.specs.declared.ids.Vat.{Vat}
 use Rattle.rpc_msg.specs.declared.ids.Stamp.{Stamp}
@@ -20,16 +19,12 @@ use Rattle.vat_journal.specs.Sources.{Asking, OfBootstrap, OfCall}
 use Rattle.vat_journal.specs.Meaning.{History, bootstrap_meaning, root_field}
 use Rattle.vat_machine.specs.declared.entries.Export.{Export}
 use Rattle.laws_routes.specs.Sayings.{Has, SaidIfThere}
+use Rattle.laws_routes.proofs.FirstCommands.{fields_again}
 use Rattle.laws_meanings.specs.NodeMeanings.{Meant, Itself, OfField, field_meant}
 use Rattle.laws_meanings.specs.NodeLabels.{Labels, field_label}
 use Rattle.laws_wires.specs.Wires.{Session, Reader, MessageMeans, ReturnMeans, export_label, read_label, target_label}
 use Rattle.laws_wires.specs.SentWires.{AreOfOne, EachRead, IsAimed, IsRead, IsReadTarget, OwnMeans, SentIsRead, own_label, own_target}
 use Rattle.laws_wires.proofs.LinksKept.{EachAlike, call_alike, resolve_alike, return_alike}
-
-fields_again : (path : List Op) → fields (fields path) ≡ fields path
-fields_again [] = refl
-fields_again (op.Noop ∷ ops) = fields_again ops
-fields_again (op.Field n ∷ ops) = ap (λ (p : List Op). op.Field n ∷ p) (fields_again ops)
 
 meant_again : (h : History) (v : Vat) (a : Asking) (path : List Op) → field_meant h v a (fields path) ≡ field_meant h v a path
 meant_again h v OfBootstrap path = ap (λ (p : List Op). Itself (root_field (bootstrap_meaning h v) p)) (fields_again path)

@@ -1,11 +1,10 @@
 -- What goes out means what its nodes mean; and it does so still as exports are added and labels go.
 use Rattle.std.specs.FinMap as map
-use Rattle.std.proofs.Common.{◌≡◌, ◌⊎◌, inl, inr, ℕ, zero, suc, ◌+◌, Bool, true, false, List, [], ◌∷◌, ◌++◌, Option, None, Some, unwrap_or, refl, sym, subst, ap, ◌∙◌}
+use Rattle.std.proofs.Common.{◌≡◌, ◌⊎◌, inl, inr, ℕ, zero, suc, ◌+◌, true, false, List, [], ◌∷◌, Option, None, Some, unwrap_or, refl, sym, subst, ap, ◌∙◌}
 use Rattle.std.specs.List.{slice_get}
 use Rattle.finite_maps.specs.Tally.{Map}
 use Rattle.finite_maps.proofs.Gets.{get-insert_same}
 use Rattle.finite_maps.proofs.Tested.{at_put}
-use Rattle.capn_wire.specs.declared.path.Op.{Op}
 use Rattle.capn_wire.specs.declared.path.CapAt.{CapAt}
 use Rattle.capn_wire.specs.declared.path.CapAt.TheVariants.{Cap, Null, NotCap}
 use Rattle.rpc_msg.specs.declared.ids.Vat.{Vat}
@@ -27,14 +26,14 @@ use Rattle.vat_machine.specs.declared.node.Reason.TheVariants.{NotACapability}
 use Rattle.vat_machine.specs.declared.entries.Export.{Export}
 use Rattle.vat_machine.specs.Descriptors.{export_node}
 use Rattle.vat_machine.specs.Nodes.{settle, node_of_cap}
-use Rattle.vat_machine.specs.Progress.{export_id}
 use Rattle.vat_machine.specs.State.{State}
 use Rattle.laws_acts.specs.GoingOut.{GoesOut, Again, AsNew, AsOther, GoOut, is_own, said}
 use Rattle.laws_routes.proofs.ExportsGrown.{Grown, none_grown}
 use Rattle.laws_meanings.specs.NodeMeanings.{Meant, OfRef, field_meant}
-use Rattle.laws_meanings.specs.NodeLabels.{Labels, LeadsTo, Means, PromiseMeans, OutcomeMeans, field_label, label}
+use Rattle.laws_meanings.specs.NodeLabels.{Labels, LeadsTo, Means, PromiseMeans, OutcomeMeans, label}
+use Rattle.laws_meanings.specs.ReadMessages.{cap_read, place_read}
 use Rattle.laws_meanings.proofs.Labelled.{settles}
-use Rattle.laws_wires.specs.Wires.{CallMeans, ReturnMeans, ResolveMeans, cap_label, index_label, resolved_label}
+use Rattle.laws_wires.specs.Wires.{CallMeans, ReturnMeans, ResolveMeans}
 use Rattle.laws_wires.specs.SentWires.{own_label}
 use Rattle.laws_wires.specs.Sent.{IsOurs, AreOurs}
 
@@ -51,12 +50,12 @@ module _ (h : History) (read then : Descriptor → Option Meant) where
   abbrev pub EachWeak : List Descriptor → Type 0
   EachWeak ds = (i : ℕ) (d : Descriptor) → slice_get ds i ≡ Some d → Weak (read d) (then d)
 
-  index_weak : (ds : List Descriptor) (i : ℕ) → EachWeak ds → Weak (index_label read ds i) (index_label then ds i)
+  index_weak : (ds : List Descriptor) (i : ℕ) → EachWeak ds → Weak (place_read read ds i) (place_read then ds i)
   index_weak [] i f = inl refl
   index_weak (d ∷ ds) zero f = f 0 d refl
   index_weak (d ∷ ds) (suc i) f = index_weak ds i (λ j c e. f (suc j) c e)
 
-  cap_weak : (ds : List Descriptor) (c : CapAt) → EachWeak ds → Weak (cap_label read ds c) (cap_label then ds c)
+  cap_weak : (ds : List Descriptor) (c : CapAt) → EachWeak ds → Weak (cap_read read ds c) (cap_read then ds c)
   cap_weak ds (Cap i) f = index_weak ds i f
   cap_weak ds Null f = inl refl
   cap_weak ds NotCap f = inl refl
@@ -66,7 +65,7 @@ module _ (h : History) (read then : Descriptor → Option Meant) where
 
   pub return_weak : (a : Vat × Asking) (b : ReturnBody) → EachWeak (descriptors_of_body b) → ReturnMeans h read a b → ReturnMeans h then a b
   return_weak a (body.Results payload ds) f k = (
-    λ path. weak_to h (field_meant h a.0 a.1 path) (cap_label read ds (cap_at payload path)) (cap_label then ds (cap_at payload path)) (cap_weak ds (cap_at payload path) f) (k.0 path),
+    λ path. weak_to h (field_meant h a.0 a.1 path) (cap_read read ds (cap_at payload path)) (cap_read then ds (cap_at payload path)) (cap_weak ds (cap_at payload path) f) (k.0 path),
     λ i d g. (let y = k.1 i d g in (y.0, y.1, weak_to h y.0 (read d) (then d) (f i d g) y.2)),
     k.2,
   )
@@ -159,7 +158,7 @@ module _ (h : History) (v : Vat) (l : Labels) where
   -- Capabilities of a moment.
   module _ (s : State) (promises : (p : ℕ) → PromiseMeans h v l p (map.get s.promises p)) (outcomes : (o : ℕ) → OutcomeMeans h v l o (map.get s.outcomes o)) where
     pub record AllGone (E : Map Export) (ns : List Node) (ds : List Descriptor) (F : Map Export) : Type 0 where
-      pub index : (i : ℕ) (x : Meant) → Means h v l x (unwrap_or (slice_get ns i) (node.Broken NotACapability)) → LeadsTo h x (index_label (own_label h v l F) ds i)
+      pub index : (i : ℕ) (x : Meant) → Means h v l x (unwrap_or (slice_get ns i) (node.Broken NotACapability)) → LeadsTo h x (place_read (own_label h v l F) ds i)
       pub each : (i : ℕ) (d : Descriptor) → slice_get ds i ≡ Some d → (n : Node) × (slice_get ns i ≡ Some n) × ((x : Meant) → Means h v l x n → LeadsTo h x (own_label h v l F d))
       pub ours : AreOurs F ds
       pub grown : Grown E F
@@ -173,7 +172,7 @@ module _ (h : History) (v : Vat) (l : Labels) where
     one_more : (E M F : Map Export) (n : Node) (d : Descriptor) (ns : List Node) (ds : List Descriptor) → Gone E (settle s n) d M → AllGone M ns ds F → AllGone E (n ∷ ns) (d ∷ ds) F
     one_more E M F n d ns ds g r = record { index = index; each = each; ours = (ours_grown M F r.grown d g.ours, r.ours); grown = grown_on E M F g.grown r.grown }
       where
-        index : (i : ℕ) (x : Meant) → Means h v l x (unwrap_or (slice_get (n ∷ ns) i) (node.Broken NotACapability)) → LeadsTo h x (index_label (own_label h v l F) (d ∷ ds) i)
+        index : (i : ℕ) (x : Meant) → Means h v l x (unwrap_or (slice_get (n ∷ ns) i) (node.Broken NotACapability)) → LeadsTo h x (place_read (own_label h v l F) (d ∷ ds) i)
         index zero x k = one_to E M F n d g r.grown x k
         index (suc i) x k = r.index i x k
 
@@ -187,7 +186,7 @@ module _ (h : History) (v : Vat) (l : Labels) where
     all_go E (n ∷ ns) [] F g = absurd g
     all_go E (n ∷ ns) (d ∷ ds) F g = one_more E g.0 F n d ns ds (goes_so E (settle s n) d g.0 g.1) (all_go g.0 ns ds F g.2)
 
-    pub caps_to : (ns : List Node) (ds : List Descriptor) (E F : Map Export) → AllGone E ns ds F → (c : CapAt) (x : Meant) → Means h v l x (node_of_cap ns c) → LeadsTo h x (cap_label (own_label h v l F) ds c)
+    pub caps_to : (ns : List Node) (ds : List Descriptor) (E F : Map Export) → AllGone E ns ds F → (c : CapAt) (x : Meant) → Means h v l x (node_of_cap ns c) → LeadsTo h x (cap_read (own_label h v l F) ds c)
     caps_to ns ds E F g (Cap i) x k = g.index i x k
     caps_to ns ds E F g Null x k = k
     caps_to ns ds E F g NotCap x k = k

@@ -2,7 +2,7 @@
 use Rattle.std.specs.FinMap as map
 use Rattle.std.specs.FinMap.Entries as entries
 use Rattle.std.specs.Ordering.{nat_cmp}
-use Rattle.std.proofs.Common.{◌≡◌, ◌⊎◌, inl, inr, ℕ, Bool, true, false, cond, nat_eq, List, [], ◌∷◌, ◌++◌, Option, None, Some, is_some, ◌||◌, refl, sym, subst, ap, ◌∙◌, T}
+use Rattle.std.proofs.Common.{◌≡◌, inl, ℕ, Bool, true, false, cond, List, [], ◌∷◌, ◌++◌, Option, None, Some, refl, sym, subst, ap, ◌∙◌, T}
 use Rattle.finite_maps.specs.Tally.{Map}
 use Rattle.finite_maps.proofs.Sorted.{behind, first_entry, later_entry, sorted_tail}
 use Rattle.finite_maps.proofs.Tested.{at_put, equal, get_left}
@@ -16,7 +16,7 @@ use Rattle.rpc_msg.specs.declared.message.PlainMessage.{PlainMessage}
 use Rattle.rpc_msg.specs.declared.message.PlainMessage.TheVariants as plain
 use Rattle.rpc_msg.specs.declared.message.Message.{Message}
 use Rattle.rpc_msg.specs.declared.message.Message.TheVariants as message
-use Rattle.rpc_msg.specs.Messages.{descriptors_of, descriptors_of_body, descriptors_of_resolved}
+use Rattle.rpc_msg.specs.Messages.{descriptors_of_body, descriptors_of_resolved}
 use Rattle.vat_journal.specs.Sources.{Asking}
 use Rattle.vat_journal.specs.Meaning.{History}
 use Rattle.vat_machine.specs.declared.node.Node.{Node}
@@ -32,12 +32,12 @@ use Rattle.vat_machine.specs.Nodes.{is_promise, is_field}
 use Rattle.vat_machine.specs.Places.{names, named_by_export, places}
 use Rattle.vat_machine.specs.Settling.{exports_where}
 use Rattle.vat_machine.specs.State.{State}
-use Rattle.laws_acts.specs.Moments.{Moment, Saying, Settled, ThePromise, TheOutcome, Owing, is_collecting, is_of, owing}
+use Rattle.laws_acts.specs.Moments.{Moment, Saying, Settled, ThePromise, TheOutcome, Owing, is_of, owing}
 use Rattle.laws_acts.specs.SmallActs.{release_messages}
 use Rattle.laws_routes.proofs.ExportsGrown.{Grown, none_grown}
 use Rattle.laws_steps.proofs.Among.{named, none_among, in_exports}
 use Rattle.laws_meanings.specs.NodeMeanings.{Meant, field_meant}
-use Rattle.laws_meanings.specs.NodeLabels.{Labels, ValueMeans, field_label, label}
+use Rattle.laws_meanings.specs.NodeLabels.{Labels, field_label, label}
 use Rattle.laws_meanings.proofs.Labelled.{soft_value}
 use Rattle.laws_wires.specs.Wires.{Session, export_label}
 use Rattle.laws_wires.specs.SentWires.{own_label, own_target}

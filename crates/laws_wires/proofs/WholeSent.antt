@@ -2,28 +2,23 @@
 use Rattle.std.specs.FinMap as map
 use Rattle.std.proofs.Common.{◌≡◌, ◌⊎◌, inl, inr, ℕ, false, true, Option, None, Some, IsSome, refl, sym, subst, ap, ◌∙◌}
 use Rattle.finite_maps.specs.Tally.{Map}
-use Rattle.rpc_msg.specs.declared.ids.Vat.{Vat}
-use Rattle.vat_journal.specs.Sources.{Asking}
 use Rattle.vat_journal.specs.Meaning.{History}
 use Rattle.vat_machine.specs.declared.node.Node.{Node}
 use Rattle.vat_machine.specs.declared.node.Node.TheVariants as node
 use Rattle.vat_machine.specs.declared.calls.Caller.{Caller}
 use Rattle.vat_machine.specs.declared.calls.Caller.TheVariants as caller
 use Rattle.vat_machine.specs.declared.calls.KeptOutcome.{KeptOutcome}
-use Rattle.vat_machine.specs.declared.calls.Promise.{Promise}
 use Rattle.vat_machine.specs.declared.calls.Value.{Value}
 use Rattle.vat_machine.specs.declared.command.Command.{Command}
-use Rattle.vat_machine.specs.declared.command.Effects.{Effects}
 use Rattle.vat_machine.specs.declared.command.Granted.{Granted}
 use Rattle.vat_machine.specs.declared.entries.Export.{Export}
 use Rattle.vat_machine.specs.declared.entries.Question.{Question}
 use Rattle.vat_machine.specs.Places.{named_by_export}
 use Rattle.vat_machine.specs.Progress.{quiet}
 use Rattle.vat_machine.specs.State.{State}
-use Rattle.vat_machine.specs.Steps.{staying_up}
 use Rattle.laws_acts.specs.Moments.{Moment, beginning}
 use Rattle.laws_acts.specs.FirstActs.{Starts}
-use Rattle.laws_acts.specs.SmallActs.{DoesActs, StepsAreSmallActs}
+use Rattle.laws_acts.specs.SmallActs.{StepsAreSmallActs}
 use Rattle.laws_acts.proofs.EachStep.{at_end}
 use Rattle.laws_steps.specs.Callers.{IsAskedFor}
 use Rattle.laws_steps.specs.NodesThere.{IsWhole, Stands}
@@ -32,12 +27,12 @@ use Rattle.laws_nodes.specs.Embargoes.{ArePaired}
 use Rattle.laws_nodes.specs.Questions.{QuestionsEnd}
 use Rattle.laws_nodes.specs.Sources.{HasOneSource}
 use Rattle.laws_meanings.specs.CommandMeanings.{OpensNothing, IsWritten, IsWrittenOpen, LabelsKept, FirstActsMean, FirstOpeningsMean}
-use Rattle.laws_meanings.specs.NodeLabels.{Labels, Places, AreLed, EndsAreLed, MomentMeans, RefMeans, TaskMeans, field_label, label}
+use Rattle.laws_meanings.specs.NodeLabels.{Labels, Places, AreLed, EndsAreLed, MomentMeans, field_label, label}
 use Rattle.laws_meanings.proofs.CommandsMean.{up}
 use Rattle.laws_wires.specs.Wires.{Session}
-use Rattle.laws_wires.specs.Sent.{IsKept, IsAwaited, CallerSo, AllSaySo, SentMean, StepsSaySo}
+use Rattle.laws_wires.specs.Sent.{IsKept, IsAwaited, CallerSo, AllSaySo, StepsSaySo}
 use Rattle.laws_wires.specs.FirstSent.{CommandsSaySo}
-use Rattle.laws_wires.specs.StepsSent.{Keeps, CommandsSend}
+use Rattle.laws_wires.specs.StepsSent.{CommandsSend}
 use Rattle.laws_wires.proofs.StillSo.{kept_all}
 
 pub some_of : {X : Type 0} (o : Option X) → IsSome o → (x : X) × (o ≡ Some x)

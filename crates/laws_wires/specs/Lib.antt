@@ -7,3 +7,6 @@ pub mod FirstSent
 pub mod StepsSent
 pub mod SentLinks
 pub mod SceneWires
+pub mod SceneOut
+pub mod BackHeld
+pub mod SceneSessions

@@ -1,15 +1,13 @@
 -- What the wires behind a step take as known of it, for steps of a vat that was between two steps, with the other.
 use Rattle.std.specs.Prelude.{◌≡◌, ℕ, true, None, Some, IsSome, List, [], ◌∷◌}
 use Rattle.std.specs.FinMap as map
-use Rattle.finite_maps.specs.Tally.{Map}
+use Rattle.rpc_msg.specs.declared.ids.Vat.{Vat}
 use Rattle.rpc_msg.specs.declared.message.Message.{Message}
 use Rattle.rpc_msg.specs.declared.message.Message.TheVariants as message
 use Rattle.rpc_msg.specs.declared.message.PlainMessage.{PlainMessage}
 use Rattle.rpc_msg.specs.declared.parts.Descriptor.{Descriptor}
 use Rattle.rpc_msg.specs.Messages.{descriptors_of}
 use Rattle.vat_journal.specs.Meaning.{History}
-use Rattle.vat_machine.specs.declared.calls.KeptOutcome.{KeptOutcome}
-use Rattle.vat_machine.specs.declared.calls.Promise.{Promise}
 use Rattle.vat_machine.specs.declared.command.Command.{Command}
 use Rattle.vat_machine.specs.declared.command.Effects.{Effects}
 use Rattle.vat_machine.specs.declared.command.Granted.{Granted}
@@ -21,18 +19,22 @@ use Rattle.vat_machine.specs.Descriptors.{take_all}
 use Rattle.vat_machine.specs.Faults.{fault_of}
 use Rattle.vat_machine.specs.Steps.{Does, Handles}
 use Rattle.vat_machine.specs.Sweeping.{IsNotSent}
+use Rattle.laws_acts.specs.Moments.{Moment, beginning}
+use Rattle.laws_acts.specs.FirstActs.{Starts}
+use Rattle.laws_acts.specs.MessageActs.{Consumes}
 use Rattle.laws_routes.specs.Midway.{Midway}
 use Rattle.laws_routes.specs.Named.{EachReturn}
 use Rattle.laws_routes.specs.Received.{IsMet}
 use Rattle.laws_routes.specs.Sayings.{Has, has_of, is_waiting}
-use Rattle.laws_meanings.specs.NodeLabels.{Labels, asked_label}
+use Rattle.laws_meanings.specs.NodeLabels.{Labels, asked_label, label}
 use Rattle.laws_wires.specs.Wires.{Session, asked_at}
 use Rattle.laws_wires.specs.StepWires.{Around, NamedAreKept}
 
--- Promises and outcomes that are there keep their labels.
-pub record NodesKeepLabels (l m : Labels) (s : State) : Type 0 where
-  pub promises : (p : ℕ) (y : Promise) → map.get s.promises p ≡ Some y → m.promise p ≡ l.promise p
-  pub outcomes : (o : ℕ) (y : KeptOutcome) → map.get s.outcomes o ≡ Some y → m.outcome o ≡ l.outcome o
+-- An export that the first act of a step left of its node stays, and means what it did.
+abbrev pub ExportsAreKept : History → Vat → Labels → Labels → State → State → State → Type 0
+ExportsAreKept h v l m s first t =
+    (e : ℕ) (x y : Export) → map.get s.exports e ≡ Some x → map.get first.exports e ≡ Some y → y.node ≡ x.node
+    → (z : Export) × (map.get t.exports e ≡ Some z) × (z.node ≡ x.node) × (label h v m x.node ≡ label h v l x.node)
 
 -- What a vat has once it took these descriptors.
 abbrev pub has_taken : State → List Descriptor → Has
@@ -41,17 +43,17 @@ has_taken s ds = has_of [] (take_all s ds).imports s.questions
 -- Behind a command what is named on the way is as it was.
 abbrev pub CommandsKeepNamed : Type 0
 CommandsKeepNamed =
-    (h : History) (w : Around) (out back : List Message) (now : ℕ → Session) (c : Command) (g : Granted) (effects : Effects)
-    → Midway w.s w.z out back → Midway w.z w.s back out → NodesKeepLabels w.l w.m w.s → Does w.s c g effects w.t
+    (h : History) (w : Around) (out back : List Message) (now : ℕ → Session) (c : Command) (g : Granted) (d : Moment)
+    → Midway w.s w.z out back → Midway w.z w.s back out → Starts (beginning w.s) c g d → ExportsAreKept h w.v w.l w.m w.s d.state w.t
     → NamedAreKept h w (record { out = out; back = back; has = has_of [] w.s.imports w.s.questions; now = now }) w.s.exports
 
--- So it is behind a message that is taken, in the exports that this leaves.
+-- So it is behind a message that is taken, in the exports that its first act leaves.
 abbrev pub MessagesKeepNamed : Type 0
 MessagesKeepNamed =
-    (h : History) (w : Around) (out rest : List Message) (now : ℕ → Session) (x : PlainMessage) (effects : Effects)
-    → Midway w.s w.z out (message.Plain x ∷ rest) → Midway w.z w.s (message.Plain x ∷ rest) out → w.s.level ≡ One → IsMet w.s w.z out rest x → NodesKeepLabels w.l w.m w.s
-    → fault_of w.s (message.Plain x) ≡ None → Handles w.s (message.Plain x) effects w.t
-    → (kept : Map Export) × NamedAreKept h w (record { out = out; back = rest; has = has_taken w.s (descriptors_of (message.Plain x)); now = now }) kept
+    (h : History) (w : Around) (out rest : List Message) (now : ℕ → Session) (x : PlainMessage) (d : Moment)
+    → Midway w.s w.z out (message.Plain x ∷ rest) → Midway w.z w.s (message.Plain x ∷ rest) out → w.s.level ≡ One → IsMet w.s w.z out rest x
+    → Consumes (beginning w.s) (message.Plain x) d → ExportsAreKept h w.v w.l w.m w.s d.state w.t
+    → NamedAreKept h w (record { out = out; back = rest; has = has_taken w.s (descriptors_of (message.Plain x)); now = now }) d.state.exports
 
 -- ---- What the way back names of questions and imports
 
@@ -75,7 +77,7 @@ CommandsBringNone = (s t : State) (c : Command) (g : Granted) (effects : Effects
 -- Where each question keeps its label, and so does the outcome of a relay, the way back means the same to who asks: a question
 -- that waits did, and is of the same.
 abbrev pub RolesKeepLabels : Labels → Labels → State → Type 0
-RolesKeepLabels l m s = (q : ℕ) (x : Question) → map.get s.questions q ≡ Some x → IsNotSent x.finish → asked_label m q x.role ≡ asked_label l q x.role
+RolesKeepLabels l m s = (q : ℕ) (x : Question) → map.get s.questions q ≡ Some x → asked_label m q x.role ≡ asked_label l q x.role
 
 abbrev pub ReturnsAreMet : Type 0
 ReturnsAreMet =

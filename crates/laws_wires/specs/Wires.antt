@@ -1,11 +1,9 @@
 -- What stands on the wires means (docs/laws.md, "What is called, given and ended"): what is on its way from one vat to the
 -- other is read by labels as the receiver will read it.
-use Rattle.std.specs.Prelude.{◌≡◌, ℕ, zero, suc, nat_eq, Option, None, Some, List, [], ◌∷◌, slice_get, cond}
+use Rattle.std.specs.Prelude.{◌≡◌, ℕ, nat_eq, Option, None, Some, List, [], ◌∷◌, slice_get, cond}
 use Rattle.std.specs.FinMap as map
 use Rattle.finite_maps.specs.Tally.{Map}
 use Rattle.capn_wire.specs.declared.path.Op.{Op}
-use Rattle.capn_wire.specs.declared.path.CapAt.{CapAt}
-use Rattle.capn_wire.specs.declared.path.CapAt.TheVariants.{Cap, Null, NotCap}
 use Rattle.rpc_msg.specs.declared.ids.Vat.{Vat}
 use Rattle.rpc_msg.specs.declared.ids.Stamp.{Stamp}
 use Rattle.rpc_msg.specs.declared.parts.Descriptor.{Descriptor}
@@ -41,6 +39,7 @@ use Rattle.vat_machine.specs.World.{World, core, inbox}
 use Rattle.laws_routes.specs.Sayings.{Has, IsSilentPlain, SaidIfThere, has_behind, has_of}
 use Rattle.laws_meanings.specs.NodeMeanings.{Meant, Itself, OfRef, field_meant, BySource, ByEnd, Leads}
 use Rattle.laws_meanings.specs.NodeLabels.{Labels, LeadsTo, IsAnsweredOrBroken, Places, asked_label, field_label, label}
+use Rattle.laws_meanings.specs.ReadMessages.{cap_read}
 
 -- ---- Sessions
 
@@ -115,17 +114,7 @@ pub record Reader : Type 0 where
   pub receiver : ℕ → Option Meant
   pub question : ℕ → Session
 
--- What is said of a capability, and of a promise, by how descriptors are read.
-abbrev pub index_label : (Descriptor → Option Meant) → List Descriptor → ℕ → Option Meant
-index_label read [] i = Some (Itself Broken)
-index_label read (d ∷ ds) zero = read d
-index_label read (d ∷ ds) (suc i) = index_label read ds i
-
-abbrev pub cap_label : (Descriptor → Option Meant) → List Descriptor → CapAt → Option Meant
-cap_label read ds (Cap i) = index_label read ds i
-cap_label read ds Null = Some (Itself Broken)
-cap_label read ds NotCap = Some (Itself Broken)
-
+-- What is said of a promise, by how descriptors are read.
 abbrev pub resolved_label : (Descriptor → Option Meant) → ResolvedTo → Option Meant
 resolved_label read (resolved.Cap d) = read d
 resolved_label read (resolved.Exception exception) = Some (Itself Broken)
@@ -154,7 +143,7 @@ module _ (h : History) where
   -- Each field of what was asked leads to what is said of it. A canceled Return says nothing: nobody asks for it any more.
   abbrev pub ReturnMeans : (Descriptor → Option Meant) → Vat × Asking → ReturnBody → Type 0
   ReturnMeans read a (body.Results payload ds) =
-      ((path : List Op) → LeadsTo h (field_meant h a.0 a.1 path) (cap_label read ds (cap_at payload path)))
+      ((path : List Op) → LeadsTo h (field_meant h a.0 a.1 path) (cap_read read ds (cap_at payload path)))
       × ((i : ℕ) (d : Descriptor) → slice_get ds i ≡ Some d → (y : Meant) × ByEnd h a.0 i a.1 y × LeadsTo h y (read d))
       × IsAnsweredOrBroken h a.1
   ReturnMeans read a (body.Exception exception) = ((path : List Op) → Leads h (Itself Broken) (field_meant h a.0 a.1 path)) × IsAnsweredOrBroken h a.1

@@ -7,7 +7,10 @@ mod scenes;
 mod sent;
 
 pub use laws::{what_is_sent_is_read, wires_are_left, wires_last, wires_mean_at_first};
-pub use scenes::{imports_are_brought, named_are_kept, returns_are_awaited};
+pub use scenes::{
+    answers_are_left, imports_are_brought, named_are_kept, returns_are_awaited,
+    the_way_back_is_held, what_is_asked_is_of_calls, what_is_sent_is_met,
+};
 pub use sent::{
     acts_send_meanings, commands_send_meanings, first_acts_send_meanings,
     links_are_sent_with_meanings, messages_send_meanings, steps_send_meanings,

@@ -3,11 +3,11 @@ use Rattle.std.proofs.Common.{◌≡◌, true, false, [], ◌∷◌, None, Some,
 use Rattle.std.specs.FinMap as map
 use Rattle.capn_wire.specs.declared.path.Op.TheVariants.{Field}
 use Rattle.capn_wire.specs.declared.path.CapAt.TheVariants.{Cap}
-use Rattle.capn_wire.specs.Segments.{little_numbers, segments_in}
-use Rattle.capn_wire.specs.Framing.{framing, segment_count, sizes}
-use Rattle.capn_wire.specs.Following as following
-use Rattle.capn_wire.specs.Layouts.{laid}
-use Rattle.capn_wire.specs.Reading.{message_of, root_of, reading, shallow, deep, content_of, pointers_at, structs_at, elements}
+use Rattle.wire_reading.specs.Segments.{little_numbers, segments_in}
+use Rattle.wire_reading.specs.Framing.{framing, segment_count, sizes}
+use Rattle.wire_reading.specs.Following as following
+use Rattle.wire_reading.specs.Layouts.{laid}
+use Rattle.wire_reading.specs.Reading.{message_of, root_of, reading, shallow, deep, content_of, pointers_at, structs_at, elements}
 use Rattle.rpc_msg.specs.declared.ids.Vat.TheVariants.{A, B}
 use Rattle.rpc_msg.specs.declared.message.ReturnBody.TheVariants as body
 use Rattle.vat_machine.specs.Payloads.{cap_at}

@@ -5,10 +5,10 @@ use Rattle.rpc_msg.specs.declared.ids.Vat.TheVariants.{A, B}
 use Rattle.rpc_msg.specs.declared.message.Message.{Message}
 use Rattle.rpc_msg.specs.declared.message.ReturnBody.TheVariants as body
 use Rattle.capn_wire.specs.declared.path.CapAt.TheVariants.{Cap}
-use Rattle.capn_wire.specs.Segments.{little_numbers, segments_in}
-use Rattle.capn_wire.specs.Framing.{framing, segment_count, sizes}
-use Rattle.capn_wire.specs.Following as following
-use Rattle.capn_wire.specs.Reading.{message_of, root_of, reading, deep}
+use Rattle.wire_reading.specs.Segments.{little_numbers, segments_in}
+use Rattle.wire_reading.specs.Framing.{framing, segment_count, sizes}
+use Rattle.wire_reading.specs.Following as following
+use Rattle.wire_reading.specs.Reading.{message_of, root_of, reading, deep}
 use Rattle.vat_machine.specs.Payloads.{bootstrap_payload, cap_at}
 use Rattle.vat_machine.specs.declared.command.Command.TheVariants as command
 use Rattle.vat_machine.specs.declared.command.Granted.TheVariants as granted

@@ -28,9 +28,9 @@ use Rattle.vat_machine.specs.Places.{places, names}
 use Rattle.vat_machine.specs.Progress.{Progress, begin, with_state, arises}
 use Rattle.vat_machine.specs.Routing.{RoutedTo, WaitsForPromise, WaitsForField, failed, reason_text}
 use Rattle.vat_machine.specs.Commands.{MakesCall, CallsThrough, CallsBy, WaitsForEmbargo, counted, kept, request}
-use Rattle.laws_places.specs.Alike.{Alike}
-use Rattle.laws_places.proofs.Promises.{outcome_comes}
-use Rattle.laws_places.proofs.References.{ref_counted}
+use Rattle.laws_acts.specs.Alike.{Alike}
+use Rattle.laws_acts.proofs.Promises.{outcome_comes}
+use Rattle.laws_acts.proofs.References.{ref_counted}
 use Rattle.laws_steps.specs.NodesThere.{Stands, IsWhole}
 use Rattle.laws_steps.proofs.Among.{none_counted}
 use Rattle.laws_nodes.specs.Settling.{AllStop, Settling}

@@ -61,7 +61,8 @@ fn make_room(step: &mut Step, more: usize) -> Result<(), Memory>
     let Some(releases) = more.checked_add(step.store.imports.len()) else {
         return Err(Memory);
     };
-    step.outbox.reserve(more)?;
+    // The greater part first: what is reserved beyond it is mostly enough for the rest.
     step.outbox.reserve_ends(finishes, releases)?;
+    step.outbox.reserve(more)?;
     step.arisen.reserve(more)
 }

@@ -18,8 +18,8 @@ use Rattle.vat_machine.specs.Lists.{how_many}
 use Rattle.vat_machine.specs.Places.{places}
 use Rattle.vat_machine.specs.Progress.{Progress, with_state, tell_ended, caps_of}
 use Rattle.vat_machine.specs.Settling.{known, TellsCall, ResolvesEach, SettlesFrom, SettlesOutcome, Drains, NoneLeft, OneMore}
-use Rattle.laws_places.specs.Alike.{places_beside}
-use Rattle.laws_places.proofs.Resolves.{no_resolves}
+use Rattle.laws_acts.specs.Alike.{places_beside}
+use Rattle.laws_acts.proofs.Resolves.{no_resolves}
 use Rattle.vat_names.specs.Names.{times}
 use Rattle.vat_store.specs.declared.store.Store.{Store}
 use Rattle.vat_store.specs.Holding.{state_of, IsSound}

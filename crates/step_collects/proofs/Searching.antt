@@ -15,7 +15,7 @@ use Rattle.vat_machine.specs.State.{State}
 use Rattle.vat_machine.specs.Nodes.{is_promise, is_field, is_import}
 use Rattle.vat_machine.specs.Places.{places, names}
 use Rattle.vat_machine.specs.Collecting.{IsLoosePromise, IsLooseOutcome, IsLooseValue, IsLooseImport}
-use Rattle.laws_places.specs.Alike.{places_beside}
+use Rattle.laws_acts.specs.Alike.{places_beside}
 use Rattle.vat_names.specs.Names.{Counted, Names, Counts, Takes, times_named, noting}
 use Rattle.vat_store.specs.declared.store.Store.{Store}
 use Rattle.vat_store.specs.Holding.{state_of, all_named, IsFixed, IsTold, IsToldTo, IsThere, IsCovered, IsSound}

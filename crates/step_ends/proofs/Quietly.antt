@@ -23,9 +23,9 @@ use Rattle.vat_machine.specs.Sweeping.{IsToFinish, Over, FinishesEach, release_e
 use Rattle.vat_machine.specs.Refusals.{refused}
 use Rattle.vat_machine.specs.Commands.{Acts}
 use Rattle.vat_machine.specs.Steps.{Ends, Obeys}
-use Rattle.laws_places.specs.Alike.{Alike}
-use Rattle.laws_places.proofs.Loose.{loose_by_names}
-use Rattle.laws_places.proofs.References.{refs_come}
+use Rattle.laws_acts.specs.Alike.{Alike}
+use Rattle.laws_acts.proofs.Loose.{loose_by_names}
+use Rattle.laws_acts.proofs.References.{refs_come}
 use Rattle.vat_store.specs.Holding.{IsFresh}
 use Rattle.step_sweeps.specs.Thinking.{IsLoose, IsQuiet}
 use Rattle.step_ends.proofs.Answered.{does, done}

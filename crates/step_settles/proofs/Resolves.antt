@@ -12,9 +12,9 @@ use Rattle.vat_machine.specs.Nodes.{settle}
 use Rattle.vat_machine.specs.Places.{places, named_by_held}
 use Rattle.vat_machine.specs.Progress.{Progress}
 use Rattle.vat_machine.specs.Settling.{ResolvesTo, ResolvesBy, ResolvesEach, exports_where}
-use Rattle.laws_places.specs.Alike.{places_beside}
-use Rattle.laws_places.proofs.Parts.{how_many_append}
-use Rattle.laws_places.proofs.Resolves.{no_resolves}
+use Rattle.laws_acts.specs.Alike.{places_beside}
+use Rattle.laws_acts.proofs.Parts.{how_many_append}
+use Rattle.laws_acts.proofs.Resolves.{no_resolves}
 
 -- They go on by one at the end.
 pub resolves_more : (d : Progress) (told : Option Exception) (xs : List (ℕ × Node)) (mid : Progress) (x : ℕ × Node) (new : Progress)

@@ -21,9 +21,9 @@ use Rattle.vat_machine.specs.Nodes.{is_promise, is_field, is_import, is_pipe}
 use Rattle.vat_machine.specs.Places.{places}
 use Rattle.vat_machine.specs.Collecting.{IsLoosePromise, IsLooseOutcome, IsLooseImport}
 use Rattle.vat_machine.specs.Sweeping.{IsToFinish, IsOver, closed_map}
-use Rattle.laws_places.specs.Alike.{Alike}
-use Rattle.laws_places.proofs.Parts.{how_many_append}
-use Rattle.laws_places.proofs.Loose.{loose_by_names}
+use Rattle.laws_acts.specs.Alike.{Alike}
+use Rattle.laws_acts.proofs.Parts.{how_many_append}
+use Rattle.laws_acts.proofs.Loose.{loose_by_names}
 use Rattle.step_sweeps.specs.Thinking.{IsLoose, IsLeft, Covers, without, without_question, is_of, IsFinished}
 use Rattle.step_sweeps.proofs.Entries.{other_key, one_key, is_gone, is_finished}
 use Rattle.step_sweeps.proofs.Looking.{done_like}

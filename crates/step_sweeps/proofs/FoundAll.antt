@@ -6,7 +6,7 @@ use Rattle.vat_machine.specs.declared.node.Node.{Node}
 use Rattle.vat_machine.specs.declared.node.Node.TheVariants as node
 use Rattle.vat_machine.specs.State.{State}
 use Rattle.vat_machine.specs.Lists.{how_many}
-use Rattle.laws_places.proofs.Parts.{how_many_append}
+use Rattle.laws_acts.proofs.Parts.{how_many_append}
 use Rattle.step_sweeps.specs.Thinking.{IsLoose, IsFound, AreFound, is_of}
 use Rattle.step_sweeps.proofs.Entries.{same_key}
 

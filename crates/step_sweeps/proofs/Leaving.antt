@@ -22,10 +22,10 @@ use Rattle.vat_machine.specs.Places.{places, names, named_by_value, named_by_hel
 use Rattle.vat_machine.specs.Progress.{with_state}
 use Rattle.vat_machine.specs.Collecting.{IsLoosePromise, IsLooseOutcome, IsLooseValue, IsLooseImport, PromiseGoes, OutcomeGoes, ImportGoes, without_promise, without_outcome, without_import}
 use Rattle.vat_machine.specs.Sweeping.{IsToFinish, closed, closed_map, Thing, Asked}
-use Rattle.laws_places.specs.Alike.{Alike}
-use Rattle.laws_places.proofs.Parts.{how_many_append}
-use Rattle.laws_places.proofs.Likeness.{alike_without}
-use Rattle.laws_places.proofs.Tables.{tables}
+use Rattle.laws_acts.specs.Alike.{Alike}
+use Rattle.laws_acts.proofs.Parts.{how_many_append}
+use Rattle.laws_acts.proofs.Likeness.{alike_without}
+use Rattle.laws_acts.proofs.Tables.{tables}
 use Rattle.step_sweeps.specs.Thinking.{IsLoose, IsLeft, without, without_question, named_by_thing, linked, said_by, returned_by, asked_by, is_of, is_id}
 use Rattle.step_sweeps.proofs.Entries.{with_one_more, kept_without, kept_closed, picked_more, is_there, is_open}
 

@@ -25,8 +25,8 @@ use Rattle.vat_machine.specs.Nodes.{is_promise, is_field, is_import, is_pipe}
 use Rattle.vat_machine.specs.Places.{places, names, named_by_held}
 use Rattle.vat_machine.specs.Collecting.{IsLoosePromise, IsLooseOutcome, IsLooseValue, IsLooseImport, CallerIsDone, AnswerIsOther}
 use Rattle.vat_machine.specs.Sweeping.{IsToFinish, IsOver}
-use Rattle.laws_places.specs.Alike.{Alike}
-use Rattle.laws_places.proofs.Parts.{how_many_append}
+use Rattle.laws_acts.specs.Alike.{Alike}
+use Rattle.laws_acts.proofs.Parts.{how_many_append}
 use Rattle.vat_names.specs.Names.{Names, Counts, count_of, times_named, no_names}
 use Rattle.vat_store.specs.declared.store.Store.{Store}
 use Rattle.vat_store.specs.Holding.{state_of, all_named, IsFixed, IsTold, IsToldTo, IsThere}

@@ -7,8 +7,8 @@ use Rattle.vat_machine.specs.declared.node.Node.TheVariants as node
 use Rattle.vat_machine.specs.State.{State}
 use Rattle.vat_machine.specs.Lists.{how_many}
 use Rattle.vat_machine.specs.Places.{places}
-use Rattle.laws_places.specs.Alike.{Alike}
-use Rattle.laws_places.proofs.Parts.{how_many_append}
+use Rattle.laws_acts.specs.Alike.{Alike}
+use Rattle.laws_acts.proofs.Parts.{how_many_append}
 use Rattle.vat_names.specs.Names.{Names, Counts, times_named, named_all}
 use Rattle.vat_names.proofs.Listing.{counts_more_all}
 use Rattle.vat_store.specs.declared.store.Store.{Store}

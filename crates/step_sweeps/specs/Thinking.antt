@@ -17,7 +17,7 @@ use Rattle.vat_machine.specs.Places.{places, named_by_value, named_by_returned, 
 use Rattle.vat_machine.specs.Progress.{Progress}
 use Rattle.vat_machine.specs.Collecting.{IsLoosePromise, IsLooseOutcome, IsLooseImport}
 use Rattle.vat_machine.specs.Sweeping.{IsNotSent, IsToFinish, closed, Withers}
-use Rattle.laws_places.specs.Alike.{Alike}
+use Rattle.laws_acts.specs.Alike.{Alike}
 use Rattle.vat_names.specs.Names.{Counts}
 use Rattle.vat_store.specs.Holding.{IsFixed, IsTold, IsThere}
 use Rattle.step_sweeps.specs.declared.thought.Thought.{Thought}

@@ -8,8 +8,8 @@ use Rattle.vat_machine.specs.declared.entries.Reference.{Reference}
 use Rattle.vat_machine.specs.State.{State}
 use Rattle.vat_machine.specs.Places.{places}
 use Rattle.vat_machine.specs.Limits.{made_through, number_limit}
-use Rattle.laws_places.specs.Alike.{Alike}
-use Rattle.laws_places.proofs.References.{ref_comes, ref_goes, ref_changes, ref_stays}
+use Rattle.laws_acts.specs.Alike.{Alike}
+use Rattle.laws_acts.proofs.References.{ref_comes, ref_goes, ref_changes, ref_stays}
 use Rattle.vat_tables.specs.Table.{Table, with_entry}
 use Rattle.vat_names.specs.Names.{Names, named, unnamed}
 use Rattle.vat_store.specs.declared.store.Store.{Store}

@@ -14,10 +14,10 @@ use Rattle.vat_machine.specs.Progress.{export_ids, numbers}
 use Rattle.vat_machine.specs.Limits.{IsWithin, table_limit, number_limit}
 use Rattle.vat_machine.specs.Collecting.{AnswerIsOther}
 use Rattle.vat_machine.specs.Settling.{returned_map}
-use Rattle.laws_places.specs.Alike.{Alike}
-use Rattle.laws_places.proofs.Parts.{how_many_append}
-use Rattle.laws_places.proofs.Tables.{tables}
-use Rattle.laws_places.proofs.Likeness.{changes_by, stays}
+use Rattle.laws_acts.specs.Alike.{Alike}
+use Rattle.laws_acts.proofs.Parts.{how_many_append}
+use Rattle.laws_acts.proofs.Tables.{tables}
+use Rattle.laws_acts.proofs.Likeness.{changes_by, stays}
 use Rattle.vat_tables.specs.Table.{Table, with_entry}
 use Rattle.vat_names.specs.Names.{Names, HasSpare, named_all, unnamed_all}
 use Rattle.vat_store.specs.declared.store.Store.{Store}

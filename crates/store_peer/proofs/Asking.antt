@@ -19,9 +19,9 @@ use Rattle.vat_machine.specs.Places.{places, named_by_returned}
 use Rattle.vat_machine.specs.Limits.{IsWithin, table_limit, number_limit}
 use Rattle.vat_machine.specs.Messages.{waived}
 use Rattle.vat_machine.specs.Sweeping.{IsNotSent}
-use Rattle.laws_places.specs.Alike.{Alike}
-use Rattle.laws_places.proofs.Tables.{tables}
-use Rattle.laws_places.proofs.Questions.{question_asked, question_stays, question_goes}
+use Rattle.laws_acts.specs.Alike.{Alike}
+use Rattle.laws_acts.proofs.Tables.{tables}
+use Rattle.laws_acts.proofs.Questions.{question_asked, question_stays, question_goes}
 use Rattle.vat_tables.specs.Table.{Table, with_entry}
 use Rattle.vat_names.specs.Names.{Counted, Names, HasSpare, named_all, unnamed_all}
 use Rattle.vat_store.specs.declared.store.Store.{Store}

@@ -21,8 +21,8 @@ use Rattle.vat_machine.specs.State.{State}
 use Rattle.vat_machine.specs.Places.{places}
 use Rattle.vat_machine.specs.Limits.{IsWithin, number_limit}
 use Rattle.vat_machine.specs.Collecting.{CallerIsDone, AnswerIsOther}
-use Rattle.laws_places.specs.Alike.{Alike, places_beside}
-use Rattle.laws_places.proofs.Likeness.{alike_beside}
+use Rattle.laws_acts.specs.Alike.{Alike, places_beside}
+use Rattle.laws_acts.proofs.Likeness.{alike_beside}
 use Rattle.vat_tables.specs.Table.{Table}
 use Rattle.vat_names.specs.Names.{Counted, Names, Counts, times, times_named, noting, HasRoom, HasSpare}
 use Rattle.vat_names.proofs.Rooms.{room_fewer}

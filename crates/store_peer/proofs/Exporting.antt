@@ -14,10 +14,10 @@ use Rattle.vat_machine.specs.Progress.{numbers}
 use Rattle.vat_machine.specs.Settling.{exports_where}
 use Rattle.vat_machine.specs.Flags.{lowered, lower_by, lower_each}
 use Rattle.vat_machine.specs.Limits.{IsWithin, export_count, count_limit, table_limit, number_limit}
-use Rattle.laws_places.specs.Alike.{Alike, come_by_naming}
-use Rattle.laws_places.proofs.Tables.{tables}
-use Rattle.laws_places.proofs.Likeness.{stays}
-use Rattle.laws_places.proofs.Imports.{export_named, export_goes}
+use Rattle.laws_acts.specs.Alike.{Alike, come_by_naming}
+use Rattle.laws_acts.proofs.Tables.{tables}
+use Rattle.laws_acts.proofs.Likeness.{stays}
+use Rattle.laws_acts.proofs.Imports.{export_named, export_goes}
 use Rattle.vat_tables.specs.Table.{Table}
 use Rattle.vat_tables.specs.Exports as table
 use Rattle.vat_tables.specs.Exports.{NamedBy}

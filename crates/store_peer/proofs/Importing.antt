@@ -12,9 +12,9 @@ use Rattle.vat_machine.specs.declared.entries.SenderKind.{SenderKind}
 use Rattle.vat_machine.specs.State.{State}
 use Rattle.vat_machine.specs.Places.{places, named_by_resolution}
 use Rattle.vat_machine.specs.Limits.{IsWithin, import_count, count_limit, table_limit, number_limit}
-use Rattle.laws_places.specs.Alike.{Alike}
-use Rattle.laws_places.proofs.Tables.{tables}
-use Rattle.laws_places.proofs.Likeness.{stays}
+use Rattle.laws_acts.specs.Alike.{Alike}
+use Rattle.laws_acts.proofs.Tables.{tables}
+use Rattle.laws_acts.proofs.Likeness.{stays}
 use Rattle.vat_tables.specs.Table.{Table, with_entry}
 use Rattle.vat_names.specs.Names.{Names, HasSpare, named_all, unnamed_all}
 use Rattle.vat_store.specs.declared.store.Store.{Store}

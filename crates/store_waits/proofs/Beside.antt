@@ -9,7 +9,7 @@ use Rattle.finite_maps.proofs.Gets.{get-insert_same}
 use Rattle.vat_machine.specs.declared.node.Node.{Node}
 use Rattle.vat_machine.specs.declared.node.Node.TheVariants as node
 use Rattle.vat_machine.specs.State.{State}
-use Rattle.laws_places.specs.Alike.{Alike}
+use Rattle.laws_acts.specs.Alike.{Alike}
 use Rattle.vat_names.specs.Names.{Counted, Names, Counts, count_of, times, times_named, lowered, lowered_by, noted_by, named_all, HasRoom, HasSpare}
 use Rattle.vat_names.proofs.Counting.{counts_alike}
 use Rattle.vat_names.proofs.Listing.{counts_more_all, counts_less_all}

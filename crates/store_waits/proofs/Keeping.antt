@@ -4,7 +4,7 @@ use Rattle.std.specs.FinMap as map
 use Rattle.vat_machine.specs.State.{State}
 use Rattle.vat_machine.specs.Nodes.{links}
 use Rattle.vat_machine.specs.Limits.{held, held_limit, table_limit, number_limit}
-use Rattle.laws_places.specs.Alike.{places_beside}
+use Rattle.laws_acts.specs.Alike.{places_beside}
 use Rattle.vat_names.specs.Names.{Names}
 use Rattle.vat_waits.specs.Waiting.{Waiting}
 use Rattle.vat_store.specs.declared.store.Store.{Store}

@@ -18,11 +18,11 @@ use Rattle.vat_machine.specs.Places.{places, named_by_held, named_by_value, name
 use Rattle.vat_machine.specs.Progress.{Progress, begin, with_state, caps_of}
 use Rattle.vat_machine.specs.Routing.{WaitsForField}
 use Rattle.vat_machine.specs.Limits.{held_for_outcome, held_limit}
-use Rattle.laws_places.specs.Alike.{Alike, places_beside}
-use Rattle.laws_places.proofs.Parts.{how_many_append}
-use Rattle.laws_places.proofs.Tables.{tables}
-use Rattle.laws_places.proofs.Likeness.{alike_beside, changes_by}
-use Rattle.laws_places.proofs.Promises.{outcome_comes, outcome_known, outcome_holds, outcome_goes}
+use Rattle.laws_acts.specs.Alike.{Alike, places_beside}
+use Rattle.laws_acts.proofs.Parts.{how_many_append}
+use Rattle.laws_acts.proofs.Tables.{tables}
+use Rattle.laws_acts.proofs.Likeness.{alike_beside, changes_by}
+use Rattle.laws_acts.proofs.Promises.{outcome_comes, outcome_known, outcome_holds, outcome_goes}
 use Rattle.vat_names.specs.Names.{Names, named_all, unnamed_all}
 use Rattle.vat_waits.specs.Waiting.{Waiting}
 use Rattle.vat_waits.specs.Changes as waits

@@ -14,11 +14,11 @@ use Rattle.vat_machine.specs.Progress.{Progress, with_state}
 use Rattle.vat_machine.specs.Lists.{how_many}
 use Rattle.vat_machine.specs.Places.{places, named_by_calls, named_by_held, named_by_embargo}
 use Rattle.vat_machine.specs.Limits.{held_under, held_limit, table_limit}
-use Rattle.laws_places.specs.Alike.{Alike, places_beside}
-use Rattle.laws_places.proofs.Parts.{how_many_append}
-use Rattle.laws_places.proofs.Likeness.{alike_beside}
-use Rattle.laws_places.proofs.References.{embargo_opens, embargo_holds, embargo_goes}
-use Rattle.laws_places.proofs.Taken.{taken_stay}
+use Rattle.laws_acts.specs.Alike.{Alike, places_beside}
+use Rattle.laws_acts.proofs.Parts.{how_many_append}
+use Rattle.laws_acts.proofs.Likeness.{alike_beside}
+use Rattle.laws_acts.proofs.References.{embargo_opens, embargo_holds, embargo_goes}
+use Rattle.laws_acts.proofs.Taken.{taken_stay}
 use Rattle.vat_names.specs.Names.{Names, named, unnamed, named_all, unnamed_all}
 use Rattle.vat_waits.specs.Waiting.{Waiting}
 use Rattle.vat_waits.specs.Changes as waits

@@ -16,10 +16,10 @@ use Rattle.vat_machine.specs.Places.{named_by_held, named_by_calls}
 use Rattle.vat_machine.specs.Progress.{Progress, begin, with_state}
 use Rattle.vat_machine.specs.Routing.{WaitsForPromise}
 use Rattle.vat_machine.specs.Limits.{held_for_promise, held_limit}
-use Rattle.laws_places.specs.Alike.{Alike, places_beside}
-use Rattle.laws_places.proofs.Likeness.{alike_beside}
-use Rattle.laws_places.proofs.Promises.{promise_opens, promise_holds, promise_goes}
-use Rattle.laws_places.proofs.Taken.{taken_stay}
+use Rattle.laws_acts.specs.Alike.{Alike, places_beside}
+use Rattle.laws_acts.proofs.Likeness.{alike_beside}
+use Rattle.laws_acts.proofs.Promises.{promise_opens, promise_holds, promise_goes}
+use Rattle.laws_acts.proofs.Taken.{taken_stay}
 use Rattle.vat_names.specs.Names.{Names, Counts, times, named, unnamed, named_all}
 use Rattle.vat_names.proofs.Counting.{counts_alike}
 use Rattle.vat_names.proofs.Listing.{counts_more_all}

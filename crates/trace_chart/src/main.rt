@@ -1,24 +1,10 @@
 //! Draws a trace as a sequence diagram, in SVG on standard output (`docs/trace.md`, "A picture of a trace").
 #![tactic(auto)]
 
-mod chart;
-mod draw;
-mod fault;
-mod followed;
-mod labels;
-mod options;
-mod program;
-mod refusals;
-#[cfg(test)]
-mod tests;
-mod text;
-
-use fault::Failure;
-use options::Options;
-use program::{draw_trace, status};
 use std::fs::File;
 use std::process::ExitCode;
 use std::{env, io};
+use trace_picture::{Failure, Options, draw_trace, status};
 
 /// `trace_chart FILE [--ref V/N] [--from N] [--to N]`; without arguments the trace is read from standard input.
 fn main(rt: HostRuntime) -> Result<ExitCode, io::Error> {

@@ -15,9 +15,15 @@ use vat_store::Store;
 
 /// The core of a vat: all that it holds for its connection, and the memory that it keeps for its steps. Contracts see it as
 /// the state of the machine of `docs/protocol.md`, and each of its calls is a step of that machine.
-#[derive(Drop)]
 pub struct Core {
     pub(crate) machine: Machine,
+}
+
+// By hand, so that who drops a core need not prove again how each of its parts is dropped.
+impl Drop for Core {
+    fn drop(self) {
+        let Core { machine: _ } = self;
+    }
 }
 
 impl Model for Core {

@@ -5,18 +5,68 @@ use rpc_msg::{ExportId, Finish, Memory, Message, PlainMessage, QuestionId, Relea
 use std::alloc::Global;
 use std::mem;
 
-/// Makes room for so many more. Refused only where the growth was.
-pub(crate) fn grow<Item>(list: &mut Vec<Item>, more: usize) -> Result<(), Memory>
+// What is reserved beyond what is asked of a list that is empty, so that growth is rare.
+const SPARE: usize = 64;
+
+// So many items go out of a list in memory of their own.
+const FEW: usize = 4;
+
+// A list that is empty keeps memory for so many items at most.
+const KEPT: usize = 512;
+
+/// Makes room for so many more. Refused only where the growth was. Memory in which nothing stands is not copied.
+pub(crate) fn grow<Item: Drop>(
+    list: &mut Vec<Item>,
+    more: usize,
+    alloc: Global,
+) -> Result<(), Memory>
     ensures items { list.new.items ≡ list.old.items }
     ensures len { vec_len list.new ≡ vec_len list.old }
     ensures ok { OnOk result (vec_len list.new + more ≤ vec_capacity list.new) }
     ensures capacity { vec_capacity list.old ≤ vec_capacity list.new }
     ensures had_room { vec_len list.old + more ≤ vec_capacity list.old → IsOk result }
 {
+    if list.is_empty() {
+        return grow_empty(list, more, alloc);
+    }
     match list.reserve(more) {
         Ok(()) => Ok(()),
         Err(_) => Err(Memory),
     }
+}
+
+fn grow_empty<Item: Drop>(list: &mut Vec<Item>, more: usize, alloc: Global) -> Result<(), Memory>
+    requires none { list.old.items ≡ [] }
+    requires no_len { vec_len list.old ≡ 0 }
+    ensures items { list.new.items ≡ [] }
+    ensures len { vec_len list.new ≡ 0 }
+    ensures ok { OnOk result (more ≤ vec_capacity list.new) }
+    ensures capacity { vec_capacity list.old ≤ vec_capacity list.new }
+    ensures had_room { more ≤ vec_capacity list.old → IsOk result }
+{
+    if more <= list.capacity() {
+        return Ok(());
+    }
+    let Some(wanted) = more.checked_add(SPARE) else {
+        return Err(Memory);
+    };
+    let Ok(made) = Vec::with_capacity(alloc, wanted) else {
+        return Err(Memory);
+    };
+    *list = made;
+    Ok(())
+}
+
+/// Makes memory in which a few items can go out. Refused only where there was none.
+pub(crate) fn make_few<Item: Drop>(few: &mut Vec<Item>, alloc: Global) -> Result<(), Memory> {
+    if FEW <= few.capacity() {
+        return Ok(());
+    }
+    let Ok(made) = Vec::with_capacity(alloc, FEW) else {
+        return Err(Memory);
+    };
+    *few = made;
+    Ok(())
 }
 
 /// Puts an item at the end, where there is room.
@@ -32,8 +82,31 @@ pub(crate) fn push_kept<Item: Drop>(list: &mut Vec<Item>, item: Item)
     }
 }
 
-/// The list, and its memory with it where it has items.
-pub(crate) fn hand_out<Item>(list: &mut Vec<Item>, alloc: Global) -> Vec<Item>
+/// The list. A few items go out in the memory that is kept for a few, and the list then keeps its own, unless that is much;
+/// more go out in the list's memory.
+pub(crate) fn hand_out<Item: Drop>(
+    list: &mut Vec<Item>,
+    few: &mut Vec<Item>,
+    alloc: Global,
+) -> Vec<Item>
+    ensures items { result.items ≡ list.old.items }
+    ensures left { list.new.items ≡ [] }
+    ensures len { vec_len list.new ≡ 0 }
+{
+    few.clear();
+    if few.capacity() < list.len() {
+        return mem::replace(list, Vec::new(alloc));
+    }
+    let handed = move_out(list, few, alloc);
+    if KEPT < list.capacity() {
+        *list = Vec::new(alloc);
+    }
+    handed
+}
+
+fn move_out<Item: Drop>(list: &mut Vec<Item>, few: &mut Vec<Item>, alloc: Global) -> Vec<Item>
+    requires none { few.old.items ≡ [] }
+    requires room { vec_len few.old + vec_len list.old ≤ vec_capacity few.old }
     ensures items { result.items ≡ list.old.items }
     ensures left { list.new.items ≡ [] }
     ensures len { vec_len list.new ≡ 0 }
@@ -41,11 +114,14 @@ pub(crate) fn hand_out<Item>(list: &mut Vec<Item>, alloc: Global) -> Vec<Item>
     if list.is_empty() {
         return Vec::new(alloc);
     }
-    mem::replace(list, Vec::new(alloc))
+    match few.append(list) {
+        Ok(()) => mem::replace(few, Vec::new(alloc)),
+        Err(_) => unreachable!(),
+    }
 }
 
-/// Takes the memory of a list in place of that of one that is empty, where it is more.
-pub(crate) fn reuse<Item: Drop>(list: &mut Vec<Item>, mut spare: Vec<Item>)
+/// Takes the memory of a list in place of that of one that is empty, where it is more, or else of that for a few.
+pub(crate) fn reuse<Item: Drop>(list: &mut Vec<Item>, few: &mut Vec<Item>, mut spare: Vec<Item>)
     ensures items { list.new.items ≡ list.old.items }
     ensures len { vec_len list.new ≡ vec_len list.old }
     ensures capacity { vec_capacity list.old ≤ vec_capacity list.new }
@@ -53,6 +129,8 @@ pub(crate) fn reuse<Item: Drop>(list: &mut Vec<Item>, mut spare: Vec<Item>)
     spare.clear();
     if list.is_empty() && list.capacity() < spare.capacity() {
         *list = spare;
+    } else if few.capacity() < spare.capacity() {
+        *few = spare;
     }
 }
 

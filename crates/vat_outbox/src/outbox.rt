@@ -3,7 +3,7 @@ ghost use Rattle.std.specs.FinMap as map;
 ghost use Rattle.rpc_msg.specs.declared.message.Message.TheVariants.{Plain, Unimplemented};
 
 use crate::abort::AbortRoom;
-use crate::lists::{grow, hand_out, push_finishes, push_kept, push_releases, reuse};
+use crate::lists::{grow, hand_out, make_few, push_finishes, push_kept, push_releases, reuse};
 use crate::rising::Rising;
 use rpc_msg::{ExportId, Items, Memory, Message, PlainMessage, QuestionId};
 use std::alloc::Global;
@@ -23,6 +23,10 @@ pub struct Outbox {
     releases: Rising<u32>,
     deliveries: Vec<Delivery>,
     answers: Vec<Ended>,
+    // Empty, with memory in which a few of each go out.
+    few_sends: Vec<Message>,
+    few_deliveries: Vec<Delivery>,
+    few_answers: Vec<Ended>,
     // So many more of each need no more memory: of messages, deliveries and ended calls; of Finishes; of Releases.
     room: usize,
     finish_room: usize,
@@ -74,6 +78,9 @@ impl Outbox {
             releases: Rising::new(alloc),
             deliveries: Vec::new(alloc),
             answers: Vec::new(alloc),
+            few_sends: Vec::new(alloc),
+            few_deliveries: Vec::new(alloc),
+            few_answers: Vec::new(alloc),
             room: 0,
             finish_room: 0,
             release_room: 0,
@@ -107,9 +114,12 @@ impl Outbox {
         let Some(messages) = more.checked_add(ends) else {
             return Err(Memory);
         };
-        grow(&mut self.sends, messages)?;
-        grow(&mut self.deliveries, more)?;
-        grow(&mut self.answers, more)?;
+        make_few(&mut self.few_sends, self.alloc)?;
+        make_few(&mut self.few_deliveries, self.alloc)?;
+        make_few(&mut self.few_answers, self.alloc)?;
+        grow(&mut self.sends, messages, self.alloc)?;
+        grow(&mut self.deliveries, more, self.alloc)?;
+        grow(&mut self.answers, more, self.alloc)?;
         self.room = more;
         Ok(())
     }
@@ -134,7 +144,7 @@ impl Outbox {
         let Some(messages) = self.room.checked_add(ends) else {
             return Err(Memory);
         };
-        grow(&mut self.sends, messages)?;
+        grow(&mut self.sends, messages, self.alloc)?;
         self.finishes.reserve(finishes)?;
         self.releases.reserve(releases)?;
         self.finish_room = finishes;
@@ -242,8 +252,8 @@ impl Outbox {
         Ok(())
     }
 
-    /// The effects of the step: its messages, then its Finishes and its Releases, each by rising id. Lists that have
-    /// something go out with their memory.
+    /// The effects of the step: its messages, then its Finishes and its Releases, each by rising id. What is few
+    /// goes out in memory of its own, and the outbox keeps the rest.
     pub fn take(&mut self) -> Effects
         ensures effects { result ≡ effects_of self.old }
         ensures releases { AreReleasesOf result self.old }
@@ -257,9 +267,17 @@ impl Outbox {
         self.finishes.clear();
         self.releases.clear();
         Effects {
-            sends: Items::from_vec(hand_out(&mut self.sends, self.alloc)),
-            deliveries: Items::from_vec(hand_out(&mut self.deliveries, self.alloc)),
-            answers: Items::from_vec(hand_out(&mut self.answers, self.alloc)),
+            sends: Items::from_vec(hand_out(&mut self.sends, &mut self.few_sends, self.alloc)),
+            deliveries: Items::from_vec(hand_out(
+                &mut self.deliveries,
+                &mut self.few_deliveries,
+                self.alloc,
+            )),
+            answers: Items::from_vec(hand_out(
+                &mut self.answers,
+                &mut self.few_answers,
+                self.alloc,
+            )),
             down: None,
         }
     }
@@ -274,9 +292,13 @@ impl Outbox {
             answers,
             down: _,
         } = effects;
-        reuse(&mut self.sends, sends.into_vec());
-        reuse(&mut self.deliveries, deliveries.into_vec());
-        reuse(&mut self.answers, answers.into_vec());
+        reuse(&mut self.sends, &mut self.few_sends, sends.into_vec());
+        reuse(
+            &mut self.deliveries,
+            &mut self.few_deliveries,
+            deliveries.into_vec(),
+        );
+        reuse(&mut self.answers, &mut self.few_answers, answers.into_vec());
     }
 
     /// The effects of a step that takes the vat down with that number: one Abort alone, from the memory that was kept for

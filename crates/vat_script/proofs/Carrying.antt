@@ -4,11 +4,11 @@ use Rattle.std.specs.Prelude.{IfOk}
 use Rattle.capn_wire.specs.declared.faults.Memory.{Memory}
 use Rattle.std.specs.List.{range_with_len}
 use Rattle.std.proofs.lemmas.List.FromFn.{map-range_with_len_more}
-use Rattle.capn_wire.specs.declared.tree.Tree as program
+use Rattle.wire_trees.specs.declared.tree.Tree as program
 use Rattle.capn_wire.specs.Payloads.{Contents}
-use Rattle.capn_wire.specs.Trees.{Tree, capability}
-use Rattle.capn_wire.specs.Views.{view}
-use Rattle.capn_wire.specs.Placing.{written}
+use Rattle.wire_trees.specs.Trees.{Tree, capability}
+use Rattle.wire_trees.specs.Views.{view}
+use Rattle.wire_writing.specs.Placing.{written}
 use Rattle.vat_script.specs.Carried.{caps_tree, carrying}
 
 map_pushed : {X Y : Type 0} (f : X → Y) (xs : List X) (x : X) → map f (xs ++ x ∷ []) ≡ map f xs ++ f x ∷ []

@@ -2,9 +2,9 @@
 use Rattle.std.specs.Prelude.{ℕ, zero, suc, [], map, codes}
 use Rattle.std.specs.List.{range_with_len}
 use Rattle.capn_wire.specs.Payloads.{Contents, null_payload}
-use Rattle.capn_wire.specs.Trees.{Tree, struct, capability}
-use Rattle.capn_wire.specs.Views.{trees_of}
-use Rattle.capn_wire.specs.Placing.{written}
+use Rattle.wire_trees.specs.Trees.{Tree, struct, capability}
+use Rattle.wire_trees.specs.Views.{trees_of}
+use Rattle.wire_writing.specs.Placing.{written}
 use Rattle.rpc_msg.specs.declared.exception.Exception.{Exception}
 use Rattle.rpc_msg.specs.declared.exception.ExceptionKind.TheVariants.{Failed}
 

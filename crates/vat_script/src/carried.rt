@@ -1,9 +1,10 @@
 ghost use Rattle.std.specs.Prelude.{◌≡◌, ◌<◌, IfOk};
-ghost use Rattle.capn_wire.specs.Placing.{written};
-ghost use Rattle.capn_wire.specs.Trees.{capability};
-ghost use Rattle.capn_wire.specs.Views.{view};
+ghost use Rattle.wire_writing.specs.Placing.{written};
+ghost use Rattle.wire_trees.specs.Trees.{capability};
+ghost use Rattle.wire_trees.specs.Views.{view};
 ghost use Rattle.vat_script.specs.Carried.{caps_tree, carrying, script_exception};
 
+use capn_wire::Pointers;
 use rpc_msg::{Exception, ExceptionKind, Memory, Payload, Text, Tree};
 use std::alloc::Global;
 
@@ -41,7 +42,7 @@ fn write(alloc: Global, tree: &Tree, caps: u32) -> Result<Payload, Memory>
 fn caps_tree(alloc: Global, caps: u32) -> Result<Tree, Memory>
     ensures { IfOk result (λ tree. view tree ≡ caps_tree caps) }
 {
-    let mut pointers = Vec::new(alloc);
+    let mut pointers = Pointers::new(alloc);
     for index in 0..caps {
         match pointers.push(capability(index)) {
             Ok(()) => {}

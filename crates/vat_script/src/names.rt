@@ -22,10 +22,16 @@ pub struct VatNames {
 }
 
 /// What the names of a script stand for. Each vat has names of its own.
-#[derive(Drop)]
 pub struct Names {
     pub(crate) a: VatNames,
     pub(crate) b: VatNames,
+}
+
+// By hand, so that who drops names need not prove again how each of their parts is dropped.
+impl Drop for Names {
+    fn drop(self) {
+        let Names { a: _, b: _ } = self;
+    }
 }
 
 impl Names {

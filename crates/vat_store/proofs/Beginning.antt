@@ -21,8 +21,8 @@ use Rattle.vat_machine.specs.declared.entries.Reference.{Reference}
 use Rattle.vat_machine.specs.State.{State, start}
 use Rattle.vat_machine.specs.Nodes.{all_links, links, is_promise, is_field, is_import, is_pipe}
 use Rattle.vat_machine.specs.Limits.{IsWithin, held, held_for_promise, held_for_outcome, held_under, import_count, export_count, made_through}
-use Rattle.laws_places.specs.Alike.{places_beside}
-use Rattle.laws_places.proofs.Nothing.{nothing_named}
+use Rattle.laws_acts.specs.Alike.{places_beside}
+use Rattle.laws_acts.proofs.Nothing.{nothing_named}
 use Rattle.vat_names.specs.Names.{Names, Counts, no_names, count_of, times_named}
 use Rattle.vat_store.specs.declared.store.Store.{Store}
 use Rattle.vat_store.specs.Holding.{state_of, IsFixed, IsTold, IsThere, IsNotedAs, IsCovered, IsNumbered, HasRooms, IsSound}

@@ -10,9 +10,9 @@ use Rattle.vat_machine.specs.Lists.{how_many}
 use Rattle.vat_machine.specs.Nodes.{is_promise, is_field, is_import, is_pipe}
 use Rattle.vat_machine.specs.Places.{places}
 use Rattle.vat_machine.specs.Limits.{made_through, number_limit}
-use Rattle.laws_places.specs.Alike.{Alike, places_beside}
-use Rattle.laws_places.proofs.Likeness.{alike_beside}
-use Rattle.laws_places.proofs.Parts.{how_many_append}
+use Rattle.laws_acts.specs.Alike.{Alike, places_beside}
+use Rattle.laws_acts.proofs.Likeness.{alike_beside}
+use Rattle.laws_acts.proofs.Parts.{how_many_append}
 use Rattle.vat_tables.specs.Table.{Table}
 use Rattle.vat_names.specs.Names.{Names, Counts, times_named, named, unnamed, named_all, unnamed_all, HasRoom, HasSpare}
 use Rattle.vat_names.proofs.Counting.{counts_alike}

@@ -6,7 +6,7 @@ use Rattle.vat_machine.specs.declared.calls.HeldCall.{HeldCall}
 use Rattle.vat_machine.specs.State.{State}
 use Rattle.vat_machine.specs.Nodes.{links}
 use Rattle.vat_machine.specs.Limits.{IsWithin, held, number_limit}
-use Rattle.laws_places.specs.Alike.{places_beside}
+use Rattle.laws_acts.specs.Alike.{places_beside}
 use Rattle.vat_names.specs.Names.{Names, Counts, times_named, all_with_rooms}
 use Rattle.vat_waits.specs.Waiting.{Waiting}
 use Rattle.vat_store.proofs.Covering.{covered_over, covered_beside}

@@ -1,22 +1,10 @@
 //! Plays scripts on two vats and prints what happens; checks, shows and upgrades traces.
 #![tactic(auto)]
 
-mod answering;
-mod fault;
-mod playing;
-mod program;
-mod run;
-mod script;
-#[cfg(test)]
-mod tests;
-mod words;
-
-use fault::Failure;
-use program::{play, status};
 use std::fs::File;
 use std::process::ExitCode;
 use std::{env, io};
-use words::Word;
+use trace_program::{Failure, Word, play, status};
 
 /// `vat_trace run|check|show|upgrade FILE`; without arguments the script is read from standard input.
 fn main(rt: HostRuntime) -> Result<ExitCode, io::Error> {

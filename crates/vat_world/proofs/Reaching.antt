@@ -18,13 +18,14 @@ use Rattle.vat_machine.specs.declared.command.Effects.{Effects}
 use Rattle.vat_machine.specs.declared.event.Event.{Event}
 use Rattle.vat_machine.specs.declared.event.Event.TheVariants as event
 use Rattle.vat_machine.specs.World.{World, core, Happening, Happens, Run, StepAnswer, Answered, Handled, Empty, shut_with, shut_number, was_shut, tables_entry}
+use Rattle.vat_machine.specs.Pending.{pending}
 use Rattle.vat_machine.specs.Journal.{born, born_promise, asked_entries, made_entries, advanced_entries, refused_entries, granted_entries, own_entries, went_down, effect_entries, event_entries, index_in, journal_from, journal}
 use Rattle.laws_runs.specs.MadeCalls.{NumbersItsCalls, RunsCount}
 use Rattle.laws_runs.proofs.Reading.{all_that-append}
 use Rattle.vat_world.specs.declared.answer.StepAnswer.{StepAnswer as Given}
-use Rattle.vat_world.specs.World.{Seen, shut, new_seen, Steps, Runs, IsReached, KeepsPromises}
-use Rattle.laws_worlds.specs.Promised.{WorldsKeepPromises, but_tables, events_of}
-use Rattle.laws_worlds.proofs.Kept.{made_kept}
+use Rattle.vat_world.specs.World.{Seen, AllCame, shut, new_seen, Steps, Runs, IsReached, KeepsBootstraps, KeepsPromises}
+use Rattle.laws_sound.specs.Promised.{EventsLeaveBootstraps, WorldsKeepPromises, but_tables, events_of}
+use Rattle.laws_sound.proofs.Kept.{made_kept}
 
 -- ---- No event writes counts
 
@@ -180,6 +181,20 @@ reached_more w e result new r h =
 -- So what is promised of such worlds is so of it.
 pub promised : (w : Seen) → WorldsKeepPromises → IsReached w → KeepsPromises w
 promised w law r = law w.journal (shut w) w.world r.run r.shuts
+
+-- ---- Bootstrap objects
+
+pub keeps : EventsLeaveBootstraps → (w : Seen) (e : Event) (result : Given) (new : Seen) → Steps w e result new → KeepsBootstraps w new
+keeps law w e result new h v = law w.world (record { event = e; answer = h.answer; had_room = h.had_room }) new.world h.happens v
+
+pub run_keeps : EventsLeaveBootstraps → (w : Seen) (es : List Event) (new : Seen) → Runs w es new → KeepsBootstraps w new
+run_keeps law w [] new h v = ap (λ (z : Seen). (core z.world v).bootstrap) h
+run_keeps law w (e ∷ es) new h v = run_keeps law h.0 es new h.3 v ∙ keeps law w e h.1 h.0 h.2 v
+
+-- ---- Idle references
+
+pub all_came : (w : Seen) (r : Ref) → KeepsPromises w → (pending w.world r ≡ []) → AllCame w r
+all_came w r k none up v o stands = k.none_lost r v o stands up none
 
 -- ---- Counts
 

@@ -1,5 +1,5 @@
 -- Two vats with their journal: what an event does, and what every such world is.
-use Rattle.std.specs.Prelude.{◌≡◌, Bool, ◌||◌, false, is_some, Option, List, [], ◌∷◌, ◌++◌, refl}
+use Rattle.std.specs.Prelude.{◌≡◌, ℕ, Bool, ◌||◌, false, is_some, Option, List, [], ◌∷◌, ◌++◌, refl}
 use Rattle.std.specs.Coded.{Coded, code_by, coded×, coded_bool, coded_list}
 use Rattle.rpc_msg.specs.contracts.message.Message as message_row
 use Rattle.rpc_msg.specs.declared.ids.Vat.{Vat}
@@ -11,10 +11,12 @@ use Rattle.vat_journal.specs.declared.entry.JournalEntry.{JournalEntry}
 use Rattle.vat_machine.specs.State.{State, state_code}
 use Rattle.vat_machine.specs.declared.event.Event.{Event}
 use Rattle.vat_machine.specs.declared.event.Event.TheVariants as event
-use Rattle.vat_machine.specs.World.{Side, World, new_world, HappensBy, StepAnswer, Answered, Handled, Empty, shut_with, was_shut}
+use Rattle.vat_machine.specs.World.{Side, World, core, new_world, HappensBy, StepAnswer, Answered, Handled, Empty, shut_with, was_shut}
 use Rattle.vat_machine.specs.Journal.{event_entries}
-use Rattle.vat_machine.specs.Claims.{IsReached as LedTo}
-use Rattle.laws_worlds.specs.Promised.{IsPromised, events_of}
+use Rattle.vat_journal.specs.History.{Ref, delivered, made}
+use Rattle.vat_journal.specs.Meaning.{History, ObjectAt, StandsFor}
+use Rattle.vat_machine.specs.Claims.{BothUp, IsReached as LedTo}
+use Rattle.laws_sound.specs.Promised.{IsPromised, events_of, history_of}
 use Rattle.vat_world.specs.declared.answer.StepAnswer.{StepAnswer as Given}
 use Rattle.vat_world.specs.declared.answer.StepAnswer.TheVariants as given
 use Rattle.vat_world.specs.Stages.{given_of, without_sends}
@@ -78,6 +80,18 @@ pub record IsReached (w : Seen) : Type 0 where
   pub run : LedTo (record { world = w.world; journal = events_of w.journal })
   pub shuts : (v : Vat) → shut w v ≡ was_shut v run.happened
 
--- What is promised of it (`laws_worlds/specs/Promised`).
+-- By which references stand for something in it: its journal, and the bootstrap objects of its vats.
+abbrev pub told : Seen → History
+told w = history_of w.journal w.world
+
+-- While both vats are up: where the reference stands for an object, all calls that were made through it were delivered.
+abbrev pub AllCame : Seen → Ref → Type 0
+AllCame w r = BothUp w.world → (v : Vat) (o : ℕ) → StandsFor (told w) r (ObjectAt v o) → delivered w.journal r ≡ made w.journal r
+
+-- The vats have the bootstrap objects that they had.
+abbrev pub KeepsBootstraps : Seen → Seen → Type 0
+KeepsBootstraps w new = (v : Vat) → (core new.world v).bootstrap ≡ (core w.world v).bootstrap
+
+-- What is promised of it (`laws_sound/specs/Promised`).
 abbrev pub KeepsPromises : Seen → Type 0
 KeepsPromises w = IsPromised w.journal (shut w) w.world

@@ -7,12 +7,23 @@ use vat_outbox::Outbox;
 
 /// A vat of the world, the messages on their way to it, whether a shut took it down, and the memory of the copy of its
 /// Abort that goes into the journal.
-#[derive(Drop)]
 pub(crate) struct Side {
     pub(crate) core: Core,
     pub(crate) inbox: Link,
     pub(crate) was_shut: bool,
     pub(crate) spare: Outbox,
+}
+
+// By hand, as that of a core.
+impl Drop for Side {
+    fn drop(self) {
+        let Side {
+            core: _,
+            inbox: _,
+            was_shut: _,
+            spare: _,
+        } = self;
+    }
 }
 
 impl Side {
@@ -27,9 +38,9 @@ impl Side {
         ensures was_shut { IfOk result (λ side. side.was_shut ≡ false) }
         ensures room { IfOk result (λ side. CanAbort side side) }
     {
-        let core = Core::new(alloc, vat, Level::One, bootstrap)?;
-        let inbox = Link::new(alloc)?;
         let spare = Outbox::new(alloc)?;
+        let inbox = Link::new(alloc)?;
+        let core = Core::new(alloc, vat, Level::One, bootstrap)?;
         Ok(Side {
             core,
             inbox,

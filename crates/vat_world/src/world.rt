@@ -2,18 +2,18 @@ ghost use Rattle.std.specs.Prelude.{◌≡◌, ◌↔◌, true, ◌++◌, [], �
 ghost use Rattle.vat_journal.specs.declared.entry.JournalEntry.{JournalEntry};
 ghost use Rattle.vat_machine.specs.World.{tables_entry};
 ghost use Rattle.vat_machine.specs.Pending.{is_idle, pending};
-ghost use Rattle.vat_machine.specs.Claims.{AreNumbered, CountsAgree, IsInOrder, IsQuietWhenDown};
+ghost use Rattle.vat_machine.specs.Claims.{AreNumbered, CountsAgree, EndsAreSo, IsInFull, IsInOrder, IsInTime, IsQuietWhenDown, IsToOne, MeansOne};
 ghost use Rattle.vat_machine.specs.declared.event.Event.TheVariants as event;
 ghost use Rattle.vat_world.specs.declared.answer.StepAnswer.TheVariants as given;
-ghost use Rattle.laws_worlds.specs.Promised.{AreEachAtOne, AreInFull, DownsAreKnown, DownsAreTold, RefusesNothing};
-ghost use Rattle.vat_world.specs.World.{IsReached, KeepsPromises, Steps, Runs, new_seen, shut};
+ghost use Rattle.laws_sound.specs.Promised.{AreEachAtOne, AreInFull, DownsAreKnown, DownsAreTold, RefusesNothing, history_of};
+ghost use Rattle.vat_world.specs.World.{AllCame, IsReached, KeepsBootstraps, KeepsPromises, Steps, Runs, new_seen, shut};
 
 use crate::answer::StepAnswer;
 use crate::journal::Journal;
 use crate::side::Side;
 use crate::step::{deliver, obey};
 use laws_runs::calls_are_counted;
-use laws_worlds::worlds_keep_promises;
+use laws_sound::{bootstraps_stay, worlds_keep_promises};
 use rpc_msg::{Memory, ObjectId, RefId, Vat};
 use std::alloc::Global;
 use std::marker::Model;
@@ -26,12 +26,23 @@ use vat_machine::{Command, Event};
 ///
 /// Contracts see it as the world of `docs/protocol.md`, and every value of this type is one to which a run of two new vats
 /// leads, with the journal of that run: so what is promised of every run holds of it (`promises`).
-#[derive(Drop)]
 pub struct World {
     a: Side,
     b: Side,
     journal: Journal,
     alloc: Global,
+}
+
+// By hand, as that of a core.
+impl Drop for World {
+    fn drop(self) {
+        let World {
+            a: _,
+            b: _,
+            journal: _,
+            alloc: _,
+        } = self;
+    }
 }
 
 impl Model for World {
@@ -73,11 +84,14 @@ impl World {
     /// Where a link or the journal can't grow for it, the acting vat goes down with fault 33.
     ///
     /// Whatever happened before: the calls delivered through a reference are a beginning of those made through it, in order,
-    /// each once, all at one object; and what else is promised (`journal`).
+    /// each once, all at the object for which it stands; all of them once none is held or on its way; each ends as it was
+    /// answered; and what else is promised (`journal`). The vats keep their bootstrap objects.
     pub fn step(&mut self, event: Event) -> StepAnswer
         ensures steps { Steps self.old event result self.new }
         ensures promised { KeepsPromises self.new }
+        ensures bootstraps { KeepsBootstraps self.old self.new }
     {
+        bootstraps_stay();
         let answer = self.happen(event);
         self.promises();
         answer
@@ -131,7 +145,9 @@ impl World {
     pub fn run(&mut self, events: Vec<Event>)
         ensures runs { Runs self.old events.items self.new }
         ensures promised { KeepsPromises self.new }
+        ensures bootstraps { KeepsBootstraps self.old self.new }
     {
+        bootstraps_stay();
         for event in events {
             let answer = self.happen(event);
             drop(answer);
@@ -151,17 +167,26 @@ impl World {
     /// commanded and whenever messages came.
     ///
     /// By it the calls delivered through a reference are a beginning of those made through it, in order (`in_order`); no two
-    /// of these are one (`numbered`), so each is delivered once; all are at one object (`at_one`); and while both vats are
-    /// up, once one was delivered, all are where none is held or on its way (`in_full`). A vat delivers nothing after it went
-    /// down (`quiet`). While both are up, the count of each export is what the other vat holds and what is on its way
-    /// (`counts`). No vat takes the other down, but by going down itself (`unrefused`, `downs`, `told`).
+    /// of these are one (`numbered`), so each is delivered once; all are at one object (`at_one`), the one for which the
+    /// reference stands by the journal (`to_object`), and it stands for nothing else (`means_one`); and while both vats are up,
+    /// where none is held or on its way, all are delivered: once one was (`in_full`), and from the first where the reference
+    /// stands for an object (`none_lost`). Each delivery has the interface, method and payload of the call that was made, and
+    /// one new reference for each that was sent (`as_made`); each call ends once, as it was answered, or with an exception that
+    /// says why where its reference stands for broken, and with new references for those that came (`ends`). A vat delivers
+    /// nothing after it went down (`quiet`). While both are up, the count of each export is what the other vat holds and what
+    /// is on its way (`counts`). No vat takes the other down, but by going down itself (`unrefused`, `downs`, `told`).
     pub fn journal(&self) -> &[JournalEntry]
         ensures entries { result.now ≡ self.now.journal }
         ensures reached { IsReached self.now }
         ensures in_order { IsInOrder result.now }
         ensures numbered { AreNumbered result.now }
         ensures at_one { AreEachAtOne result.now }
+        ensures to_object { IsToOne (history_of result.now self.now.world) }
+        ensures means_one { MeansOne (history_of result.now self.now.world) }
         ensures in_full { AreInFull result.now self.now.world }
+        ensures none_lost { IsInFull (history_of result.now self.now.world) self.now.world }
+        ensures as_made { IsInTime (history_of result.now self.now.world) }
+        ensures ends { EndsAreSo (history_of result.now self.now.world) }
         ensures quiet { IsQuietWhenDown result.now }
         ensures counts { CountsAgree self.now.world }
         ensures unrefused { RefusesNothing self.now.world }
@@ -186,10 +211,12 @@ impl World {
     }
 
     /// Whether no call of that reference of that vat is held, embargoed or in a Call message on its way: so all that were
-    /// made through it, and not delivered, have another end. Takes no memory.
+    /// made through it, and not delivered, have another end; and while both vats are up, none was left out where the reference
+    /// stands for an object (`all_came`). Takes no memory.
     pub fn idle(&self, vat: Vat, reference: RefId) -> bool
         ensures idle { result ≡ is_idle self.now.world (record { vat = vat; number = reference.0 }) }
         ensures none_pending { result ≡ true ↔ pending self.now.world (record { vat = vat; number = reference.0 }) ≡ [] }
+        ensures all_came { result ≡ true → AllCame self.now (record { vat = vat; number = reference.0 }) }
     {
         self.promises();
         self.none_waits(vat, reference)

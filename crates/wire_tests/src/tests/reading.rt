@@ -1,6 +1,6 @@
 //! Payloads that are read, and what is found in them.
 use crate::tests::bytes_of;
-use capn_wire::{CapAt, Items, Memory, Op, Payload, PayloadFault, Tree};
+use capn_wire::{CapAt, Items, Memory, Op, Payload, PayloadFault, Tree, WriteFault};
 use std::alloc::Global;
 use std::process::Abort;
 use std::test::Fail;
@@ -112,15 +112,14 @@ fn with_zeros(alloc: Global, text: &str, words: usize) -> Result<Vec<u8>, Fail> 
     Ok(bytes)
 }
 
+/// A struct and two lists over the same 32,767 words.
+const TWICE: &str = "00000000 02800000 | 0000000000000200 05000000fdff0300 01000000fdff0300";
+
 /// Two lists over the same words: each word is visited once for each.
 #[test]
 fn bounds_the_visited_words(rt: HostRuntime) -> Result<(), Fail> {
     for (text, words, fault) in [
-        (
-            "00000000 02800000 | 0000000000000200 05000000fdff0300 01000000fdff0300",
-            32_767,
-            None,
-        ),
+        (TWICE, 32_767, None),
         (
             "00000000 439c0000 | 0000000000000200 0500000005e20400 0100000005e20400",
             40_000,
@@ -134,6 +133,17 @@ fn bounds_the_visited_words(rt: HostRuntime) -> Result<(), Fail> {
             "at {text}"
         );
     }
+    Ok(())
+}
+
+/// Its tree has 65,536 words, and the root pointer is one more.
+#[test]
+fn reads_what_is_too_large_to_write(rt: HostRuntime) -> Result<(), Fail> {
+    let bytes = with_zeros(rt.alloc(), TWICE, 32_767)?;
+    let payload = Payload::read(rt.alloc(), &bytes, 0)?;
+    let tree = payload.tree(rt.alloc())?;
+    let fault = Payload::write(rt.alloc(), &tree, 0).err();
+    assert_eq!(rt; fault, Some(WriteFault::TooLarge));
     Ok(())
 }
 

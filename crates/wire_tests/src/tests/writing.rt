@@ -1,20 +1,25 @@
 //! Trees that are written.
 use crate::tests::bytes_of;
-use capn_wire::{Fields, Items, Payload, Tree, WriteFault, write_and_read};
-use std::alloc::{AllocError, Global};
+use capn_wire::{Fields, Items, Payload, Pointers, Tree, WriteFault, write_and_read};
+use std::alloc::Global;
 use std::process::Abort;
 use std::test::Fail;
 
+/// One pointer more.
+fn point_to(pointers: &mut Pointers, tree: Tree) -> Result<(), WriteFault> {
+    pointers.push(tree).map_err(|(fault, _)| fault)
+}
+
 /// A struct without data, with one pointer.
-fn pointing_at(alloc: Global, tree: Tree) -> Result<Tree, AllocError> {
-    let mut pointers = Vec::new(alloc);
-    pointers.push(tree)?;
+fn pointing_at(alloc: Global, tree: Tree) -> Result<Tree, Fail> {
+    let mut pointers = Pointers::new(alloc);
+    point_to(&mut pointers, tree)?;
     let words = Vec::new(alloc);
     Ok(Tree::Struct { words, pointers })
 }
 
 /// So many structs around a tree.
-fn nested(alloc: Global, tree: Tree, levels: usize) -> Result<Tree, AllocError> {
+fn nested(alloc: Global, tree: Tree, levels: usize) -> Result<Tree, Fail> {
     let mut tree = tree;
     for _ in 0..levels {
         tree = pointing_at(alloc, tree)?;
@@ -24,16 +29,16 @@ fn nested(alloc: Global, tree: Tree, levels: usize) -> Result<Tree, AllocError> 
 
 fn empty_struct(alloc: Global) -> Tree {
     let words = Vec::new(alloc);
-    let pointers = Vec::new(alloc);
+    let pointers = Pointers::new(alloc);
     Tree::Struct { words, pointers }
 }
 
 /// A list of so many structs of size zero, said to have so many data words.
-fn empty_structs(alloc: Global, count: usize, data_words: u16) -> Result<Tree, AllocError> {
+fn empty_structs(alloc: Global, count: usize, data_words: u16) -> Result<Tree, Fail> {
     let mut items = Vec::new(alloc);
     for _ in 0..count {
         let words = Vec::new(alloc);
-        let pointers = Vec::new(alloc);
+        let pointers = Pointers::new(alloc);
         items.push(Fields { words, pointers })?;
     }
     Ok(Tree::List(Items::Structs {
@@ -44,7 +49,7 @@ fn empty_structs(alloc: Global, count: usize, data_words: u16) -> Result<Tree, A
 }
 
 /// A list of so many words.
-fn zeros(alloc: Global, count: usize) -> Result<Tree, AllocError> {
+fn zeros(alloc: Global, count: usize) -> Result<Tree, Fail> {
     let mut words = Vec::new(alloc);
     for _ in 0..count {
         words.push(0)?;
@@ -52,29 +57,29 @@ fn zeros(alloc: Global, count: usize) -> Result<Tree, AllocError> {
     Ok(Tree::List(Items::Eights(words)))
 }
 
-fn three_numbers(alloc: Global) -> Result<Tree, AllocError> {
+fn three_numbers(alloc: Global) -> Result<Tree, Fail> {
     let mut twos = Vec::new(alloc);
     twos.extend_from_slice(&[1, 2, 3])?;
     Ok(Tree::List(Items::Twos(twos)))
 }
 
-fn data_and_pointers(alloc: Global) -> Result<Tree, AllocError> {
+fn data_and_pointers(alloc: Global) -> Result<Tree, Fail> {
     let numbers = three_numbers(alloc)?;
     let mut words = Vec::new(alloc);
     words.push(7)?;
-    let mut pointers = Vec::new(alloc);
-    pointers.push(Tree::Null)?;
-    pointers.push(numbers)?;
+    let mut pointers = Pointers::new(alloc);
+    point_to(&mut pointers, Tree::Null)?;
+    point_to(&mut pointers, numbers)?;
     Ok(Tree::Struct { words, pointers })
 }
 
-fn two_structs(alloc: Global) -> Result<Tree, AllocError> {
+fn two_structs(alloc: Global) -> Result<Tree, Fail> {
     let mut items = Vec::new(alloc);
     for (number, tree) in [(1, Tree::Cap(0)), (2, Tree::Null)] {
         let mut words = Vec::new(alloc);
         words.push(number)?;
-        let mut pointers = Vec::new(alloc);
-        pointers.push(tree)?;
+        let mut pointers = Pointers::new(alloc);
+        point_to(&mut pointers, tree)?;
         items.push(Fields { words, pointers })?;
     }
     Ok(Tree::List(Items::Structs {
@@ -84,18 +89,21 @@ fn two_structs(alloc: Global) -> Result<Tree, AllocError> {
     }))
 }
 
-fn two_pointers(alloc: Global) -> Result<Tree, AllocError> {
+fn two_pointers(alloc: Global) -> Result<Tree, Fail> {
     let mut bits = Vec::new(alloc);
     bits.extend_from_slice(&[true, false, true])?;
     let mut words = Vec::new(alloc);
     words.push(5)?;
-    let inner = Vec::new(alloc);
-    let mut pointers = Vec::new(alloc);
-    pointers.push(Tree::Struct {
-        words,
-        pointers: inner,
-    })?;
-    pointers.push(Tree::List(Items::Bits(bits)))?;
+    let inner = Pointers::new(alloc);
+    let mut pointers = Pointers::new(alloc);
+    point_to(
+        &mut pointers,
+        Tree::Struct {
+            words,
+            pointers: inner,
+        },
+    )?;
+    point_to(&mut pointers, Tree::List(Items::Bits(bits)))?;
     Ok(Tree::List(Items::Pointers(pointers)))
 }
 
@@ -103,7 +111,7 @@ fn two_pointers(alloc: Global) -> Result<Tree, AllocError> {
 const WRITTEN: u32 = 10;
 
 /// A tree, how many capabilities go with it, and the bytes that it is written as.
-fn written(alloc: Global, number: u32) -> Result<(Tree, u32, &'static str), AllocError> {
+fn written(alloc: Global, number: u32) -> Result<(Tree, u32, &'static str), Fail> {
     Ok(match number {
         0 => (Tree::Null, 0, "00000000 01000000 0000000000000000"),
         1 => (empty_struct(alloc), 0, "00000000 01000000 fcffffff00000000"),
@@ -174,7 +182,7 @@ fn writes_worked_values(rt: HostRuntime) -> Result<(), Fail> {
 const LIMITED: u32 = 12;
 
 /// A tree, how many capabilities go with it, and the number of its fault, or 0.
-fn limited(alloc: Global, number: u32) -> Result<(Tree, u32, u16), AllocError> {
+fn limited(alloc: Global, number: u32) -> Result<(Tree, u32, u16), Fail> {
     Ok(match number {
         0 => (Tree::List(Items::Void(536_870_912)), 0, 4),
         1 => (zeros(alloc, 65_535)?, 0, 0),
@@ -197,7 +205,7 @@ fn limited(alloc: Global, number: u32) -> Result<(Tree, u32, u16), AllocError> {
     })
 }
 
-fn uneven_and_deep(alloc: Global) -> Result<Tree, AllocError> {
+fn uneven_and_deep(alloc: Global) -> Result<Tree, Fail> {
     let uneven = empty_structs(alloc, 1, 1)?;
     nested(alloc, uneven, 65)
 }
@@ -216,6 +224,41 @@ fn refuses_to_write(rt: HostRuntime) -> Result<(), Fail> {
         let (tree, caps, fault) = limited(rt.alloc(), number)?;
         assert_eq!(rt; fault_of(rt.alloc(), &tree, caps), fault, "tree {number}");
     }
+    Ok(())
+}
+
+/// The deepest tree is too deep to be written. None that is deeper can be built.
+#[test]
+fn builds_no_deeper_tree(rt: HostRuntime) -> Result<(), Fail> {
+    let deepest = nested(rt.alloc(), Tree::Null, 128)?;
+    let mut pointers = Pointers::new(rt.alloc());
+    let Err((fault, back)) = pointers.push(deepest) else {
+        assert!(rt; false, "a deeper tree was built");
+        return Ok(());
+    };
+    assert_eq!(rt; fault, WriteFault::Depth);
+    assert!(rt; pointers.as_slice().is_empty());
+    assert_eq!(rt; fault_of(rt.alloc(), &back, 0), 11);
+    Ok(())
+}
+
+#[test]
+fn writes_and_copies_the_deepest_payload(rt: HostRuntime) -> Result<(), Fail> {
+    let tree = nested(rt.alloc(), Tree::Null, 64)?;
+    let payload = write_and_read(rt.alloc(), &tree, 0)??;
+    let again = payload.copy(rt.alloc())?.tree(rt.alloc())?;
+    assert!(rt; Payload::write(rt.alloc(), &again, 0)? == payload);
+    Ok(())
+}
+
+/// The largest message.
+#[test]
+fn writes_reads_and_copies_a_large_message(rt: HostRuntime) -> Result<(), Fail> {
+    let tree = zeros(rt.alloc(), 65_535)?;
+    let payload = write_and_read(rt.alloc(), &tree, 0)??;
+    assert_eq!(rt; payload.bytes().len(), 8 * 65_537);
+    let copy = payload.copy(rt.alloc())?;
+    assert!(rt; copy == payload);
     Ok(())
 }
 

@@ -1,8 +1,9 @@
 use Rattle.std.proofs.Common.{◌≡◌, sym, subst, ap, ◌∙◌}
-use Rattle.capn_wire.specs.declared.referent.Referent.{Referent}
-use Rattle.capn_wire.specs.Trees.{Tree}
+use Rattle.wire_reading.specs.declared.referent.Referent.{Referent}
+use Rattle.wire_trees.specs.Trees.{Tree}
 use Rattle.capn_wire.specs.Walking.{field, StandsFor}
-use Rattle.capn_wire.proofs.Places.{first_is, null_field, is_capability, content_read, not_struct, struct_past, struct_field}
+use Rattle.wire_reading.proofs.Rooted.{first_is}
+use Rattle.capn_wire.proofs.Places.{null_field, is_capability, content_read, not_struct, struct_past, struct_field}
 use Rattle.capn_wire.proofs.find.field_of.Goals as goal
 
 pub returns-in-Null : goal.returns-in-Null

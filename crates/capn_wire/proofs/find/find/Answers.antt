@@ -1,10 +1,10 @@
 use Rattle.std.proofs.Common.{◌≡◌, refl, sym, subst, ◌∙◌}
-use Rattle.capn_wire.specs.declared.referent.Referent.{Referent}
-use Rattle.capn_wire.specs.declared.referent.Referent.TheVariants as referent
-use Rattle.capn_wire.specs.Reading.{root_of}
-use Rattle.capn_wire.specs.Payloads.{tree_read}
+use Rattle.wire_reading.specs.declared.referent.Referent.{Referent}
+use Rattle.wire_reading.specs.declared.referent.Referent.TheVariants as referent
+use Rattle.wire_reading.specs.Reading.{root_of, tree_read}
 use Rattle.capn_wire.specs.Walking.{StandsFor}
-use Rattle.capn_wire.proofs.Places.{first_is, root_there, root_read, root_stands, found_last}
+use Rattle.wire_reading.proofs.Rooted.{first_is, root_there, root_read}
+use Rattle.capn_wire.proofs.Places.{root_stands, found_last}
 use Rattle.capn_wire.proofs.find.find.Goals as goal
 
 pub follow-requires : goal.follow-requires

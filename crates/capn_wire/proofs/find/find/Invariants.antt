@@ -1,7 +1,6 @@
 use Rattle.std.proofs.Common.{◌≡◌, drop}
-use Rattle.capn_wire.specs.Trees.{Tree}
-use Rattle.capn_wire.specs.Reading.{root_of}
-use Rattle.capn_wire.specs.Payloads.{tree_read}
+use Rattle.wire_trees.specs.Trees.{Tree}
+use Rattle.wire_reading.specs.Reading.{root_of, tree_read}
 use Rattle.capn_wire.specs.Walking.{capability_at, StandsFor}
 use Rattle.capn_wire.proofs.find.find.Given as goal
 

@@ -1,4 +1,4 @@
-use Rattle.laws_sessions.proofs.Kept.{in_steady_worlds}
+use Rattle.laws_runs.proofs.Kept.{in_steady_worlds}
 use Rattle.laws_scenes.proofs.CanceledKept.{given_kept, in_world}
 use Rattle.laws_scenes.proofs.laws.canceled_were_given_up.Goals as goal
 

@@ -1,10 +1,10 @@
 use Rattle.std.proofs.Common.{ap, ◌∙◌, ℕ}
 use Rattle.std.specs.Arc.{arc_value}
 use Rattle.std.specs.Global.{Vec}
-use Rattle.capn_wire.specs.Trees.{Tree}
+use Rattle.wire_trees.specs.Trees.{Tree}
 use Rattle.capn_wire.specs.Payloads.{Contents, tree_of}
 use Rattle.capn_wire.specs.Walking.{capability_at}
-use Rattle.capn_wire.proofs.Places.{framed_read, not_unframed}
+use Rattle.wire_reading.proofs.Rooted.{framed_read, not_unframed}
 use Rattle.capn_wire.proofs.payload.Payload.cap_at.Goals as goal
 
 pub unreachable-requires : goal.unreachable-requires

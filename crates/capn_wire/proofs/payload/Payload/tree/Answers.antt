@@ -2,7 +2,7 @@ use Rattle.std.proofs.Common.{ap, ◌∙◌, ℕ}
 use Rattle.std.specs.Arc.{arc_value}
 use Rattle.std.specs.Global.{Vec}
 use Rattle.capn_wire.specs.Payloads.{tree_of}
-use Rattle.capn_wire.proofs.Places.{framed_read, not_unframed}
+use Rattle.wire_reading.proofs.Rooted.{framed_read, not_unframed}
 use Rattle.capn_wire.proofs.payload.Payload.tree.Goals as goal
 
 pub unreachable-requires : goal.unreachable-requires
@@ -10,8 +10,8 @@ unreachable-requires c =
     let same = c.as_slice.ensures.value ∙ ap (λ (v : Vec ℕ). v.items) c.deref.ensures in
     not_unframed (arc_value c.self.inside.bytes).items c.self.inside.caps c.in_default.field-0 c.self.invariant.encoded (rw same at c.in_default.ensures)
 
-pub build-requires : goal.build-requires
-build-requires c =
+pub build_tree-requires : goal.build_tree-requires
+build_tree-requires c =
     let same = c.as_slice.ensures.value ∙ ap (λ (v : Vec ℕ). v.items) c.deref.ensures in
     (framed_read (arc_value c.self.inside.bytes).items c.self.inside.caps c.in-Ok.message c.self.invariant.encoded (rw same at c.in-Ok.ensures)).0
 

@@ -1,7 +1,7 @@
 use Rattle.std.proofs.Common.{List, sym, ap, subst, ◌∙◌}
 use Rattle.vat_journal.specs.declared.entry.JournalEntry.{JournalEntry}
-use Rattle.vat_machine.specs.Claims.{AreNumbered, IsInOrder}
-use Rattle.laws_worlds.specs.Promised.{AreEachAtOne}
+use Rattle.vat_machine.specs.Claims.{AreNumbered, EndsAreSo, IsInFull, IsInOrder, IsInTime, IsToOne, MeansOne}
+use Rattle.laws_sound.specs.Promised.{AreEachAtOne, history_of}
 use Rattle.vat_world.specs.World.{Seen}
 use Rattle.vat_world.proofs.world.World.journal.Goals as goal
 
@@ -13,3 +13,18 @@ returns-clause-numbered c = subst (λ (h : List JournalEntry). AreNumbered h) (s
 
 pub returns-clause-at_one : goal.returns-clause-at_one
 returns-clause-at_one c = subst (λ (h : List JournalEntry). AreEachAtOne h) (sym (c.entries.ensures ∙ ap (λ (w : Seen). w.journal) c.self.view_is)) c.promises.ensures.at_one
+
+pub returns-clause-to_object : goal.returns-clause-to_object
+returns-clause-to_object c = subst (λ (h : List JournalEntry). IsToOne (history_of h c.args.self.now.world)) (sym (c.entries.ensures ∙ ap (λ (w : Seen). w.journal) c.self.view_is)) c.promises.ensures.to_one
+
+pub returns-clause-means_one : goal.returns-clause-means_one
+returns-clause-means_one c = subst (λ (h : List JournalEntry). MeansOne (history_of h c.args.self.now.world)) (sym (c.entries.ensures ∙ ap (λ (w : Seen). w.journal) c.self.view_is)) c.promises.ensures.means_one
+
+pub returns-clause-none_lost : goal.returns-clause-none_lost
+returns-clause-none_lost c = subst (λ (h : List JournalEntry). IsInFull (history_of h c.args.self.now.world) c.args.self.now.world) (sym (c.entries.ensures ∙ ap (λ (w : Seen). w.journal) c.self.view_is)) c.promises.ensures.none_lost
+
+pub returns-clause-as_made : goal.returns-clause-as_made
+returns-clause-as_made c = subst (λ (h : List JournalEntry). IsInTime (history_of h c.args.self.now.world)) (sym (c.entries.ensures ∙ ap (λ (w : Seen). w.journal) c.self.view_is)) c.promises.ensures.as_made
+
+pub returns-clause-ends : goal.returns-clause-ends
+returns-clause-ends c = subst (λ (h : List JournalEntry). EndsAreSo (history_of h c.args.self.now.world)) (sym (c.entries.ensures ∙ ap (λ (w : Seen). w.journal) c.self.view_is)) c.promises.ensures.ends

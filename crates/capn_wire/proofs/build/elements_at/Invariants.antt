@@ -1,9 +1,0 @@
-use Rattle.std.proofs.Common.{◌≡◌, ◌-◌, ◌++◌, drop}
-use Rattle.capn_wire.specs.Segments.{segment_of}
-use Rattle.capn_wire.specs.Reading.{elements}
-use Rattle.capn_wire.proofs.build.elements_at.Given as goal
-
--- the elements so far, and those that are left
-abbrev pub invariant-loop-k : goal.invariant-loop-k
-invariant-loop-k l = l.values.items ++ elements (drop l.start (segment_of l.message l.segment)) l.bits l.k (l.count - l.k)
-    ≡ elements (drop l.start (segment_of l.message l.segment)) l.bits 0 l.count

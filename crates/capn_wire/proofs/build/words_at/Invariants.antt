@@ -1,6 +1,0 @@
-use Rattle.std.proofs.Common.{◌≡◌, drop, take}
-use Rattle.capn_wire.specs.Segments.{segment_of}
-use Rattle.capn_wire.proofs.build.words_at.Given as goal
-
-abbrev pub invariant-loop-k : goal.invariant-loop-k
-invariant-loop-k l = l.words.items ≡ take l.k (drop l.start (segment_of l.message l.segment))

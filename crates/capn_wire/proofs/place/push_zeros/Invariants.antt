@@ -1,7 +1,0 @@
-use Rattle.std.proofs.Common.{◌≡◌, ◌++◌}
-use Rattle.std.specs.Prelude.{replicate}
-use Rattle.capn_wire.proofs.place.push_zeros.Given as goal
-
--- the zeros so far
-abbrev pub invariant-loop : goal.invariant-loop
-invariant-loop l = l.words.items ≡ l.fn.words.items ++ replicate l.counter 0

@@ -1,0 +1,162 @@
+//! Two cores, the messages under way between them, and what they said last.
+
+use crate::heard::message;
+use crate::told::write_effects;
+use anyhow::{Result, bail};
+use journal_words::{letter, write_counts};
+use rpc_msg::{Message, ObjectId, RefId, Vat};
+use std::alloc::Global;
+use std::collections::VecDeque;
+use std::fmt::Write;
+use vat_core::{Answer, Core};
+use vat_machine::{Command, Effects, Event, Granted, Level};
+use vat_script::{Act, Line, Name, Names, Program};
+
+#[derive(Drop)]
+pub struct Scene {
+    a: Core,
+    b: Core,
+    to_a: VecDeque<Message>,
+    to_b: VecDeque<Message>,
+    names: Names,
+    pub said: String,
+}
+
+impl Scene {
+    /// Both have the bootstrap object 0, but a vat a of level 0.
+    pub fn new(alloc: Global, title: &str) -> Result<Scene> {
+        let (level, root) = match title.starts_with("scene level 0 ") {
+            true => (Level::Zero, None),
+            false => (Level::One, Some(ObjectId(0))),
+        };
+        let a = Core::new(alloc, Vat::A, level, root)?;
+        let b = Core::new(alloc, Vat::B, Level::One, Some(ObjectId(0)))?;
+        Ok(Scene {
+            a,
+            b,
+            to_a: VecDeque::new(alloc),
+            to_b: VecDeque::new(alloc),
+            names: Names::new(alloc),
+            said: String::new(alloc),
+        })
+    }
+
+    pub fn play(&mut self, alloc: Global, line: &str) -> Result<()> {
+        let Some((turns, line)) = line.split_once(" times ") else {
+            return self.happen(alloc, line);
+        };
+        let turns: u32 = turns.parse()?;
+        for turn in 0..turns {
+            let number = format!(in alloc; "{turn}")?;
+            let line = line.replace(alloc, "$", number.as_str())?;
+            self.happen(alloc, line.as_str())?;
+        }
+        Ok(())
+    }
+
+    fn happen(&mut self, alloc: Global, line: &str) -> Result<()> {
+        self.said = String::new(alloc);
+        match line.split_once(" hears ") {
+            Some((vat, words)) => {
+                let vat = if vat == "a" { Vat::A } else { Vat::B };
+                let message = message(alloc, words)?;
+                self.receive(alloc, vat, message)
+            }
+            None => self.play_line(alloc, line),
+        }
+    }
+
+    fn play_line(&mut self, alloc: Global, text: &str) -> Result<()> {
+        let line = Line::read(alloc, Program::Run, text)?;
+        self.follow_line(alloc, &line)
+    }
+
+    fn follow_line(&mut self, alloc: Global, line: &Line) -> Result<()> {
+        let act = self.names.act(alloc, line)?;
+        match act {
+            Act::Nothing => Ok(()),
+            Act::Turn(_) => Ok(()),
+            Act::Tables => self.tell_counts(),
+            Act::Name(vat, name, reference) => name_in(&mut self.names, vat, name, reference),
+            Act::Happens(event) => self.follow_event(alloc, line, event),
+        }
+    }
+
+    fn follow_event(&mut self, alloc: Global, line: &Line, event: Event) -> Result<()> {
+        match event {
+            Event::Deliver(vat) => self.deliver(alloc, vat),
+            Event::Command(_, command) => self.obey(alloc, line, command),
+        }
+    }
+
+    fn deliver(&mut self, alloc: Global, vat: Vat) -> Result<()> {
+        let oldest = match vat {
+            Vat::A => self.to_a.pop_front(),
+            Vat::B => self.to_b.pop_front(),
+        };
+        match oldest {
+            Some(message) => self.receive(alloc, vat, message),
+            None => bail!("no message is under way"),
+        }
+    }
+
+    fn receive(&mut self, alloc: Global, vat: Vat, message: Message) -> Result<()> {
+        let effects = match vat {
+            Vat::A => self.a.receive(message),
+            Vat::B => self.b.receive(message),
+        };
+        self.follow(alloc, vat, effects)
+    }
+
+    fn obey(&mut self, alloc: Global, line: &Line, command: Command) -> Result<()> {
+        let Line::Command(vat, said) = line else {
+            bail!("no command");
+        };
+        let answer = match vat {
+            Vat::A => self.a.obey(command),
+            Vat::B => self.b.obey(command),
+        };
+        match answer {
+            Answer::Done(granted, effects) => {
+                if let Granted::Advanced(advanced) = granted {
+                    writeln!(self.said, "{}: {advanced:?}", letter(*vat))?;
+                }
+                self.names.bind(*vat, said, granted)?;
+                self.follow(alloc, *vat, effects)
+            }
+            Answer::Refused(refusal, _) => {
+                writeln!(self.said, "{}: refused {}", letter(*vat), refusal.code())?;
+                Ok(())
+            }
+        }
+    }
+
+    fn follow(&mut self, alloc: Global, vat: Vat, effects: Effects) -> Result<()> {
+        write_effects(&mut self.said, vat, &effects)?;
+        self.names
+            .note_deliveries(alloc, vat, effects.deliveries.as_slice())?;
+        self.names
+            .note_outcomes(alloc, vat, effects.answers.as_slice())?;
+        let mut sends = VecDeque::from(effects.sends.into_vec());
+        match vat {
+            Vat::A => self.to_b.append(&mut sends)?,
+            Vat::B => self.to_a.append(&mut sends)?,
+        }
+        Ok(())
+    }
+
+    fn tell_counts(&mut self) -> Result<()> {
+        let a = self.a.counts()?;
+        let b = self.b.counts()?;
+        write_counts(&mut self.said, Vat::A, &a)?;
+        self.said.push('\n')?;
+        write_counts(&mut self.said, Vat::B, &b)?;
+        self.said.push('\n')?;
+        Ok(())
+    }
+}
+
+fn name_in(names: &mut Names, vat: Vat, name: Name, reference: RefId) -> Result<()> {
+    names.name(vat, name, reference)?;
+    Ok(())
+}

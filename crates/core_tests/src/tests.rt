@@ -1,4 +1,0 @@
-mod exports;
-mod names;
-mod outbox;
-mod waits;

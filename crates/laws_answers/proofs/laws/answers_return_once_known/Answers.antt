@@ -1,5 +1,0 @@
-use Rattle.laws_answers.proofs.Returning.{in_step}
-use Rattle.laws_answers.proofs.laws.answers_return_once_known.Goals as goal
-
-pub returns : goal.returns
-returns c = in_step c.nodes_are_there.ensures.there

@@ -1,7 +1,0 @@
-use Rattle.laws_sessions.proofs.Kept.{in_steady_worlds}
-use Rattle.laws_exports.proofs.Finding.{are_kept}
-use Rattle.laws_between.proofs.Exports.{in_world}
-use Rattle.laws_between.proofs.laws.exports_meet.Goals as goal
-
-pub returns : goal.returns
-returns c = λ a b x h. in_world x.world (in_steady_worlds (are_kept c.sends_raise_counts.ensures) a b x.world (c.counts_agree_in_scenes.ensures.steady a b x h))

@@ -1,5 +1,0 @@
-use Rattle.laws_between.proofs.Loops.{in_world}
-use Rattle.laws_between.proofs.laws.loops_meet.Goals as goal
-
-pub returns : goal.returns
-returns c = λ a b x h. in_world x.world (c.embargoes_are_about.ensures.about a b x h)

@@ -1,5 +1,0 @@
-use Rattle.laws_exports.proofs.Keeping as keeping
-use Rattle.laws_exports.proofs.laws.imports_answer.Goals as goal
-
-pub returns : goal.returns
-returns c = record { keeps = keeping.acts; answers = keeping.answers }

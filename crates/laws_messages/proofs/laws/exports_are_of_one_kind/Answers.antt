@@ -1,0 +1,8 @@
+use Rattle.laws_messages.proofs.OneKind.{in_worlds}
+use Rattle.laws_messages.proofs.laws.exports_are_of_one_kind.Goals as goal
+
+pub returns : goal.returns
+returns c = record {
+  steady = in_worlds c.sends_raise_counts.ensures;
+  scenes = λ a b x h. in_worlds c.sends_raise_counts.ensures a b x.world (let k = c.counts_agree_in_scenes.ensures in k.steady a b x h);
+}

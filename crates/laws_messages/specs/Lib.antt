@@ -1,0 +1,17 @@
+pub mod Views
+pub mod Kinds
+pub mod Mentions
+pub mod Imports
+pub mod Found
+pub mod OfAKind
+pub mod ExportViews
+pub mod Steps
+pub mod Between
+pub mod Oldest
+pub mod Loopbacks
+pub mod Returned
+pub mod PayloadCaps
+pub mod Named
+pub mod Left
+pub mod Taken
+pub mod Sound

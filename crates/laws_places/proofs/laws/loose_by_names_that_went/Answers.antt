@@ -1,5 +1,0 @@
-use Rattle.laws_places.proofs.Loose.{loose_by_names, tight}
-use Rattle.laws_places.proofs.laws.loose_by_names_that_went.Goals as goal
-
-pub returns : goal.returns
-returns c = record { went = loose_by_names; tight = tight }

@@ -1,5 +1,0 @@
-use Rattle.laws_sessions.proofs.AboveZero as above
-use Rattle.laws_sessions.proofs.counts.entries_count.Goals as goal
-
-pub returns : goal.returns
-returns c = record { acts = above.acts; consumes = above.consumes }

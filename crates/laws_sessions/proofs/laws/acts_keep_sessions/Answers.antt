@@ -1,6 +1,0 @@
-use Rattle.laws_sessions.proofs.Acted.{acts}
-use Rattle.laws_sessions.proofs.Heard.{consumes}
-use Rattle.laws_sessions.proofs.laws.acts_keep_sessions.Goals as goal
-
-pub returns : goal.returns
-returns c = record { acts = λ last d list i. acts last d i list; consumes = λ m d first h i k. consumes m d first i k h }

@@ -1,5 +1,0 @@
-use Rattle.laws_sessions.proofs.Named as of_names
-use Rattle.laws_sessions.proofs.laws.answers_are_there_when_named.Goals as goal
-
-pub returns : goal.returns
-returns c = record { names = of_names.names; sends = of_names.sends; returns = of_names.returns; heard = λ u m ms h. h; named = λ u ms h. h }

@@ -1,5 +1,0 @@
-use Rattle.laws_sessions.proofs.Rows as rows
-use Rattle.laws_sessions.proofs.laws.question_sessions_hold.Goals as goal
-
-pub returns : goal.returns
-returns c = record { only = rows.only; each = rows.each; not_odd = rows.not_odd; not_strange = rows.not_strange }

@@ -1,4 +1,0 @@
-pub mod Kept
-pub mod Promising
-pub mod Sounding
-pub mod Wrongs

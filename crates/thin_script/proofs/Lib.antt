@@ -1,4 +1,0 @@
-pub mod NameKeys
-pub mod NameTree
-pub mod Numbers
-pub mod Paths

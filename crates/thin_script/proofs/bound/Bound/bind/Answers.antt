@@ -1,5 +1,0 @@
-use Rattle.thin_script.proofs.NameTree.{seen-insert}
-use Rattle.thin_script.proofs.bound.Bound.bind.Goals as goal
-
-pub returns-in-Ok-clause-ok : goal.returns-in-Ok-clause-ok
-returns-in-Ok-clause-ok g c = seen-insert c.self.inside.tree c.insert.new.self _ _ _ c.self.view_is c.in-Ok.ensures.updates

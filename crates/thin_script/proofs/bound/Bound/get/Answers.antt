@@ -1,6 +1,0 @@
-use Rattle.std.proofs.Common.{◌∙◌}
-use Rattle.thin_script.proofs.NameTree.{seen-get}
-use Rattle.thin_script.proofs.bound.Bound.get.Goals as goal
-
-pub returns : goal.returns
-returns g c = c.copied.ensures ∙ c.get.ensures.value ∙ seen-get c.self.inside.tree _ c.self.view_is c.args.name

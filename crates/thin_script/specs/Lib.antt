@@ -1,4 +1,0 @@
-pub mod Letters
-pub mod Words
-pub mod Lines
-pub mod Bindings

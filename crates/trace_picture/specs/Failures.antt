@@ -1,0 +1,50 @@
+-- Why the program does not draw, what it says of it, and its status (docs/trace.md, "A picture of a trace").
+use Rattle.std.specs.Prelude.{ℕ, ◌≡◌, ◌⊎◌, Option, IfSome, Result, Ok, Err, List, [], ◌∷◌, ◌++◌, codes, decimal}
+use Rattle.std.specs.Str.{IsUtf8}
+use Rattle.trace_json.specs.Faults.{number_of_fault}
+use Rattle.trace_file.specs.declared.fault.FileFault.{FileFault}
+use Rattle.trace_file.specs.declared.fault.FileFault.TheVariants as file
+use Rattle.trace_file.specs.Faults.{IsFileFault}
+use Rattle.trace_picture.specs.declared.fault.Failure.{Failure}
+use Rattle.trace_picture.specs.declared.fault.Failure.TheVariants as failure
+use Rattle.trace_picture.specs.Drawn.{IsInput, IsSomeTrace}
+
+-- What is said of a text's fault.
+abbrev pub of_file : FileFault → Failure
+of_file file.Memory = failure.Memory
+of_file (file.Line number fault) = failure.Line number fault
+
+-- Why a file has no text. Of want of memory and of a reader that fails nothing more can be said.
+abbrev pub ReadFails : Option (List ℕ) → Failure → Type 0
+ReadFails bytes failure.Memory = Unit {0}
+ReadFails bytes failure.Unreadable = Unit {0}
+ReadFails bytes failure.NotText = (input : List ℕ) × IsInput bytes input × ¬ IsUtf8 input
+ReadFails bytes failure.Usage = ⊥
+ReadFails bytes (failure.Line number fault) = ⊥
+ReadFails bytes failure.Unwritten = ⊥
+
+-- Why a text has no picture: its fault.
+abbrev pub TextFails : List ℕ → Failure → Type 0
+TextFails text why = (fault : FileFault) × IsFileFault text fault × (why ≡ of_file fault)
+
+-- There is a picture, and the output fails.
+abbrev pub OutputFails : Option (List ℕ) → Failure → Type 0
+OutputFails bytes why = (why ≡ failure.Unwritten) × (input : List ℕ) × IsInput bytes input × IsSomeTrace input
+
+-- Why a file is not drawn.
+abbrev pub Fails : Option (List ℕ) → Failure → Type 0
+Fails bytes why = ReadFails bytes why ⊎ (((input : List ℕ) × IsInput bytes input × TextFails input why) ⊎ OutputFails bytes why)
+
+-- What is said of a failure where the file has that name. Of an output that can't be written nothing is said.
+abbrev pub said_of : List ℕ → Failure → List ℕ
+said_of name failure.Usage = codes "usage: trace_chart FILE [--ref V/N] [--from N] [--to N]" ++ 10 ∷ []
+said_of name failure.Memory = codes "out of memory" ++ 10 ∷ []
+said_of name failure.Unreadable = codes "cannot read " ++ (name ++ 10 ∷ [])
+said_of name failure.NotText = codes "cannot read " ++ (name ++ 10 ∷ [])
+said_of name (failure.Line number fault) = codes "trace line " ++ (decimal number ++ (codes ": fault " ++ (decimal (number_of_fault fault) ++ 10 ∷ [])))
+said_of name failure.Unwritten = []
+
+-- 2 where it does not draw.
+abbrev pub status_of : Result Unit Failure → ℕ
+status_of (Ok u) = 0
+status_of (Err why) = 2

@@ -1,0 +1,111 @@
+ghost use Rattle.std.specs.Prelude.{◌≡◌, ◌⊎◌, ℕ, List, IfOk, IfErr, OnOk, string_bytes};
+ghost use Rattle.std.specs.Io.KnownBytes.{Appends};
+ghost use Rattle.trace_picture.specs.Drawn.{IsInput, IsSomeTrace};
+ghost use Rattle.trace_picture.specs.Failures.{Fails, ReadFails, TextFails, said_of, status_of};
+
+use crate::chart::Chart;
+use crate::draw::picture;
+use crate::fault::Failure;
+use crate::options::Options;
+use std::alloc::Global;
+use std::io;
+use std::io::{ErrorKind, Read, Write};
+use trace_file::follow;
+
+/// The status of a program that did what it was asked.
+const DONE: u8 = 0;
+
+/// The status of a program that failed.
+const FAILED: u8 = 2;
+
+/// How the program is called.
+const USAGE: &str = "usage: trace_chart FILE [--ref V/N] [--from N] [--to N]";
+
+/// Draws the trace that a file has, whose bytes the reader gives, to `out`.
+///
+/// `Unreadable` where the reader fails, `NotText` where the bytes are not UTF-8, `Line` with the first line that is none of
+/// a trace, `Memory` where a growth was refused: then nothing is written. `Unwritten` where `out` fails, which may have
+/// taken a part of the picture.
+pub fn draw_trace<R: Read, W: Write>(
+    alloc: Global,
+    options: Options,
+    reader: &mut R,
+    out: &mut W,
+) -> Result<(), Failure>
+    ensures drawn { OnOk result (((input : List ℕ) × IsInput (R.remaining reader.old) input × IsSomeTrace input) × ((svg : List ℕ) × Appends (W.contents out.old) (W.contents out.new) svg)) }
+    ensures fails { IfErr result (λ why. Fails (R.remaining reader.old) why) }
+    ensures silent { IfErr result (λ why. (out.new ≡ out.old) ⊎ (why ≡ Failure.Unwritten)) }
+{
+    let trace = read_text(alloc, reader)?;
+    let svg = svg_of(alloc, trace.as_str(), options)?;
+    write_text(out, svg.as_str())
+}
+
+/// The status with which the program ends. A failure is said on `err`, where that can be written.
+pub fn status<E: Write>(drawn: Result<(), Failure>, name: &str, err: &mut E) -> u8
+    ensures { result ≡ status_of drawn }
+{
+    match drawn {
+        Ok(()) => DONE,
+        Err(failure) => {
+            let _said = tell(failure, name, err);
+            FAILED
+        }
+    }
+}
+
+/// Says a failure on `err`, where the file has that name.
+fn tell<E: Write>(failure: Failure, name: &str, err: &mut E) -> io::Result<()>
+    ensures { OnOk result (Appends (E.contents err.old) (E.contents err.new) (said_of name.now failure)) }
+{
+    match failure {
+        Failure::Usage => writeln!(err, "{USAGE}"),
+        Failure::Memory => writeln!(err, "out of memory"),
+        Failure::Unreadable => writeln!(err, "cannot read {name}"),
+        Failure::NotText => writeln!(err, "cannot read {name}"),
+        Failure::Line(number, fault) => {
+            writeln!(err, "trace line {number}: fault {}", fault.number())
+        }
+        Failure::Unwritten => Ok(()),
+    }
+}
+
+fn read_text<R: Read>(alloc: Global, reader: &mut R) -> Result<String, Failure>
+    ensures text { IfOk result (λ text. IsInput (R.remaining reader.old) (string_bytes text)) }
+    ensures fails { IfErr result (λ why. ReadFails (R.remaining reader.old) why) }
+{
+    let mut bytes = Vec::new(alloc);
+    match reader.read_to_end(&mut bytes) {
+        Ok(_) => {}
+        Err(error) => match error.kind() {
+            ErrorKind::OutOfMemory => return Err(Failure::Memory),
+            _ => return Err(Failure::Unreadable),
+        },
+    }
+    match String::from_utf8(bytes) {
+        Ok(text) => Ok(text),
+        Err(_) => Err(Failure::NotText),
+    }
+}
+
+/// The picture of a whole trace, or its first fault.
+fn svg_of(alloc: Global, trace: &str, options: Options) -> Result<String, Failure>
+    ensures drawn { IfOk result (λ svg. IsSomeTrace trace.now) }
+    ensures fails { IfErr result (λ why. TextFails trace.now why) }
+{
+    let mut chart = Chart::new(alloc, options);
+    follow(alloc, trace, &mut chart)?;
+    chart.finish(alloc)?;
+    let svg = picture(alloc, &chart)?;
+    Ok(svg)
+}
+
+fn write_text<W: Write>(out: &mut W, text: &str) -> Result<(), Failure>
+    ensures written { OnOk result (Appends (W.contents out.old) (W.contents out.new) text.now) }
+    ensures fails { IfErr result (λ why. why ≡ Failure.Unwritten) }
+{
+    match out.write_all(text.as_bytes()) {
+        Ok(()) => Ok(()),
+        Err(_) => Err(Failure::Unwritten),
+    }
+}

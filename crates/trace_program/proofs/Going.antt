@@ -1,0 +1,43 @@
+-- Going through the lines of a script: what holds of the first ones holds of one more.
+use Rattle.std.proofs.Common.{◌≡◌, ◌<◌, ◌+◌, ℕ, List, [], ◌∷◌, ◌++◌, Result, Ok, Err, length, take, refl, sym, ap, subst, ◌∙◌}
+use lib.ListN.{get_or}
+use Rattle.std.proofs.lemmas.List.{take_more}
+use Rattle.vat_script.specs.declared.line.Line.{Line}
+use Rattle.vat_script.specs.declared.names.Names.{Names}
+use Rattle.vat_script.specs.declared.fault.NameFault.{NameFault}
+use Rattle.vat_script.specs.declared.fault.GiveFault.{GiveFault}
+use Rattle.vat_script.specs.declared.fault.GiveFault.TheVariants as gives
+use Rattle.vat_world.specs.World.{Seen}
+use Rattle.trace_program.specs.Playing.{Plays, PlaysLine, IsUnnamedAt}
+
+one_more : {X : Type 0} (xs : List X) (i : ℕ) (x : X) → i < length xs → x ≡ get_or xs i x → take (i + 1) xs ≡ take i xs ++ x ∷ []
+one_more xs i x within is = take_more xs i x within ∙ ap (λ y. take i xs ++ y ∷ []) (sym is)
+
+plays_pushed : (w mid new : Seen) (names now bound : Names) (xs : List Line) (x : Line)
+    → Plays w names xs mid now → PlaysLine mid now x (Ok tt) new bound → Plays w names (xs ++ x ∷ []) new bound
+plays_pushed w mid new names now bound [] x played one =
+    (new, bound, subst (λ (v : Seen). PlaysLine v names x (Ok tt) new bound) played.0 (subst (λ (n : Names). PlaysLine mid n x (Ok tt) new bound) played.1 one), (refl, refl))
+plays_pushed w mid new names now bound (y ∷ xs) x played one =
+    (played.0, played.1, played.2, plays_pushed played.0 mid new played.1 now bound xs x played.3 one)
+
+-- The lines that were played, where the next one was played.
+pub plays_more : (w mid new : Seen) (names now bound : Names) (xs : List Line) (i : ℕ) (x : Line)
+    → i < length xs → x ≡ get_or xs i x → Plays w names (take i xs) mid now → PlaysLine mid now x (Ok tt) new bound
+    → Plays w names (take (i + 1) xs) new bound
+plays_more w mid new names now bound xs i x within is played one =
+    subst (λ (ys : List Line). Plays w names ys new bound) (sym (one_more xs i x within is)) (plays_pushed w mid new names now bound (take i xs) x played one)
+
+-- The next line names something that is not there.
+pub unnamed_next : (w mid new : Seen) (names now bound : Names) (xs : List Line) (i : ℕ) (x : Line) (r : Result Unit GiveFault) (g : GiveFault) (f : NameFault)
+    → i < length xs → x ≡ get_or xs i x → Plays w names (take i xs) mid now → r ≡ Err g → g ≡ gives.Name f → PlaysLine mid now x r new bound
+    → IsUnnamedAt w names xs (i + 1) f
+unnamed_next w mid new names now bound xs i x r g f within is played failed why one = (
+  i,
+  x,
+  mid,
+  now,
+  refl,
+  one_more xs i x within is,
+  played,
+  subst (λ (s : Result Unit GiveFault). PlaysLine mid now x s new bound) (failed ∙ ap Err why) one,
+)

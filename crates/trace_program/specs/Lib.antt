@@ -1,0 +1,5 @@
+pub mod Playing
+pub mod Traces
+pub mod Words
+pub mod Answers
+pub mod Failures

@@ -1,0 +1,50 @@
+//! What is answered to one line.
+ghost use Rattle.std.specs.Prelude.{◌≡◌, IfOk, IsOkUnless};
+
+use anyhow::Result;
+use journal_words::write_entry;
+use std::alloc::Global;
+use std::fmt::Write;
+use trace_json::{TraceFault, TraceVersion, entry_of, line_of, version_of};
+use vat_journal::JournalEntry;
+
+/// What the entry of a line says, and its own line where that is another; or the fault.
+pub fn read(alloc: Global, version: TraceVersion, line: &str) -> Result<String> {
+    let mut said = String::new(alloc);
+    match entry_of(alloc, line, version) {
+        Ok(entry) => {
+            write_entry(&mut said, &by_its_line(alloc, &entry)?)?;
+            let own = line_of(alloc, &entry, version)?;
+            if own.as_str() != line {
+                write!(said, "\n{own}")?;
+            }
+        }
+        Err(fault) => write!(said, "fault {}: {fault}", fault.number())?,
+    }
+    Ok(said)
+}
+
+// What the two contracts say together: the line of an entry is read as that entry, or memory is refused.
+fn by_its_line(alloc: Global, entry: &JournalEntry) -> Result<JournalEntry, TraceFault>
+    ensures same { IfOk result (λ e. e ≡ entry.now) }
+    ensures only { IsOkUnless result TraceFault.Memory }
+{
+    let Ok(line) = line_of(alloc, entry, TraceVersion::Two) else {
+        return Err(TraceFault::Memory);
+    };
+    entry_of(alloc, line.as_str(), TraceVersion::Two)
+}
+
+/// The own line of the entry of a line of version 2.
+pub fn own_line(alloc: Global, line: &str) -> Result<String> {
+    let entry = entry_of(alloc, line, TraceVersion::Two)?;
+    Ok(line_of(alloc, &entry, TraceVersion::Two)?)
+}
+
+/// The version that a first line says, or the fault.
+pub fn read_first(alloc: Global, line: &str) -> Result<String> {
+    match version_of(alloc, line) {
+        Ok(version) => Ok(format!(in alloc; "version {}", version.number())?),
+        Err(fault) => Ok(format!(in alloc; "fault {}: {fault}", fault.number())?),
+    }
+}

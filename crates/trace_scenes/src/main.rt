@@ -1,0 +1,30 @@
+//! Lines of traces, and verdicts of traces. Behind each line of `stdin` stands, further in, what is answered; both files are
+//! worked out by hand from docs/trace.md.
+//!
+//! - `one LINE`, `two LINE`: what the entry says that is read from that line of version 1 or 2, and its line where that is
+//!   another one; or the fault.
+//! - `own LINE`: the own line of the entry of a line of version 2, with whatever characters.
+//! - `first LINE`: the version that the first line of a trace says, or the fault.
+//! - `entry NAME LINE` gives the entry of a line of version 2 a name, and `trace NAME .. : WHAT` asks for the verdict of the
+//!   entries with these names.
+#![tactic(auto)]
+
+mod lines;
+mod scene;
+
+use anyhow::Result;
+use scene::Scene;
+use std::io::{BufRead, BufReader};
+
+fn main(rt: HostRuntime) -> Result<()> {
+    let alloc = rt.alloc();
+    let mut scene = Scene::new(alloc);
+    for line in BufReader::new(alloc, rt.reader())?.lines(alloc) {
+        let line = line?;
+        println!(rt; "{line}")?;
+        for said in scene.answer(alloc, line.as_str())?.lines() {
+            println!(rt; "    {said}")?;
+        }
+    }
+    Ok(())
+}

@@ -1,6 +1,0 @@
-pub mod Scripts
-pub mod Playing
-pub mod Traces
-pub mod Words
-pub mod Answers
-pub mod Failures

@@ -1,0 +1,124 @@
+use Rattle.std.proofs.Common.{◌≡◌, ◌+◌, ◌-◌, ◌*◌, ◌≤◌, Ok, sym, subst, ◌∙◌, arith, rules}
+use Rattle.std.specs.Prelude.{IfOk, IsOk}
+use Rattle.std.proofs.Math.Nat.{mul-le-mul_right}
+use Rattle.wire_trees.specs.Trees.{Tree}
+use Rattle.wire_reading.specs.Reading.{Reading, reading}
+use Rattle.wire_trees.specs.Views.{held, view, trees_view, structs_view}
+use Rattle.wire_reading.proofs.Joining.{pointers_go_on, pointers_over, next_reads, structs_go_on, structs_over, next_struct_reads, trees_view_push, structs_view_push, struct_reads, pointers_read_ok, structs_read_ok, struct_is, packed_is, pointers_is, structs_is, reads_followed, reading_null, reading_capability, not_too_deep, deep_laid, deep_visited, deep_content}
+use Rattle.wire_reading.proofs.Depths.{pointers_shallow, reading_shallow}
+use Rattle.wire_reading.proofs.build.+build.Goals as goal
+
+pub build_content-build_pointers-requires : goal.build_content-build_pointers-requires
+build_content-build_pointers-requires t c =
+    let reads = struct_reads c.args.message.now (reading c.args.message.now c.args.caps c.args.levels) c.args.segment c.args.visited c.in-Struct.start c.in-Struct.data_words c.in-Struct.pointer_words (rw c.in-Struct.is at c.requires.reads) in
+    rw (c.from.ensures, c.from-count.ensures) (search rules)
+
+pub build_content-build_pointers-requires-in-Pointers : goal.build_content-build_pointers-requires-in-Pointers
+build_content-build_pointers-requires-in-Pointers t c =
+    let reads = pointers_read_ok c.args.message.now (reading c.args.message.now c.args.caps c.args.levels) c.args.segment c.args.visited c.in-Pointers.start c.in-Pointers.count (rw c.in-Pointers.is at c.requires.reads) in
+    search rules
+
+pub build_content-build_structs-requires : goal.build_content-build_structs-requires
+build_content-build_structs-requires t c =
+    let reads = structs_read_ok c.args.message.now (reading c.args.message.now c.args.caps c.args.levels) c.args.segment c.args.visited c.in-Structs.start c.in-Structs.count c.in-Structs.data_words c.in-Structs.pointer_words c.in-Structs.words (rw c.in-Structs.is at c.requires.reads) in
+    search rules
+
+pub build_pointer-unreachable-requires : goal.build_pointer-unreachable-requires
+build_pointer-unreachable-requires t c =
+    let f = reads_followed c.args.message.now c.args.caps c.args.levels c.args.segment c.args.index c.args.visited c.requires.reads in
+    c.in_default.not-Ok f.0 (c.follow.ensures ∙ f.1)
+
+pub build_pointer-returns-in-Null : goal.build_pointer-returns-in-Null
+build_pointer-returns-in-Null t c =
+    rw c.null_tree.ensures (reading_null c.args.message.now c.args.caps c.args.levels c.args.segment c.args.index c.args.visited c.in-Ok.visited (rw c.in-Null.is at c.in-Ok.ensures))
+
+pub build_pointer-returns-in-Capability : goal.build_pointer-returns-in-Capability
+build_pointer-returns-in-Capability t c =
+    rw c.capability_tree.ensures (reading_capability c.args.message.now c.args.caps c.args.levels c.args.segment c.args.index c.args.visited c.in-Capability.index c.in-Ok.visited (rw c.in-Capability.is at c.in-Ok.ensures))
+
+pub build_pointer-unreachable-requires-then-levels-eq0 : goal.build_pointer-unreachable-requires-then-levels-eq0
+build_pointer-unreachable-requires-then-levels-eq0 t c =
+    not_too_deep c.args.message.now c.args.caps c.args.levels c.args.segment c.args.index c.args.visited c.in-Content.content c.in-Ok.visited (rw c.in-Content.is at c.in-Ok.ensures) c.if-levels-eq0.true c.requires.reads
+
+pub build_pointer-unreachable-requires-in_default-lay_out : goal.build_pointer-unreachable-requires-in_default-lay_out
+build_pointer-unreachable-requires-in_default-lay_out t c =
+    let l = deep_laid c.args.message.now c.args.caps (c.args.levels - 1) c.args.levels c.args.segment c.args.index c.args.visited c.in-Content.content c.in-Ok.visited (rw c.in-Content.is at c.in-Ok.ensures) (omega arith) c.requires.reads in
+    c.in_default-lay_out.not-Ok l.0 (c.lay_out.ensures.laid ∙ l.1)
+
+pub build_pointer-unreachable-requires-in_default-visited_after : goal.build_pointer-unreachable-requires-in_default-visited_after
+build_pointer-unreachable-requires-in_default-visited_after t c =
+    let w = deep_visited c.args.message.now c.args.caps (c.args.levels - 1) c.args.levels c.args.segment c.args.index c.args.visited c.in-Content.content c.in-Ok.visited (rw c.in-Content.is at c.in-Ok.ensures) (omega arith) c.in-Ok-lay_out.layout c.in-Ok-lay_out.ensures.laid c.requires.reads in
+    c.in_default-visited_after.not-Ok w.0 ((rw c.weight.ensures.weight at c.visited_after.ensures) ∙ w.1)
+
+pub build_pointer-build_content-requires : goal.build_pointer-build_content-requires
+build_pointer-build_content-requires t c =
+    let e = deep_content c.args.message.now c.args.caps (c.args.levels - 1) c.args.levels c.args.segment c.args.index c.args.visited c.in-Content.content c.in-Ok.visited (rw c.in-Content.is at c.in-Ok.ensures) (omega arith) c.in-Ok-lay_out.layout c.in-Ok-visited_after.visited c.in-Ok-lay_out.ensures.laid (rw c.weight.ensures.weight at c.in-Ok-visited_after.ensures) in
+    let reads = subst (λ (r : Reading Tree). IsOk r) (sym e) c.requires.reads in
+    search rules
+
+pub build_pointer-returns : goal.build_pointer-returns
+build_pointer-returns t c =
+    let e = deep_content c.args.message.now c.args.caps (c.args.levels - 1) c.args.levels c.args.segment c.args.index c.args.visited c.in-Content.content c.in-Ok.visited (rw c.in-Content.is at c.in-Ok.ensures) (omega arith) c.in-Ok-lay_out.layout c.in-Ok-visited_after.visited c.in-Ok-lay_out.ensures.laid (rw c.weight.ensures.weight at c.in-Ok-visited_after.ensures) in
+    subst (λ (r : Reading Tree). IfOk c.build_content.result (λ x. r ≡ Ok (view x.0, x.1))) e c.build_content.ensures
+
+pub build_pointers-build_pointer-requires : goal.build_pointers-build_pointer-requires
+build_pointers-build_pointer-requires t c =
+    let reads = next_reads (reading c.args.message.now c.args.caps c.args.levels) c.args.segment c.args.start c.args.count c.loop-k.k c.loop-k.visited (trees_view c.loop-k.trees.items) _ c.loop-k-test.true c.requires.reads c.loop-k.invariant in
+    search rules
+
+pub build_pointers-loop-k-preserved : goal.build_pointers-loop-k-preserved
+build_pointers-loop-k-preserved t c =
+    rw (c.in_ok-push.ensures.items, trees_view_push)
+    (pointers_go_on (reading c.args.message.now c.args.caps c.args.levels) c.args.segment c.args.start c.args.count c.loop-k.k c.loop-k.visited (trees_view c.loop-k.trees.items) (view c.in_ok-tree.tree) c.in_ok-tree.after _ c.loop-k-test.true c.in_ok-tree.ensures c.loop-k.invariant)
+
+pub build_pointers-of-requires : goal.build_pointers-of-requires
+build_pointers-of-requires t c =
+    let all = pointers_over (reading c.args.message.now c.args.caps c.args.levels) c.args.segment c.args.start c.args.count c.loop-k.k c.loop-k.visited (trees_view c.loop-k.trees.items) _ c.loop-k-test.false c.loop-k.invariant in
+    pointers_shallow (reading c.args.message.now c.args.caps c.args.levels) 127 (reading_shallow c.args.message.now c.args.caps c.args.levels 127 (omega arith)) c.args.segment c.args.start c.args.count c.args.visited (trees_view c.loop-k.trees.items) c.loop-k.visited all
+
+pub build_pointers-returns : goal.build_pointers-returns
+build_pointers-returns t c =
+    rw c.of.ensures (pointers_over (reading c.args.message.now c.args.caps c.args.levels) c.args.segment c.args.start c.args.count c.loop-k.k c.loop-k.visited (trees_view c.loop-k.trees.items) _ c.loop-k-test.false c.loop-k.invariant)
+
+pub build_content-returns-in_ok-pointers-in-Struct : goal.build_content-returns-in_ok-pointers-in-Struct
+build_content-returns-in_ok-pointers-in-Struct t c =
+    rw (c.in-Struct.is, c.struct_tree.ensures, c.in_ok-words-in-Struct.ensures)
+    (struct_is c.args.message.now (reading c.args.message.now c.args.caps c.args.levels) c.args.segment c.args.visited c.in-Struct.start c.in-Struct.data_words c.in-Struct.pointer_words (trees_view (held c.in_ok-pointers-in-Struct.pointers)) c.in_ok-pointers-in-Struct.visited
+    (rw (c.from.ensures, c.from-count.ensures) at c.in_ok-pointers-in-Struct.ensures))
+
+pub build_content-returns-in_ok-items-in-Packed : goal.build_content-returns-in_ok-items-in-Packed
+build_content-returns-in_ok-items-in-Packed t c =
+    rw (c.in-Packed.is, c.list_tree.ensures, c.in_ok-items-in-Packed.ensures)
+    (packed_is c.args.message.now (reading c.args.message.now c.args.caps c.args.levels) c.args.segment c.args.visited c.in-Packed.start c.in-Packed.width c.in-Packed.count)
+
+pub build_content-returns-in_ok-pointers-in-Pointers : goal.build_content-returns-in_ok-pointers-in-Pointers
+build_content-returns-in_ok-pointers-in-Pointers t c =
+    rw (c.in-Pointers.is, c.pointers_tree.ensures)
+    (pointers_is c.args.message.now (reading c.args.message.now c.args.caps c.args.levels) c.args.segment c.args.visited c.in-Pointers.start c.in-Pointers.count (trees_view (held c.in_ok-pointers-in-Pointers.pointers)) c.in_ok-pointers-in-Pointers.visited c.in_ok-pointers-in-Pointers.ensures)
+
+pub build_content-returns-in_ok-items-in-Structs : goal.build_content-returns-in_ok-items-in-Structs
+build_content-returns-in_ok-items-in-Structs t c =
+    rw (c.in-Structs.is, c.structs_tree.ensures)
+    (structs_is c.args.message.now (reading c.args.message.now c.args.caps c.args.levels) c.args.segment c.args.visited c.in-Structs.start c.in-Structs.count c.in-Structs.data_words c.in-Structs.pointer_words c.in-Structs.words (structs_view c.in_ok-items-in-Structs.items.items) c.in_ok-items-in-Structs.visited c.in_ok-items-in-Structs.ensures)
+
+pub build_structs-build_pointers-requires : goal.build_structs-build_pointers-requires
+build_structs-build_pointers-requires t c =
+    let reads = next_struct_reads c.args.message.now (reading c.args.message.now c.args.caps c.args.levels) c.args.segment c.args.data_words c.args.pointer_words c.loop.at c.args.count c.loop.counter c.loop.visited (structs_view c.loop.items.items) _ c.loop.invariant.same c.loop-test.true c.requires.reads in
+    let room : (c.loop.counter + 1) * (c.args.data_words + c.args.pointer_words) ≤ c.args.count * (c.args.data_words + c.args.pointer_words) = mul-le-mul_right (c.args.data_words + c.args.pointer_words) (omega arith) in
+    rw (c.from.ensures, c.from-length.ensures) (search rules)
+
+pub build_structs-loop-preserved : goal.build_structs-loop-preserved
+build_structs-loop-preserved t c =
+    let d = c.from.ensures in
+    let p = c.from-length.ensures in
+    record {
+      place = omega (arith, c.loop.invariant.place);
+      same =
+          rw (c.in_ok-push.ensures.items, structs_view_push, c.make_fields.ensures, c.in_ok-words.ensures)
+          (structs_go_on c.args.message.now (reading c.args.message.now c.args.caps c.args.levels) c.args.segment c.args.data_words c.args.pointer_words c.loop.at c.args.count c.loop.counter c.loop.visited (structs_view c.loop.items.items) _ c.loop.invariant.same
+          (c.loop.at + c.from.result + c.from-length.result) (trees_view (held c.in_ok-pointers.pointers)) c.in_ok-pointers.after c.loop-test.true (omega arith) (rw (c.from.ensures, c.from-length.ensures) at c.in_ok-pointers.ensures));
+    }
+
+pub build_structs-returns : goal.build_structs-returns
+build_structs-returns t c =
+    structs_over c.args.message.now (reading c.args.message.now c.args.caps c.args.levels) c.args.segment c.args.data_words c.args.pointer_words c.loop.at c.args.count c.loop.counter c.loop.visited (structs_view c.loop.items.items) _ c.loop.invariant.same c.loop-test.false

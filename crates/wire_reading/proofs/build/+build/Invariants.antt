@@ -1,0 +1,30 @@
+use Rattle.std.proofs.Common.{◌≡◌, ◌+◌, ◌*◌, ◌-◌}
+use Rattle.wire_reading.specs.Reading.{pointers_at, structs_at, reading}
+use Rattle.wire_trees.specs.Views.{trees_view, structs_view}
+use Rattle.wire_reading.proofs.Joining.{with_trees, with_structs}
+use Rattle.wire_reading.proofs.build.+build.Given as goal
+
+abbrev pub decreases-build_pointer : goal.decreases-build_pointer
+decreases-build_pointer l = 4 * l.levels
+
+abbrev pub decreases-build_pointers : goal.decreases-build_pointers
+decreases-build_pointers l = 4 * l.levels + 1
+
+abbrev pub decreases-build_structs : goal.decreases-build_structs
+decreases-build_structs l = 4 * l.levels + 2
+
+abbrev pub decreases-build_content : goal.decreases-build_content
+decreases-build_content l = 4 * l.levels + 3
+
+-- the trees so far and those that are left are all of them
+abbrev pub invariant-build_pointers-loop-k : goal.invariant-build_pointers-loop-k
+invariant-build_pointers-loop-k l =
+    with_trees (trees_view l.trees.items) (pointers_at (reading l.message l.caps l.levels) l.segment (l.start + l.k) (l.count - l.k) l.visited)
+    ≡ pointers_at (reading l.message l.caps l.levels) l.segment l.start l.count l.fn.visited
+
+abbrev pub invariant-build_structs-loop : goal.invariant-build_structs-loop
+invariant-build_structs-loop l = record {
+  place : l.at ≡ l.start + l.counter * (l.data_words + l.pointer_words);
+  same : with_structs (structs_view l.items.items) (structs_at l.message (reading l.message l.caps l.levels) l.segment l.data_words l.pointer_words l.at (l.count - l.counter) l.visited)
+      ≡ structs_at l.message (reading l.message l.caps l.levels) l.segment l.data_words l.pointer_words l.start l.count l.fn.visited;
+}

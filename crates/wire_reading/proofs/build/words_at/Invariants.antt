@@ -1,0 +1,6 @@
+use Rattle.std.proofs.Common.{◌≡◌, drop, take}
+use Rattle.wire_reading.specs.Segments.{segment_of}
+use Rattle.wire_reading.proofs.build.words_at.Given as goal
+
+abbrev pub invariant-loop-k : goal.invariant-loop-k
+invariant-loop-k l = l.words.items ≡ take l.k (drop l.start (segment_of l.message l.segment))

@@ -1,0 +1,7 @@
+pub mod Following
+pub mod Framing
+pub mod Index
+pub mod Layouts
+pub mod Pointers
+pub mod Reading
+pub mod Segments

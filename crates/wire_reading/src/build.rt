@@ -1,0 +1,345 @@
+//! The tree that a place in a message says.
+ghost use Rattle.std.specs.Prelude.{◌≡◌, ◌==◌, ◌+◌, ◌*◌, ◌^◌, ◌/◌, ◌%◌, ◌<◌, ◌≤◌, length, drop, map, replicate, take, Ok, IsOk, IfOk};
+ghost use Rattle.wire_trees.specs.Widths.{bits_of};
+ghost use Rattle.wire_reading.specs.Segments.{segment_of};
+ghost use Rattle.wire_reading.specs.Layouts.{IsWithin};
+ghost use Rattle.wire_trees.specs.Trees.{packed};
+ghost use Rattle.wire_reading.specs.Reading.{element, elements, pointers_at, structs_at, content_of, reading, root_of, tree_read};
+ghost use Rattle.wire_trees.specs.Views.{bit, held, view, items_view, trees_view, structs_view};
+
+use crate::layout::{Layout, lay_out};
+use crate::message::Message;
+use crate::referent::{Referent, follow, visited_after};
+use std::alloc::{AllocError, Global};
+use wire_trees::limits::MOST_LEVELS;
+use wire_trees::{
+    Fields, Items, Pointers, Tree, Width, capability_tree, list_tree, make_fields, null_tree,
+    pointers_tree, struct_tree, structs_tree,
+};
+
+/// So many words.
+fn words_at(
+    alloc: Global,
+    message: &Message,
+    segment: u32,
+    start: u32,
+    count: u16,
+) -> Result<Vec<u64>, AllocError>
+    requires inside { start + count ≤ length (segment_of message.now segment) }
+    requires small { start + count ≤ 2 ^ 17 }
+    ensures { IfOk result (λ v. v.items ≡ take count (drop start (segment_of message.now segment))) }
+{
+    let mut words = Vec::new(alloc);
+    for k in 0..u32::from(count) {
+        words.push(message.word(segment, start + k))?;
+    }
+    Ok(words)
+}
+
+/// An element of so many bits.
+fn element_at(message: &Message, segment: u32, start: u32, bits: u8, number: u32) -> u64
+    requires bits { bits ≤ 64 }
+    requires inside { start + number * bits / 64 < length (segment_of message.now segment) }
+    requires small { start + number * bits / 64 < 2 ^ 32 }
+    ensures { result ≡ element (drop start (segment_of message.now segment)) bits number }
+{
+    let place = u64::from(number) * u64::from(bits);
+    let word = message.word(segment, start + (place / 64) as u32);
+    let from = word >> (place % 64);
+    if bits == 64 { from } else { from % (1 << bits) }
+}
+
+/// So many elements of so many bits each.
+fn elements_at(
+    alloc: Global,
+    message: &Message,
+    segment: u32,
+    start: u32,
+    bits: u8,
+    count: u32,
+) -> Result<Vec<u64>, AllocError>
+    requires some { 0 < bits }
+    requires bits { bits ≤ 64 }
+    requires inside { start + (count * bits + 63) / 64 ≤ length (segment_of message.now segment) }
+    requires small { start + (count * bits + 63) / 64 ≤ 2 ^ 17 }
+    ensures { IfOk result (λ v. v.items ≡ elements (drop start (segment_of message.now segment)) bits 0 count) }
+{
+    let mut values = Vec::new(alloc);
+    for k in 0..count {
+        values.push(element_at(message, segment, start, bits, k))?;
+    }
+    Ok(values)
+}
+
+/// The elements of a list without pointers.
+fn packed_items(
+    alloc: Global,
+    message: &Message,
+    segment: u32,
+    start: u32,
+    width: Width,
+    count: u32,
+) -> Result<Items, AllocError>
+    requires inside { start + (count * bits_of width + 63) / 64 ≤ length (segment_of message.now segment) }
+    requires small { start + (count * bits_of width + 63) / 64 ≤ 2 ^ 17 }
+    ensures { IfOk result (λ x. items_view x ≡ packed (bits_of width) (elements (drop start (segment_of message.now segment)) (bits_of width) 0 count)) }
+{
+    if let Width::Void = width {
+        return Ok(void_items(count));
+    }
+    let values = elements_at(alloc, message, segment, start, width.bits(), count)?;
+    match width {
+        Width::Void => unreachable!(),
+        Width::Bit => Ok(Items::Bits(bits_of_numbers(alloc, &values)?)),
+        Width::Byte => Ok(Items::Bytes(bytes_of_numbers(alloc, &values)?)),
+        Width::TwoBytes => Ok(Items::Twos(twos_of_numbers(alloc, &values)?)),
+        Width::FourBytes => Ok(Items::Fours(fours_of_numbers(alloc, &values)?)),
+        Width::EightBytes => Ok(Items::Eights(values)),
+    }
+}
+
+/// So many elements without content.
+fn void_items(count: u32) -> Items
+    ensures { items_view result ≡ packed 0 (replicate count 0) }
+{
+    Items::Void(count)
+}
+
+/// Numbers as bits.
+fn bits_of_numbers(alloc: Global, numbers: &[u64]) -> Result<Vec<bool>, AllocError>
+    requires { map bit (map (λ x. x == 1) numbers.now) ≡ numbers.now }
+    ensures { IfOk result (λ v. map bit v.items ≡ numbers.now) }
+{
+    let bits = are_ones(alloc, numbers)?;
+    Ok(bits)
+}
+
+/// Which numbers are one.
+fn are_ones(alloc: Global, numbers: &[u64]) -> Result<Vec<bool>, AllocError>
+    ensures { IfOk result (λ v. v.items ≡ map (λ x. x == 1) numbers.now) }
+{
+    numbers.iter().map(|x| *x == 1).collect(alloc)
+}
+
+/// The low bytes of numbers.
+fn bytes_of_numbers(alloc: Global, numbers: &[u64]) -> Result<Vec<u8>, AllocError>
+    requires { map (λ x. x % 2 ^ 8) numbers.now ≡ numbers.now }
+    ensures { IfOk result (λ v. v.items ≡ numbers.now) }
+{
+    numbers.iter().map(|x| (*x % 0x100) as u8).collect(alloc)
+}
+
+/// The low two bytes of numbers.
+fn twos_of_numbers(alloc: Global, numbers: &[u64]) -> Result<Vec<u16>, AllocError>
+    requires { map (λ x. x % 2 ^ 16) numbers.now ≡ numbers.now }
+    ensures { IfOk result (λ v. v.items ≡ numbers.now) }
+{
+    numbers
+        .iter()
+        .map(|x| (*x % 0x1_0000) as u16)
+        .collect(alloc)
+}
+
+/// The low four bytes of numbers.
+fn fours_of_numbers(alloc: Global, numbers: &[u64]) -> Result<Vec<u32>, AllocError>
+    requires { map (λ x. x % 2 ^ 32) numbers.now ≡ numbers.now }
+    ensures { IfOk result (λ v. v.items ≡ numbers.now) }
+{
+    numbers
+        .iter()
+        .map(|x| (*x % 0x1_0000_0000) as u32)
+        .collect(alloc)
+}
+
+/// The tree of a message.
+pub fn build_tree(alloc: Global, message: &Message, caps: u32) -> Result<Tree, AllocError>
+    requires { IsOk (root_of message.now caps) }
+    ensures { IfOk result (λ t. view t ≡ tree_read (root_of message.now caps)) }
+{
+    let (tree, _) = build_pointer(alloc, message, caps, 0, 0, MOST_LEVELS, 0)?;
+    Ok(tree)
+}
+
+/// The pointer at a place, which reads to a tree.
+#[cycle(build)]
+fn build_pointer(
+    alloc: Global,
+    message: &Message,
+    caps: u32,
+    segment: u32,
+    index: u32,
+    levels: u32,
+    visited: u32,
+) -> Result<(Tree, u32), AllocError>
+    requires levels { levels ≤ 64 }
+    requires there { index < length (segment_of message.now segment) }
+    requires reads { IsOk (reading message.now caps levels segment index visited) }
+    ensures { IfOk result (λ x. reading message.now caps levels segment index visited ≡ Ok (view x.0, x.1)) }
+{
+    let Ok((referent, visited)) = follow(message, caps, segment, index, visited) else {
+        unreachable!()
+    };
+    let content = match referent {
+        Referent::Null => return Ok((null_tree(), visited)),
+        Referent::Capability(index) => return Ok((capability_tree(index), visited)),
+        Referent::Content(content) => content,
+    };
+    if levels == 0 {
+        unreachable!()
+    }
+    let Ok(layout) = lay_out(message, content) else {
+        unreachable!()
+    };
+    let Ok(visited) = visited_after(visited, layout.weight()) else {
+        unreachable!()
+    };
+    build_content(
+        alloc,
+        message,
+        caps,
+        content.segment,
+        layout,
+        levels - 1,
+        visited,
+    )
+}
+
+/// A content, which reads to a tree.
+#[cycle(build)]
+fn build_content(
+    alloc: Global,
+    message: &Message,
+    caps: u32,
+    segment: u32,
+    layout: Layout,
+    levels: u32,
+    visited: u32,
+) -> Result<(Tree, u32), AllocError>
+    requires levels { levels ≤ 64 }
+    requires inside { IsWithin (length (segment_of message.now segment)) layout }
+    requires small { IsWithin (2 ^ 17) layout }
+    requires reads { IsOk (content_of message.now (reading message.now caps levels) segment layout visited) }
+    ensures { IfOk result (λ x. content_of message.now (reading message.now caps levels) segment layout visited ≡ Ok (view x.0, x.1)) }
+{
+    match layout {
+        Layout::Struct {
+            start,
+            data_words,
+            pointer_words,
+        } => {
+            let words = words_at(alloc, message, segment, start, data_words)?;
+            let first = start + u32::from(data_words);
+            let count = u32::from(pointer_words);
+            let (pointers, visited) = build_pointers(
+                alloc, message, caps, segment, first, count, levels, visited,
+            )?;
+            Ok((struct_tree(words, pointers), visited))
+        }
+        Layout::Packed {
+            start,
+            width,
+            count,
+        } => {
+            let items = packed_items(alloc, message, segment, start, width, count)?;
+            Ok((list_tree(items), visited))
+        }
+        Layout::Pointers { start, count } => {
+            let (pointers, visited) = build_pointers(
+                alloc, message, caps, segment, start, count, levels, visited,
+            )?;
+            Ok((pointers_tree(pointers), visited))
+        }
+        Layout::Structs {
+            start,
+            count,
+            data_words,
+            pointer_words,
+            ..
+        } => {
+            let (items, visited) = build_structs(
+                alloc,
+                message,
+                caps,
+                segment,
+                start,
+                count,
+                data_words,
+                pointer_words,
+                levels,
+                visited,
+            )?;
+            Ok((structs_tree(data_words, pointer_words, items), visited))
+        }
+    }
+}
+
+/// So many structs, one behind the other, which read to trees.
+#[cycle(build)]
+fn build_structs(
+    alloc: Global,
+    message: &Message,
+    caps: u32,
+    segment: u32,
+    start: u32,
+    count: u32,
+    data_words: u16,
+    pointer_words: u16,
+    levels: u32,
+    mut visited: u32,
+) -> Result<(Vec<Fields>, u32), AllocError>
+    requires levels { levels ≤ 64 }
+    requires inside { start + count * (data_words + pointer_words) ≤ length (segment_of message.now segment) }
+    requires small { start + count * (data_words + pointer_words) ≤ 2 ^ 17 }
+    requires reads { IsOk (structs_at message.now (reading message.now caps levels) segment data_words pointer_words start count visited) }
+    ensures { IfOk result (λ x. structs_at message.now (reading message.now caps levels) segment data_words pointer_words start count visited ≡ Ok (structs_view x.0.items, x.1)) }
+{
+    let mut items = Vec::new(alloc);
+    let mut at = start;
+    for _ in 0..count {
+        let words = words_at(alloc, message, segment, at, data_words)?;
+        let first = at + u32::from(data_words);
+        let length = u32::from(pointer_words);
+        let (pointers, after) = build_pointers(
+            alloc, message, caps, segment, first, length, levels, visited,
+        )?;
+        items.push(make_fields(words, pointers))?;
+        visited = after;
+        at = first + length;
+    }
+    Ok((items, visited))
+}
+
+/// So many pointers, one behind the other, which read to trees.
+#[cycle(build)]
+fn build_pointers(
+    alloc: Global,
+    message: &Message,
+    caps: u32,
+    segment: u32,
+    start: u32,
+    count: u32,
+    levels: u32,
+    mut visited: u32,
+) -> Result<(Pointers, u32), AllocError>
+    requires levels { levels ≤ 64 }
+    requires inside { start + count ≤ length (segment_of message.now segment) }
+    requires small { start + count ≤ 2 ^ 17 }
+    requires reads { IsOk (pointers_at (reading message.now caps levels) segment start count visited) }
+    ensures { IfOk result (λ x. pointers_at (reading message.now caps levels) segment start count visited ≡ Ok (trees_view (held x.0), x.1)) }
+{
+    let mut trees = Vec::new(alloc);
+    for k in 0..count {
+        let (tree, after) = build_pointer(
+            alloc,
+            message,
+            caps,
+            segment,
+            start + k,
+            levels,
+            visited,
+        )?;
+        trees.push(tree)?;
+        visited = after;
+    }
+    Ok((Pointers::of(trees), visited))
+}

@@ -1,0 +1,4 @@
+pub mod Counts
+pub mod Found
+pub mod Parts
+pub mod Viewed

@@ -1,0 +1,16 @@
+//! What a payload says, as a value of its own; the faults and the limits of reading and of writing one.
+#![tactic(auto)]
+
+mod faults;
+pub mod limits;
+mod measure;
+mod tree;
+mod width;
+
+pub use faults::{PayloadFault, WriteFault};
+pub use measure::{Measure, measure_tree};
+pub use tree::{
+    Fields, Items, Pointers, Tree, capability_tree, list_tree, make_fields, null_tree,
+    pointers_tree, struct_tree, structs_tree,
+};
+pub use width::Width;

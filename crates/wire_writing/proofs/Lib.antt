@@ -1,0 +1,5 @@
+pub mod Filled
+pub mod Laid
+pub mod Lengths
+pub mod Sized
+pub mod Writing

@@ -1,0 +1,296 @@
+use Rattle.std.proofs.Common.{◌≡◌, ℕ, ◌+◌, ◌-◌, ◌*◌, ◌^◌, ◌<◌, ◌≤◌, ◌++◌, true, List, suc, ltb, length, set, refl, sym, ap, subst, ◌∙◌, arith, rules}
+use Rattle.std.specs.Prelude.{replicate}
+use Rattle.std.proofs.lemmas.List.{length-set, length-map, length-replicate, length-append}
+use Rattle.std.proofs.lemmas.Bool.{not-false, or_parts, ltb-false}
+use Rattle.wire_trees.specs.declared.width.Width.TheVariants as width
+use Rattle.wire_trees.specs.declared.tree.Items.{the_lemmas}
+use Rattle.wire_trees.specs.Trees as tree
+use Rattle.wire_trees.specs.Trees.{Tree, Elements, trees_count, structs_count}
+use Rattle.wire_trees.specs.Views.{bit, view, items_view, trees_view, structs_view}
+use Rattle.wire_writing.specs.Placing.{placed, placed_all}
+use Rattle.wire_writing.specs.Fitting.{FitsList}
+use Rattle.wire_trees.specs.Writable.{parts, parts_of_all, parts_of_structs, are_even}
+use Rattle.wire_writing.specs.Laying.{HaveSizes}
+use Rattle.wire_writing.proofs.Lengths.{length-placed_all}
+use Rattle.wire_trees.proofs.Counts.{trees_counted, structs_counted}
+use Rattle.wire_writing.proofs.Filled.{bits_fit, zeros_fit, length-filled}
+use Rattle.wire_writing.proofs.Laid.{on_ok, fields_placed, pointers_placed, list_placed, struct_placed, few_structs}
+use Rattle.wire_writing.proofs.Sized.{taken, taken_by, taken_by_all, trees_sizes, trees_taken, trees_fit, trees_placed, structs_sizes, structs_taken, structs_fit, structs_even, structs_placed}
+use Rattle.wire_trees.proofs.Viewed.{view_struct, view_void, view_bits, view_pointers, view_structs}
+use Rattle.wire_writing.proofs.place.+place.Goals as goal
+
+pub place_fields-returns-clause-placed : goal.place_fields-returns-clause-placed
+place_fields-returns-clause-placed t c =
+    on_ok c.place_trees.result (fields_placed c.args.pointers.now c.args.words.now.items c.put.new.words.items c.place_trees.new.words.items c.args.section.now c.args.at c.put.ensures c.requires.inside) c.place_trees.ensures.placed
+
+pub place_pointers-returns-clause-placed : goal.place_pointers-returns-clause-placed
+place_pointers-returns-clause-placed t c =
+    on_ok c.place_trees.result (pointers_placed c.args.trees.now c.args.words.now.items c.push_zeros.new.words.items c.place_trees.new.words.items c.len-next.result c.in_ok-push_zeros.ensures (omega arith)) c.place_trees.ensures.placed
+
+pub place_list-returns-clause-placed : goal.place_list-returns-clause-placed
+place_list-returns-clause-placed t c =
+    let tag_is = rw (c.from-3.ensures, c.from-4.ensures) at c.word_of_struct-tag.ensures in
+    on_ok c.place_structs.result (λ is_new. rw (← tag_is) (list_placed c.args.items.now c.args.data_words c.args.pointer_words c.args.words.now.items c.push.new.self.items c.push_zeros.new.words.items c.place_structs.new.words.items (c.len-next.result + 1) c.word_of_struct-tag.result c.requires.even c.in_ok-push.ensures.items (c.in_ok-push_zeros.ensures ∙ ap (λ (k : ℕ). c.push.new.self.items ++ replicate (length c.args.items.now * k) 0) (omega arith)) (omega arith) is_new)) c.place_structs.ensures.placed
+
+pub place_items-place_pointers-requires : goal.place_items-place_pointers-requires
+place_items-place_pointers-requires t c =
+    let e = ap items_view c.in-Pointers.is ∙ view_pointers c.in-Pointers.pointers in
+    let sizes = subst (λ (es : Elements). HaveSizes (parts (tree.list es) 0)) e c.requires.sizes in
+    let room = subst (λ (es : Elements). length c.args.words.now.items + taken (parts (tree.list es) 0) ≤ 65536) e c.requires.room in
+    let n = trees_counted c.in-Pointers.pointers.trees.items in
+    let below : HaveSizes (parts_of_all (trees_view c.as_slice-trees.result.now) 0) = rw c.as_slice-trees.ensures sizes.1 in
+    let fits : length c.args.words.now.items + (length c.as_slice-trees.result.now + taken (parts_of_all (trees_view c.as_slice-trees.result.now) 0)) ≤ 65536 = rw c.as_slice-trees.ensures (omega (arith, room, n)) in
+    (search (rules, the_lemmas), (below, fits))
+
+pub place_items-place_list-requires : goal.place_items-place_list-requires
+place_items-place_list-requires t c =
+    let e = ap items_view c.in-Structs.is ∙ view_structs c.in-Structs.data_words c.in-Structs.pointer_words c.in-Structs.items in
+    let sizes = subst (λ (es : Elements). HaveSizes (parts (tree.list es) 0)) e c.requires.sizes in
+    let room = subst (λ (es : Elements). length c.args.words.now.items + taken (parts (tree.list es) 0) ≤ 65536) e c.requires.room in
+    let n = structs_counted c.in-Structs.items.items in
+    let below : HaveSizes (parts_of_structs (structs_view c.deref-in-Structs.result.now) 0) = rw c.deref-in-Structs.ensures.value sizes.1 in
+    let even : are_even c.in-Structs.data_words c.in-Structs.pointer_words (structs_view c.deref-in-Structs.result.now) ≡ true = rw c.deref-in-Structs.ensures.value (not-false (are_even c.in-Structs.data_words c.in-Structs.pointer_words (structs_view c.in-Structs.items.items)) sizes.0.0.0) in
+    let few = few_structs (structs_count (structs_view c.in-Structs.items.items)) (c.in-Structs.data_words + c.in-Structs.pointer_words) sizes.0.1 in
+    let same : structs_count (structs_view c.in-Structs.items.items) * (c.in-Structs.data_words + c.in-Structs.pointer_words) ≡ length c.in-Structs.items.items * (c.in-Structs.data_words + c.in-Structs.pointer_words) = ap (λ (k : ℕ). k * (c.in-Structs.data_words + c.in-Structs.pointer_words)) n in
+    let short : length c.deref-in-Structs.result.now < 2 ^ 30 = rw c.deref-in-Structs.ensures.value (omega (arith, few, n)) in
+    let fits : length c.args.words.now.items + (length c.deref-in-Structs.result.now * (c.in-Structs.data_words + c.in-Structs.pointer_words) + 1 + taken (parts_of_structs (structs_view c.deref-in-Structs.result.now) 0)) ≤ 65536 = rw c.deref-in-Structs.ensures.value (omega (arith, room, same)) in
+    (search (rules, the_lemmas), (even, (below, (short, fits))))
+
+pub place_items-overflow_mul-size : goal.place_items-overflow_mul-size
+place_items-overflow_mul-size t c =
+    let e = ap items_view c.in-Structs.is ∙ view_structs c.in-Structs.data_words c.in-Structs.pointer_words c.in-Structs.items in
+    let sizes = subst (λ (es : Elements). HaveSizes (parts (tree.list es) 0)) e c.requires.sizes in
+    let room = subst (λ (es : Elements). length c.args.words.now.items + taken (parts (tree.list es) 0) ≤ 65536) e c.requires.room in
+    let n = structs_counted c.in-Structs.items.items in
+    let same : structs_count (structs_view c.in-Structs.items.items) * (c.in-Structs.data_words + c.in-Structs.pointer_words) ≡ length c.in-Structs.items.items * (c.in-Structs.data_words + c.in-Structs.pointer_words) = ap (λ (k : ℕ). k * (c.in-Structs.data_words + c.in-Structs.pointer_words)) n in
+    let small : length c.in-Structs.items.items * (c.in-Structs.data_words + c.in-Structs.pointer_words) ≤ 65536 = omega (arith, room, same) in
+    let is_len : c.len-in-Structs.result ≡ length c.in-Structs.items.items = omega arith in
+    rw (is_len, c.from-in-Structs.ensures, c.from-in-Structs-2.ensures) (omega (arith, small))
+
+pub place_items-word_of_list-requires-in-Pointers-clause-count : goal.place_items-word_of_list-requires-in-Pointers-clause-count
+place_items-word_of_list-requires-in-Pointers-clause-count t c =
+    let e = ap items_view c.in-Pointers.is ∙ view_pointers c.in-Pointers.pointers in
+    let room = subst (λ (es : Elements). length c.args.words.now.items + taken (parts (tree.list es) 0) ≤ 65536) e c.requires.room in
+    let n = trees_counted c.in-Pointers.pointers.trees.items in
+    let k = ap length c.as_slice-trees.ensures in
+    omega (arith, room, n, k)
+
+pub place_items-word_of_list-requires-in-Structs-clause-count : goal.place_items-word_of_list-requires-in-Structs-clause-count
+place_items-word_of_list-requires-in-Structs-clause-count t c =
+    let e = ap items_view c.in-Structs.is ∙ view_structs c.in-Structs.data_words c.in-Structs.pointer_words c.in-Structs.items in
+    let sizes = subst (λ (es : Elements). HaveSizes (parts (tree.list es) 0)) e c.requires.sizes in
+    let room = subst (λ (es : Elements). length c.args.words.now.items + taken (parts (tree.list es) 0) ≤ 65536) e c.requires.room in
+    let n = structs_counted c.in-Structs.items.items in
+    let same : structs_count (structs_view c.in-Structs.items.items) * (c.in-Structs.data_words + c.in-Structs.pointer_words) ≡ length c.in-Structs.items.items * (c.in-Structs.data_words + c.in-Structs.pointer_words) = ap (λ (k : ℕ). k * (c.in-Structs.data_words + c.in-Structs.pointer_words)) n in
+    let small : length c.in-Structs.items.items * (c.in-Structs.data_words + c.in-Structs.pointer_words) ≤ 65536 = omega (arith, room, same) in
+    let is_len : c.len-in-Structs.result ≡ length c.in-Structs.items.items = omega arith in
+    rw (is_len, c.from-in-Structs.ensures, c.from-in-Structs-2.ensures) (omega (arith, small))
+
+pub place_items-returns-in-Void-clause-word : goal.place_items-returns-in-Void-clause-word
+place_items-returns-in-Void-clause-word t c =
+    let e = ap items_view c.in-Void.is ∙ view_void c.in-Void.count in
+    let n = length-replicate {A = ℕ} c.in-Void.count 0 in
+    let is_next : c.len-next.result ≡ length c.args.words.now.items = omega arith in
+    rw e (c.word_of_list.ensures ∙ rw (c.distance-distance.ensures, is_next, c.from.ensures, n) refl)
+
+pub place_items-returns-in-Void-clause-fits : goal.place_items-returns-in-Void-clause-fits
+place_items-returns-in-Void-clause-fits t c =
+    let e = ap items_view c.in-Void.is ∙ view_void c.in-Void.count in
+    subst FitsList (sym e) ((width.Void, refl), zeros_fit c.in-Void.count)
+
+pub place_items-returns-in_ok-push_bits-in-Bits-clause-word : goal.place_items-returns-in_ok-push_bits-in-Bits-clause-word
+place_items-returns-in_ok-push_bits-in-Bits-clause-word t c =
+    let e = ap items_view c.in-Bits.is ∙ view_bits c.in-Bits.bits in
+    let n = length-map c.in-Bits.bits.items bit in
+    let is_next : c.len-next.result ≡ length c.args.words.now.items = omega arith in
+    let is_len : c.len.result ≡ length c.in-Bits.bits.items = omega arith in
+    rw e (c.word_of_list-in-Bits.ensures ∙ rw (c.distance-distance.ensures, is_next, is_len, n) refl)
+
+pub place_items-returns-in_ok-push_bits-in-Bits-clause-placed : goal.place_items-returns-in_ok-push_bits-in-Bits-clause-placed
+place_items-returns-in_ok-push_bits-in-Bits-clause-placed t c =
+    let e = ap items_view c.in-Bits.is ∙ view_bits c.in-Bits.bits in
+    let n = length-map c.in-Bits.bits.items bit in
+    rw e (rw n (rw c.deref.ensures.value at c.in_ok-push_bits-in-Bits.ensures))
+
+pub place_items-returns-in_ok-push_bits-in-Bits-clause-fits : goal.place_items-returns-in_ok-push_bits-in-Bits-clause-fits
+place_items-returns-in_ok-push_bits-in-Bits-clause-fits t c =
+    let e = ap items_view c.in-Bits.is ∙ view_bits c.in-Bits.bits in
+    subst FitsList (sym e) ((width.Bit, refl), bits_fit c.in-Bits.bits.items)
+
+pub place_items-returns-in_ok-place_pointers-in-Pointers-clause-word : goal.place_items-returns-in_ok-place_pointers-in-Pointers-clause-word
+place_items-returns-in_ok-place_pointers-in-Pointers-clause-word t c =
+    let e = ap items_view c.in-Pointers.is ∙ view_pointers c.in-Pointers.pointers in
+    let sizes = subst (λ (es : Elements). HaveSizes (parts (tree.list es) 0)) e c.requires.sizes in
+    let room = subst (λ (es : Elements). length c.args.words.now.items + taken (parts (tree.list es) 0) ≤ 65536) e c.requires.room in
+    let n = trees_counted c.in-Pointers.pointers.trees.items in
+    let is_next : c.len-next.result ≡ length c.args.words.now.items = omega arith in
+    rw e (c.word_of_list-in-Pointers.ensures ∙ rw (c.distance-distance.ensures, is_next, c.as_slice-trees.ensures, n) refl)
+
+pub place_items-returns-in_ok-place_pointers-in-Pointers-clause-placed : goal.place_items-returns-in_ok-place_pointers-in-Pointers-clause-placed
+place_items-returns-in_ok-place_pointers-in-Pointers-clause-placed t c =
+    let e = ap items_view c.in-Pointers.is ∙ view_pointers c.in-Pointers.pointers in
+    let sizes = subst (λ (es : Elements). HaveSizes (parts (tree.list es) 0)) e c.requires.sizes in
+    let room = subst (λ (es : Elements). length c.args.words.now.items + taken (parts (tree.list es) 0) ≤ 65536) e c.requires.room in
+    let n = trees_counted c.in-Pointers.pointers.trees.items in
+    rw e (rw n (rw c.as_slice-trees.ensures at c.in_ok-place_pointers-in-Pointers.ensures.placed))
+
+pub place_items-returns-in_ok-place_list-in-Structs-clause-word : goal.place_items-returns-in_ok-place_list-in-Structs-clause-word
+place_items-returns-in_ok-place_list-in-Structs-clause-word t c =
+    let e = ap items_view c.in-Structs.is ∙ view_structs c.in-Structs.data_words c.in-Structs.pointer_words c.in-Structs.items in
+    let sizes = subst (λ (es : Elements). HaveSizes (parts (tree.list es) 0)) e c.requires.sizes in
+    let room = subst (λ (es : Elements). length c.args.words.now.items + taken (parts (tree.list es) 0) ≤ 65536) e c.requires.room in
+    let n = structs_counted c.in-Structs.items.items in
+    let is_next : c.len-next.result ≡ length c.args.words.now.items = omega arith in
+    let is_len : c.len-in-Structs.result ≡ length c.in-Structs.items.items = omega arith in
+    rw e (c.word_of_list-in-Structs.ensures ∙ rw (c.distance-distance.ensures, is_next, is_len, c.from-in-Structs.ensures, c.from-in-Structs-2.ensures, n) refl)
+
+pub place_items-returns-in_ok-place_list-in-Structs-clause-placed : goal.place_items-returns-in_ok-place_list-in-Structs-clause-placed
+place_items-returns-in_ok-place_list-in-Structs-clause-placed t c =
+    let e = ap items_view c.in-Structs.is ∙ view_structs c.in-Structs.data_words c.in-Structs.pointer_words c.in-Structs.items in
+    let sizes = subst (λ (es : Elements). HaveSizes (parts (tree.list es) 0)) e c.requires.sizes in
+    let room = subst (λ (es : Elements). length c.args.words.now.items + taken (parts (tree.list es) 0) ≤ 65536) e c.requires.room in
+    let n = structs_counted c.in-Structs.items.items in
+    rw e (rw n (rw c.deref-in-Structs.ensures.value at c.in_ok-place_list-in-Structs.ensures.placed))
+
+pub place_tree-place_fields-requires : goal.place_tree-place_fields-requires
+place_tree-place_fields-requires t c =
+    let e = ap view c.in-Struct.is ∙ view_struct c.in-Struct.«data» c.in-Struct.pointers in
+    let sizes = subst (λ (u : Tree). HaveSizes (parts u 0)) e c.requires.sizes in
+    let room = subst (λ (u : Tree). length c.args.words.now.items + taken (parts u 0) ≤ 65536) e c.requires.room in
+    let k = ap length c.as_slice-trees.ensures in
+    let n = trees_counted c.in-Struct.pointers.trees.items in
+    let z = ap length c.in_ok-push_zeros-in-Struct.ensures in
+    let a = length-append c.args.words.now.items (replicate {A = ℕ} (c.len.result + length c.as_slice-trees.result.now) 0) in
+    let b = length-replicate {A = ℕ} (c.len.result + length c.as_slice-trees.result.now) 0 in
+    let below : HaveSizes (parts_of_all (trees_view c.as_slice-trees.result.now) 0) = rw c.as_slice-trees.ensures sizes.1 in
+    let inside : c.len-next.result + length c.deref.result.now + length c.as_slice-trees.result.now ≤ length c.push_zeros.new.words.items = omega (arith, z, a, b) in
+    let fits : length c.push_zeros.new.words.items + taken (parts_of_all (trees_view c.as_slice-trees.result.now) 0) ≤ 65536 = rw c.as_slice-trees.ensures (omega (arith, room, n, z, a, b, k)) in
+    (search (rules, the_lemmas), (inside, (below, fits)))
+
+pub place_trees-place_tree-requires : goal.place_trees-place_tree-requires
+place_trees-place_tree-requires t c =
+    let sizes = (trees_sizes c.args.trees.now c.loop-tree.tree-index c.tree-item.result c.loop-tree-test.true c.tree-item.is c.loop-tree.invariant.sizes).0 in
+    let all = trees_taken c.args.trees.now c.loop-tree.tree-index c.tree-item.result c.loop-tree-test.true c.tree-item.is in
+    let room = c.loop-tree.invariant.room in
+    let inside = c.loop-tree.invariant.inside in
+    (search (rules, the_lemmas), (omega (arith, inside), (sizes, omega (arith, room, all))))
+
+pub place_trees-loop-tree-preserved : goal.place_trees-loop-tree-preserved
+place_trees-loop-tree-preserved t c =
+    let inv = c.loop-tree.invariant in
+    let test = c.loop-tree-test.true in
+    let item = c.tree-item.result in
+    let sizes = trees_sizes c.args.trees.now c.loop-tree.tree-index item test c.tree-item.is inv.sizes in
+    let all = trees_taken c.args.trees.now c.loop-tree.tree-index item test c.tree-item.is in
+    let own = taken_by (view item) 0 c.loop-tree.slot (length c.loop-tree.words.items) sizes.0 in
+    let long = length-append c.loop-tree.words.items (placed (view item) c.loop-tree.slot (length c.loop-tree.words.items)).1 in
+    let made = c.in_ok-word.ensures.placed in
+    let size : length (set c.place_tree.new.words.items c.loop-tree.slot c.in_ok-word.word) ≡ length c.loop-tree.words.items + taken (parts (view item) 0) =
+    length-set c.place_tree.new.words.items c.loop-tree.slot c.in_ok-word.word ∙ ap length made ∙ omega (arith, long, own) in
+    let before = inv.slot in
+    let inside = inv.inside in
+    let room = inv.room in
+    record {
+      slot = omega (arith, before);
+      inside = omega (arith, size, inside, test);
+      sizes = sizes.1;
+      room = omega (arith, size, room, all);
+      same = trees_placed c.args.trees.now c.loop-tree.tree-index item test c.tree-item.is c.loop-tree.words.items (set c.place_tree.new.words.items c.loop-tree.slot c.in_ok-word.word) _ c.loop-tree.slot c.in_ok-word.word inv.inside
+          (ap (λ (l : List ℕ). set l c.loop-tree.slot c.in_ok-word.word) made) c.in_ok-word.ensures.word inv.same;
+      fits = trees_fit c.args.trees.now c.loop-tree.tree-index item test c.tree-item.is (trees_view c.args.trees.now) c.in_ok-word.ensures.fits inv.fits;
+    }
+
+pub place_structs-place_fields-requires : goal.place_structs-place_fields-requires
+place_structs-place_fields-requires t c =
+    let inv = c.loop-item.invariant in
+    let test = c.loop-item-test.true in
+    let item = c.item-item.result in
+    let d = c.args.data_words in
+    let p = c.args.pointer_words in
+    let ss = c.args.items.now in
+    let i = c.loop-item.item-index in
+    let sizes = structs_sizes ss i item test c.item-item.is inv.sizes in
+    let all = structs_taken ss i item test c.item-item.is in
+    let even = structs_even ss i item test c.item-item.is d p inv.even in
+    let one : length ss - i ≡ suc (length ss - (i + 1)) = omega arith in
+    let more : suc (length ss - (i + 1)) * (d + p) ≡ (d + p) + (length ss - (i + 1)) * (d + p) = omega arith in
+    let inside : c.loop-item.slot + ((d + p) + (length ss - (i + 1)) * (d + p)) ≤ length c.loop-item.words.items = subst (λ (k : ℕ). c.loop-item.slot + k ≤ length c.loop-item.words.items) (ap (λ (k : ℕ). k * (d + p)) one ∙ more) inv.inside in
+    let room = inv.room in
+    let ed = even.0 in
+    let ep = even.1 in
+    (search (rules, the_lemmas), (rw (c.as_slice.ensures, c.deref.ensures.value) (omega (arith, inside, ed, ep)), (rw c.as_slice.ensures sizes.0, rw c.as_slice.ensures (omega (arith, room, all)))))
+
+pub place_structs-loop-item-preserved : goal.place_structs-loop-item-preserved
+place_structs-loop-item-preserved t c =
+    let inv = c.loop-item.invariant in
+    let test = c.loop-item-test.true in
+    let item = c.item-item.result in
+    let d = c.args.data_words in
+    let p = c.args.pointer_words in
+    let ss = c.args.items.now in
+    let i = c.loop-item.item-index in
+    let sizes = structs_sizes ss i item test c.item-item.is inv.sizes in
+    let all = structs_taken ss i item test c.item-item.is in
+    let even = structs_even ss i item test c.item-item.is d p inv.even in
+    let one : length ss - i ≡ suc (length ss - (i + 1)) = omega arith in
+    let more : suc (length ss - (i + 1)) * (d + p) ≡ (d + p) + (length ss - (i + 1)) * (d + p) = omega arith in
+    let inside : c.loop-item.slot + ((d + p) + (length ss - (i + 1)) * (d + p)) ≤ length c.loop-item.words.items = subst (λ (k : ℕ). c.loop-item.slot + k ≤ length c.loop-item.words.items) (ap (λ (k : ℕ). k * (d + p)) one ∙ more) inv.inside in
+    let room = inv.room in
+    let ed = even.0 in
+    let ep = even.1 in
+    let made = rw (c.as_slice.ensures, c.deref.ensures.value) at c.in_ok-place_fields.ensures.placed in
+    let next : c.loop-item.slot + (c.from.result + c.from-in-loop-item.result) ≡ c.loop-item.slot + (d + p) = omega arith in
+    let A = placed_all (trees_view item.pointers.trees.items) (c.loop-item.slot + length item.words.items) (length c.loop-item.words.items) in
+    let count = length-placed_all (trees_view item.pointers.trees.items) (c.loop-item.slot + length item.words.items) (length c.loop-item.words.items) in
+    let counted = trees_counted item.pointers.trees.items in
+    let own = taken_by_all (trees_view item.pointers.trees.items) 0 (c.loop-item.slot + length item.words.items) (length c.loop-item.words.items) sizes.0 in
+    let size : length c.place_fields.new.words.items ≡ length c.loop-item.words.items + taken (parts_of_all (trees_view item.pointers.trees.items) 0) =
+    ap length made ∙ length-filled c.loop-item.words.items (item.words.items ++ A.0) A.1 c.loop-item.slot (let a = length-append item.words.items A.0 in omega (arith, a, inside, ed, ep, count, counted)) ∙ ap (λ (k : ℕ). length c.loop-item.words.items + k) own in
+    record {
+      even = even.2;
+      inside = rw next (omega (arith, size, inside));
+      sizes = sizes.1;
+      room = omega (arith, size, room, all);
+      same = structs_placed ss i item test c.item-item.is c.loop-item.words.items c.place_fields.new.words.items _ d p c.loop-item.slot (c.loop-item.slot + (c.from.result + c.from-in-loop-item.result)) inv.even next inv.inside inv.sizes made inv.same;
+      fits = structs_fit ss i item test c.item-item.is (structs_view ss) (rw c.as_slice.ensures at c.in_ok-place_fields.ensures.fits) inv.fits;
+    }
+
+pub place_tree-pointer_to_struct-requires-clause-data_words : goal.place_tree-pointer_to_struct-requires-clause-data_words
+place_tree-pointer_to_struct-requires-clause-data_words t c =
+    let e = ap view c.in-Struct.is ∙ view_struct c.in-Struct.«data» c.in-Struct.pointers in
+    let sizes = subst (λ (u : Tree). HaveSizes (parts u 0)) e c.requires.sizes in
+    let n = trees_counted c.in-Struct.pointers.trees.items in
+    let w = or_parts (ltb 65535 (length c.in-Struct.«data».items)) (ltb 65535 (trees_count (trees_view c.in-Struct.pointers.trees.items))) sizes.0.0.1 in
+    let a = ltb-false 65535 (length c.in-Struct.«data».items) w.0 in
+    let b = ltb-false 65535 (trees_count (trees_view c.in-Struct.pointers.trees.items)) w.1 in
+    omega (arith, a, b, n)
+
+pub place_tree-pointer_to_struct-requires-clause-pointer_words : goal.place_tree-pointer_to_struct-requires-clause-pointer_words
+place_tree-pointer_to_struct-requires-clause-pointer_words t c =
+    let e = ap view c.in-Struct.is ∙ view_struct c.in-Struct.«data» c.in-Struct.pointers in
+    let sizes = subst (λ (u : Tree). HaveSizes (parts u 0)) e c.requires.sizes in
+    let k = ap length c.as_slice-trees.ensures in
+    let n = trees_counted c.in-Struct.pointers.trees.items in
+    let w = or_parts (ltb 65535 (length c.in-Struct.«data».items)) (ltb 65535 (trees_count (trees_view c.in-Struct.pointers.trees.items))) sizes.0.0.1 in
+    let a = ltb-false 65535 (length c.in-Struct.«data».items) w.0 in
+    let b = ltb-false 65535 (trees_count (trees_view c.in-Struct.pointers.trees.items)) w.1 in
+    omega (arith, a, b, n, k)
+
+pub place_tree-returns-in_ok-place_fields-in-Struct-clause-word : goal.place_tree-returns-in_ok-place_fields-in-Struct-clause-word
+place_tree-returns-in_ok-place_fields-in-Struct-clause-word t c =
+    let e = ap view c.in-Struct.is ∙ view_struct c.in-Struct.«data» c.in-Struct.pointers in
+    let k = ap length c.as_slice-trees.ensures in
+    let n = trees_counted c.in-Struct.pointers.trees.items in
+    let is_next : c.len-next.result ≡ length c.args.words.now.items = omega arith in
+    let is_data : c.len-in-Struct.result ≡ length c.in-Struct.«data».items = omega arith in
+    let is_pointers : length c.as_slice-trees.result.now ≡ trees_count (trees_view c.in-Struct.pointers.trees.items) = omega (arith, n, k) in
+    rw e (c.pointer_to_struct.ensures ∙ rw (is_next, is_data, is_pointers) refl)
+
+pub place_tree-returns-in_ok-place_fields-in-Struct-clause-placed : goal.place_tree-returns-in_ok-place_fields-in-Struct-clause-placed
+place_tree-returns-in_ok-place_fields-in-Struct-clause-placed t c =
+    let e = ap view c.in-Struct.is ∙ view_struct c.in-Struct.«data» c.in-Struct.pointers in
+    let made = rw (c.as_slice-trees.ensures, c.deref.ensures.value) at c.in_ok-place_fields-in-Struct.ensures.placed in
+    let k = ap length c.as_slice-trees.ensures in
+    let count : c.len.result + length c.as_slice-trees.result.now ≡ length c.in-Struct.«data».items + length c.in-Struct.pointers.trees.items = omega (arith, k) in
+    rw e (struct_placed c.in-Struct.pointers.trees.items c.args.words.now.items c.push_zeros.new.words.items c.place_fields.new.words.items c.in-Struct.«data».items c.len-next.result
+    (c.in_ok-push_zeros-in-Struct.ensures ∙ ap (λ (k : ℕ). c.args.words.now.items ++ replicate k 0) count) (omega arith) made)

@@ -1,0 +1,409 @@
+//! Lays down the words of a tree that can be written.
+ghost use Rattle.std.specs.Prelude.{◌≡◌, ℕ, List, true, ◌+◌, ◌*◌, ◌/◌, ◌^◌, ◌≤◌, ◌<◌, ◌∷◌, ◌++◌, length, map, replicate, take, drop, IfOk, OnOk};
+ghost use Rattle.wire_trees.specs.Trees.{struct, list};
+ghost use Rattle.wire_trees.specs.Views.{bit, view, fields_view, items_view, trees_view, structs_view};
+ghost use Rattle.wire_writing.specs.Placing.{joined, packed_words, struct_word, list_word, capability_word, struct_pointer, offset_of, content_then, placed, placed_all, placed_list, placed_structs, segment_for};
+ghost use Rattle.wire_trees.specs.Widths.{packed_size};
+ghost use Rattle.wire_writing.specs.Fitting.{AreOf, Fits, FitsAll, FitsList, FitsStructs};
+ghost use Rattle.wire_trees.specs.Writable.{parts, parts_of_all, parts_of_structs, words_taken, all_words, are_even};
+ghost use Rattle.wire_writing.specs.Laying.{HaveSizes, filled};
+
+use std::alloc::{AllocError, Global};
+use wire_trees::{Fields, Items, Tree};
+
+/// The word of a struct pointer, or of a tag with the number of elements in the offset's place.
+fn word_of_struct(offset: u64, data_words: u64, pointer_words: u64) -> u64
+    requires offset { offset < 2 ^ 30 }
+    requires data_words { data_words < 2 ^ 16 }
+    requires pointer_words { pointer_words < 2 ^ 16 }
+    ensures { result ≡ struct_word offset data_words pointer_words }
+{
+    4 * offset + 0x1_0000_0000 * (data_words + 0x1_0000 * pointer_words)
+}
+
+/// The word of a list pointer.
+fn word_of_list(offset: u64, size: u64, count: u64) -> u64
+    requires offset { offset < 2 ^ 30 }
+    requires size { size < 8 }
+    requires count { count < 2 ^ 29 }
+    ensures { result ≡ list_word offset size count }
+{
+    1 + 4 * offset + 0x1_0000_0000 * (size + 8 * count)
+}
+
+/// The word of a capability.
+fn word_of_capability(index: u32) -> u64
+    ensures { result ≡ capability_word index }
+{
+    3 + 0x1_0000_0000 * u64::from(index)
+}
+
+/// How far a content is from its pointer.
+fn distance(at: usize, next: usize) -> u64
+    requires ahead { at < next }
+    ensures { result ≡ offset_of at next }
+{
+    (next - (at + 1)) as u64
+}
+
+/// The pointer to a struct. One of size zero takes no words, and its offset is -1.
+fn pointer_to_struct(at: usize, next: usize, data_words: usize, pointer_words: usize) -> u64
+    requires ahead { at < next }
+    requires small { next ≤ 65536 }
+    requires data_words { data_words ≤ 65535 }
+    requires pointer_words { pointer_words ≤ 65535 }
+    ensures { result ≡ struct_pointer at next data_words pointer_words }
+{
+    if data_words + pointer_words == 0 {
+        return word_of_struct(0x3fff_ffff, 0, 0);
+    }
+    word_of_struct(distance(at, next), data_words as u64, pointer_words as u64)
+}
+
+/// Elements of so many bits as one number, the first in the lowest bits.
+fn joined_word(bits: u8, elements: &[u64]) -> u64
+    requires some { bits < 64 }
+    requires few { length elements.now * bits ≤ 64 }
+    requires fit { AreOf bits elements.now }
+    ensures { result ≡ joined bits elements.now }
+{
+    let mut word: u64 = 0;
+    for k in 0..elements.len() {
+        word = word * (1 << bits) + elements[elements.len() - 1 - k];
+    }
+    word
+}
+
+/// Lays down elements of so many bits, so many in each word.
+fn push_packed(
+    words: &mut Vec<u64>,
+    bits: u8,
+    per: usize,
+    elements: &[u64],
+) -> Result<(), AllocError>
+    requires some { 0 < bits }
+    requires most { bits < 64 }
+    requires per { per * bits ≡ 64 }
+    requires fills { per ≡ 64 / bits }
+    requires fit { AreOf bits elements.now }
+    requires small { packed_size bits (length elements.now) ≤ 65536 }
+    ensures { OnOk result (words.new.items ≡ words.old.items ++ packed_words bits (packed_size bits (length elements.now)) elements.now) }
+{
+    let mut rest = elements;
+    for _ in 0..(elements.len() * usize::from(bits)).div_ceil(64) {
+        let (word, behind) = rest.split_at(per.min(rest.len()));
+        words.push(joined_word(bits, word))?;
+        rest = behind;
+    }
+    Ok(())
+}
+
+/// Bits as numbers.
+fn numbers_of_bits(alloc: Global, bits: &[bool]) -> Result<Vec<u64>, AllocError>
+    ensures { IfOk result (λ v. v.items ≡ map bit bits.now) }
+{
+    bits.iter().map(|x| u64::from(*x)).collect(alloc)
+}
+
+/// Bytes as numbers.
+fn numbers_of_bytes(alloc: Global, bytes: &[u8]) -> Result<Vec<u64>, AllocError>
+    ensures items { IfOk result (λ v. v.items ≡ bytes.now) }
+    ensures fit { AreOf 8 bytes.now }
+{
+    bytes.iter().map(|x| u64::from(*x)).collect(alloc)
+}
+
+/// Numbers of two bytes as numbers.
+fn numbers_of_twos(alloc: Global, twos: &[u16]) -> Result<Vec<u64>, AllocError>
+    ensures items { IfOk result (λ v. v.items ≡ twos.now) }
+    ensures fit { AreOf 16 twos.now }
+{
+    twos.iter().map(|x| u64::from(*x)).collect(alloc)
+}
+
+/// Numbers of four bytes as numbers.
+fn numbers_of_fours(alloc: Global, fours: &[u32]) -> Result<Vec<u64>, AllocError>
+    ensures items { IfOk result (λ v. v.items ≡ fours.now) }
+    ensures fit { AreOf 32 fours.now }
+{
+    fours.iter().map(|x| u64::from(*x)).collect(alloc)
+}
+
+/// So many zeros.
+fn push_zeros(words: &mut Vec<u64>, count: usize) -> Result<(), AllocError>
+    ensures { OnOk result (words.new.items ≡ words.old.items ++ replicate count 0) }
+{
+    for _ in 0..count {
+        words.push(0)?;
+    }
+    Ok(())
+}
+
+/// Lays down bits.
+fn push_bits(alloc: Global, bits: &[bool], words: &mut Vec<u64>) -> Result<(), AllocError>
+    requires { packed_size 1 (length bits.now) ≤ 65536 }
+    ensures { OnOk result (words.new.items ≡ words.old.items ++ packed_words 1 (packed_size 1 (length bits.now)) (map bit bits.now)) }
+{
+    let numbers = numbers_of_bits(alloc, bits)?;
+    push_packed(words, 1, 64, &numbers)
+}
+
+/// Lays down bytes.
+fn push_bytes(alloc: Global, bytes: &[u8], words: &mut Vec<u64>) -> Result<(), AllocError>
+    requires { packed_size 8 (length bytes.now) ≤ 65536 }
+    ensures items { OnOk result (words.new.items ≡ words.old.items ++ packed_words 8 (packed_size 8 (length bytes.now)) bytes.now) }
+    ensures fit { AreOf 8 bytes.now }
+{
+    let numbers = numbers_of_bytes(alloc, bytes)?;
+    push_packed(words, 8, 8, &numbers)
+}
+
+/// Lays down numbers of two bytes.
+fn push_twos(alloc: Global, twos: &[u16], words: &mut Vec<u64>) -> Result<(), AllocError>
+    requires { packed_size 16 (length twos.now) ≤ 65536 }
+    ensures items { OnOk result (words.new.items ≡ words.old.items ++ packed_words 16 (packed_size 16 (length twos.now)) twos.now) }
+    ensures fit { AreOf 16 twos.now }
+{
+    let numbers = numbers_of_twos(alloc, twos)?;
+    push_packed(words, 16, 4, &numbers)
+}
+
+/// Lays down numbers of four bytes.
+fn push_fours(alloc: Global, fours: &[u32], words: &mut Vec<u64>) -> Result<(), AllocError>
+    requires { packed_size 32 (length fours.now) ≤ 65536 }
+    ensures items { OnOk result (words.new.items ≡ words.old.items ++ packed_words 32 (packed_size 32 (length fours.now)) fours.now) }
+    ensures fit { AreOf 32 fours.now }
+{
+    let numbers = numbers_of_fours(alloc, fours)?;
+    push_packed(words, 32, 2, &numbers)
+}
+
+/// Lays down words.
+fn push_eights(eights: &[u64], words: &mut Vec<u64>) -> Result<(), AllocError>
+    ensures items { OnOk result (words.new.items ≡ words.old.items ++ packed_words 64 (packed_size 64 (length eights.now)) eights.now) }
+    ensures fit { AreOf 64 eights.now }
+{
+    words.extend_from_slice(eights)
+}
+
+/// Puts words into the place of others.
+fn put(words: &mut Vec<u64>, at: usize, others: &[u64])
+    requires { at + length others.now ≤ length words.old.items }
+    ensures { words.new.items ≡ take at words.old.items ++ (others.now ++ drop (at + length others.now) words.old.items) }
+{
+    words[at..at + others.len()].copy_from_slice(others);
+}
+
+/// The pointer at word `at` to a tree, whose content is laid down behind all words with all that it leads to.
+#[cycle(place)]
+fn place_tree(
+    alloc: Global,
+    tree: &Tree,
+    at: usize,
+    words: &mut Vec<u64>,
+) -> Result<u64, AllocError>
+    requires ahead { at < length words.old.items }
+    requires sizes { HaveSizes (parts (view tree.now) 0) }
+    requires room { length words.old.items + all_words words_taken (parts (view tree.now) 0) ≤ 65536 }
+    ensures word { IfOk result (λ word. word ≡ (placed (view tree.now) at (length words.old.items)).0) }
+    ensures placed { OnOk result (words.new.items ≡ words.old.items ++ (placed (view tree.now) at (length words.old.items)).1) }
+    ensures fits { OnOk result (Fits (view tree.now)) }
+{
+    match tree {
+        Tree::Null => Ok(0),
+        Tree::Cap(index) => Ok(word_of_capability(*index)),
+        Tree::Struct {
+            words: data,
+            pointers,
+        } => {
+            let next = words.len();
+            let trees = pointers.as_slice();
+            push_zeros(words, data.len() + trees.len())?;
+            place_fields(alloc, trees, data, next, words)?;
+            Ok(pointer_to_struct(at, next, data.len(), trees.len()))
+        }
+        Tree::List(items) => place_items(alloc, items, at, words),
+    }
+}
+
+/// The pointer at word `at` to a list.
+#[cycle(place)]
+fn place_items(
+    alloc: Global,
+    items: &Items,
+    at: usize,
+    words: &mut Vec<u64>,
+) -> Result<u64, AllocError>
+    requires ahead { at < length words.old.items }
+    requires sizes { HaveSizes (parts (list (items_view items.now)) 0) }
+    requires room { length words.old.items + all_words words_taken (parts (list (items_view items.now)) 0) ≤ 65536 }
+    ensures word { IfOk result (λ word. word ≡ (placed_list (items_view items.now) at (length words.old.items)).0) }
+    ensures placed { OnOk result (words.new.items ≡ words.old.items ++ (placed_list (items_view items.now) at (length words.old.items)).1) }
+    ensures fits { OnOk result (FitsList (items_view items.now)) }
+{
+    let next = words.len();
+    let distance = distance(at, next);
+    match items {
+        Items::Void(count) => Ok(word_of_list(distance, 0, u64::from(*count))),
+        Items::Bits(bits) => {
+            push_bits(alloc, bits, words)?;
+            Ok(word_of_list(distance, 1, bits.len() as u64))
+        }
+        Items::Bytes(bytes) => {
+            push_bytes(alloc, bytes, words)?;
+            Ok(word_of_list(distance, 2, bytes.len() as u64))
+        }
+        Items::Twos(twos) => {
+            push_twos(alloc, twos, words)?;
+            Ok(word_of_list(distance, 3, twos.len() as u64))
+        }
+        Items::Fours(fours) => {
+            push_fours(alloc, fours, words)?;
+            Ok(word_of_list(distance, 4, fours.len() as u64))
+        }
+        Items::Eights(eights) => {
+            push_eights(eights, words)?;
+            Ok(word_of_list(distance, 5, eights.len() as u64))
+        }
+        Items::Pointers(pointers) => {
+            let trees = pointers.as_slice();
+            place_pointers(alloc, trees, words)?;
+            Ok(word_of_list(distance, 6, trees.len() as u64))
+        }
+        Items::Structs {
+            data_words,
+            pointer_words,
+            items,
+        } => {
+            place_list(alloc, items, *data_words, *pointer_words, words)?;
+            let size = items.len() * (usize::from(*data_words) + usize::from(*pointer_words));
+            Ok(word_of_list(distance, 7, size as u64))
+        }
+    }
+}
+
+/// Pointers behind all words, and what they lead to.
+#[cycle(place)]
+fn place_pointers(alloc: Global, trees: &[Tree], words: &mut Vec<u64>) -> Result<(), AllocError>
+    requires sizes { HaveSizes (parts_of_all (trees_view trees.now) 0) }
+    requires room { length words.old.items + (length trees.now + all_words words_taken (parts_of_all (trees_view trees.now) 0)) ≤ 65536 }
+    ensures placed { OnOk result (words.new.items ≡ words.old.items ++ content_then (placed_all (trees_view trees.now) (length words.old.items) (length words.old.items + length trees.now))) }
+    ensures fits { OnOk result (FitsAll (trees_view trees.now)) }
+{
+    let next = words.len();
+    push_zeros(words, trees.len())?;
+    place_trees(alloc, trees, next, words)
+}
+
+/// A tag and structs behind all words, and what they lead to.
+#[cycle(place)]
+fn place_list(
+    alloc: Global,
+    items: &[Fields],
+    data_words: u16,
+    pointer_words: u16,
+    words: &mut Vec<u64>,
+) -> Result<(), AllocError>
+    requires even { are_even data_words pointer_words (structs_view items.now) ≡ true }
+    requires sizes { HaveSizes (parts_of_structs (structs_view items.now) 0) }
+    requires few { length items.now < 2 ^ 30 }
+    requires room { length words.old.items + (length items.now * (data_words + pointer_words) + 1 + all_words words_taken (parts_of_structs (structs_view items.now) 0)) ≤ 65536 }
+    ensures placed { OnOk result (words.new.items ≡ words.old.items ++ (struct_word (length items.now) data_words pointer_words
+        ∷ content_then (placed_structs (structs_view items.now) (length words.old.items + 1) (length words.old.items + 1 + length items.now * (data_words + pointer_words))))) }
+    ensures fits { OnOk result (FitsStructs (structs_view items.now)) }
+{
+    let next = words.len();
+    let size = items.len() * (usize::from(data_words) + usize::from(pointer_words));
+    let tag = word_of_struct(
+        items.len() as u64,
+        u64::from(data_words),
+        u64::from(pointer_words),
+    );
+    words.push(tag)?;
+    push_zeros(words, size)?;
+    place_structs(alloc, items, data_words, pointer_words, next + 1, words)
+}
+
+/// Structs in their places from word `at` on, and what they lead to behind all words.
+#[cycle(place)]
+fn place_structs(
+    alloc: Global,
+    items: &[Fields],
+    data_words: u16,
+    pointer_words: u16,
+    at: usize,
+    words: &mut Vec<u64>,
+) -> Result<(), AllocError>
+    requires even { are_even data_words pointer_words (structs_view items.now) ≡ true }
+    requires inside { at + length items.now * (data_words + pointer_words) ≤ length words.old.items }
+    requires sizes { HaveSizes (parts_of_structs (structs_view items.now) 0) }
+    requires room { length words.old.items + all_words words_taken (parts_of_structs (structs_view items.now) 0) ≤ 65536 }
+    ensures placed { OnOk result (words.new.items ≡ filled words.old.items at (placed_structs (structs_view items.now) at (length words.old.items))) }
+    ensures fits { OnOk result (FitsStructs (structs_view items.now)) }
+{
+    let mut slot = at;
+    for item in items {
+        place_fields(alloc, item.pointers.as_slice(), &item.words, slot, words)?;
+        slot += usize::from(data_words) + usize::from(pointer_words);
+    }
+    Ok(())
+}
+
+/// A struct in its place from word `at` on, its data section first, and what it leads to behind all words.
+#[cycle(place)]
+fn place_fields(
+    alloc: Global,
+    pointers: &[Tree],
+    section: &[u64],
+    at: usize,
+    words: &mut Vec<u64>,
+) -> Result<(), AllocError>
+    requires inside { at + length section.now + length pointers.now ≤ length words.old.items }
+    requires sizes { HaveSizes (parts_of_all (trees_view pointers.now) 0) }
+    requires room { length words.old.items + all_words words_taken (parts_of_all (trees_view pointers.now) 0) ≤ 65536 }
+    ensures placed { OnOk result (words.new.items ≡ filled words.old.items at (
+      section.now ++ (placed_all (trees_view pointers.now) (at + length section.now) (length words.old.items)).0,
+      (placed_all (trees_view pointers.now) (at + length section.now) (length words.old.items)).1,
+    )) }
+    ensures fits { OnOk result (FitsAll (trees_view pointers.now)) }
+{
+    put(words, at, section);
+    place_trees(alloc, pointers, at + section.len(), words)
+}
+
+/// Pointers in their places from word `at` on, and what they lead to behind all words.
+#[cycle(place)]
+fn place_trees(
+    alloc: Global,
+    trees: &[Tree],
+    at: usize,
+    words: &mut Vec<u64>,
+) -> Result<(), AllocError>
+    requires inside { at + length trees.now ≤ length words.old.items }
+    requires sizes { HaveSizes (parts_of_all (trees_view trees.now) 0) }
+    requires room { length words.old.items + all_words words_taken (parts_of_all (trees_view trees.now) 0) ≤ 65536 }
+    ensures placed { OnOk result (words.new.items ≡ filled words.old.items at (placed_all (trees_view trees.now) at (length words.old.items))) }
+    ensures fits { OnOk result (FitsAll (trees_view trees.now)) }
+{
+    let mut slot = at;
+    for tree in trees {
+        let word = place_tree(alloc, tree, slot, words)?;
+        words[slot] = word;
+        slot += 1;
+    }
+    Ok(())
+}
+
+/// The segment of a tree that takes so many words.
+pub fn place(alloc: Global, tree: &Tree, count: u32) -> Result<Vec<u64>, AllocError>
+    requires sizes { HaveSizes (parts (view tree.now) 0) }
+    requires room { 1 + all_words words_taken (parts (view tree.now) 0) ≤ 65536 }
+    ensures placed { IfOk result (λ words. words.items ≡ segment_for (view tree.now)) }
+    ensures fits { OnOk result (Fits (view tree.now)) }
+{
+    let mut words = Vec::with_capacity(alloc, count as usize)?;
+    words.push(0)?;
+    let root = place_tree(alloc, tree, 0, &mut words)?;
+    words[0] = root;
+    Ok(words)
+}
