@@ -3,25 +3,38 @@ ghost use Rattle.std.specs.Prelude.{◌≡◌, IfOk, IsOkUnless};
 
 use anyhow::Result;
 use journal_words::write_entry;
-use std::alloc::Global;
+use std::alloc::{AllocError, Global};
 use std::fmt::Write;
 use trace_json::{TraceFault, TraceVersion, entry_of, line_of, version_of};
 use vat_journal::JournalEntry;
 
 /// What the entry of a line says, and its own line where that is another; or the fault.
 pub fn read(alloc: Global, version: TraceVersion, line: &str) -> Result<String> {
-    let mut said = String::new(alloc);
     match entry_of(alloc, line, version) {
-        Ok(entry) => {
-            write_entry(&mut said, &by_its_line(alloc, &entry)?)?;
-            let own = line_of(alloc, &entry, version)?;
-            if own.as_str() != line {
-                write!(said, "\n{own}")?;
-            }
-        }
-        Err(fault) => write!(said, "fault {}: {fault}", fault.number())?,
+        Ok(entry) => told(alloc, version, line, &entry),
+        Err(fault) => Ok(format!(in alloc; "fault {}: {fault}", fault.number())?),
+    }
+}
+
+fn told(alloc: Global, version: TraceVersion, line: &str, entry: &JournalEntry) -> Result<String> {
+    let mut said = told_again(alloc, entry)?;
+    let own = line_of(alloc, entry, version)?;
+    if own.as_str() != line {
+        write!(said, "\n{own}")?;
     }
     Ok(said)
+}
+
+// What the entry says that the entry's line is read as.
+fn told_again(alloc: Global, entry: &JournalEntry) -> Result<String> {
+    let again = by_its_line(alloc, entry)?;
+    Ok(words_of(alloc, &again)?)
+}
+
+fn words_of(alloc: Global, entry: &JournalEntry) -> Result<String, AllocError> {
+    let mut words = String::new(alloc);
+    write_entry(&mut words, entry)?;
+    Ok(words)
 }
 
 // What the two contracts say together: the line of an entry is read as that entry, or memory is refused.
