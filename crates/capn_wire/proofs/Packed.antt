@@ -7,10 +7,9 @@ use Rattle.std.proofs.lemmas.Bool.{cases_lt}
 use Rattle.std.proofs.Math.Nat.{mul-le-mul_right}
 use Rattle.wire_trees.specs.declared.width.Width.{Width}
 use Rattle.wire_trees.specs.declared.width.Width.TheVariants as width
-use Rattle.wire_trees.specs.Widths.{bits_of, packed_size}
+use Rattle.wire_trees.specs.Widths.{AreOf, bits_of, packed_size}
 use Rattle.wire_reading.specs.Reading.{element, elements}
 use Rattle.wire_writing.specs.Placing.{joined, packed_words}
-use Rattle.wire_writing.specs.Fitting.{AreOf}
 use Rattle.wire_reading.proofs.Building.{elements_void}
 use Rattle.wire_writing.proofs.Filled.{are_drop, are_take}
 

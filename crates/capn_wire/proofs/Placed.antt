@@ -13,7 +13,7 @@ use Rattle.wire_reading.specs.declared.referent.Referent.{Referent}
 use Rattle.wire_reading.specs.declared.referent.Referent.TheVariants as referent
 use Rattle.wire_reading.specs.declared.layout.Layout.{Layout}
 use Rattle.wire_reading.specs.declared.layout.Layout.TheVariants as layout
-use Rattle.wire_trees.specs.Widths.{bits_of, packed_size}
+use Rattle.wire_trees.specs.Widths.{AreOf, bits_of, packed_size}
 use Rattle.wire_reading.specs.Pointers.{decoded, tag_of}
 use Rattle.wire_reading.specs.Following.{◌>>=◌, visit, target, leads, followed}
 use Rattle.wire_trees.specs.Limits.{most_visited}
@@ -22,7 +22,7 @@ use Rattle.wire_trees.specs.Trees as tree
 use Rattle.wire_trees.specs.Trees.{Tree, Trees, Elements, Structs, trees_count, structs_count}
 use Rattle.wire_reading.specs.Reading.{Reading, elements, pointers_at, structs_at, content_of, reading}
 use Rattle.wire_writing.specs.Placing.{packed_words, size_number, struct_word, list_word, struct_pointer, offset_of, placed, placed_all, placed_list, placed_structs}
-use Rattle.wire_writing.specs.Fitting.{AreOf, Fits, FitsAll, FitsList, FitsStructs}
+use Rattle.wire_writing.specs.Fitting.{Fits, FitsAll, FitsList, FitsStructs}
 use Rattle.wire_trees.specs.Writable.{Part, parts, parts_of_all, parts_of_list, parts_of_structs, are_even, is_content, is_too_deep, is_too_wide, words_visited, all_words}
 use Rattle.wire_reading.proofs.Rooted.{read_as}
 use Rattle.wire_reading.proofs.Joining.{reading_null, reading_capability, deep_content, struct_is, packed_is, pointers_is, structs_is}

@@ -14,12 +14,13 @@ use Rattle.wire_reading.specs.Framing.{body_of, IsFramed}
 use Rattle.capn_wire.specs.Payloads.{Contents, IsEncoded, Says, tree_of}
 use Rattle.capn_wire.proofs.Saying.{says_encoded, says_tree}
 use Rattle.wire_writing.specs.Placing.{placed, segment_for, one_segment, written}
-use Rattle.wire_writing.specs.Fitting.{AreOf, Fits}
+use Rattle.wire_trees.specs.Widths.{AreOf}
+use Rattle.wire_writing.specs.Fitting.{Fits}
 use Rattle.wire_trees.specs.Writable.{parts, words_taken, words_visited, all_words, refusal}
 use Rattle.capn_wire.proofs.Placed.{Has, reads}
 use Rattle.wire_trees.proofs.Parts.{AreGood}
 use Rattle.wire_writing.proofs.Sized.{taken_by}
-use Rattle.wire_writing.proofs.Writing.{can_write, good_sizes}
+use Rattle.wire_writing.proofs.Writing.{can_write, good_sizes, no_reason}
 
 all_fit : (xs : List ℕ) → ((i : ℕ) → get_or xs i 0 < 2 ^ 64) → AllByRecursion (λ w. w < 2 ^ 64) xs
 all_fit [] fit = tt
@@ -64,7 +65,3 @@ says_written t caps bytes none fits small made =
     let p : Contents = record { bytes = written t; caps = caps } in
     subst (λ (bs : List ℕ). IsEncoded (record { bytes = bs; caps = caps }) × (tree_of (record { bytes = bs; caps = caps }) ≡ t)) (sym made)
     (says_encoded p (segment_for t ∷ []) t says, says_tree p (segment_for t ∷ []) t says)
-
--- Without a reason, what is asked then is all that is asked.
-pub no_reason : (t : Tree) (caps : ℕ) (A : Type 0) (F : WriteFault → Type 0) → refusal t caps ≡ None → A → MatchOption (refusal t caps) A F
-no_reason t caps A F none a = subst (λ (o : Option WriteFault). MatchOption o A F) (sym none) a

@@ -63,12 +63,8 @@ impl Payload {
         ensures first { IfErr result (λ e. (e ≡ faults.Memory) ⊎ (message_of bytes.now caps ≡ Err e)) }
     {
         visited_words(bytes, caps)?;
-        let Ok(copy) = Vec::from_slice(alloc, bytes) else {
-            return Err(PayloadFault::Memory);
-        };
-        let Ok(payload) = Payload::sharing(alloc, copy, caps) else {
-            return Err(PayloadFault::Memory);
-        };
+        let copy = Vec::from_slice(alloc, bytes)?;
+        let payload = Payload::sharing(alloc, copy, caps)?;
         Ok(payload)
     }
 
@@ -92,9 +88,7 @@ impl Payload {
         ensures tree { IfOk result (λ p. IsEncoded p × (tree_of p ≡ view tree.now)) }
     {
         let message = write_tree(alloc, tree, caps)?;
-        let Ok(payload) = Payload::sharing(alloc, message, caps) else {
-            return Err(WriteFault::Memory);
-        };
+        let payload = Payload::sharing(alloc, message, caps)?;
         Ok(payload)
     }
 
@@ -154,6 +148,11 @@ impl Payload {
         };
         let tree = build_tree(alloc, &message, self.caps)?;
         Ok(tree)
+    }
+
+    /// How many payloads share its bytes: itself, and its copies that are still there.
+    pub fn owners(&self) -> usize {
+        Arc::strong_count(&self.bytes)
     }
 
     /// The same payload again. It shares the bytes, unless there are too many owners to count.

@@ -3,7 +3,7 @@ use Rattle.std.proofs.Common.{◌≡◌, ℕ, zero, suc, ◌+◌, ◌-◌, ◌<�
 use Rattle.std.proofs.lemmas.Bool.{ne_eqb, or_parts}
 use Rattle.wire_trees.specs.Trees as tree
 use Rattle.wire_trees.specs.Trees.{Tree, Trees, Structs}
-use Rattle.wire_trees.specs.Writable.{Part, parts, parts_of_all, parts_of_structs, is_content, is_too_deep, is_deeper, are_deeper, some_part}
+use Rattle.wire_trees.specs.Writable.{Part, parts, parts_of_all, parts_of_structs, is_too_deep, is_deeper, are_deeper, some_part}
 use Rattle.wire_trees.specs.Widths.{bits_of}
 use Rattle.wire_reading.specs.declared.referent.Referent.{Referent}
 use Rattle.wire_reading.specs.declared.referent.Referent.TheVariants as referent

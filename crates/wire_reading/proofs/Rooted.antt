@@ -1,11 +1,10 @@
 -- Readings that did not fail, and what the root leads to.
-use Rattle.std.proofs.Common.{◌≡◌, ℕ, zero, suc, ◌+◌, ◌<◌, ◌≤◌, Bool, true, false, cond, eqb, ltb, List, take, drop, length, Option, Some, None, Result, Ok, Err, refl, sym, ap, subst, ◌∙◌, arith}
+use Rattle.std.proofs.Common.{◌≡◌, ℕ, zero, suc, ◌<◌, Bool, true, false, cond, eqb, List, length, Result, Ok, Err, refl, sym, ap, subst, arith}
 use Rattle.std.specs.Prelude.{IsOk}
-use Rattle.std.proofs.lemmas.List.{drop_all}
 use Rattle.wire_trees.specs.declared.faults.PayloadFault.{PayloadFault}
 use Rattle.wire_trees.specs.declared.faults.PayloadFault.TheVariants.{OutOfBounds}
 use Rattle.wire_reading.specs.Segments.{segment_of}
-use Rattle.wire_reading.specs.Following.{◌>>=◌, leads}
+use Rattle.wire_reading.specs.Following.{◌>>=◌}
 use Rattle.wire_trees.specs.Trees.{Tree}
 use Rattle.wire_reading.specs.Reading.{Reading, reading, root_of, message_of, tree_read}
 use Rattle.wire_trees.specs.Limits.{most_levels}

@@ -5,16 +5,16 @@ ghost use Rattle.wire_reading.specs.Segments.{segment_of};
 ghost use Rattle.wire_reading.specs.Layouts.{IsWithin};
 ghost use Rattle.wire_trees.specs.Trees.{packed};
 ghost use Rattle.wire_reading.specs.Reading.{element, elements, pointers_at, structs_at, content_of, reading, root_of, tree_read};
-ghost use Rattle.wire_trees.specs.Views.{bit, held, view, items_view, trees_view, structs_view};
+ghost use Rattle.wire_trees.specs.Views.{held, view, items_view, trees_view, structs_view};
 
-use crate::layout::{Layout, lay_out};
+use crate::layout::{Layout, Row, lay_out};
 use crate::message::Message;
 use crate::referent::{Referent, follow, visited_after};
 use std::alloc::{AllocError, Global};
 use wire_trees::limits::MOST_LEVELS;
 use wire_trees::{
-    Fields, Items, Pointers, Tree, Width, capability_tree, list_tree, make_fields, null_tree,
-    pointers_tree, struct_tree, structs_tree,
+    Element, Fields, Items, Pointers, Tree, Width, capability_tree, list_tree, make_fields,
+    null_tree, pointers_tree, struct_tree, structs_tree,
 };
 
 /// So many words.
@@ -41,7 +41,8 @@ fn element_at(message: &Message, segment: u32, start: u32, bits: u8, number: u32
     requires bits { bits ≤ 64 }
     requires inside { start + number * bits / 64 < length (segment_of message.now segment) }
     requires small { start + number * bits / 64 < 2 ^ 32 }
-    ensures { result ≡ element (drop start (segment_of message.now segment)) bits number }
+    ensures same { result ≡ element (drop start (segment_of message.now segment)) bits number }
+    ensures fits { result < 2 ^ bits }
 {
     let place = u64::from(number) * u64::from(bits);
     let word = message.word(segment, start + (place / 64) as u32);
@@ -49,24 +50,24 @@ fn element_at(message: &Message, segment: u32, start: u32, bits: u8, number: u32
     if bits == 64 { from } else { from % (1 << bits) }
 }
 
-/// So many elements of so many bits each.
-fn elements_at(
+/// So many elements.
+fn elements_at<E: Element + Drop>(
     alloc: Global,
     message: &Message,
     segment: u32,
     start: u32,
-    bits: u8,
     count: u32,
-) -> Result<Vec<u64>, AllocError>
-    requires some { 0 < bits }
-    requires bits { bits ≤ 64 }
-    requires inside { start + (count * bits + 63) / 64 ≤ length (segment_of message.now segment) }
-    requires small { start + (count * bits + 63) / 64 ≤ 2 ^ 17 }
-    ensures { IfOk result (λ v. v.items ≡ elements (drop start (segment_of message.now segment)) bits 0 count) }
+) -> Result<Vec<E>, AllocError>
+    requires some { 0 < E.BITS }
+    requires bits { E.BITS ≤ 64 }
+    requires inside { start + (count * E.BITS + 63) / 64 ≤ length (segment_of message.now segment) }
+    requires small { start + (count * E.BITS + 63) / 64 ≤ 2 ^ 17 }
+    ensures { IfOk result (λ v. map E.said v.items ≡ elements (drop start (segment_of message.now segment)) E.BITS 0 count) }
 {
     let mut values = Vec::new(alloc);
     for k in 0..count {
-        values.push(element_at(message, segment, start, bits, k))?;
+        let number = element_at(message, segment, start, E::BITS, k);
+        values.push(E::of_number(number))?;
     }
     Ok(values)
 }
@@ -84,17 +85,13 @@ fn packed_items(
     requires small { start + (count * bits_of width + 63) / 64 ≤ 2 ^ 17 }
     ensures { IfOk result (λ x. items_view x ≡ packed (bits_of width) (elements (drop start (segment_of message.now segment)) (bits_of width) 0 count)) }
 {
-    if let Width::Void = width {
-        return Ok(void_items(count));
-    }
-    let values = elements_at(alloc, message, segment, start, width.bits(), count)?;
     match width {
-        Width::Void => unreachable!(),
-        Width::Bit => Ok(Items::Bits(bits_of_numbers(alloc, &values)?)),
-        Width::Byte => Ok(Items::Bytes(bytes_of_numbers(alloc, &values)?)),
-        Width::TwoBytes => Ok(Items::Twos(twos_of_numbers(alloc, &values)?)),
-        Width::FourBytes => Ok(Items::Fours(fours_of_numbers(alloc, &values)?)),
-        Width::EightBytes => Ok(Items::Eights(values)),
+        Width::Void => Ok(void_items(count)),
+        Width::Bit => Ok(Items::Bits(elements_at(alloc, message, segment, start, count)?)),
+        Width::Byte => Ok(Items::Bytes(elements_at(alloc, message, segment, start, count)?)),
+        Width::TwoBytes => Ok(Items::Twos(elements_at(alloc, message, segment, start, count)?)),
+        Width::FourBytes => Ok(Items::Fours(elements_at(alloc, message, segment, start, count)?)),
+        Width::EightBytes => Ok(Items::Eights(elements_at(alloc, message, segment, start, count)?)),
     }
 }
 
@@ -103,52 +100,6 @@ fn void_items(count: u32) -> Items
     ensures { items_view result ≡ packed 0 (replicate count 0) }
 {
     Items::Void(count)
-}
-
-/// Numbers as bits.
-fn bits_of_numbers(alloc: Global, numbers: &[u64]) -> Result<Vec<bool>, AllocError>
-    requires { map bit (map (λ x. x == 1) numbers.now) ≡ numbers.now }
-    ensures { IfOk result (λ v. map bit v.items ≡ numbers.now) }
-{
-    let bits = are_ones(alloc, numbers)?;
-    Ok(bits)
-}
-
-/// Which numbers are one.
-fn are_ones(alloc: Global, numbers: &[u64]) -> Result<Vec<bool>, AllocError>
-    ensures { IfOk result (λ v. v.items ≡ map (λ x. x == 1) numbers.now) }
-{
-    numbers.iter().map(|x| *x == 1).collect(alloc)
-}
-
-/// The low bytes of numbers.
-fn bytes_of_numbers(alloc: Global, numbers: &[u64]) -> Result<Vec<u8>, AllocError>
-    requires { map (λ x. x % 2 ^ 8) numbers.now ≡ numbers.now }
-    ensures { IfOk result (λ v. v.items ≡ numbers.now) }
-{
-    numbers.iter().map(|x| (*x % 0x100) as u8).collect(alloc)
-}
-
-/// The low two bytes of numbers.
-fn twos_of_numbers(alloc: Global, numbers: &[u64]) -> Result<Vec<u16>, AllocError>
-    requires { map (λ x. x % 2 ^ 16) numbers.now ≡ numbers.now }
-    ensures { IfOk result (λ v. v.items ≡ numbers.now) }
-{
-    numbers
-        .iter()
-        .map(|x| (*x % 0x1_0000) as u16)
-        .collect(alloc)
-}
-
-/// The low four bytes of numbers.
-fn fours_of_numbers(alloc: Global, numbers: &[u64]) -> Result<Vec<u32>, AllocError>
-    requires { map (λ x. x % 2 ^ 32) numbers.now ≡ numbers.now }
-    ensures { IfOk result (λ v. v.items ≡ numbers.now) }
-{
-    numbers
-        .iter()
-        .map(|x| (*x % 0x1_0000_0000) as u32)
-        .collect(alloc)
 }
 
 /// The tree of a message.
@@ -256,49 +207,43 @@ fn build_content(
             pointer_words,
             ..
         } => {
-            let (items, visited) = build_structs(
-                alloc,
-                message,
-                caps,
-                segment,
+            let row = Row {
                 start,
                 count,
                 data_words,
                 pointer_words,
-                levels,
-                visited,
+            };
+            let (items, visited) = build_structs(
+                alloc, message, caps, segment, row, levels, visited,
             )?;
             Ok((structs_tree(data_words, pointer_words, items), visited))
         }
     }
 }
 
-/// So many structs, one behind the other, which read to trees.
+/// Structs, one behind the other, which read to trees.
 #[cycle(build)]
 fn build_structs(
     alloc: Global,
     message: &Message,
     caps: u32,
     segment: u32,
-    start: u32,
-    count: u32,
-    data_words: u16,
-    pointer_words: u16,
+    row: Row,
     levels: u32,
     mut visited: u32,
 ) -> Result<(Vec<Fields>, u32), AllocError>
     requires levels { levels ≤ 64 }
-    requires inside { start + count * (data_words + pointer_words) ≤ length (segment_of message.now segment) }
-    requires small { start + count * (data_words + pointer_words) ≤ 2 ^ 17 }
-    requires reads { IsOk (structs_at message.now (reading message.now caps levels) segment data_words pointer_words start count visited) }
-    ensures { IfOk result (λ x. structs_at message.now (reading message.now caps levels) segment data_words pointer_words start count visited ≡ Ok (structs_view x.0.items, x.1)) }
+    requires inside { row.start + row.count * (row.data_words + row.pointer_words) ≤ length (segment_of message.now segment) }
+    requires small { row.start + row.count * (row.data_words + row.pointer_words) ≤ 2 ^ 17 }
+    requires reads { IsOk (structs_at message.now (reading message.now caps levels) segment row.data_words row.pointer_words row.start row.count visited) }
+    ensures { IfOk result (λ x. structs_at message.now (reading message.now caps levels) segment row.data_words row.pointer_words row.start row.count visited ≡ Ok (structs_view x.0.items, x.1)) }
 {
     let mut items = Vec::new(alloc);
-    let mut at = start;
-    for _ in 0..count {
-        let words = words_at(alloc, message, segment, at, data_words)?;
-        let first = at + u32::from(data_words);
-        let length = u32::from(pointer_words);
+    let mut at = row.start;
+    for _ in 0..row.count {
+        let words = words_at(alloc, message, segment, at, row.data_words)?;
+        let first = at + u32::from(row.data_words);
+        let length = u32::from(row.pointer_words);
         let (pointers, after) = build_pointers(
             alloc, message, caps, segment, first, length, levels, visited,
         )?;

@@ -38,6 +38,15 @@ pub enum Layout {
     },
 }
 
+/// Structs of one size, one behind the other.
+#[derive(Clone, Copy)]
+pub struct Row {
+    pub start: u32,
+    pub count: u32,
+    pub data_words: u16,
+    pub pointer_words: u16,
+}
+
 /// The first word of a content that has room in its segment.
 fn place(start: Option<u64>, words: u64, size: u32) -> Result<u32, PayloadFault>
     requires { words < 2 ^ 63 }

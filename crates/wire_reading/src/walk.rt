@@ -4,7 +4,7 @@ ghost use Rattle.wire_reading.specs.Segments.{segment_of};
 ghost use Rattle.wire_reading.specs.Layouts.{IsWithin};
 ghost use Rattle.wire_reading.specs.Reading.{pointers_at, structs_at, content_of, reading, message_of, visited_of};
 
-use crate::layout::{Layout, lay_out};
+use crate::layout::{Layout, Row, lay_out};
 use crate::message::Message;
 use crate::referent::{Referent, follow, visited_after};
 use wire_trees::PayloadFault;
@@ -92,51 +92,44 @@ fn walk_content(
             if pointer_words == 0 {
                 return Ok(visited);
             }
-            walk_structs(
-                message,
-                caps,
-                segment,
+            let row = Row {
                 start,
                 count,
                 data_words,
                 pointer_words,
-                levels,
-                visited,
-            )
+            };
+            walk_structs(message, caps, segment, row, levels, visited)
         }
     }
 }
 
-/// So many structs, one behind the other.
+/// Structs, one behind the other.
 #[cycle(walk)]
 fn walk_structs(
     message: &Message,
     caps: u32,
     segment: u32,
-    start: u32,
-    count: u32,
-    data_words: u16,
-    pointer_words: u16,
+    row: Row,
     levels: u32,
     mut visited: u32,
 ) -> Result<u32, PayloadFault>
-    requires inside { start + count * (data_words + pointer_words) ≤ length (segment_of message.now segment) }
-    requires small { start + count * (data_words + pointer_words) ≤ 2 ^ 17 }
-    ensures { result ≡ visited_of (structs_at message.now (reading message.now caps levels) segment data_words pointer_words start count visited) }
+    requires inside { row.start + row.count * (row.data_words + row.pointer_words) ≤ length (segment_of message.now segment) }
+    requires small { row.start + row.count * (row.data_words + row.pointer_words) ≤ 2 ^ 17 }
+    ensures { result ≡ visited_of (structs_at message.now (reading message.now caps levels) segment row.data_words row.pointer_words row.start row.count visited) }
 {
-    let mut at = start;
-    for _ in 0..count {
-        let first = at + u32::from(data_words);
+    let mut at = row.start;
+    for _ in 0..row.count {
+        let first = at + u32::from(row.data_words);
         visited = walk_pointers(
             message,
             caps,
             segment,
             first,
-            u32::from(pointer_words),
+            u32::from(row.pointer_words),
             levels,
             visited,
         )?;
-        at = first + u32::from(pointer_words);
+        at = first + u32::from(row.pointer_words);
     }
     Ok(visited)
 }

@@ -1,5 +1,5 @@
 -- The sizes of elements without pointers: "Lists" of the encoding specification.
-use Rattle.std.specs.Prelude.{ℕ, ◌+◌, ◌*◌, ◌/◌}
+use Rattle.std.specs.Prelude.{ℕ, ◌+◌, ◌*◌, ◌/◌, ◌^◌, ◌<◌, List, get_or}
 use Rattle.wire_trees.specs.declared.width.Width.{Width}
 use Rattle.wire_trees.specs.declared.width.Width.TheVariants as width
 
@@ -15,3 +15,7 @@ bits_of width.EightBytes = 64
 -- how many words so many elements take
 abbrev pub packed_size : ℕ → ℕ → ℕ
 packed_size bits count = (count * bits + 63) / 64
+
+-- numbers of so many bits
+abbrev pub AreOf : ℕ → List ℕ → Type 0
+AreOf bits xs = (i : ℕ) → get_or xs i 0 < 2 ^ bits

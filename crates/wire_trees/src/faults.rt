@@ -1,7 +1,10 @@
 //! Why bytes are no payload, and why a tree can't be written.
 ghost use Rattle.std.specs.Prelude.{◌≡◌};
 ghost use Rattle.wire_trees.specs.Numbers.{number_of, write_number_of};
+ghost use Rattle.wire_trees.specs.declared.faults.PayloadFault.TheVariants as faults;
+ghost use Rattle.wire_trees.specs.declared.faults.WriteFault.TheVariants as write_faults;
 
+use std::alloc::AllocError;
 use thiserror::Error;
 
 /// The first check of a payload's encoding that fails.
@@ -104,5 +107,25 @@ impl WriteFault {
             WriteFault::Depth => 11,
             WriteFault::Traversal => 12,
         }
+    }
+}
+
+impl From<AllocError> for PayloadFault {
+    ghost use Rattle.std.specs.Prelude.{◌≡◌};
+
+    ghost from_gives = { λ _ e. e ≡ faults.Memory };
+
+    fn from(_refused: AllocError) -> PayloadFault {
+        PayloadFault::Memory
+    }
+}
+
+impl From<AllocError> for WriteFault {
+    ghost use Rattle.std.specs.Prelude.{◌≡◌};
+
+    ghost from_gives = { λ _ e. e ≡ write_faults.Memory };
+
+    fn from(_refused: AllocError) -> WriteFault {
+        WriteFault::Memory
     }
 }

@@ -1,18 +1,18 @@
 //! What a payload says, as a value of its own.
-ghost use Rattle.std.specs.Prelude.{◌≡◌, [], ◌∷◌, ◌++◌, false, if◌then◌else◌, IfErr, MatchResult, OnErr, OnOk};
+ghost use Rattle.std.specs.Prelude.{◌≡◌, [], ◌∷◌, ◌++◌, false, if◌then◌else◌, IfErr, IfOk, MatchResult, OnErr, OnOk};
 ghost use Rattle.wire_trees.specs.declared.faults.WriteFault.TheVariants as write_faults;
-ghost use Rattle.wire_trees.specs.Trees.{null, struct, list, capability, pointers as pointers_of, structs};
+ghost use Rattle.wire_trees.specs.Trees.{null, struct, list, packed, capability, pointers as pointers_of, structs};
 ghost use Rattle.wire_trees.specs.Views.{view, held, fields_view, items_view, trees_view, structs_view};
 ghost use Rattle.wire_trees.specs.Writable.{is_deeper, are_deeper};
 
 use crate::faults::WriteFault;
 use crate::limits::MOST_HELD;
 use crate::measure::{Measure, measure_tree};
-use std::alloc::Global;
+use std::alloc::{AllocError, Global};
 
 /// A struct, a list, a capability or null.
 #[cycle(tree)]
-#[derive(Debug, Drop)]
+#[derive(Debug, PartialEq, Eq, Drop)]
 pub enum Tree {
     /// A null pointer.
     Null,
@@ -26,7 +26,7 @@ pub enum Tree {
 
 /// The elements of a list.
 #[cycle(tree)]
-#[derive(Debug, Drop)]
+#[derive(Debug, PartialEq, Eq, Drop)]
 pub enum Items {
     /// So many elements without content.
     Void(u32),
@@ -46,7 +46,7 @@ pub enum Items {
 
 /// A struct in a list.
 #[cycle(tree)]
-#[derive(Debug, Drop)]
+#[derive(Debug, PartialEq, Eq, Drop)]
 pub struct Fields {
     pub words: Vec<u64>,
     pub pointers: Pointers,
@@ -54,7 +54,7 @@ pub struct Fields {
 
 /// Pointers, by what they lead to. It nests at most 127 levels deep, so no tree nests more than 128.
 #[cycle(tree)]
-#[derive(Debug, Drop)]
+#[derive(Debug, PartialEq, Eq, Drop)]
 pub struct Pointers {
     pub(crate) trees: Vec<Tree>,
 }
@@ -100,6 +100,25 @@ impl Pointers {
         ensures { result.now ≡ held self.now }
     {
         self.trees.as_slice()
+    }
+}
+
+impl Tree {
+    /// A list of these bytes.
+    pub fn data(alloc: Global, bytes: &[u8]) -> Result<Tree, AllocError>
+        ensures { IfOk result (λ t. view t ≡ list (packed 8 bytes.now)) }
+    {
+        let bytes = Vec::from_slice(alloc, bytes)?;
+        Ok(Tree::List(Items::Bytes(bytes)))
+    }
+
+    /// A list of the bytes of this text, and of the zero that ends it.
+    pub fn text(alloc: Global, text: &str) -> Result<Tree, AllocError>
+        ensures { IfOk result (λ t. view t ≡ list (packed 8 (text.now ++ 0 ∷ []))) }
+    {
+        let mut bytes = Vec::from_slice(alloc, text.as_bytes())?;
+        bytes.push(0)?;
+        Ok(Tree::List(Items::Bytes(bytes)))
     }
 }
 

@@ -6,8 +6,7 @@ use Rattle.std.proofs.lemmas.Nat.{pow-add, pow_pos}
 use Rattle.std.proofs.lemmas.Bool.{cases_lt}
 use Rattle.std.proofs.Math.Nat.{pow-le-pow_right, mul-le-mul_right}
 use Rattle.wire_writing.specs.Placing.{joined, packed_words}
-use Rattle.wire_writing.specs.Fitting.{AreOf}
-use Rattle.wire_trees.specs.Views.{bit}
+use Rattle.wire_trees.specs.Widths.{AreOf}
 use Rattle.wire_writing.specs.Laying.{filled}
 
 pub are_drop : (b n : ℕ) (xs : List ℕ) → AreOf b xs → AreOf b (drop n xs)
@@ -105,48 +104,44 @@ filled_none ws at le =
     let place : at + 0 ≡ at = omega arith in
     ap (λ (n : ℕ). take at ws ++ (drop n ws ++ [])) place ∙ ap (λ (l : List ℕ). take at ws ++ l) (append-nil (drop at ws)) ∙ take-append-drop at ws
 
--- one element more, from the last to the first
-pub joined_more : (b : ℕ) (xs : List ℕ) (k x word : ℕ) → AreOf b xs → k < length xs → x ≡ get_or xs (length xs - 1 - k) 0 → word ≡ joined b (drop (length xs - k) xs) → word * 2 ^ b + x ≡ joined b (drop (length xs - (k + 1)) xs)
-joined_more b xs k x word fit lt is_x is_word =
-    let place : length xs - 1 - k ≡ length xs - (k + 1) = omega arith in
-    let next : length xs - (k + 1) + 1 ≡ length xs - k = omega arith in
-    let first : get_or xs (length xs - (k + 1)) 0 ≡ x = ap (λ (i : ℕ). get_or xs i 0) (sym place) ∙ sym is_x in
-    sym (ap (joined b) (drop_more xs (length xs - (k + 1)) 0 (omega arith))
-    ∙ ap (λ (i : ℕ). joined b (drop i xs) * 2 ^ b + get_or xs (length xs - (k + 1)) 0) next
-    ∙ ap (λ (w : ℕ). w * 2 ^ b + get_or xs (length xs - (k + 1)) 0) (sym is_word)
+-- one element more of n, from the last to the first
+pub joined_more : (b : ℕ) (xs : List ℕ) (n k x word : ℕ) → length xs ≡ n → k < n → x ≡ get_or xs (n - 1 - k) 0 → word ≡ joined b (drop (n - k) xs) → word * 2 ^ b + x ≡ joined b (drop (n - (k + 1)) xs)
+joined_more b xs n k x word is_n lt is_x is_word =
+    let place : n - 1 - k ≡ n - (k + 1) = omega arith in
+    let next : n - (k + 1) + 1 ≡ n - k = omega arith in
+    let first : get_or xs (n - (k + 1)) 0 ≡ x = ap (λ (i : ℕ). get_or xs i 0) (sym place) ∙ sym is_x in
+    sym (ap (joined b) (drop_more xs (n - (k + 1)) 0 (omega (arith, is_n)))
+    ∙ ap (λ (i : ℕ). joined b (drop i xs) * 2 ^ b + get_or xs (n - (k + 1)) 0) next
+    ∙ ap (λ (w : ℕ). w * 2 ^ b + get_or xs (n - (k + 1)) 0) (sym is_word)
     ∙ ap (λ (y : ℕ). word * 2 ^ b + y) first)
 
 -- which fits a word
-pub joined_fits : (b : ℕ) (xs : List ℕ) (k x word : ℕ) → AreOf b xs → length xs * b ≤ 64 → k < length xs → x ≡ get_or xs (length xs - 1 - k) 0 → word ≡ joined b (drop (length xs - k) xs) → word * 2 ^ b + x < 2 ^ 64
-joined_fits b xs k x word fit few lt is_x is_word =
-    let below = joined_below b (drop (length xs - (k + 1)) xs) (are_drop b (length xs - (k + 1)) xs fit) in
-    let same = joined_more b xs k x word fit lt is_x is_word in
-    let short : length (drop (length xs - (k + 1)) xs) ≤ length xs = omega (arith, length-drop (length xs - (k + 1)) xs) in
-    let less : length (drop (length xs - (k + 1)) xs) * b ≤ length xs * b = mul-le-mul_right b short in
-    let wide : 2 ^ (length (drop (length xs - (k + 1)) xs) * b) ≤ 2 ^ 64 = pow-le-pow_right {n = 2} (omega arith) {i = length (drop (length xs - (k + 1)) xs) * b} {j = 64} (omega arith) in
+pub joined_fits : (b : ℕ) (xs : List ℕ) (n k x word : ℕ) → length xs ≡ n → AreOf b xs → n * b ≤ 64 → k < n → x ≡ get_or xs (n - 1 - k) 0 → word ≡ joined b (drop (n - k) xs) → word * 2 ^ b + x < 2 ^ 64
+joined_fits b xs n k x word is_n fit few lt is_x is_word =
+    let left = drop (n - (k + 1)) xs in
+    let below = joined_below b left (are_drop b (n - (k + 1)) xs fit) in
+    let same = joined_more b xs n k x word is_n lt is_x is_word in
+    let short : length left ≤ n = omega (arith, is_n, length-drop (n - (k + 1)) xs) in
+    let less : length left * b ≤ n * b = mul-le-mul_right b short in
+    let wide : 2 ^ (length left * b) ≤ 2 ^ 64 = pow-le-pow_right {n = 2} (omega arith) {i = length left * b} {j = 64} (omega arith) in
     omega (arith, same, below, wide)
 
-pub packed_more : (b per n k : ℕ) (front rest chunk behind total : List ℕ) → per ≡ 64 / b → k < n → chunk ≡ take (min per (length rest)) rest → behind ≡ drop (min per (length rest)) rest
+-- m elements that fill a word, or are all that are left, are laid down
+pub packed_more : (b per n k m : ℕ) (front rest chunk behind total : List ℕ) → per ≡ 64 / b → k < n → m ≡ min per (length rest) → chunk ≡ take m rest → behind ≡ drop m rest
     → front ++ packed_words b (n - k) rest ≡ total → (front ++ joined b chunk ∷ []) ++ packed_words b (n - (k + 1)) behind ≡ total
-packed_more b per n k front rest chunk behind total is_per lt is_chunk is_behind so_far =
+packed_more b per n k m front rest chunk behind total is_per lt is_m is_chunk is_behind so_far =
     let one : n - k ≡ suc (n - (k + 1)) = omega arith in
-    let first : chunk ≡ take (64 / b) rest = is_chunk ∙ take_min per rest ∙ ap (λ (m : ℕ). take m rest) is_per in
-    let later : behind ≡ drop (64 / b) rest = is_behind ∙ drop_min per rest ∙ ap (λ (m : ℕ). drop m rest) is_per in
+    let first : chunk ≡ take (64 / b) rest = is_chunk ∙ ap (λ (i : ℕ). take i rest) is_m ∙ take_min per rest ∙ ap (λ (i : ℕ). take i rest) is_per in
+    let later : behind ≡ drop (64 / b) rest = is_behind ∙ ap (λ (i : ℕ). drop i rest) is_m ∙ drop_min per rest ∙ ap (λ (i : ℕ). drop i rest) is_per in
     append_assoc front (joined b chunk ∷ []) (packed_words b (n - (k + 1)) behind)
     ∙ ap (λ (l : List ℕ). front ++ (joined b l ∷ packed_words b (n - (k + 1)) behind)) first
     ∙ ap (λ (l : List ℕ). front ++ (joined b (take (64 / b) rest) ∷ packed_words b (n - (k + 1)) l)) later
-    ∙ ap (λ (m : ℕ). front ++ packed_words b m rest) (sym one) ∙ so_far
+    ∙ ap (λ (i : ℕ). front ++ packed_words b i rest) (sym one) ∙ so_far
 
 pub packed_done : (b n k : ℕ) (front rest total : List ℕ) → n ≤ k → front ++ packed_words b (n - k) rest ≡ total → front ≡ total
 packed_done b n k front rest total le so_far =
     let none : n - k ≡ 0 = omega arith in
     sym (append-nil front) ∙ ap (λ (m : ℕ). front ++ packed_words b m rest) (sym none) ∙ so_far
-
-pub chunk_short : (b per : ℕ) (rest chunk : List ℕ) → per * b ≡ 64 → chunk ≡ take (min per (length rest)) rest → length chunk * b ≤ 64
-chunk_short b per rest chunk whole is_chunk =
-    let short : length chunk ≤ per = omega (arith, ap length is_chunk, length-take (min per (length rest)) rest) in
-    let less : length chunk * b ≤ per * b = mul-le-mul_right b short in
-    omega (arith, less, whole)
 
 pub eights_whole : (n : ℕ) (xs : List ℕ) → length xs ≡ n → packed_words 64 n xs ≡ xs
 eights_whole zero [] e = refl
@@ -155,12 +150,6 @@ eights_whole (suc n) [] e = absurd (omega arith)
 eights_whole (suc n) (x ∷ xs) e =
     let first : joined 64 (take (64 / 64) (x ∷ xs)) ≡ x = omega arith in
     ap (λ (y : ℕ). y ∷ packed_words 64 n xs) first ∙ ap (λ (l : List ℕ). x ∷ l) (eights_whole n xs (omega arith))
-
-pub bits_fit : (bs : List Bool) → AreOf 1 (map bit bs)
-bits_fit [] i = omega arith
-bits_fit (true ∷ bs) zero = omega arith
-bits_fit (false ∷ bs) zero = omega arith
-bits_fit (b ∷ bs) (suc i) = bits_fit bs i
 
 pub zeros_fit : (n : ℕ) → AreOf 0 (replicate n 0)
 zeros_fit zero i = omega arith

@@ -1,12 +1,8 @@
 -- What the types of a program's tree say of its numbers.
 use Rattle.std.specs.Prelude.{◌≡◌, ℕ, ◌^◌, ◌<◌, List, get_or, ⊤}
 use Rattle.wire_trees.specs.declared.width.Width.{Width}
-use Rattle.wire_trees.specs.Widths.{bits_of}
+use Rattle.wire_trees.specs.Widths.{bits_of, AreOf}
 use Rattle.wire_trees.specs.Trees.{Tree, null, struct, list, capability, Trees, no_trees, tree, Elements, packed, pointers, structs, Structs, no_structs, struct_of}
-
--- numbers of so many bits
-abbrev pub AreOf : ℕ → List ℕ → Type 0
-AreOf bits xs = (i : ℕ) → get_or xs i 0 < 2 ^ bits
 
 abbrev mutual
   -- the elements of each list have the bits of one of the widths, and the sizes of its structs 16

@@ -1,15 +1,15 @@
 //! Lays down the words of a tree that can be written.
 ghost use Rattle.std.specs.Prelude.{◌≡◌, ℕ, List, true, ◌+◌, ◌*◌, ◌/◌, ◌^◌, ◌≤◌, ◌<◌, ◌∷◌, ◌++◌, length, map, replicate, take, drop, IfOk, OnOk};
 ghost use Rattle.wire_trees.specs.Trees.{struct, list};
-ghost use Rattle.wire_trees.specs.Views.{bit, view, fields_view, items_view, trees_view, structs_view};
+ghost use Rattle.wire_trees.specs.Views.{view, fields_view, items_view, trees_view, structs_view};
 ghost use Rattle.wire_writing.specs.Placing.{joined, packed_words, struct_word, list_word, capability_word, struct_pointer, offset_of, content_then, placed, placed_all, placed_list, placed_structs, segment_for};
-ghost use Rattle.wire_trees.specs.Widths.{packed_size};
-ghost use Rattle.wire_writing.specs.Fitting.{AreOf, Fits, FitsAll, FitsList, FitsStructs};
+ghost use Rattle.wire_trees.specs.Widths.{AreOf, packed_size};
+ghost use Rattle.wire_writing.specs.Fitting.{Fits, FitsAll, FitsList, FitsStructs};
 ghost use Rattle.wire_trees.specs.Writable.{parts, parts_of_all, parts_of_structs, words_taken, all_words, are_even};
 ghost use Rattle.wire_writing.specs.Laying.{HaveSizes, filled};
 
 use std::alloc::{AllocError, Global};
-use wire_trees::{Fields, Items, Tree};
+use wire_trees::{Element, Fields, Items, Tree};
 
 /// The word of a struct pointer, or of a tag with the number of elements in the offset's place.
 fn word_of_struct(offset: u64, data_words: u64, pointer_words: u64) -> u64
@@ -60,73 +60,38 @@ fn pointer_to_struct(at: usize, next: usize, data_words: usize, pointer_words: u
     word_of_struct(distance(at, next), data_words as u64, pointer_words as u64)
 }
 
-/// Elements of so many bits as one number, the first in the lowest bits.
-fn joined_word(bits: u8, elements: &[u64]) -> u64
-    requires some { bits < 64 }
-    requires few { length elements.now * bits ≤ 64 }
-    requires fit { AreOf bits elements.now }
-    ensures { result ≡ joined bits elements.now }
+/// Elements as one number, the first in the lowest bits.
+fn joined_word<E: Element>(elements: &[E]) -> u64
+    requires some { E.BITS < 64 }
+    requires few { length elements.now * E.BITS ≤ 64 }
+    requires fit { AreOf E.BITS (map E.said elements.now) }
+    ensures { result ≡ joined E.BITS (map E.said elements.now) }
 {
     let mut word: u64 = 0;
     for k in 0..elements.len() {
-        word = word * (1 << bits) + elements[elements.len() - 1 - k];
+        word = word * (1 << E::BITS) + elements[elements.len() - 1 - k].number();
     }
     word
 }
 
-/// Lays down elements of so many bits, so many in each word.
-fn push_packed(
-    words: &mut Vec<u64>,
-    bits: u8,
-    per: usize,
-    elements: &[u64],
-) -> Result<(), AllocError>
-    requires some { 0 < bits }
-    requires most { bits < 64 }
-    requires per { per * bits ≡ 64 }
-    requires fills { per ≡ 64 / bits }
-    requires fit { AreOf bits elements.now }
-    requires small { packed_size bits (length elements.now) ≤ 65536 }
-    ensures { OnOk result (words.new.items ≡ words.old.items ++ packed_words bits (packed_size bits (length elements.now)) elements.now) }
+/// Lays down elements, so many in each word.
+fn push_packed<E: Element>(words: &mut Vec<u64>, elements: &[E]) -> Result<(), AllocError>
+    requires some { 0 < E.BITS }
+    requires whole { 64 / E.BITS * E.BITS ≡ 64 }
+    requires most { E.BITS < 64 }
+    requires small { packed_size E.BITS (length elements.now) ≤ 65536 }
+    ensures items { OnOk result (words.new.items ≡ words.old.items ++ packed_words E.BITS (packed_size E.BITS (length elements.now)) (map E.said elements.now)) }
+    ensures fit { AreOf E.BITS (map E.said elements.now) }
 {
+    E::fit(elements);
+    let per = 64 / usize::from(E::BITS);
     let mut rest = elements;
-    for _ in 0..(elements.len() * usize::from(bits)).div_ceil(64) {
+    for _ in 0..(elements.len() * usize::from(E::BITS)).div_ceil(64) {
         let (word, behind) = rest.split_at(per.min(rest.len()));
-        words.push(joined_word(bits, word))?;
+        words.push(joined_word(word))?;
         rest = behind;
     }
     Ok(())
-}
-
-/// Bits as numbers.
-fn numbers_of_bits(alloc: Global, bits: &[bool]) -> Result<Vec<u64>, AllocError>
-    ensures { IfOk result (λ v. v.items ≡ map bit bits.now) }
-{
-    bits.iter().map(|x| u64::from(*x)).collect(alloc)
-}
-
-/// Bytes as numbers.
-fn numbers_of_bytes(alloc: Global, bytes: &[u8]) -> Result<Vec<u64>, AllocError>
-    ensures items { IfOk result (λ v. v.items ≡ bytes.now) }
-    ensures fit { AreOf 8 bytes.now }
-{
-    bytes.iter().map(|x| u64::from(*x)).collect(alloc)
-}
-
-/// Numbers of two bytes as numbers.
-fn numbers_of_twos(alloc: Global, twos: &[u16]) -> Result<Vec<u64>, AllocError>
-    ensures items { IfOk result (λ v. v.items ≡ twos.now) }
-    ensures fit { AreOf 16 twos.now }
-{
-    twos.iter().map(|x| u64::from(*x)).collect(alloc)
-}
-
-/// Numbers of four bytes as numbers.
-fn numbers_of_fours(alloc: Global, fours: &[u32]) -> Result<Vec<u64>, AllocError>
-    ensures items { IfOk result (λ v. v.items ≡ fours.now) }
-    ensures fit { AreOf 32 fours.now }
-{
-    fours.iter().map(|x| u64::from(*x)).collect(alloc)
 }
 
 /// So many zeros.
@@ -137,45 +102,6 @@ fn push_zeros(words: &mut Vec<u64>, count: usize) -> Result<(), AllocError>
         words.push(0)?;
     }
     Ok(())
-}
-
-/// Lays down bits.
-fn push_bits(alloc: Global, bits: &[bool], words: &mut Vec<u64>) -> Result<(), AllocError>
-    requires { packed_size 1 (length bits.now) ≤ 65536 }
-    ensures { OnOk result (words.new.items ≡ words.old.items ++ packed_words 1 (packed_size 1 (length bits.now)) (map bit bits.now)) }
-{
-    let numbers = numbers_of_bits(alloc, bits)?;
-    push_packed(words, 1, 64, &numbers)
-}
-
-/// Lays down bytes.
-fn push_bytes(alloc: Global, bytes: &[u8], words: &mut Vec<u64>) -> Result<(), AllocError>
-    requires { packed_size 8 (length bytes.now) ≤ 65536 }
-    ensures items { OnOk result (words.new.items ≡ words.old.items ++ packed_words 8 (packed_size 8 (length bytes.now)) bytes.now) }
-    ensures fit { AreOf 8 bytes.now }
-{
-    let numbers = numbers_of_bytes(alloc, bytes)?;
-    push_packed(words, 8, 8, &numbers)
-}
-
-/// Lays down numbers of two bytes.
-fn push_twos(alloc: Global, twos: &[u16], words: &mut Vec<u64>) -> Result<(), AllocError>
-    requires { packed_size 16 (length twos.now) ≤ 65536 }
-    ensures items { OnOk result (words.new.items ≡ words.old.items ++ packed_words 16 (packed_size 16 (length twos.now)) twos.now) }
-    ensures fit { AreOf 16 twos.now }
-{
-    let numbers = numbers_of_twos(alloc, twos)?;
-    push_packed(words, 16, 4, &numbers)
-}
-
-/// Lays down numbers of four bytes.
-fn push_fours(alloc: Global, fours: &[u32], words: &mut Vec<u64>) -> Result<(), AllocError>
-    requires { packed_size 32 (length fours.now) ≤ 65536 }
-    ensures items { OnOk result (words.new.items ≡ words.old.items ++ packed_words 32 (packed_size 32 (length fours.now)) fours.now) }
-    ensures fit { AreOf 32 fours.now }
-{
-    let numbers = numbers_of_fours(alloc, fours)?;
-    push_packed(words, 32, 2, &numbers)
 }
 
 /// Lays down words.
@@ -196,12 +122,7 @@ fn put(words: &mut Vec<u64>, at: usize, others: &[u64])
 
 /// The pointer at word `at` to a tree, whose content is laid down behind all words with all that it leads to.
 #[cycle(place)]
-fn place_tree(
-    alloc: Global,
-    tree: &Tree,
-    at: usize,
-    words: &mut Vec<u64>,
-) -> Result<u64, AllocError>
+fn place_tree(tree: &Tree, at: usize, words: &mut Vec<u64>) -> Result<u64, AllocError>
     requires ahead { at < length words.old.items }
     requires sizes { HaveSizes (parts (view tree.now) 0) }
     requires room { length words.old.items + all_words words_taken (parts (view tree.now) 0) ≤ 65536 }
@@ -219,21 +140,16 @@ fn place_tree(
             let next = words.len();
             let trees = pointers.as_slice();
             push_zeros(words, data.len() + trees.len())?;
-            place_fields(alloc, trees, data, next, words)?;
+            place_fields(trees, data, next, words)?;
             Ok(pointer_to_struct(at, next, data.len(), trees.len()))
         }
-        Tree::List(items) => place_items(alloc, items, at, words),
+        Tree::List(items) => place_items(items, at, words),
     }
 }
 
 /// The pointer at word `at` to a list.
 #[cycle(place)]
-fn place_items(
-    alloc: Global,
-    items: &Items,
-    at: usize,
-    words: &mut Vec<u64>,
-) -> Result<u64, AllocError>
+fn place_items(items: &Items, at: usize, words: &mut Vec<u64>) -> Result<u64, AllocError>
     requires ahead { at < length words.old.items }
     requires sizes { HaveSizes (parts (list (items_view items.now)) 0) }
     requires room { length words.old.items + all_words words_taken (parts (list (items_view items.now)) 0) ≤ 65536 }
@@ -246,19 +162,19 @@ fn place_items(
     match items {
         Items::Void(count) => Ok(word_of_list(distance, 0, u64::from(*count))),
         Items::Bits(bits) => {
-            push_bits(alloc, bits, words)?;
+            push_packed(words, bits.as_slice())?;
             Ok(word_of_list(distance, 1, bits.len() as u64))
         }
         Items::Bytes(bytes) => {
-            push_bytes(alloc, bytes, words)?;
+            push_packed(words, bytes.as_slice())?;
             Ok(word_of_list(distance, 2, bytes.len() as u64))
         }
         Items::Twos(twos) => {
-            push_twos(alloc, twos, words)?;
+            push_packed(words, twos.as_slice())?;
             Ok(word_of_list(distance, 3, twos.len() as u64))
         }
         Items::Fours(fours) => {
-            push_fours(alloc, fours, words)?;
+            push_packed(words, fours.as_slice())?;
             Ok(word_of_list(distance, 4, fours.len() as u64))
         }
         Items::Eights(eights) => {
@@ -267,7 +183,7 @@ fn place_items(
         }
         Items::Pointers(pointers) => {
             let trees = pointers.as_slice();
-            place_pointers(alloc, trees, words)?;
+            place_pointers(trees, words)?;
             Ok(word_of_list(distance, 6, trees.len() as u64))
         }
         Items::Structs {
@@ -275,7 +191,7 @@ fn place_items(
             pointer_words,
             items,
         } => {
-            place_list(alloc, items, *data_words, *pointer_words, words)?;
+            place_list(items, *data_words, *pointer_words, words)?;
             let size = items.len() * (usize::from(*data_words) + usize::from(*pointer_words));
             Ok(word_of_list(distance, 7, size as u64))
         }
@@ -284,7 +200,7 @@ fn place_items(
 
 /// Pointers behind all words, and what they lead to.
 #[cycle(place)]
-fn place_pointers(alloc: Global, trees: &[Tree], words: &mut Vec<u64>) -> Result<(), AllocError>
+fn place_pointers(trees: &[Tree], words: &mut Vec<u64>) -> Result<(), AllocError>
     requires sizes { HaveSizes (parts_of_all (trees_view trees.now) 0) }
     requires room { length words.old.items + (length trees.now + all_words words_taken (parts_of_all (trees_view trees.now) 0)) ≤ 65536 }
     ensures placed { OnOk result (words.new.items ≡ words.old.items ++ content_then (placed_all (trees_view trees.now) (length words.old.items) (length words.old.items + length trees.now))) }
@@ -292,13 +208,12 @@ fn place_pointers(alloc: Global, trees: &[Tree], words: &mut Vec<u64>) -> Result
 {
     let next = words.len();
     push_zeros(words, trees.len())?;
-    place_trees(alloc, trees, next, words)
+    place_trees(trees, next, words)
 }
 
 /// A tag and structs behind all words, and what they lead to.
 #[cycle(place)]
 fn place_list(
-    alloc: Global,
     items: &[Fields],
     data_words: u16,
     pointer_words: u16,
@@ -321,13 +236,12 @@ fn place_list(
     );
     words.push(tag)?;
     push_zeros(words, size)?;
-    place_structs(alloc, items, data_words, pointer_words, next + 1, words)
+    place_structs(items, data_words, pointer_words, next + 1, words)
 }
 
 /// Structs in their places from word `at` on, and what they lead to behind all words.
 #[cycle(place)]
 fn place_structs(
-    alloc: Global,
     items: &[Fields],
     data_words: u16,
     pointer_words: u16,
@@ -343,7 +257,7 @@ fn place_structs(
 {
     let mut slot = at;
     for item in items {
-        place_fields(alloc, item.pointers.as_slice(), &item.words, slot, words)?;
+        place_fields(item.pointers.as_slice(), &item.words, slot, words)?;
         slot += usize::from(data_words) + usize::from(pointer_words);
     }
     Ok(())
@@ -352,7 +266,6 @@ fn place_structs(
 /// A struct in its place from word `at` on, its data section first, and what it leads to behind all words.
 #[cycle(place)]
 fn place_fields(
-    alloc: Global,
     pointers: &[Tree],
     section: &[u64],
     at: usize,
@@ -368,17 +281,12 @@ fn place_fields(
     ensures fits { OnOk result (FitsAll (trees_view pointers.now)) }
 {
     put(words, at, section);
-    place_trees(alloc, pointers, at + section.len(), words)
+    place_trees(pointers, at + section.len(), words)
 }
 
 /// Pointers in their places from word `at` on, and what they lead to behind all words.
 #[cycle(place)]
-fn place_trees(
-    alloc: Global,
-    trees: &[Tree],
-    at: usize,
-    words: &mut Vec<u64>,
-) -> Result<(), AllocError>
+fn place_trees(trees: &[Tree], at: usize, words: &mut Vec<u64>) -> Result<(), AllocError>
     requires inside { at + length trees.now ≤ length words.old.items }
     requires sizes { HaveSizes (parts_of_all (trees_view trees.now) 0) }
     requires room { length words.old.items + all_words words_taken (parts_of_all (trees_view trees.now) 0) ≤ 65536 }
@@ -387,7 +295,7 @@ fn place_trees(
 {
     let mut slot = at;
     for tree in trees {
-        let word = place_tree(alloc, tree, slot, words)?;
+        let word = place_tree(tree, slot, words)?;
         words[slot] = word;
         slot += 1;
     }
@@ -403,7 +311,7 @@ pub fn place(alloc: Global, tree: &Tree, count: u32) -> Result<Vec<u64>, AllocEr
 {
     let mut words = Vec::with_capacity(alloc, count as usize)?;
     words.push(0)?;
-    let root = place_tree(alloc, tree, 0, &mut words)?;
+    let root = place_tree(tree, 0, &mut words)?;
     words[0] = root;
     Ok(words)
 }

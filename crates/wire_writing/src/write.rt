@@ -4,7 +4,8 @@ ghost use Rattle.wire_trees.specs.declared.faults.WriteFault.TheVariants as faul
 ghost use Rattle.wire_trees.specs.Views.{view};
 ghost use Rattle.wire_trees.specs.Writable.{refusal};
 ghost use Rattle.wire_trees.specs.Measuring.{told};
-ghost use Rattle.wire_writing.specs.Fitting.{AreOf, Fits};
+ghost use Rattle.wire_writing.specs.Fitting.{Fits};
+ghost use Rattle.wire_trees.specs.Widths.{AreOf};
 ghost use Rattle.wire_writing.specs.Placing.{one_segment, segment_for, written};
 
 use crate::place::place;
@@ -67,11 +68,7 @@ pub fn write_tree(alloc: Global, tree: &Tree, caps: u32) -> Result<Vec<u8>, Writ
     if let Some(fault) = refusal_of(measure) {
         return Err(fault);
     }
-    let Ok(words) = place(alloc, tree, measure.words) else {
-        return Err(WriteFault::Memory);
-    };
-    let Ok(message) = message_of(alloc, &words) else {
-        return Err(WriteFault::Memory);
-    };
+    let words = place(alloc, tree, measure.words)?;
+    let message = message_of(alloc, &words)?;
     Ok(message)
 }

@@ -103,8 +103,8 @@ build_content-returns-in_ok-items-in-Structs t c =
 
 pub build_structs-build_pointers-requires : goal.build_structs-build_pointers-requires
 build_structs-build_pointers-requires t c =
-    let reads = next_struct_reads c.args.message.now (reading c.args.message.now c.args.caps c.args.levels) c.args.segment c.args.data_words c.args.pointer_words c.loop.at c.args.count c.loop.counter c.loop.visited (structs_view c.loop.items.items) _ c.loop.invariant.same c.loop-test.true c.requires.reads in
-    let room : (c.loop.counter + 1) * (c.args.data_words + c.args.pointer_words) ≤ c.args.count * (c.args.data_words + c.args.pointer_words) = mul-le-mul_right (c.args.data_words + c.args.pointer_words) (omega arith) in
+    let reads = next_struct_reads c.args.message.now (reading c.args.message.now c.args.caps c.args.levels) c.args.segment c.args.row.data_words c.args.row.pointer_words c.loop.at c.args.row.count c.loop.counter c.loop.visited (structs_view c.loop.items.items) _ c.loop.invariant.same c.loop-test.true c.requires.reads in
+    let room : (c.loop.counter + 1) * (c.args.row.data_words + c.args.row.pointer_words) ≤ c.args.row.count * (c.args.row.data_words + c.args.row.pointer_words) = mul-le-mul_right (c.args.row.data_words + c.args.row.pointer_words) (omega arith) in
     rw (c.from.ensures, c.from-length.ensures) (search rules)
 
 pub build_structs-loop-preserved : goal.build_structs-loop-preserved
@@ -115,10 +115,10 @@ build_structs-loop-preserved t c =
       place = omega (arith, c.loop.invariant.place);
       same =
           rw (c.in_ok-push.ensures.items, structs_view_push, c.make_fields.ensures, c.in_ok-words.ensures)
-          (structs_go_on c.args.message.now (reading c.args.message.now c.args.caps c.args.levels) c.args.segment c.args.data_words c.args.pointer_words c.loop.at c.args.count c.loop.counter c.loop.visited (structs_view c.loop.items.items) _ c.loop.invariant.same
+          (structs_go_on c.args.message.now (reading c.args.message.now c.args.caps c.args.levels) c.args.segment c.args.row.data_words c.args.row.pointer_words c.loop.at c.args.row.count c.loop.counter c.loop.visited (structs_view c.loop.items.items) _ c.loop.invariant.same
           (c.loop.at + c.from.result + c.from-length.result) (trees_view (held c.in_ok-pointers.pointers)) c.in_ok-pointers.after c.loop-test.true (omega arith) (rw (c.from.ensures, c.from-length.ensures) at c.in_ok-pointers.ensures));
     }
 
 pub build_structs-returns : goal.build_structs-returns
 build_structs-returns t c =
-    structs_over c.args.message.now (reading c.args.message.now c.args.caps c.args.levels) c.args.segment c.args.data_words c.args.pointer_words c.loop.at c.args.count c.loop.counter c.loop.visited (structs_view c.loop.items.items) _ c.loop.invariant.same c.loop-test.false
+    structs_over c.args.message.now (reading c.args.message.now c.args.caps c.args.levels) c.args.segment c.args.row.data_words c.args.row.pointer_words c.loop.at c.args.row.count c.loop.counter c.loop.visited (structs_view c.loop.items.items) _ c.loop.invariant.same c.loop-test.false

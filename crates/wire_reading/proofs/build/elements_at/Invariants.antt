@@ -1,9 +1,9 @@
-use Rattle.std.proofs.Common.{◌≡◌, ◌-◌, ◌++◌, drop}
+use Rattle.std.proofs.Common.{◌≡◌, ◌-◌, ◌++◌, drop, map}
 use Rattle.wire_reading.specs.Segments.{segment_of}
 use Rattle.wire_reading.specs.Reading.{elements}
 use Rattle.wire_reading.proofs.build.elements_at.Given as goal
 
 -- the elements so far, and those that are left
 abbrev pub invariant-loop-k : goal.invariant-loop-k
-invariant-loop-k l = l.values.items ++ elements (drop l.start (segment_of l.message l.segment)) l.bits l.k (l.count - l.k)
-    ≡ elements (drop l.start (segment_of l.message l.segment)) l.bits 0 l.count
+invariant-loop-k g l = map g.E.Element.said l.values.items ++ elements (drop l.start (segment_of l.message l.segment)) g.E.Element.BITS l.k (l.count - l.k)
+    ≡ elements (drop l.start (segment_of l.message l.segment)) g.E.Element.BITS 0 l.count

@@ -1,30 +1,30 @@
-use Rattle.std.proofs.Common.{ℕ, ap, sym, ◌∙◌, drop}
-use Rattle.wire_reading.specs.Segments.{segment_of}
-use Rattle.wire_trees.specs.Widths.{bits_of}
+use Rattle.std.proofs.Common.{ap, sym, ◌∙◌, drop, rules}
+use Rattle.std.proofs.lemmas.List.{map-id}
 use Rattle.wire_trees.specs.Trees.{packed}
-use Rattle.wire_reading.specs.Reading.{elements}
-use Rattle.wire_reading.proofs.Building.{elements_void, all_fit, all_bits}
+use Rattle.wire_trees.specs.declared.tree.Items.{the_lemmas}
+use Rattle.wire_reading.specs.Segments.{segment_of}
+use Rattle.wire_reading.proofs.Building.{elements_void}
 use Rattle.wire_reading.proofs.build.packed_items.Goals as goal
 
 pub returns-in-Void : goal.returns-in-Void
 returns-in-Void c = rw c.in-Void.is (c.void_items.ensures ∙ ap (packed 0) (sym (elements_void (drop c.args.start (segment_of c.args.message.now c.args.segment)) 0 c.args.count)))
 
-pub bits_of_numbers-requires : goal.bits_of_numbers-requires
-bits_of_numbers-requires c =
-    let ws = drop c.args.start (segment_of c.args.message.now c.args.segment) in
-    all_bits c.deref.result.now ws c.args.count (c.deref.ensures.value ∙ c.in_ok-values.ensures ∙ ap (λ (b : ℕ). elements ws b 0 c.args.count) (c.bits.ensures.bits ∙ ap bits_of c.in-Bit.is))
+pub returns-in_ok-elements_at-in-Byte : goal.returns-in_ok-elements_at-in-Byte
+returns-in_ok-elements_at-in-Byte c =
+    let same = sym (map-id c.in_ok-elements_at-in-Byte.field-0.items) ∙ c.in_ok-elements_at-in-Byte.ensures in
+    rw (c.in-Byte.is, ← same) (search (rules, the_lemmas))
 
-pub bytes_of_numbers-requires : goal.bytes_of_numbers-requires
-bytes_of_numbers-requires c =
-    let ws = drop c.args.start (segment_of c.args.message.now c.args.segment) in
-    all_fit c.deref-in-Byte.result.now ws 8 c.args.count (c.deref-in-Byte.ensures.value ∙ c.in_ok-values.ensures ∙ ap (λ (b : ℕ). elements ws b 0 c.args.count) (c.bits.ensures.bits ∙ ap bits_of c.in-Byte.is))
+pub returns-in_ok-elements_at-in-TwoBytes : goal.returns-in_ok-elements_at-in-TwoBytes
+returns-in_ok-elements_at-in-TwoBytes c =
+    let same = sym (map-id c.in_ok-elements_at-in-TwoBytes.field-0.items) ∙ c.in_ok-elements_at-in-TwoBytes.ensures in
+    rw (c.in-TwoBytes.is, ← same) (search (rules, the_lemmas))
 
-pub twos_of_numbers-requires : goal.twos_of_numbers-requires
-twos_of_numbers-requires c =
-    let ws = drop c.args.start (segment_of c.args.message.now c.args.segment) in
-    all_fit c.deref-in-TwoBytes.result.now ws 16 c.args.count (c.deref-in-TwoBytes.ensures.value ∙ c.in_ok-values.ensures ∙ ap (λ (b : ℕ). elements ws b 0 c.args.count) (c.bits.ensures.bits ∙ ap bits_of c.in-TwoBytes.is))
+pub returns-in_ok-elements_at-in-FourBytes : goal.returns-in_ok-elements_at-in-FourBytes
+returns-in_ok-elements_at-in-FourBytes c =
+    let same = sym (map-id c.in_ok-elements_at-in-FourBytes.field-0.items) ∙ c.in_ok-elements_at-in-FourBytes.ensures in
+    rw (c.in-FourBytes.is, ← same) (search (rules, the_lemmas))
 
-pub fours_of_numbers-requires : goal.fours_of_numbers-requires
-fours_of_numbers-requires c =
-    let ws = drop c.args.start (segment_of c.args.message.now c.args.segment) in
-    all_fit c.deref-in-FourBytes.result.now ws 32 c.args.count (c.deref-in-FourBytes.ensures.value ∙ c.in_ok-values.ensures ∙ ap (λ (b : ℕ). elements ws b 0 c.args.count) (c.bits.ensures.bits ∙ ap bits_of c.in-FourBytes.is))
+pub returns-in_ok-elements_at-in-EightBytes : goal.returns-in_ok-elements_at-in-EightBytes
+returns-in_ok-elements_at-in-EightBytes c =
+    let same = sym (map-id c.in_ok-elements_at-in-EightBytes.field-0.items) ∙ c.in_ok-elements_at-in-EightBytes.ensures in
+    rw (c.in-EightBytes.is, ← same) (search (rules, the_lemmas))

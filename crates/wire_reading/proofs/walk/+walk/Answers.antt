@@ -51,22 +51,22 @@ walk_pointers-returns t c =
 pub walk_structs-returns-in_err-visited : goal.walk_structs-returns-in_err-visited
 walk_structs-returns-in_err-visited t c =
     let p = err_from_is_err_and c.from_residual.result c.from_residual.ensures.1 in
-    rw (p.1, p.2) (structs_stop c.args.message.now (reading c.args.message.now c.args.caps c.args.levels) c.args.segment c.args.data_words c.args.pointer_words c.loop.at c.args.count c.loop.counter c.loop.visited c.in_err-visited.field-0.0 _ c.loop-test.true (rw (c.from.ensures, c.from-in-loop.ensures) at c.in_err-visited.ensures) c.loop.invariant.same)
+    rw (p.1, p.2) (structs_stop c.args.message.now (reading c.args.message.now c.args.caps c.args.levels) c.args.segment c.args.row.data_words c.args.row.pointer_words c.loop.at c.args.row.count c.loop.counter c.loop.visited c.in_err-visited.field-0.0 _ c.loop-test.true (rw (c.from.ensures, c.from-in-loop.ensures) at c.in_err-visited.ensures) c.loop.invariant.same)
 
 pub walk_structs-loop-preserved : goal.walk_structs-loop-preserved
 walk_structs-loop-preserved t c =
     let d = c.from.ensures in
     let p = c.from-in-loop-2.ensures in
-    let read : visited_of (pointers_at (reading c.args.message.now c.args.caps c.args.levels) c.args.segment (c.loop.at + c.args.data_words) c.args.pointer_words c.loop.visited) ≡ Ok c.in_ok-visited.visited = sym (rw (c.from.ensures, c.from-in-loop.ensures) at c.in_ok-visited.ensures) in
+    let read : visited_of (pointers_at (reading c.args.message.now c.args.caps c.args.levels) c.args.segment (c.loop.at + c.args.row.data_words) c.args.row.pointer_words c.loop.visited) ≡ Ok c.in_ok-visited.visited = sym (rw (c.from.ensures, c.from-in-loop.ensures) at c.in_ok-visited.ensures) in
     record {
       place = omega (arith, c.loop.invariant.place);
-      same = structs_more c.args.message.now (reading c.args.message.now c.args.caps c.args.levels) c.args.segment c.args.data_words c.args.pointer_words c.loop.at c.args.count c.loop.counter c.loop.visited
+      same = structs_more c.args.message.now (reading c.args.message.now c.args.caps c.args.levels) c.args.segment c.args.row.data_words c.args.row.pointer_words c.loop.at c.args.row.count c.loop.counter c.loop.visited
           _ c.in_ok-visited.visited _ c.loop-test.true (omega arith) read c.loop.invariant.same;
     }
 
 pub walk_structs-returns : goal.walk_structs-returns
 walk_structs-returns t c =
-    structs_done c.args.message.now (reading c.args.message.now c.args.caps c.args.levels) c.args.segment c.args.data_words c.args.pointer_words c.loop.at c.args.count c.loop.counter c.loop.visited _ c.loop-test.false c.loop.invariant.same
+    structs_done c.args.message.now (reading c.args.message.now c.args.caps c.args.levels) c.args.segment c.args.row.data_words c.args.row.pointer_words c.loop.at c.args.row.count c.loop.counter c.loop.visited _ c.loop-test.false c.loop.invariant.same
 
 pub walk_content-returns-in-Struct : goal.walk_content-returns-in-Struct
 walk_content-returns-in-Struct t c =

@@ -23,7 +23,7 @@ invariant-walk_pointers-loop-k l =
 
 abbrev pub invariant-walk_structs-loop : goal.invariant-walk_structs-loop
 invariant-walk_structs-loop l = record {
-  place : l.at ≡ l.start + l.counter * (l.data_words + l.pointer_words);
-  same : visited_of (structs_at l.message (reading l.message l.caps l.levels) l.segment l.data_words l.pointer_words l.at (l.count - l.counter) l.visited)
-      ≡ visited_of (structs_at l.message (reading l.message l.caps l.levels) l.segment l.data_words l.pointer_words l.start l.count l.fn.visited);
+  place : l.at ≡ l.row.start + l.counter * (l.row.data_words + l.row.pointer_words);
+  same : visited_of (structs_at l.message (reading l.message l.caps l.levels) l.segment l.row.data_words l.row.pointer_words l.at (l.row.count - l.counter) l.visited)
+      ≡ visited_of (structs_at l.message (reading l.message l.caps l.levels) l.segment l.row.data_words l.row.pointer_words l.row.start l.row.count l.fn.visited);
 }

@@ -13,7 +13,7 @@ use Rattle.wire_trees.specs.Writable.{parts, parts_of_all, parts_of_structs, are
 use Rattle.wire_writing.specs.Laying.{HaveSizes}
 use Rattle.wire_writing.proofs.Lengths.{length-placed_all}
 use Rattle.wire_trees.proofs.Counts.{trees_counted, structs_counted}
-use Rattle.wire_writing.proofs.Filled.{bits_fit, zeros_fit, length-filled}
+use Rattle.wire_writing.proofs.Filled.{zeros_fit, length-filled}
 use Rattle.wire_writing.proofs.Laid.{on_ok, fields_placed, pointers_placed, list_placed, struct_placed, few_structs}
 use Rattle.wire_writing.proofs.Sized.{taken, taken_by, taken_by_all, trees_sizes, trees_taken, trees_fit, trees_placed, structs_sizes, structs_taken, structs_fit, structs_even, structs_placed}
 use Rattle.wire_trees.proofs.Viewed.{view_struct, view_void, view_bits, view_pointers, view_structs}
@@ -97,25 +97,6 @@ pub place_items-returns-in-Void-clause-fits : goal.place_items-returns-in-Void-c
 place_items-returns-in-Void-clause-fits t c =
     let e = ap items_view c.in-Void.is ∙ view_void c.in-Void.count in
     subst FitsList (sym e) ((width.Void, refl), zeros_fit c.in-Void.count)
-
-pub place_items-returns-in_ok-push_bits-in-Bits-clause-word : goal.place_items-returns-in_ok-push_bits-in-Bits-clause-word
-place_items-returns-in_ok-push_bits-in-Bits-clause-word t c =
-    let e = ap items_view c.in-Bits.is ∙ view_bits c.in-Bits.bits in
-    let n = length-map c.in-Bits.bits.items bit in
-    let is_next : c.len-next.result ≡ length c.args.words.now.items = omega arith in
-    let is_len : c.len.result ≡ length c.in-Bits.bits.items = omega arith in
-    rw e (c.word_of_list-in-Bits.ensures ∙ rw (c.distance-distance.ensures, is_next, is_len, n) refl)
-
-pub place_items-returns-in_ok-push_bits-in-Bits-clause-placed : goal.place_items-returns-in_ok-push_bits-in-Bits-clause-placed
-place_items-returns-in_ok-push_bits-in-Bits-clause-placed t c =
-    let e = ap items_view c.in-Bits.is ∙ view_bits c.in-Bits.bits in
-    let n = length-map c.in-Bits.bits.items bit in
-    rw e (rw n (rw c.deref.ensures.value at c.in_ok-push_bits-in-Bits.ensures))
-
-pub place_items-returns-in_ok-push_bits-in-Bits-clause-fits : goal.place_items-returns-in_ok-push_bits-in-Bits-clause-fits
-place_items-returns-in_ok-push_bits-in-Bits-clause-fits t c =
-    let e = ap items_view c.in-Bits.is ∙ view_bits c.in-Bits.bits in
-    subst FitsList (sym e) ((width.Bit, refl), bits_fit c.in-Bits.bits.items)
 
 pub place_items-returns-in_ok-place_pointers-in-Pointers-clause-word : goal.place_items-returns-in_ok-place_pointers-in-Pointers-clause-word
 place_items-returns-in_ok-place_pointers-in-Pointers-clause-word t c =

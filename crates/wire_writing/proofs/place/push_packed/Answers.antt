@@ -1,25 +1,28 @@
-use Rattle.std.proofs.Common.{◌≡◌, ℕ, ◌*◌, List, length, take, drop, min, sym, ap, subst, ◌∙◌, arith}
-use Rattle.wire_trees.specs.Widths.{packed_size}
-use Rattle.wire_writing.specs.Fitting.{AreOf}
-use Rattle.wire_writing.proofs.Filled.{are_take, are_drop, packed_more, chunk_short}
+use Rattle.std.proofs.Common.{◌≡◌, ℕ, ◌+◌, ◌-◌, ◌*◌, ◌/◌, List, length, map, take, drop, min, sym, ap, subst, ◌∙◌, arith}
+use Rattle.std.proofs.lemmas.List.{length-map, take-map, drop-map}
+use Rattle.wire_trees.specs.Widths.{AreOf, packed_size}
+use Rattle.wire_writing.proofs.Filled.{are_take, are_drop, packed_more}
 use Rattle.wire_writing.proofs.place.push_packed.Goals as goal
 
 pub joined_word-requires-clause-fit : goal.joined_word-requires-clause-fit
-joined_word-requires-clause-fit c =
-    subst (λ (l : List ℕ). AreOf c.args.bits l) (sym c.split_at.ensures.front) (are_take c.args.bits c.min.result c.loop.rest.now c.loop.invariant.fit)
-
-pub joined_word-requires-clause-few : goal.joined_word-requires-clause-few
-joined_word-requires-clause-few c =
-    let at_min : take c.min.result c.loop.rest.now ≡ take (min c.args.per (length c.loop.rest.now)) c.loop.rest.now = ap (λ (k : ℕ). take k c.loop.rest.now) (omega arith) in
-    chunk_short c.args.bits c.args.per c.loop.rest.now c.split_at.result.0.now c.requires.per (c.split_at.ensures.front ∙ at_min)
+joined_word-requires-clause-fit g c =
+    let said = map g.E.Element.said in
+    let front : said c.split_at.result.0.now ≡ take c.min.result (said c.loop.rest.now) = ap said c.split_at.ensures.front ∙ sym (take-map g.E.Element.said c.min.result c.loop.rest.now) in
+    subst (AreOf g.E.Element.BITS) (sym front) (are_take g.E.Element.BITS c.min.result (said c.loop.rest.now) c.loop.invariant.fit)
 
 pub loop-preserved : goal.loop-preserved
-loop-preserved c =
-    let product : length c.args.elements.now * c.from.result ≡ length c.args.elements.now * c.args.bits = ap (λ (b : ℕ). length c.args.elements.now * b) c.from.ensures in
-    let at_min : c.min.result ≡ min c.args.per (length c.loop.rest.now) = omega arith in
+loop-preserved g c =
+    let bits = g.E.Element.BITS in
+    let said = map g.E.Element.said in
+    let rest = said c.loop.rest.now in
+    let front : said c.split_at.result.0.now ≡ take c.min.result rest = ap said c.split_at.ensures.front ∙ sym (take-map g.E.Element.said c.min.result c.loop.rest.now) in
+    let back : said c.split_at.result.1.now ≡ drop c.min.result rest = ap said c.split_at.ensures.back ∙ sym (drop-map g.E.Element.said c.min.result c.loop.rest.now) in
+    let product : length c.args.elements.now * c.from.result ≡ length c.args.elements.now * bits = ap (λ (b : ℕ). length c.args.elements.now * b) (c.from.ensures ∙ c.BITS-2.ensures) in
+    let same_len = length-map c.loop.rest.now g.E.Element.said in
+    let fills : 64 / c.from-per.result ≡ 64 / bits = ap (λ (b : ℕ). 64 / b) (c.from-per.ensures ∙ c.BITS.ensures) in
+    let at_min : c.min.result ≡ min (64 / c.from-per.result) (length rest) = rw same_len c.min.ensures in
     record {
-      fit = subst (λ (l : List ℕ). AreOf c.args.bits l) (sym c.split_at.ensures.back) (are_drop c.args.bits c.min.result c.loop.rest.now c.loop.invariant.fit);
+      fit = subst (AreOf bits) (sym back) (are_drop bits c.min.result rest c.loop.invariant.fit);
       same = rw (c.in_ok-push.ensures.items, c.joined_word.ensures)
-          (packed_more c.args.bits c.args.per (packed_size c.args.bits (length c.args.elements.now)) c.loop.counter c.loop.words.items c.loop.rest.now c.split_at.result.0.now c.split_at.result.1.now _ c.requires.fills (omega (arith, product))
-          (c.split_at.ensures.front ∙ ap (λ (k : ℕ). take k c.loop.rest.now) at_min) (c.split_at.ensures.back ∙ ap (λ (k : ℕ). drop k c.loop.rest.now) at_min) c.loop.invariant.same);
+          (packed_more bits (64 / c.from-per.result) (packed_size bits (length c.args.elements.now)) c.loop.counter c.min.result c.loop.words.items rest (said c.split_at.result.0.now) (said c.split_at.result.1.now) _ fills (omega (arith, product)) at_min front back c.loop.invariant.same);
     }

@@ -1,6 +1,6 @@
-use Rattle.std.proofs.Common.{◌≡◌, ℕ, List, subst, refl, ap, ◌∙◌}
+use Rattle.std.proofs.Common.{◌≡◌, ℕ, List, subst, refl, ap, ◌∙◌, rules}
 use Rattle.wire_trees.specs.Views.{view}
-use Rattle.wire_writing.specs.Fitting.{AreOf}
+use Rattle.wire_trees.specs.Widths.{AreOf}
 use Rattle.wire_writing.specs.Placing.{one_segment}
 use Rattle.wire_writing.proofs.Writing.{told_so, can_write, sizes_at_root, room_at_root, short_segment, no_reason, some_reason}
 use Rattle.wire_writing.proofs.write.write_tree.Goals as goal
@@ -20,20 +20,20 @@ place-requires-clause-room c =
     let none = told_so (view c.args.tree.now) c.args.caps c.start.result c.measure_tree-measure.result c.start.ensures c.measure_tree-measure.ensures c.in_default.ensures in
     room_at_root (view c.args.tree.now) c.args.caps (can_write (view c.args.tree.now) c.args.caps none)
 
-pub returns-in_default-place-clause-refused : goal.returns-in_default-place-clause-refused
-returns-in_default-place-clause-refused c =
+pub returns-in_err-words-clause-refused : goal.returns-in_err-words-clause-refused
+returns-in_err-words-clause-refused c =
     let none = told_so (view c.args.tree.now) c.args.caps c.start.result c.measure_tree-measure.result c.start.ensures c.measure_tree-measure.ensures c.in_default.ensures in
-    no_reason (view c.args.tree.now) c.args.caps _ _ none refl
+    no_reason (view c.args.tree.now) c.args.caps _ _ none (search rules)
 
 pub message_of-requires : goal.message_of-requires
 message_of-requires c =
     let none = told_so (view c.args.tree.now) c.args.caps c.start.result c.measure_tree-measure.result c.start.ensures c.measure_tree-measure.ensures c.in_default.ensures in
-    rw c.deref.ensures.value (short_segment (view c.args.tree.now) c.args.caps c.in-Ok.words.items (can_write (view c.args.tree.now) c.args.caps none) c.in-Ok.ensures.placed)
+    rw c.deref.ensures.value (short_segment (view c.args.tree.now) c.args.caps c.in_ok-words.words.items (can_write (view c.args.tree.now) c.args.caps none) c.in_ok-words.ensures.placed)
 
-pub returns-in_default-message_of-clause-refused : goal.returns-in_default-message_of-clause-refused
-returns-in_default-message_of-clause-refused c =
+pub returns-in_err-message-clause-refused : goal.returns-in_err-message-clause-refused
+returns-in_err-message-clause-refused c =
     let none = told_so (view c.args.tree.now) c.args.caps c.start.result c.measure_tree-measure.result c.start.ensures c.measure_tree-measure.ensures c.in_default.ensures in
-    no_reason (view c.args.tree.now) c.args.caps _ _ none refl
+    no_reason (view c.args.tree.now) c.args.caps _ _ none (search rules)
 
 pub returns-clause-refused : goal.returns-clause-refused
 returns-clause-refused c =
@@ -47,8 +47,8 @@ returns-clause-possible c =
 
 pub returns-clause-placed : goal.returns-clause-placed
 returns-clause-placed c =
-    c.in-Ok-message_of.ensures.bytes ∙ ap one_segment (c.deref.ensures.value ∙ c.in-Ok.ensures.placed)
+    c.in_ok-message.ensures.bytes ∙ ap one_segment (c.deref.ensures.value ∙ c.in_ok-words.ensures.placed)
 
 pub returns-clause-words : goal.returns-clause-words
 returns-clause-words c =
-    subst (λ (ws : List ℕ). AreOf 64 ws) (c.deref.ensures.value ∙ c.in-Ok.ensures.placed) c.in-Ok-message_of.ensures.fit
+    subst (λ (ws : List ℕ). AreOf 64 ws) (c.deref.ensures.value ∙ c.in_ok-words.ensures.placed) c.in_ok-message.ensures.fit

@@ -1,0 +1,88 @@
+//! Trees again, in memory of their own.
+ghost use Rattle.std.specs.Prelude.{◌≡◌, IfOk};
+ghost use Rattle.wire_trees.specs.Views.{view, held, items_view, trees_view, structs_view};
+
+use crate::tree::{Fields, Items, Pointers, Tree};
+use std::alloc::{AllocError, Global};
+
+impl Tree {
+    /// The same tree, in memory of its own.
+    pub fn copy(&self, alloc: Global) -> Result<Tree, AllocError>
+        ensures { IfOk result (λ copy. view copy ≡ view self.now) }
+    {
+        copy_tree(alloc, self)
+    }
+}
+
+#[cycle(copy)]
+fn copy_tree(alloc: Global, tree: &Tree) -> Result<Tree, AllocError>
+    ensures { IfOk result (λ copy. view copy ≡ view tree.now) }
+{
+    match tree {
+        Tree::Null => Ok(Tree::Null),
+        Tree::Cap(index) => Ok(Tree::Cap(*index)),
+        Tree::Struct { words, pointers } => {
+            let words = Vec::from_slice(alloc, words.as_slice())?;
+            let pointers = copy_pointers(alloc, pointers.as_slice())?;
+            Ok(Tree::Struct { words, pointers })
+        }
+        Tree::List(items) => {
+            let items = copy_items(alloc, items)?;
+            Ok(Tree::List(items))
+        }
+    }
+}
+
+#[cycle(copy)]
+fn copy_items(alloc: Global, items: &Items) -> Result<Items, AllocError>
+    ensures { IfOk result (λ copy. items_view copy ≡ items_view items.now) }
+{
+    match items {
+        Items::Void(count) => Ok(Items::Void(*count)),
+        Items::Bits(bits) => Ok(Items::Bits(Vec::from_slice(alloc, bits.as_slice())?)),
+        Items::Bytes(bytes) => Ok(Items::Bytes(Vec::from_slice(alloc, bytes.as_slice())?)),
+        Items::Twos(twos) => Ok(Items::Twos(Vec::from_slice(alloc, twos.as_slice())?)),
+        Items::Fours(fours) => Ok(Items::Fours(Vec::from_slice(alloc, fours.as_slice())?)),
+        Items::Eights(eights) => Ok(Items::Eights(Vec::from_slice(alloc, eights.as_slice())?)),
+        Items::Pointers(pointers) => {
+            let pointers = copy_pointers(alloc, pointers.as_slice())?;
+            Ok(Items::Pointers(pointers))
+        }
+        Items::Structs {
+            data_words,
+            pointer_words,
+            items,
+        } => {
+            let items = copy_structs(alloc, items.as_slice())?;
+            Ok(Items::Structs {
+                data_words: *data_words,
+                pointer_words: *pointer_words,
+                items,
+            })
+        }
+    }
+}
+
+#[cycle(copy)]
+fn copy_structs(alloc: Global, items: &[Fields]) -> Result<Vec<Fields>, AllocError>
+    ensures { IfOk result (λ copy. structs_view copy.items ≡ structs_view items.now) }
+{
+    let mut copies = Vec::with_capacity(alloc, items.len())?;
+    for item in items {
+        let words = Vec::from_slice(alloc, item.words.as_slice())?;
+        let pointers = copy_pointers(alloc, item.pointers.as_slice())?;
+        copies.push(Fields { words, pointers })?;
+    }
+    Ok(copies)
+}
+
+#[cycle(copy)]
+fn copy_pointers(alloc: Global, trees: &[Tree]) -> Result<Pointers, AllocError>
+    ensures { IfOk result (λ copy. trees_view (held copy) ≡ trees_view trees.now) }
+{
+    let mut copies = Vec::with_capacity(alloc, trees.len())?;
+    for tree in trees {
+        copies.push(copy_tree(alloc, tree)?)?;
+    }
+    Ok(Pointers { trees: copies })
+}
