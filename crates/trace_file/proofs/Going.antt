@@ -18,7 +18,7 @@ pub map_pushed : {X Y : Type 0} (f : X → Y) (xs : List X) (x : X) → map f (x
 map_pushed f [] x = refl
 map_pushed f (y ∷ xs) x = ap (λ ys. f y ∷ ys) (map_pushed f xs x)
 
-one_more : {X : Type 0} (xs : List X) (i : ℕ) (x : X) → i < length xs → x ≡ get_or xs i x → take (i + 1) xs ≡ take i xs ++ x ∷ []
+pub one_more : {X : Type 0} (xs : List X) (i : ℕ) (x : X) → i < length xs → x ≡ get_or xs i x → take (i + 1) xs ≡ take i xs ++ x ∷ []
 one_more xs i x within is = take_more xs i x within ∙ ap (λ y. take i xs ++ y ∷ []) (sym is)
 
 text_pushed : (version : TraceVersion) (es : List JournalEntry) (e : JournalEntry) → trace_text version (es ++ e ∷ []) ≡ trace_text version es ++ line_text version e

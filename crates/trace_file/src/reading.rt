@@ -100,7 +100,7 @@ fn later_entry(alloc: Global, text: &str, version: TraceVersion) -> Result<Journ
     ensures fault { IfErr result (λ f. IsLaterFault version f (read text.now)) }
 {
     match entry_of(alloc, text, version) {
-        Ok(JournalEntry::Head) => Err(TraceFault::WrongShape),
+        Ok(entry) if matches!(&entry, JournalEntry::Head) => Err(TraceFault::WrongShape),
         Ok(entry) => Ok(entry),
         Err(TraceFault::Version) => Err(TraceFault::WrongShape),
         Err(fault) => Err(fault),

@@ -1,4 +1,3 @@
-mod Lists
 mod Again
 mod Payloads
 mod Ladder

@@ -8,7 +8,7 @@ use Rattle.vat_journal.specs.declared.entry.JournalEntry.{JournalEntry}
 use Rattle.trace_write.specs.declared.version.TraceVersion.{TraceVersion}
 use Rattle.trace_json.specs.declared.fault.TraceFault.{TraceFault}
 use Rattle.trace_json.specs.declared.fault.TraceFault.TheVariants as fault
-use Rattle.trace_json.specs.declared.fault.Fault.TheVariants as shape
+use Rattle.trace_parts.specs.declared.fault.Fault.TheVariants as shape
 use Rattle.trace_write.specs.Values.{version_number, head_of, value_by, value}
 use Rattle.trace_write.specs.Fits.{FitsU32, Fits}
 use Rattle.trace_json.specs.ReadEntries.{head_at}

@@ -21,12 +21,12 @@ use Rattle.vat_journal.specs.declared.report.Outcome.{Outcome}
 use Rattle.vat_journal.specs.declared.report.Delivery.{Delivery}
 use Rattle.vat_journal.specs.declared.report.Ended.{Ended}
 use Rattle.vat_journal.specs.declared.report.Advanced.{Advanced}
-use Rattle.trace_json.specs.declared.fault.Fault.TheVariants as fault
+use Rattle.trace_parts.specs.declared.fault.Fault.TheVariants as fault
 use Rattle.trace_write.specs.declared.version.TraceVersion.{TraceVersion}
 use Rattle.trace_write.specs.Values.{version_number}
-use Rattle.trace_json.specs.Reading.{Read, ◌>>=◌, members_at, nat_at, u64_at, end_at, field_at, word_at, list_at}
-use Rattle.trace_json.specs.ReadParts.{Raw, vat_at, reference_at, stamp_at, raw_at, exception_at, outcome_at, origin_at, advanced_at, counts_at}
-use Rattle.trace_json.specs.ReadMessages.{message_at}
+use Rattle.trace_parts.specs.Reading.{Read, ◌>>=◌, members_at, nat_at, u64_at, end_at, field_at, word_at, list_at}
+use Rattle.trace_parts.specs.ReadParts.{Raw, vat_at, reference_at, stamp_at, raw_at, exception_at, outcome_at, origin_at, advanced_at, counts_at}
+use Rattle.trace_parts.specs.ReadMessages.{message_at}
 
 -- the number of a head
 unfoldable pub head_at : Data → Read ℕ

@@ -1,8 +1,7 @@
 ghost use Rattle.std.specs.Prelude.{◌≡◌};
 ghost use Rattle.trace_json.specs.Faults.{number_of_fault};
-ghost use Rattle.trace_json.specs.declared.fault.Fault.TheVariants as fault;
+ghost use Rattle.trace_parts.specs.declared.fault.Fault.TheVariants as fault;
 
-use std::alloc::{AllocError, AllocFailed};
 use thiserror::Error;
 
 /// Why a line is no entry of a trace.
@@ -41,32 +40,5 @@ impl TraceFault {
             TraceFault::BadPayload => 53,
             TraceFault::Version => 54,
         }
-    }
-}
-
-/// Why a JSON value has not the shape of an entry.
-#[derive(Clone, Copy, Debug, PartialEq, Eq, Drop)]
-pub(crate) enum Fault {
-    Memory,
-    WrongShape,
-}
-
-impl From<AllocError> for Fault {
-    ghost use Rattle.std.specs.Prelude.{◌≡◌};
-
-    ghost from_gives = { λ _ e. e ≡ fault.Memory };
-
-    fn from(_e: AllocError) -> Fault {
-        Fault::Memory
-    }
-}
-
-impl<T: Drop> From<AllocFailed<T>> for Fault {
-    ghost use Rattle.std.specs.Prelude.{◌≡◌};
-
-    ghost from_gives = { λ _ e. e ≡ fault.Memory };
-
-    fn from(_e: AllocFailed<T>) -> Fault {
-        Fault::Memory
     }
 }

@@ -4,70 +4,53 @@ ghost use Rattle.trace_json.specs.Filled.{filled_outcome, filled_body, filled_pl
 use rpc_msg::{Message, Payload, PlainMessage, ReturnBody};
 use vat_journal::{JournalEntry, Outcome};
 
-fn fill_outcome(payload: Payload, outcome: Outcome) -> Outcome
-    ensures { result ≡ filled_outcome payload outcome }
+fn fill_outcome(payload: Payload, outcome: &mut Outcome)
+    ensures { outcome.new ≡ filled_outcome payload outcome.old }
 {
     match outcome {
-        Outcome::Results(_) => Outcome::Results(payload),
-        Outcome::Exception(exception) => Outcome::Exception(exception),
+        Outcome::Results(old) => *old = payload,
+        Outcome::Exception(_) => {}
     }
 }
 
-fn fill_body(payload: Payload, body: ReturnBody) -> ReturnBody
-    ensures { result ≡ filled_body payload body }
+fn fill_body(payload: Payload, body: &mut ReturnBody)
+    ensures { body.new ≡ filled_body payload body.old }
 {
     match body {
-        ReturnBody::Results(_, descriptors) => ReturnBody::Results(payload, descriptors),
-        other => other,
+        ReturnBody::Results(old, _) => *old = payload,
+        _ => {}
     }
 }
 
-fn fill_plain(payload: Payload, message: PlainMessage) -> PlainMessage
-    ensures { result ≡ filled_plain payload message }
+fn fill_plain(payload: Payload, message: &mut PlainMessage)
+    ensures { message.new ≡ filled_plain payload message.old }
 {
     match message {
-        PlainMessage::Call(mut call) => {
-            call.payload = payload;
-            PlainMessage::Call(call)
-        }
-        PlainMessage::Return(mut said) => {
-            said.body = fill_body(payload, said.body);
-            PlainMessage::Return(said)
-        }
-        other => other,
+        PlainMessage::Call(call) => call.payload = payload,
+        PlainMessage::Return(said) => fill_body(payload, &mut said.body),
+        _ => {}
     }
 }
 
-fn fill_message(payload: Payload, message: Message) -> Message
-    ensures { result ≡ filled_message payload message }
+fn fill_message(payload: Payload, message: &mut Message)
+    ensures { message.new ≡ filled_message payload message.old }
 {
     match message {
-        Message::Plain(plain) => Message::Plain(fill_plain(payload, plain)),
-        Message::Unimplemented(plain) => Message::Unimplemented(fill_plain(payload, plain)),
+        Message::Plain(plain) => fill_plain(payload, plain),
+        Message::Unimplemented(plain) => fill_plain(payload, plain),
     }
 }
 
-/// The entry with that payload in the place of its own.
-pub(crate) fn fill(payload: Payload, entry: JournalEntry) -> JournalEntry
-    ensures { result ≡ filled payload entry }
+/// Puts that payload in the place of the entry's own.
+pub(crate) fn fill(payload: Payload, entry: &mut JournalEntry)
+    ensures { entry.new ≡ filled payload entry.old }
 {
     match entry {
-        JournalEntry::Made(vat, mut made) => {
-            made.payload = payload;
-            JournalEntry::Made(vat, made)
-        }
-        JournalEntry::Delivered(vat, mut delivery) => {
-            delivery.payload = payload;
-            JournalEntry::Delivered(vat, delivery)
-        }
-        JournalEntry::Answered(vat, task, outcome, refs) => {
-            JournalEntry::Answered(vat, task, fill_outcome(payload, outcome), refs)
-        }
-        JournalEntry::Ended(vat, mut ended) => {
-            ended.outcome = fill_outcome(payload, ended.outcome);
-            JournalEntry::Ended(vat, ended)
-        }
-        JournalEntry::Sent(vat, message) => JournalEntry::Sent(vat, fill_message(payload, message)),
-        other => other,
+        JournalEntry::Made(_, made) => made.payload = payload,
+        JournalEntry::Delivered(_, delivery) => delivery.payload = payload,
+        JournalEntry::Answered(_, _, outcome, _) => fill_outcome(payload, outcome),
+        JournalEntry::Ended(_, ended) => fill_outcome(payload, &mut ended.outcome),
+        JournalEntry::Sent(_, message) => fill_message(payload, message),
+        _ => {}
     }
 }

@@ -3,12 +3,9 @@
 #![tactic(auto)]
 
 mod fault;
-mod fields;
 mod fill;
 mod read_entries;
 mod read_line;
-mod read_messages;
-mod read_parts;
 
 pub use fault::TraceFault;
 pub use read_line::{entry_of, version_of};

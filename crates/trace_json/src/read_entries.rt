@@ -4,17 +4,16 @@ ghost use Rattle.serde_json.specs.View.{view, members_view};
 ghost use Rattle.trace_write.specs.Parts.{nat, list, reference_data, stamp_data, vat_data, in_base64};
 ghost use Rattle.trace_write.specs.Values.{version_number, head_of, born_data, asked_data, made_by, delivered_by, answered_by, ended_by, resolved_promise_data, rejected_data, dropped_data, finished_data, advanced_data, refused_data, sent_by, got_data, down_data, tables_data, value_by, value as value_of_entry};
 ghost use Rattle.trace_write.specs.Fits.{FitsOrigin, FitsMade, FitsDelivery, FitsOutcome, FitsMessage, FitsU16, FitsCounts, Fits};
-ghost use Rattle.trace_json.specs.Reading.{Gives};
-ghost use Rattle.trace_json.specs.ReadParts.{stands_for, FitsRaw};
+ghost use Rattle.trace_parts.specs.Reading.{Gives};
+ghost use Rattle.trace_parts.specs.ReadParts.{stands_for, FitsRaw};
 ghost use Rattle.trace_json.specs.ReadEntries.{head_at, born_at, asked_at, made_at, delivered_rest, delivered_at, answered_rest, answered_at, ended_at, resolved_promise_at, rejected_at, dropped_at, finished_at, entry_advanced_at, refused_at, sent_at, got_at, down_at, tables_at, command_under, bare_entry_under, entry_under, entry_at};
 
-use crate::fault::Fault;
-use crate::fields::{Fields, Part};
-use crate::read_messages::message_of;
-use crate::read_parts::{RawPayload, no_payload, outcome_of, raw_payload_of};
 use rpc_msg::{CallId, Exception, Items, Message, ObjectId, PromiseId, RefId, Stamp, TaskId, Vat};
 use serde_json::Value;
 use std::alloc::Global;
+use trace_parts::{
+    Fault, Fields, Part, RawPayload, message_of, no_payload, outcome_of, raw_payload_of,
+};
 use trace_write::TraceVersion;
 use vat_journal::{Advanced, Counts, Delivery, Ended, JournalEntry, MadeCall, Origin, Outcome};
 
@@ -177,7 +176,7 @@ fn tables_of(alloc: Global, value: &Value) -> Result<(Counts, Counts), Fault>
     Ok((a, b))
 }
 
-#[tactic(auto, unfolding(crate::specs::ReadEntries::made_at, crate::specs::Reading::field_at))]
+#[tactic(auto, unfolding(crate::specs::ReadEntries::made_at, trace_parts::specs::Reading::field_at))]
 fn made_of(alloc: Global, value: &Value) -> Result<(Vat, MadeCall, Option<RawPayload<'_>>), Fault>
     ensures gives { Gives (λ e. (e.0, e.1, option_map (λ r. (r.text.now, r.caps)) e.2)) result (made_at (view value.now)) }
     ensures ok { IfOk result (λ e. (view value.now ≡ made_by (stands_for (option_map (λ r. (r.text.now, r.caps)) e.2)) e.0 e.1)
@@ -226,7 +225,7 @@ fn rest_of_delivered(
     Ok((refs, stamp, task, vat))
 }
 
-#[tactic(auto, unfolding(crate::specs::ReadEntries::delivered_at, crate::specs::Reading::field_at))]
+#[tactic(auto, unfolding(crate::specs::ReadEntries::delivered_at, trace_parts::specs::Reading::field_at))]
 fn delivered_of(
     alloc: Global,
     value: &Value,
@@ -273,7 +272,7 @@ fn rest_of_answered(
     Ok((refs, task, vat))
 }
 
-#[tactic(auto, unfolding(crate::specs::ReadEntries::answered_at, crate::specs::Reading::field_at))]
+#[tactic(auto, unfolding(crate::specs::ReadEntries::answered_at, trace_parts::specs::Reading::field_at))]
 fn answered_of(
     alloc: Global,
     value: &Value,
@@ -296,7 +295,7 @@ fn answered_of(
     Ok(((vat, TaskId(task)), (outcome, refs), raw))
 }
 
-#[tactic(auto, unfolding(crate::specs::ReadEntries::ended_at, crate::specs::Reading::field_at))]
+#[tactic(auto, unfolding(crate::specs::ReadEntries::ended_at, trace_parts::specs::Reading::field_at))]
 fn ended_of(alloc: Global, value: &Value) -> Result<(Vat, Ended, Option<RawPayload<'_>>), Fault>
     ensures gives { Gives (λ e. (e.0, e.1, option_map (λ r. (r.text.now, r.caps)) e.2)) result (ended_at (view value.now)) }
     ensures ok { IfOk result (λ e. (view value.now ≡ ended_by (stands_for (option_map (λ r. (r.text.now, r.caps)) e.2)) e.0 e.1)
@@ -317,7 +316,7 @@ fn ended_of(alloc: Global, value: &Value) -> Result<(Vat, Ended, Option<RawPaylo
     Ok((vat, ended, raw))
 }
 
-#[tactic(auto, unfolding(crate::specs::ReadEntries::sent_at, crate::specs::Reading::field_at))]
+#[tactic(auto, unfolding(crate::specs::ReadEntries::sent_at, trace_parts::specs::Reading::field_at))]
 fn sent_of(
     alloc: Global,
     value: &Value,

@@ -11,7 +11,7 @@ ghost use Rattle.trace_write.specs.Fits.{FitsPayload, Fits};
 ghost use Rattle.trace_json.specs.Filled.{filled};
 ghost use Rattle.trace_json.specs.Faults.{IsFault, IsParseFault, IsVersionFault, IsShapeFault, IsTextFault, IsPayloadFault, IsRawFault};
 
-use crate::fault::{Fault, TraceFault};
+use crate::fault::TraceFault;
 use crate::fill::fill;
 use crate::read_entries::{head_number, read_entry};
 use base64::DecodeAllocError;
@@ -19,6 +19,7 @@ use base64::engine::general_purpose::STANDARD;
 use rpc_msg::{Payload, PayloadFault};
 use serde_json::Value;
 use std::alloc::Global;
+use trace_parts::Fault;
 use trace_write::TraceVersion;
 use vat_journal::JournalEntry;
 
@@ -68,7 +69,7 @@ fn read_payload(alloc: Global, text: &str, caps: u32) -> Result<Payload, TraceFa
 /// The entry with the payload that a text and a number stand for.
 fn with_payload(
     alloc: Global,
-    entry: JournalEntry,
+    mut entry: JournalEntry,
     text: &str,
     caps: u32,
 ) -> Result<JournalEntry, TraceFault>
@@ -76,7 +77,8 @@ fn with_payload(
     ensures fault { IfErr result (λ f. IsRawFault f (text.now, caps)) }
 {
     let payload = read_payload(alloc, text, caps)?;
-    Ok(fill(payload, entry))
+    fill(payload, &mut entry);
+    Ok(entry)
 }
 
 /// The entry that a JSON value is.

@@ -1,5 +1,5 @@
 use Rattle.std.proofs.Common.{rules, refl}
-use Rattle.trace_json.specs.Reading.{field_at}
+use Rattle.trace_parts.specs.Reading.{field_at}
 use Rattle.trace_json.specs.ReadEntries.{delivered_at}
 use Rattle.trace_json.proofs.read_entries.delivered_of.Goals as goal
 

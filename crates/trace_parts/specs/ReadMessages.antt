@@ -20,11 +20,11 @@ use Rattle.rpc_msg.specs.declared.message.PlainMessage.{PlainMessage}
 use Rattle.rpc_msg.specs.declared.message.PlainMessage.TheVariants as plain
 use Rattle.rpc_msg.specs.declared.message.Message.{Message}
 use Rattle.rpc_msg.specs.declared.message.Message.TheVariants as message
-use Rattle.trace_json.specs.declared.fault.Fault.TheVariants as fault
+use Rattle.trace_parts.specs.declared.fault.Fault.TheVariants as fault
 use Rattle.trace_write.specs.declared.version.TraceVersion.{TraceVersion}
 use Rattle.trace_write.specs.Messages.{param_caps_key, result_caps_key}
-use Rattle.trace_json.specs.Reading.{Read, ◌>>=◌, members_at, nat_at, u64_at, flag_at, end_at, field_at, only_at, list_at}
-use Rattle.trace_json.specs.ReadParts.{Raw, descriptor_at, target_at, stamp_at, raw_at, exception_at}
+use Rattle.trace_parts.specs.Reading.{Read, ◌>>=◌, members_at, nat_at, u64_at, flag_at, end_at, field_at, only_at, list_at}
+use Rattle.trace_parts.specs.ReadParts.{Raw, descriptor_at, target_at, stamp_at, raw_at, exception_at}
 
 unfoldable pub call_at : Data → Read (Call × Raw)
 call_at d = do

@@ -3,7 +3,7 @@ ghost use Rattle.serde_json.specs.Data.{Data, boolean, string, object, member, n
 ghost use Rattle.serde_json.specs.View.{view, members_view};
 ghost use Rattle.trace_write.specs.Parts.{nat, list, only};
 ghost use Rattle.trace_write.specs.Fits.{FitsAny, FitsU32, FitsU16, FitsAll, FitsFlag};
-ghost use Rattle.trace_json.specs.Reading.{Read, Gives, members_at, next_at, end_at, field_at, nat_at, u64_at, text_at, word_at, only_at, list_at, flag_at};
+ghost use Rattle.trace_parts.specs.Reading.{Read, Gives, members_at, next_at, end_at, field_at, nat_at, u64_at, text_at, word_at, only_at, list_at, flag_at};
 
 use crate::fault::Fault;
 use rpc_msg::{Items, Text};
@@ -13,7 +13,7 @@ use std::collections::btree_map::Iter;
 use trace_write::TraceVersion;
 
 /// What is read from a value.
-pub(crate) trait Part: Sized {
+pub trait Part: Sized {
     ghost at: { Data → Read Self };
 
     ghost shown: { Self → Data };
@@ -27,12 +27,13 @@ pub(crate) trait Part: Sized {
 
 /// The members of an object that were not read yet, by rising key.
 #[derive(Drop)]
-pub(crate) struct Fields<'v> {
+pub struct Fields<'v> {
     rest: Iter<'v, String, Value>,
 }
 
 impl<'v> Fields<'v> {
-    pub(crate) fn of(value: &'v Value) -> Result<Fields<'v>, Fault>
+    /// All members of an object; `WrongShape` of another value.
+    pub fn of(value: &'v Value) -> Result<Fields<'v>, Fault>
         ensures gives { Gives (λ f. members_view f.rest) result (members_at (view value.now)) }
         ensures ok { IfOk result (λ f. view value.now ≡ object (members_view f.rest)) }
     {
@@ -43,7 +44,7 @@ impl<'v> Fields<'v> {
     }
 
     /// The value of the next member, which has to have that key.
-    pub(crate) fn next(&mut self, key: &str) -> Result<&'v Value, Fault>
+    pub fn next(&mut self, key: &str) -> Result<&'v Value, Fault>
         ensures gives { Gives (λ v. (view v.now, members_view self.new.rest)) result (next_at key.now (members_view self.old.rest)) }
         ensures ok { IfOk result (λ v. members_view self.old.rest ≡ member key.now (view v.now) (members_view self.new.rest)) }
     {
@@ -60,7 +61,8 @@ impl<'v> Fields<'v> {
     }
 
     #[tactic(auto, unfolding(crate::specs::Reading::field_at))]
-    pub(crate) fn read<T: Part>(&mut self, alloc: Global, key: &str) -> Result<T, Fault>
+    /// The part that the next member is, which has to have that key.
+    pub fn read<T: Part>(&mut self, alloc: Global, key: &str) -> Result<T, Fault>
         ensures gives { Gives (λ x. (x, members_view self.new.rest)) result (field_at T.at key.now (members_view self.old.rest)) }
         ensures ok { IfOk result (λ x. (members_view self.old.rest ≡ member key.now (T.shown x) (members_view self.new.rest)) × T.fits x) }
     {
@@ -70,7 +72,7 @@ impl<'v> Fields<'v> {
 
     /// The next member has to be that text.
     #[tactic(auto, unfolding(crate::specs::Reading::word_at))]
-    pub(crate) fn word(&mut self, key: &str, word: &str) -> Result<(), Fault>
+    pub fn word(&mut self, key: &str, word: &str) -> Result<(), Fault>
         ensures gives { Gives (λ u. members_view self.new.rest) result (word_at word.now key.now (members_view self.old.rest)) }
         ensures ok { OnOk result (members_view self.old.rest ≡ member key.now (string word.now) (members_view self.new.rest)) }
     {
@@ -82,7 +84,8 @@ impl<'v> Fields<'v> {
         }
     }
 
-    pub(crate) fn end(mut self) -> Result<(), Fault>
+    /// No member is left; `WrongShape` where one is.
+    pub fn end(mut self) -> Result<(), Fault>
         ensures gives { Gives (λ u. u) result (end_at (members_view self.entry.rest)) }
         ensures ok { OnOk result (members_view self.entry.rest ≡ no_members) }
     {
@@ -109,6 +112,7 @@ pub(crate) fn only_member(value: &Value) -> Result<(&str, &Value), Fault>
     }
 }
 
+/// The text that a value is.
 pub(crate) fn text_of(value: &Value) -> Result<&str, Fault>
     ensures gives { Gives (λ s. s.now) result (text_at (view value.now)) }
     ensures ok { IfOk result (λ s. view value.now ≡ string s.now) }
@@ -195,6 +199,7 @@ impl<T: Part + Drop> Part for Items<T> {
     }
 }
 
+/// The items of a list, each of which has to be such a part.
 pub(crate) fn read_items<T: Part + Drop>(alloc: Global, value: &Value) -> Result<Vec<T>, Fault>
     ensures gives { Gives (λ v. v.items) result (list_at T.at (view value.now)) }
     ensures ok { IfOk result (λ v. (view value.now ≡ list T.shown v.items) × FitsAll T.fits v.items) }

@@ -4,9 +4,9 @@ ghost use Rattle.serde_json.specs.View.{view};
 ghost use Rattle.capn_wire.specs.Payloads.{null_payload};
 ghost use Rattle.trace_write.specs.Parts.{only, reference_data, vat_data, op_data, path_data, answer_data, target_data, descriptor_data, stamp_data, payload_data, kind_name, exception_data, outcome_by, origin_data, advanced_name, pair_data, counts_data};
 ghost use Rattle.trace_write.specs.Fits.{FitsAny, FitsU32, FitsOp, FitsPath, FitsAnswer, FitsTarget, FitsDescriptor, FitsPayload, FitsOutcome, FitsOrigin, FitsPair, FitsCounts};
-ghost use Rattle.trace_json.specs.Reading.{Gives};
-ghost use Rattle.trace_json.specs.declared.fault.Fault.TheVariants as fault;
-ghost use Rattle.trace_json.specs.ReadParts.{stands_for, FitsRaw, vat_at, reference_at, op_at, path_at, answer_at, target_at, tagged_descriptor, descriptor_at, stamp_at, raw_at, kind_at, exception_at, outcome_at, field_origin_at, origin_at, advanced_at, pair_at, counts_at};
+ghost use Rattle.trace_parts.specs.Reading.{Gives};
+ghost use Rattle.trace_parts.specs.declared.fault.Fault.TheVariants as fault;
+ghost use Rattle.trace_parts.specs.ReadParts.{stands_for, FitsRaw, vat_at, reference_at, op_at, path_at, answer_at, target_at, tagged_descriptor, descriptor_at, stamp_at, raw_at, kind_at, exception_at, outcome_at, field_origin_at, origin_at, advanced_at, pair_at, counts_at};
 
 use crate::fault::Fault;
 use crate::fields::{Fields, Part, only_member, read_items, text_of};
@@ -20,13 +20,13 @@ use vat_journal::{Advanced, Counts, Origin, Outcome};
 
 /// What stands for a payload on a line: it is decoded once the whole line has its shape.
 #[derive(Clone, Copy)]
-pub(crate) struct RawPayload<'v> {
+pub struct RawPayload<'v> {
     pub text: &'v str,
     pub caps: u32,
 }
 
 /// What is in a payload's place until it is decoded.
-pub(crate) fn no_payload(alloc: Global) -> Result<Payload, Fault>
+pub fn no_payload(alloc: Global) -> Result<Payload, Fault>
     ensures is { IfOk result (λ p. p ≡ null_payload) }
     ensures fits { IfOk result (λ p. FitsPayload p) }
     ensures fault { IfErr result (λ f. f ≡ fault.Memory) }
@@ -37,8 +37,9 @@ pub(crate) fn no_payload(alloc: Global) -> Result<Payload, Fault>
     }
 }
 
+/// The text and the number of capabilities that stand for a payload.
 #[tactic(auto, unfolding(crate::specs::ReadParts::raw_at, crate::specs::Reading::field_at))]
-pub(crate) fn raw_payload_of(alloc: Global, value: &Value) -> Result<RawPayload<'_>, Fault>
+pub fn raw_payload_of(alloc: Global, value: &Value) -> Result<RawPayload<'_>, Fault>
     ensures gives { Gives (λ r. (r.text.now, r.caps)) result (raw_at (view value.now)) }
     ensures ok { IfOk result (λ r. (view value.now ≡ payload_data (r.text.now, r.caps)) × FitsU32 r.caps) }
 {
@@ -252,11 +253,9 @@ impl Part for Exception {
     }
 }
 
+/// An outcome; of results the payload is null, and what stands for theirs is beside it.
 #[tactic(auto, unfolding(crate::specs::ReadParts::outcome_at))]
-pub(crate) fn outcome_of(
-    alloc: Global,
-    value: &Value,
-) -> Result<(Outcome, Option<RawPayload<'_>>), Fault>
+pub fn outcome_of(alloc: Global, value: &Value) -> Result<(Outcome, Option<RawPayload<'_>>), Fault>
     ensures gives { Gives (λ o. (o.0, option_map (λ r. (r.text.now, r.caps)) o.1)) result (outcome_at (view value.now)) }
     ensures ok { IfOk result (λ o. (view value.now ≡ outcome_by (stands_for (option_map (λ r. (r.text.now, r.caps)) o.1)) o.0)
         × FitsOutcome o.0 × FitsRaw (option_map (λ r. (r.text.now, r.caps)) o.1)) }

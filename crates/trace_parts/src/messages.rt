@@ -3,13 +3,13 @@ ghost use Rattle.serde_json.specs.View.{view};
 ghost use Rattle.trace_write.specs.Parts.{nat, only, in_base64};
 ghost use Rattle.trace_write.specs.Messages.{param_caps_key, result_caps_key, call_by, body_by, return_by, finish_data, resolved_data, resolve_data, release_data, context_data, disembargo_data, plain_by, message_by};
 ghost use Rattle.trace_write.specs.Fits.{FitsU32, FitsCall, FitsBody, FitsReturn, FitsFinish, FitsResolved, FitsResolve, FitsRelease, FitsContext, FitsDisembargo, FitsPlain, FitsMessage};
-ghost use Rattle.trace_json.specs.Reading.{Gives};
-ghost use Rattle.trace_json.specs.ReadParts.{stands_for, FitsRaw};
-ghost use Rattle.trace_json.specs.ReadMessages.{call_at, results_at, tagged_body, body_at, return_at, finish_at, resolved_at, resolve_at, release_at, context_at, disembargo_at, bootstrap_at, bare_under, plain_under, plain_at, message_at};
+ghost use Rattle.trace_parts.specs.Reading.{Gives};
+ghost use Rattle.trace_parts.specs.ReadParts.{stands_for, FitsRaw};
+ghost use Rattle.trace_parts.specs.ReadMessages.{call_at, results_at, tagged_body, body_at, return_at, finish_at, resolved_at, resolve_at, release_at, context_at, disembargo_at, bootstrap_at, bare_under, plain_under, plain_at, message_at};
 
 use crate::fault::Fault;
 use crate::fields::{Fields, Part, flag_of, only_member};
-use crate::read_parts::{RawPayload, no_payload, raw_payload_of};
+use crate::parts::{RawPayload, no_payload, raw_payload_of};
 use rpc_msg::{
     Call, Disembargo, DisembargoContext, EmbargoId, ExportId, Finish, Message, PlainMessage,
     QuestionId, Release, Resolve, ResolvedTo, Return, ReturnBody,
@@ -311,8 +311,9 @@ fn plain_of<'v>(
     }
 }
 
+/// A message; the payload of a Call or a Return is null, and what stands for theirs is beside it.
 #[tactic(auto, unfolding(crate::specs::ReadMessages::message_at, crate::specs::ReadMessages::plain_at))]
-pub(crate) fn message_of(
+pub fn message_of(
     alloc: Global,
     value: &Value,
     version: TraceVersion,

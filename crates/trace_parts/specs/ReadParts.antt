@@ -25,10 +25,10 @@ use Rattle.vat_journal.specs.declared.report.Outcome.{Outcome}
 use Rattle.vat_journal.specs.declared.report.Outcome.TheVariants as outcome
 use Rattle.vat_journal.specs.declared.report.Advanced.{Advanced}
 use Rattle.vat_journal.specs.declared.report.Advanced.TheVariants as advanced
-use Rattle.trace_json.specs.declared.fault.Fault.TheVariants as fault
+use Rattle.trace_parts.specs.declared.fault.Fault.TheVariants as fault
 use Rattle.trace_write.specs.Parts.{in_base64}
 use Rattle.trace_write.specs.Fits.{FitsU32}
-use Rattle.trace_json.specs.Reading.{Read, ◌>>=◌, members_at, nat_at, u64_at, text_at, end_at, field_at, only_at, list_at}
+use Rattle.trace_parts.specs.Reading.{Read, ◌>>=◌, members_at, nat_at, u64_at, text_at, end_at, field_at, only_at, list_at}
 
 -- What stands for a payload on a line, where there is one: a text and a number.
 abbrev pub Raw : Type 0

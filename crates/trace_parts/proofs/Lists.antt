@@ -3,7 +3,7 @@ use Rattle.std.proofs.Common.{List, ◌++◌, map, Ok}
 use Rattle.serde_json.specs.Data.{Data}
 use Rattle.serde_json.specs.View.{view, items_of}
 use Rattle.serde_json.specs.declared.value.Value.{Value}
-use Rattle.trace_json.specs.Reading.{Read, ◌>>=◌, items_at}
+use Rattle.trace_parts.specs.Reading.{Read, ◌>>=◌, items_at}
 
 -- what was read before, and what is still read
 abbrev pub with_front : {A : Type 0} → List A → Read (List A) → Read (List A)

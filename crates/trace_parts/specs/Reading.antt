@@ -2,8 +2,8 @@
 use Rattle.std.specs.Prelude.{◌≡◌, ℕ, List, [], ◌∷◌, Bool, true, false, Result, Ok, Err, nat_lt, if◌then◌else◌}
 use Rattle.std.specs.Str.{bytes_eq}
 use Rattle.serde_json.specs.Data.{Data, null, boolean, number, string, array, object, Num, unsigned, negative, float, Items, no_items, item, Members, no_members, member}
-use Rattle.trace_json.specs.declared.fault.Fault.{Fault}
-use Rattle.trace_json.specs.declared.fault.Fault.TheVariants as fault
+use Rattle.trace_parts.specs.declared.fault.Fault.{Fault}
+use Rattle.trace_parts.specs.declared.fault.Fault.TheVariants as fault
 use Rattle.trace_write.specs.declared.version.TraceVersion.{TraceVersion}
 use Rattle.trace_write.specs.declared.version.TraceVersion.TheVariants.{One, Two}
 
