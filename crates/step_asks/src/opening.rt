@@ -7,7 +7,7 @@ ghost use Rattle.vat_store.specs.Holding.{state_of};
 ghost use Rattle.step_ends.specs.Whole.{IsResting, Tries};
 
 use rpc_msg::{CallId, Memory, PromiseId, RefId};
-use step_ends::{Machine, begin_quietly};
+use step_ends::{Machine, begin_quietly, end_silently};
 use step_sweeps::sweep;
 use vat_machine::Effects;
 
@@ -20,7 +20,9 @@ pub fn promise(machine: &mut Machine) -> Result<(PromiseId, RefId), Memory>
     ensures resting { IsResting machine.new }
 {
     begin_quietly(&mut machine.step, 3)?;
-    Ok(step_commands::promise(&mut machine.step))
+    let made = step_commands::promise(&mut machine.step);
+    end_silently(&mut machine.step);
+    Ok(made)
 }
 
 /// Asks the peer for its bootstrap object, where that is not refused, and gives the number of that call, and what the step

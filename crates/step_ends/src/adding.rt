@@ -6,7 +6,7 @@ ghost use Rattle.vat_machine.specs.Refusals.{refused};
 ghost use Rattle.vat_store.specs.Holding.{state_of};
 ghost use Rattle.step_ends.specs.Whole.{IsResting, Tries};
 
-use crate::beginning::begin_quietly;
+use crate::beginning::{begin_quietly, end_silently};
 use crate::machine::Machine;
 use rpc_msg::{CallId, Items, Memory, ObjectId, Op, RefId};
 
@@ -19,7 +19,9 @@ pub fn host(machine: &mut Machine, object: ObjectId) -> Result<RefId, Memory>
     ensures resting { IsResting machine.new }
 {
     begin_quietly(&mut machine.step, 1)?;
-    Ok(step_commands::host(&mut machine.step, object))
+    let made = step_commands::host(&mut machine.step, object);
+    end_silently(&mut machine.step);
+    Ok(made)
 }
 
 /// Makes a second reference with the same head as another, where that is not refused, and says nothing. `Err` for want of
@@ -31,7 +33,9 @@ pub fn clone_ref(machine: &mut Machine, id: RefId) -> Result<RefId, Memory>
     ensures resting { IsResting machine.new }
 {
     begin_quietly(&mut machine.step, 1)?;
-    Ok(step_commands::clone_ref(&mut machine.step, id))
+    let made = step_commands::clone_ref(&mut machine.step, id);
+    end_silently(&mut machine.step);
+    Ok(made)
 }
 
 /// Makes a reference to what stands at a path of a call's results, where that is not refused, and says nothing. `Err` for
@@ -43,5 +47,7 @@ pub fn field(machine: &mut Machine, id: CallId, path: &Items<Op>) -> Result<RefI
     ensures resting { IsResting machine.new }
 {
     begin_quietly(&mut machine.step, 1)?;
-    Ok(step_commands::field(&mut machine.step, id, path))
+    let made = step_commands::field(&mut machine.step, id, path);
+    end_silently(&mut machine.step);
+    Ok(made)
 }

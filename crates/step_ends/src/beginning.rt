@@ -4,6 +4,7 @@ ghost use Rattle.vat_store.specs.Holding.{state_of};
 ghost use Rattle.vat_store.specs.Noted.{noted_of, nothing_noted};
 ghost use Rattle.step_base.specs.InProgress.{progress_of, IsReady, IsIdle};
 ghost use Rattle.step_sweeps.specs.Thinking.{IsQuiet};
+ghost use Rattle.vat_outbox.specs.Outgoing.{emptied};
 
 use rpc_msg::Memory;
 use step_base::{Step, begin};
@@ -27,4 +28,13 @@ pub fn begin_quietly(step: &mut Step, more: usize) -> Result<(), Memory>
 {
     rest(&mut step.store)?;
     begin(step, more)
+}
+
+/// Ends a step that said nothing: the room for what it might have said is given back where it is much.
+pub fn end_silently(step: &mut Step)
+    ensures store { step.new.store ≡ step.old.store }
+    ensures outbox { step.new.outbox ≡ emptied step.old.outbox }
+    ensures arisen { step.new.arisen ≡ step.old.arisen }
+{
+    let _ = step.outbox.take();
 }

@@ -14,7 +14,7 @@ mod shortening;
 mod undoing;
 
 pub use adding::{clone_ref, field, host};
-pub use beginning::begin_quietly;
+pub use beginning::{begin_quietly, end_silently};
 pub use ending::end_step;
 pub use falling::{fall_as, fall_silently_as, shut};
 pub use letting::{drop_ref, finish};

@@ -6,5 +6,5 @@ use Rattle.step_asks.proofs.opening.promise.Goals as goal
 
 pub returns-clause-obeys : goal.returns-clause-obeys
 returns-clause-obeys c =
-    promised (state_of c.args.machine.now.step.store) _ (granted.Promise c.promise.result.0 c.promise.result.1) _ _ c.requires.allowed c.in_ok-begin_quietly.ensures.begun c.promise.ensures.acts
-    refl c.requires.resting.sound.numbered.refs c.in_ok-begin_quietly.ensures.calm c.promise.ensures.ready.sound.within
+    rw c.end_silently.ensures.store (promised (state_of c.args.machine.now.step.store) _ (granted.Promise c.promise-made.result.0 c.promise-made.result.1) _ _ c.requires.allowed c.in_ok-begin_quietly.ensures.begun c.promise-made.ensures.acts
+    refl c.requires.resting.sound.numbered.refs c.in_ok-begin_quietly.ensures.calm c.promise-made.ensures.ready.sound.within)

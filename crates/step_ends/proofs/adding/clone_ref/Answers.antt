@@ -12,6 +12,6 @@ use Rattle.step_ends.proofs.adding.clone_ref.Goals as goal
 pub returns-clause-obeys : goal.returns-clause-obeys
 returns-clause-obeys c =
     let s = state_of c.args.machine.now.step.store in
-    named_quietly s _ (command.CloneRef c.args.id) (granted.Reference c.clone_ref.result) _ _ c.requires.allowed c.in_ok-begin_quietly.ensures.begun c.clone_ref.ensures.acts
-    (cloned s (map.get (state_of c.begin_quietly.new.step.store).refs c.args.id.0) (granted.Reference c.clone_ref.result) _ _ c.in_ok-begin_quietly.ensures.begun c.clone_ref.ensures.acts)
-    refl c.requires.resting.sound.numbered.refs c.in_ok-begin_quietly.ensures.calm c.clone_ref.ensures.ready.sound.within
+    rw c.end_silently.ensures.store (named_quietly s _ (command.CloneRef c.args.id) (granted.Reference c.clone_ref-made.result) _ _ c.requires.allowed c.in_ok-begin_quietly.ensures.begun c.clone_ref-made.ensures.acts
+    (cloned s (map.get (state_of c.begin_quietly.new.step.store).refs c.args.id.0) (granted.Reference c.clone_ref-made.result) _ _ c.in_ok-begin_quietly.ensures.begun c.clone_ref-made.ensures.acts)
+    refl c.requires.resting.sound.numbered.refs c.in_ok-begin_quietly.ensures.calm c.clone_ref-made.ensures.ready.sound.within)

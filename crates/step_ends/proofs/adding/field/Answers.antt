@@ -12,6 +12,6 @@ use Rattle.step_ends.proofs.adding.field.Goals as goal
 pub returns-clause-obeys : goal.returns-clause-obeys
 returns-clause-obeys c =
     let s = state_of c.args.machine.now.step.store in
-    named_quietly s _ (command.Field c.args.id c.args.path.now) (granted.Reference c.field.result) _ _ c.requires.allowed c.in_ok-begin_quietly.ensures.begun c.field.ensures.acts
-    (named s c.args.path.now (map.get (state_of c.begin_quietly.new.step.store).calls c.args.id.0) (granted.Reference c.field.result) _ _ c.in_ok-begin_quietly.ensures.begun c.field.ensures.acts)
-    refl c.requires.resting.sound.numbered.refs c.in_ok-begin_quietly.ensures.calm c.field.ensures.ready.sound.within
+    rw c.end_silently.ensures.store (named_quietly s _ (command.Field c.args.id c.args.path.now) (granted.Reference c.field-made.result) _ _ c.requires.allowed c.in_ok-begin_quietly.ensures.begun c.field-made.ensures.acts
+    (named s c.args.path.now (map.get (state_of c.begin_quietly.new.step.store).calls c.args.id.0) (granted.Reference c.field-made.result) _ _ c.in_ok-begin_quietly.ensures.begun c.field-made.ensures.acts)
+    refl c.requires.resting.sound.numbered.refs c.in_ok-begin_quietly.ensures.calm c.field-made.ensures.ready.sound.within)

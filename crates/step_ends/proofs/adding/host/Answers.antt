@@ -12,6 +12,6 @@ use Rattle.step_ends.proofs.adding.host.Goals as goal
 pub returns-clause-obeys : goal.returns-clause-obeys
 returns-clause-obeys c =
     let s = state_of c.args.machine.now.step.store in
-    named_quietly s _ (command.Host c.args.object) (granted.Reference c.host.result) _ _ c.requires.allowed c.in_ok-begin_quietly.ensures.begun c.host.ensures.acts
-    (hosted s (node.Object c.args.object) (granted.Reference c.host.result) _ _ c.in_ok-begin_quietly.ensures.begun c.host.ensures.acts)
-    refl c.requires.resting.sound.numbered.refs c.in_ok-begin_quietly.ensures.calm c.host.ensures.ready.sound.within
+    rw c.end_silently.ensures.store (named_quietly s _ (command.Host c.args.object) (granted.Reference c.host-made.result) _ _ c.requires.allowed c.in_ok-begin_quietly.ensures.begun c.host-made.ensures.acts
+    (hosted s (node.Object c.args.object) (granted.Reference c.host-made.result) _ _ c.in_ok-begin_quietly.ensures.begun c.host-made.ensures.acts)
+    refl c.requires.resting.sound.numbered.refs c.in_ok-begin_quietly.ensures.calm c.host-made.ensures.ready.sound.within)
