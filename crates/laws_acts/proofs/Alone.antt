@@ -95,14 +95,14 @@ give_alone s true ids = refl
 pub back_alone : (s : State) (ids : List ℕ) → give_back s ids ≡ record s { imports = (give_back s ids).imports }
 back_alone s ids = give_alone s (flag_for s ids) ids
 
-one_alone : (s : State) (d : Descriptor) → take_one s d ≡ record s { imports = (take_one s d).imports }
+pub one_alone : (s : State) (d : Descriptor) → take_one s d ≡ record s { imports = (take_one s d).imports }
 one_alone s descriptor.None = refl
 one_alone s (descriptor.SenderHosted e) = refl
 one_alone s (descriptor.SenderPromise e) = refl
 one_alone s (descriptor.ReceiverHosted e) = refl
 one_alone s (descriptor.ReceiverAnswer q path) = refl
 
-each_alone : (s : State) (ds : List Descriptor) → take_each s ds ≡ record s { imports = (take_each s ds).imports }
+pub each_alone : (s : State) (ds : List Descriptor) → take_each s ds ≡ record s { imports = (take_each s ds).imports }
 each_alone s [] = refl
 each_alone s (d ∷ ds) =
     let t : State = take_one s d in

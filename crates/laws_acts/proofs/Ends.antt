@@ -42,7 +42,7 @@ due_of : (s : State) (q : ℕ) (x : Question) (r : Role) → IsOver s q x r → 
 due_of s q x (role.Relay k) h = h
 due_of s q x (role.Direct c) h = h.0
 
-closed_other : (m : Map Question) (q : ℕ) (x : Question) (o : Option Returned) (k : ℕ) → nat_eq k q ≡ false → map.get (closed_map m q x o) k ≡ map.get m k
+pub closed_other : (m : Map Question) (q : ℕ) (x : Question) (o : Option Returned) (k : ℕ) → nat_eq k q ≡ false → map.get (closed_map m q x o) k ≡ map.get m k
 closed_other m q x None k e = get-insert_other m q (record x { finish = finishing.Sent }) k (apart k q e)
 closed_other m q x (Some said) k e = get-remove_other m q k (apart k q e)
 
@@ -83,7 +83,7 @@ finished_calls d q x finishing.Owed = back_calls d.state (got_of x.returned)
 finished_calls d q x finishing.Sent = refl
 finished_calls d q x finishing.Waived = refl
 
-finished_other : (d : Progress) (q : ℕ) (x : Question) (f : Finishing) (k : ℕ) → nat_eq k q ≡ false → map.get (finished_by d q x f).state.questions k ≡ map.get d.state.questions k
+pub finished_other : (d : Progress) (q : ℕ) (x : Question) (f : Finishing) (k : ℕ) → nat_eq k q ≡ false → map.get (finished_by d q x f).state.questions k ≡ map.get d.state.questions k
 finished_other d q x finishing.Owed k e = closed_other _ q x x.returned k e ∙ ap (λ (m : Map Question). map.get m k) (back_questions d.state (got_of x.returned))
 finished_other d q x finishing.Sent k e = refl
 finished_other d q x finishing.Waived k e = closed_other d.state.questions q x x.returned k e

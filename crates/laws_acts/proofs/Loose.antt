@@ -72,7 +72,7 @@ loose_by_names = record { promises = loose_promise; outcomes = loose_outcome; im
 
 -- ---- What is noted
 
-in_none : (k : ℕ) → ¬ (Contains [] k)
+pub in_none : (k : ℕ) → ¬ (Contains [] k)
 in_none k h = absurd (let below = h.1 in omega (arith, below))
 
 pub tight : TightByNoneNoted

@@ -91,7 +91,7 @@ plain_of (message.Unimplemented m) other = other
 is_plain : (m k : PlainMessage) → message.Plain m ≡ message.Plain k → k ≡ m
 is_plain m k e = sym (ap (λ (x : Message). plain_of x m) e)
 
-not_plain : {A : Type 0} (m k : PlainMessage) → message.Plain m ≡ message.Unimplemented k → A
+pub not_plain : {A : Type 0} (m k : PlainMessage) → message.Plain m ≡ message.Unimplemented k → A
 not_plain m k e = absurd (let bad : message.Plain m ≡ message.Unimplemented k = e in cc)
 
 at_once : (s : State) (m k : PlainMessage) (new : Moment) → message.Plain m ≡ message.Plain k → new.clearing ≡ None → new.saying ≡ None → AreOurs new.telling → Consumes k (begin s) (progress new) → Taken s m new

@@ -67,9 +67,10 @@ use Rattle.laws_meanings.proofs.Broken as over
 use Rattle.laws_acts.proofs.Commanded.{does}
 use Rattle.laws_acts.proofs.Received.{handles}
 use Rattle.laws_meanings.proofs.Tasking.{tasks_open}
-use Rattle.laws_meanings.proofs.Walked.{in_each, step_more}
+use Rattle.laws_meanings.proofs.Walked.{in_each}
 use Rattle.laws_meanings.proofs.Whose as whose
 use Rattle.laws_meanings.proofs.WhoseFirst as walk
+use Rattle.laws_runs.proofs.FallsInRuns.{leads_more}
 
 -- The call is at no place any more.
 abbrev Gone : Scene → Stamp → Type 0
@@ -336,7 +337,7 @@ module _ (law : EachHasOneSource) (sessions : InScenes (HoldsIn Stand)) (oldest 
       let new : Scene = scenes.goes_on x (after x.world v told s) (own ++ effect_entries v told) in
       let K : Stamp → Type 0 = Gone new in
       let goes : (z : Stamp) → Gone x z → K z = λ z p. subst (λ (y : Scene). Gone y z) e (placing.stepped z 1 x mid (λ y. scenes_count a b x i y) (scenes.Commanded v c g told s o up r d w e) p) in
-      let here : IsScene a b new = subst (IsScene a b) e (step_more x mid (begins a b) i (scenes.Commanded v c g told s o up r d w e)) in
+      let here : IsScene a b new = subst (IsScene a b) e (leads_more x mid (begins a b) i (scenes.Commanded v c g told s o up r d w e)) in
       let acts = does t c g told s d in
       let now : walk.Commanded (asked_of (h ++ own) v) (last_asked (h ++ own) v) (DeliveredIn (h ++ own) v) (For K (h ++ own)) (Unwanted qs) K (broke K (h ++ own)) t c g = record {
         root = λ y z. root_asked h v t c g later y z;
@@ -369,7 +370,7 @@ module _ (law : EachHasOneSource) (sessions : InScenes (HoldsIn Stand)) (oldest 
       let new : Scene = scenes.goes_on x (after (put_inbox x.world v ms) v told s) (own ++ effect_entries v told) in
       let K : Stamp → Type 0 = Gone new in
       let goes : (z : Stamp) → Gone x z → K z = λ z p0. subst (λ (y : Scene). Gone y z) e (placing.stepped z 1 x mid (λ y. scenes_count a b x i y) (scenes.Received v m ms told s o up j f d w e) p0) in
-      let here : IsScene a b new = subst (IsScene a b) e (step_more x mid (begins a b) i (scenes.Received v m ms told s o up j f d w e)) in
+      let here : IsScene a b new = subst (IsScene a b) e (leads_more x mid (begins a b) i (scenes.Received v m ms told s o up j f d w e)) in
       let acts = handles t m told s f d in
       let now : walk.Hears (asked_of (h ++ own) v) (last_asked (h ++ own) v) (DeliveredIn (h ++ own) v) (For K (h ++ own)) (Unwanted qs) K (broke K (h ++ own)) t m = record {
         root = λ q z. asked_now q.0 OfBootstrap (asks_root q m z);

@@ -51,8 +51,9 @@ use Rattle.laws_meanings.specs.NodeLabels.{Labels, Means, CallAt, RoutedMean, Mo
 use Rattle.laws_meanings.specs.NoneLost.{in_yet, in_deliveries, here, IsToBroken, ActsLoseNone}
 use Rattle.laws_meanings.proofs.Labelled.{settles}
 use Rattle.laws_meanings.proofs.ActsMean.{acts_mean}
-use Rattle.laws_meanings.proofs.Placed.{put, cut, one_more, one_held, way-append, deliveries-append, all_to, all_held, fitted, times_made}
+use Rattle.laws_meanings.proofs.Placed.{one_more, one_held, way-append, deliveries-append, all_to, all_held, fitted, times_made}
 use Rattle.laws_meanings.proofs.Placing.{Leaves, has_own}
+use Rattle.laws_nodes.proofs.Sourced.{put, cut}
 
 -- Calls with one stamp are of one reference.
 pub one_caller : (s t : Stamp) → same_stamp s t ≡ true → caller s ≡ caller t

@@ -48,7 +48,7 @@ use Rattle.laws_runs.proofs.Reading as reading
 use Rattle.laws_meanings.proofs.Identified.{last-append}
 use Rattle.laws_meanings.proofs.LastAsked.{none_more, of_effects, of_other_effects, of_own, asked-append, first_asks, while_working}
 use Rattle.laws_meanings.proofs.Asking.{next_is, numbers_asked}
-use Rattle.laws_meanings.proofs.Walked.{in_each, step_more}
+use Rattle.laws_meanings.proofs.Walked.{in_each}
 use Rattle.laws_meanings.proofs.Whose as whose
 use Rattle.laws_meanings.proofs.Whose.{any_break}
 use Rattle.laws_acts.proofs.Commanded.{does}
@@ -63,6 +63,7 @@ use Rattle.laws_nodes.specs.Sources.{waits_for}
 use Rattle.laws_acts.specs.Sent.{Ids}
 use Rattle.laws_runs.specs.Questions.{Asker, Answerer, Ret, Row}
 use Rattle.laws_meanings.proofs.OfCalls.{Parts, Mine, NoneOpen, carry, quiet_mine, moved, theirs, sent_last, still_last, rest_last, same_last}
+use Rattle.laws_runs.proofs.FallsInRuns.{leads_more}
 
 -- ---- What a command asks
 
@@ -277,7 +278,7 @@ module _ (law : EachHasOneSource) (sessions : InScenes (HoldsIn Stand)) (a b : O
       let begun : Begins (h ++ own) v t = (begins_so (h ++ own) v t (quiet_mine h own v t n (at v x k).0), all_answers (h ++ own) v t, no_source v x i) in
       let acts = does t c g told s d in
       let left = walk.commands (asked_of (h ++ own) v) (last_asked (h ++ own) v) (DeliveredIn (h ++ own) v) Free Any Never free t c g told s now begun acts (any_break (asked_of (h ++ own) v) (last_asked (h ++ own) v) (DeliveredIn (h ++ own) v) Free Any free acts.last acts.started acts.acts) in
-      let next : HoldsIn Stand (after x.world v told s) = sessions a b _ (subst (IsScene a b) e (step_more x mid (begins a b) i (scenes.Commanded v c g told s o up r d w e))) in
+      let next : HoldsIn Stand (after x.world v told s) = sessions a b _ (subst (IsScene a b) e (leads_more x mid (begins a b) i (scenes.Commanded v c g told s o up r d w e))) in
       rw e (went_on v x told s (own ++ effect_entries v told) (moves v x (inbox x.world v) told s own n (open_after v x.world told s next) k (at v x k).1 left.0))
   stepped x mid i (scenes.Received v m ms told s o up j f d w e) k =
       let h = x.journal in
@@ -298,7 +299,7 @@ module _ (law : EachHasOneSource) (sessions : InScenes (HoldsIn Stand)) (a b : O
       let begun : Begins (h ++ own) v t = (begins_so (h ++ own) v t (quiet_mine h own v t n (at v x k).0), all_answers (h ++ own) v t, no_source v x i) in
       let acts = handles t m told s f d in
       let left = walk.messages (asked_of (h ++ own) v) (last_asked (h ++ own) v) (DeliveredIn (h ++ own) v) Free Any Never free t m told s now begun acts (any_break (asked_of (h ++ own) v) (last_asked (h ++ own) v) (DeliveredIn (h ++ own) v) Free Any free acts.last acts.consumed acts.acts) in
-      let next : HoldsIn Stand (after (put_inbox x.world v ms) v told s) = sessions a b _ (subst (IsScene a b) e (step_more x mid (begins a b) i (scenes.Received v m ms told s o up j f d w e))) in
+      let next : HoldsIn Stand (after (put_inbox x.world v ms) v told s) = sessions a b _ (subst (IsScene a b) e (leads_more x mid (begins a b) i (scenes.Received v m ms told s o up j f d w e))) in
       let rest = rest_last h (other_vat v) m ms (subst (AreAskedLast h (other_vat v)) j (at v x k).1) in
       rw e (took v x ms told s (own ++ effect_entries v told) (moves v x ms told s own n (open_taken v x.world ms told s next) k rest left.0))
   stepped x mid i (scenes.GivesUp v c o r f e) k = rw e (stopped v x (granted_entries x.journal v c granted.Done) (λ u q. of_own u q v x.journal c granted.Done) k)

@@ -28,14 +28,9 @@ use Rattle.laws_acts.specs.Moments.{each_to, held_to}
 use Rattle.laws_acts.specs.SmallActs.{release_messages}
 use Rattle.laws_meanings.specs.OnePlace.{counted, is_call, in_calls, in_held, at_promise, on_way, deliveries_of}
 use Rattle.laws_meanings.specs.NoneLost.{in_yet, in_deliveries}
+use Rattle.laws_nodes.proofs.Sourced.{put, cut}
 
 -- ---- One entry of a table
-
-pub put : {X : Type 0} (f : X → ℕ) (m : Map X) (k : ℕ) (x y : X) → map.get m k ≡ Some x → tally f (map.insert m k y) + f x ≡ f y + tally f m
-put f m k x y e = let a = tally-insert f m k y in let b = tally-split f m k x e in omega arith
-
-pub cut : {X : Type 0} (f : X → ℕ) (m : Map X) (k : ℕ) (x : X) → map.get m k ≡ Some x → tally f (map.remove m k) + f x ≡ tally f m
-cut f m k x e = let b = tally-split f m k x e in omega arith
 
 module _ (s : Stamp) where
   -- ---- Lists

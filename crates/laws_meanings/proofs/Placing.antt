@@ -56,11 +56,12 @@ use Rattle.laws_runs.proofs.Showing.{every_run}
 use Rattle.laws_runs.specs.Telling.{tells, telling}
 use Rattle.laws_meanings.specs.OnePlace.{counted, in_held, at_promise, at_outcome, at_embargo, waiting, in_message, on_way, in_entry, deliveries_of, places, CallsAreAtOnePlace, IfFirstDelivery, DeliveriesAreFirst, DeliveredOnce}
 use Rattle.laws_meanings.specs.NoneLost.{in_yet, in_deliveries, here}
-use Rattle.laws_meanings.proofs.Placed.{put, cut, one_more, one_held, way-append, entries-append, deliveries-append, all_to, all_held, no_releases, fitted, of_effects, times_made, made-append, made_once, not_delivered}
+use Rattle.laws_meanings.proofs.Placed.{one_more, one_held, way-append, entries-append, deliveries-append, all_to, all_held, no_releases, fitted, of_effects, times_made, made-append, made_once, not_delivered}
 use Rattle.laws_meanings.proofs.Stamped.{numbered_in, same_itself}
 use Rattle.laws_meanings.proofs.Making.{grants}
 use Rattle.laws_meanings.proofs.Entries.{is_effect, granted_always, Claim, EachAfter}
 use Rattle.laws_meanings.proofs.Walked.{in_each}
+use Rattle.laws_nodes.proofs.Sourced.{put, cut}
 
 -- What a command calls has the stamp that is new.
 abbrev IsOwn : State → (Stamp → ℕ) → Command → Type 0

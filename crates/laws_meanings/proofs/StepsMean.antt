@@ -32,12 +32,13 @@ use Rattle.laws_meanings.specs.NodeLabels.{Labels, Places, AreLed, EndsAreLed}
 use Rattle.laws_meanings.specs.StepMeanings.{ScenesCommandsKeep, LastWordsAreLed}
 use Rattle.laws_meanings.specs.WrittenCommands.{Opens, CommandsAreWritten}
 use Rattle.laws_meanings.proofs.Entries.{each-append, upto, is_effect, granted_always}
-use Rattle.laws_meanings.proofs.Walked.{in_each, step_more}
+use Rattle.laws_meanings.proofs.Walked.{in_each}
 use Rattle.laws_meanings.proofs.OfCallsScenes.{reached_at, both_reached}
 use Rattle.laws_meanings.proofs.CommandsMean.{commands_mean}
 use Rattle.laws_meanings.proofs.OpensMean.{openings_mean}
 use Rattle.laws_meanings.proofs.Lasts.{places_last}
 use Rattle.laws_meanings.proofs.Written.{effects_are_written, IsLed, each_led}
+use Rattle.laws_runs.proofs.FallsInRuns.{leads_more}
 
 -- ---- Which vat it is
 
@@ -78,7 +79,7 @@ its_vat a b x k v = by v (in_each a b Both (λ y mid i t p. stepped y mid t p) (
 
 -- ---- The step
 
-opens_or_not : (c : Command) → OpensNothing c ⊎ Opens c
+pub opens_or_not : (c : Command) → OpensNothing c ⊎ Opens c
 opens_or_not command.Bootstrap = inr tt
 opens_or_not (command.Call k) = inr tt
 opens_or_not command.Promise = inr tt
@@ -113,7 +114,7 @@ scenes_commands_keep new written whole one ends paired a b x v l c g e t k over 
     let z = by s (x.journal ++ own) (its_vat a b x k v) (opens_or_not c) w reached before d in
     let m = z.0 in
     let mid = scenes.goes_on x (after x.world v e t) (own ++ es) in
-    let is_scene : IsScene a b mid = step_more x mid (begins a b) k (scenes.Commanded v c g e t over up r d within refl) in (
+    let is_scene : IsScene a b mid = leads_more x mid (begins a b) k (scenes.Commanded v c g e t over up r d within refl) in (
       (m, effects_are_written new a b mid (x.journal ++ own) v m e t is_scene (sym (append_assoc x.journal own es)) z.1),
       λ first rest y f. upto (IsLed a b v) x.journal (own ++ es) first rest y (each-append (IsLed a b v) x.journal own es (granted_always (IsLed a b v) (no_effect a b v) v x.journal x.journal c g) (each_led a b v (x.journal ++ own) e z.2 z.3)) f,
     )

@@ -39,12 +39,9 @@ use Rattle.laws_runs.specs.Views.{IsUseful}
 use Rattle.laws_messages.specs.Oldest.{IsFirstResolve, NoneClashes}
 use Rattle.laws_messages.specs.Left.{turning_fault, left_of}
 use Rattle.laws_messages.proofs.Descriptors.{there, none_found}
+use Rattle.laws_runs.proofs.FallsInRuns.{or_none}
 
 -- ---- Checks in their order
-
-or_none : (o : Option ℕ) → or_rest o None ≡ o
-or_none None = refl
-or_none (Some n) = refl
 
 fits : (m n : ℕ) → m ≡ n → if_so (not (nat_eq m n)) bad_payload ≡ None
 fits m n e = ap (λ k. if_so (not (nat_eq m k)) bad_payload) (sym e) ∙ ap (λ b. if_so (not b) bad_payload) (itself m)

@@ -53,10 +53,10 @@ use Rattle.finite_maps.proofs.Coming.{next_given, none_without}
 
 -- ---- Sums
 
-put : {X : Type 0} (f : X → ℕ) (m : Map X) (k : ℕ) (x y : X) → map.get m k ≡ Some x → tally f (map.insert m k y) + f x ≡ f y + tally f m
+pub put : {X : Type 0} (f : X → ℕ) (m : Map X) (k : ℕ) (x y : X) → map.get m k ≡ Some x → tally f (map.insert m k y) + f x ≡ f y + tally f m
 put f m k x y e = let a = tally-insert f m k y in let b = tally-split f m k x e in omega arith
 
-cut : {X : Type 0} (f : X → ℕ) (m : Map X) (k : ℕ) (x : X) → map.get m k ≡ Some x → tally f (map.remove m k) + f x ≡ tally f m
+pub cut : {X : Type 0} (f : X → ℕ) (m : Map X) (k : ℕ) (x : X) → map.get m k ≡ Some x → tally f (map.remove m k) + f x ≡ tally f m
 cut f m k x e = let b = tally-split f m k x e in omega arith
 
 one_more : (o : ℕ) (cs : List WaitingCall) (c : WaitingCall) → calls_for o (cs ++ c ∷ []) ≡ calls_for o cs + is_key o c.outcome

@@ -26,7 +26,7 @@ use Rattle.vat_machine.specs.Sweeping.{Asked, FinishesEach, Over, Sweeps, Thing,
 use Rattle.laws_steps.specs.Callers.{HasOutcome, IsAskedFor, IsFor, peer}
 use Rattle.laws_steps.specs.NodesThere.{IsWhole, Stands}
 use Rattle.laws_steps.proofs.Below.{Below, below_same, below_then, collects_below, collects_questions, goes_questions}
-use Rattle.laws_steps.proofs.Swept.{closed_other, finished_below, given_questions, released}
+use Rattle.laws_steps.proofs.Swept.{finished_below, given_questions, released}
 use Rattle.laws_routes.specs.Named.{EachReturn, ReturnOf}
 use Rattle.laws_routes.specs.Premises.{EachOpen, IsUnfinished, OpenOf}
 use Rattle.laws_routes.specs.Ties.{Around}
@@ -34,6 +34,7 @@ use Rattle.laws_routes.specs.Midway.{IsHeld, IsOutcomeOf, Midway, MidwayAt}
 use Rattle.laws_routes.proofs.MidwayBelow.{below_still}
 use Rattle.laws_routes.proofs.MidwaySaid.{goes_out}
 use Rattle.laws_routes.proofs.ReturnSent.{collected_links}
+use Rattle.laws_acts.proofs.Ends.{closed_other}
 
 pub first : {A B C : Type 0} → A ⊎ (B × C) → A ⊎ B
 first (inl a) = inl a

@@ -165,7 +165,7 @@ given_exports s false es = refl
 
 -- ---- What it says
 
-past_questions : (has : Has) (ms : List Message) → (has_past has ms).question ≡ has.question
+pub past_questions : (has : Has) (ms : List Message) → (has_past has ms).question ≡ has.question
 past_questions has [] = refl
 past_questions has (message.Plain m ∷ ms) = past_questions (has_behind has (descriptors_of (message.Plain m))) ms
 past_questions has (message.Unimplemented m ∷ ms) = past_questions has ms

@@ -46,10 +46,7 @@ use Rattle.laws_runs.proofs.Paid as pays
 use Rattle.laws_runs.proofs.Got.{took_one, balanced}
 use Rattle.laws_runs.proofs.AboveZero as above
 use Rattle.laws_runs.proofs.Flags.{Reads, reads, takes_first, takes_all}
-
-giving-append : (e : ℕ) (ms ns : List Message) → giving e (ms ++ ns) ≡ giving e ms + giving e ns
-giving-append e [] ns = omega arith
-giving-append e (m ∷ ms) ns = let r = giving-append e ms ns in omega arith
+use Rattle.vat_machine.proofs.ExportCounts.{giving-append}
 
 pub given_behind : (e : ℕ) (to sent : List Noted) → giving e (messages (to ++ sent)) ≡ giving e (messages to) + giving e (messages sent)
 given_behind e to sent = ap (giving e) (messages-append to sent) ∙ giving-append e (messages to) (messages sent)

@@ -140,7 +140,7 @@ event_so x h w (event.Deliver u) (Handled told) room new shut s d o t k = by (in
 
 -- ---- Runs
 
-leads_more : (x y z : Scene) → LeadsTo x z → Steps x y → LeadsTo y z
+pub leads_more : (x y z : Scene) → LeadsTo x z → Steps x y → LeadsTo y z
 leads_more x y z NoMore s = Then s NoMore
 leads_more x y z (Then {mid = mid} first rest) s = Then first (leads_more x y mid rest s)
 
@@ -154,7 +154,7 @@ GoesOn P w h xs new =
     (es : List JournalEntry) × (journal_from h xs ≡ h ++ es) × Fine (λ v. shut_number v xs) h es × SaysDown new (h ++ es)
     × ((x : Scene) × P x × Shows x (h ++ es) new)
 
-or_none : (o : Option ℕ) → or_rest o None ≡ o
+pub or_none : (o : Option ℕ) → or_rest o None ≡ o
 or_none None = refl
 or_none (Some n) = refl
 
@@ -182,7 +182,7 @@ run_so start old x h w (e ∷ rest) new l s d k =
     agree v None f dm = inl (sym (ap (λ (o : Option ℕ). or_rest o (shut_number v rest)) f))
     agree v (Some n) f dm = inr (dm v ∙ some_shut w k.0 e.event e.answer e.had_room v n k.1 f)
 
-says_at_start : (a b : Option ObjectId) → SaysDown (new_world a b) []
+pub says_at_start : (a b : Option ObjectId) → SaysDown (new_world a b) []
 says_at_start a b A = refl
 says_at_start a b B = refl
 

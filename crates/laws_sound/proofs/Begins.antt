@@ -23,22 +23,7 @@ use Rattle.laws_meanings.specs.LastingMeanings.{PlacesLast}
 use Rattle.laws_meanings.specs.WrittenCommands.{CommandsAreWritten, Opens}
 use Rattle.laws_sound.specs.OldestHeard.{OldestAreHeard, exports_mean}
 use Rattle.laws_sound.specs.ScenesMean.{BeginningsFollow, Means, ScenesMean}
-
-pub opens_or_not : (c : Command) → OpensNothing c ⊎ Opens c
-opens_or_not command.Bootstrap = inr tt
-opens_or_not (command.Call k) = inr tt
-opens_or_not command.Promise = inr tt
-opens_or_not (command.Host o) = inl tt
-opens_or_not (command.CloneRef r) = inl tt
-opens_or_not (command.DropRef r) = inl tt
-opens_or_not (command.Field c path) = inl tt
-opens_or_not (command.Resolve p r) = inl tt
-opens_or_not (command.Reject p why) = inl tt
-opens_or_not (command.Answer t payload refs) = inl tt
-opens_or_not (command.Fail t why) = inl tt
-opens_or_not (command.Finish c) = inl tt
-opens_or_not (command.Advance r) = inl tt
-opens_or_not (command.Shut n) = inl tt
+use Rattle.laws_meanings.proofs.StepsMean.{opens_or_not}
 
 pub written_either : (h : History) (v : Vat) (s : State) (c : Command) → OpensNothing c ⊎ Opens c → IsWritten h v s c → (Opens c → IsWrittenOpen h v s c) → (OpensNothing c × IsWritten h v s c) ⊎ IsWrittenOpen h v s c
 written_either h v s c (inl o) w f = inl (o, w)

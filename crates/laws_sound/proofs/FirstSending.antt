@@ -47,7 +47,8 @@ use Rattle.laws_wires.specs.Sent.{CallerSo, IsAwaited, SentMean}
 use Rattle.laws_wires.specs.Wires.{Session, past_one, session_of, sessions_at, with_session}
 use Rattle.laws_sound.specs.OldestHeard.{exports_mean}
 use Rattle.laws_sound.specs.StepsInScenes.{FirstActsSend, FirstCommandsSend, FirstMessagesSend}
-use Rattle.laws_sound.proofs.Begins.{opens_or_not, written_either}
+use Rattle.laws_sound.proofs.Begins.{written_either}
+use Rattle.laws_meanings.proofs.StepsMean.{opens_or_not}
 
 -- ---- Outcomes for which the peer waits
 

@@ -17,12 +17,12 @@ use Rattle.laws_runs.specs.Scenes as scenes
 use Rattle.laws_runs.specs.Scenes.{Scene, IsScene, begins}
 use Rattle.laws_meanings.specs.LastingMeanings.{PlacesLast}
 use Rattle.laws_meanings.specs.NodeLabels.{Labels, Places}
-use Rattle.laws_meanings.proofs.Walked.{step_more}
 use Rattle.laws_wires.specs.StepWires.{WiresLive}
 use Rattle.laws_wires.specs.Wires.{WiresMean, WorldMeans}
 use Rattle.laws_sound.specs.ScenesMean.{GoesOn, Means, MeaningsAreKept}
 use Rattle.laws_sound.specs.StepsInScenes.{CommandsStep, MessagesStep}
 use Rattle.laws_sound.specs.WiresKept.{BothMean, WiresAreKept, WiresAreKeptInScenes}
+use Rattle.laws_runs.proofs.FallsInRuns.{leads_more}
 
 -- With these labels of one vat.
 abbrev with_labels : (Vat → Labels) → Vat → Labels → Vat → Labels
@@ -80,7 +80,7 @@ meanings_kept commands messages places wires kept a b x new t go scene i = by t 
         let own = granted_entries x.journal v c g in
         let effects = effect_entries v told in
         let parts = sym (append_assoc x.journal own effects) in
-        let z = commands a b x new i.0 v c g told s scene (step_more x new (begins a b) scene (scenes.Commanded v c g told s o up r d w e)) i.1 o r d (ap (λ (y : Scene). y.journal) e ∙ parts) in
+        let z = commands a b x new i.0 v c g told s scene (leads_more x new (begins a b) scene (scenes.Commanded v c g told s o up r d w e)) i.1 o r d (ap (λ (y : Scene). y.journal) e ∙ parts) in
         let m = z.2.0 in
         let both = meant.commands x i.0 v c g told s m z.0 scene i.1 o r d z.1 z.2.1 z.2.3 in
         arrives v (inbox x.world v) own effects (own ++ effects) told s m x.world (sym (as_it_was x.world v)) e parts z.2.2 both
@@ -88,7 +88,7 @@ meanings_kept commands messages places wires kept a b x new t go scene i = by t 
         let own = entry.Got v ∷ [] in
         let effects = effect_entries v told in
         let parts = sym (append_assoc x.journal own effects) in
-        let z = messages a b x new i.0 v y ms told s scene (step_more x new (begins a b) scene (scenes.Received v y ms told s o up p f d w e)) i.1 p f d (ap (λ (k : Scene). k.journal) e ∙ parts) in
+        let z = messages a b x new i.0 v y ms told s scene (leads_more x new (begins a b) scene (scenes.Received v y ms told s o up p f d w e)) i.1 p f d (ap (λ (k : Scene). k.journal) e ∙ parts) in
         let m = z.2.0 in
         let both = meant.messages x i.0 v y ms told s m z.0 scene i.1 p f d z.1 z.2.1 z.2.2 z.2.4 in
         arrives v ms own effects (own ++ effects) told s m (put_inbox x.world v ms) refl e parts z.2.3 both

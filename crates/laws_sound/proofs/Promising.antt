@@ -20,6 +20,7 @@ use Rattle.laws_scenes.specs.Ordered.{RunsAreOrdered}
 use Rattle.laws_scenes.specs.Refused.{AllFallsAreKnown, RunsRefuseNothing}
 use Rattle.laws_sound.specs.Promised.{AreEachAtOne, events_of, GoesDown, GoesDownFor, ItsShut, WantOfRoom, TheLimit, TheOther, BootstrapsStay, DownsAreKnown, DownsAreTold, WorldsAreSound, WorldsKeepPromises}
 use Rattle.laws_sound.proofs.Kept as kept
+use Rattle.laws_runs.proofs.FallsInRuns.{says_at_start}
 
 -- ---- Why vats went down
 
@@ -49,14 +50,10 @@ says_run : (h : List JournalEntry) (w : World) (xs : List Happening) (new : Worl
 says_run h w [] new d k = subst (λ (z : World). SaysDown z h) (sym k) d
 says_run h w (x ∷ xs) new d k = says_run (h ++ event_entries h x.event x.had_room x.answer) k.0 xs new (says_more w k.0 x.event h x.answer x.had_room d k.1) k.2
 
-says_first : (a b : Option ObjectId) → SaysDown (new_world a b) []
-says_first a b A = refl
-says_first a b B = refl
-
 told : (h : List JournalEntry) (w : World) (run : IsReached (record { world = w; journal = events_of h })) → DownsAreTold h w
 told h w run v =
     sym (kept.went_kept v h) ∙ ap (went_down_in v) run.told
-    ∙ says_run [] (new_world run.root_a run.root_b) run.happened w (says_first run.root_a run.root_b) run.ran v
+    ∙ says_run [] (new_world run.root_a run.root_b) run.happened w (says_at_start run.root_a run.root_b) run.ran v
 
 -- ---- All of it
 

@@ -44,8 +44,9 @@ use Rattle.laws_wires.specs.SceneOut.{ActsAskSo, AreAskedSo, CommandsAskSo, Mess
 use Rattle.laws_wires.specs.Wires.{Session, past_one, sessions_at}
 use Rattle.laws_sound.specs.OldestHeard.{OldestAreHeard, exports_mean}
 use Rattle.laws_sound.specs.StepsInScenes.{AreKept, CommandsStep, FirstActsSend, HasStepped, MessagesStep}
-use Rattle.laws_sound.proofs.Begins.{opens_or_not}
 use Rattle.laws_sound.proofs.PromisesStay.{Stay, started, consumed}
+use Rattle.laws_wires.proofs.WholeSent.{all_same}
+use Rattle.laws_meanings.proofs.StepsMean.{opens_or_not}
 
 -- ---- What is named keeps its label
 
@@ -125,13 +126,10 @@ stepped say ask h v l n s d last said told t kept whole stay acts ends i g asked
 of_labels : (l m : Labels) (s : State) → LabelsKept l m s → AreKept l m s
 of_labels l m s k = record { promises = k.promises; imports = λ e y f. k.imports e; outcomes = k.outcomes; questions = k.questions }
 
-itself : (l : Labels) (s : State) → LabelsKept l l s
-itself l s = record { promises = λ p y e. refl; imports = λ e. refl; outcomes = λ o y e. refl; questions = λ q y e. refl }
-
 module _ (plain : FirstActsMean) (opens : FirstOpeningsMean) where
   begun : (h : History) (v : Vat) (l : Labels) (s : State) (c : Command) (g : Granted) (d : Moment) → IsFit v s → OpensNothing c ⊎ Opens c → IsWritten h v s c → (Opens c → IsWrittenOpen h v s c) → Places h v l quiet s → Starts (beginning s) c g d
       → (m : Labels) × LabelsKept l m s × MomentMeans h v m d
-  begun h v l s c g d fit (inl o) w f i k = (l, itself l s, plain h v l s c g d o w fit.questions i k)
+  begun h v l s c g d fit (inl o) w f i k = (l, all_same l s, plain h v l s c g d o w fit.questions i k)
   begun h v l s c g d fit (inr o) w f i k =
       subst (λ (u : Vat). (m : Labels) × LabelsKept l m s × MomentMeans h u m d) fit.vat
       (opens h l s c g d (subst (λ (u : Vat). IsWrittenOpen h u s c) (sym fit.vat) (f o)) fit.whole fit.one_source fit.questions fit.paired (subst (λ (u : Vat). Places h u l quiet s) (sym fit.vat) i) k)

@@ -29,6 +29,7 @@ use Rattle.laws_steps.specs.Settled.{IsAmong}
 use Rattle.finite_maps.proofs.Tested.{equal, get_left}
 use Rattle.laws_steps.proofs.Among.{none_among, none_counted, named, by_entry, where_named, in_refs, in_embargoes, in_promises, in_outcomes, in_questions, in_imports, in_exports, in_answers}
 use Rattle.laws_steps.proofs.NamedNodes.{at_put, at_cut}
+use Rattle.laws_acts.proofs.Pieces.{tight_then}
 
 -- Each entry was there before.
 abbrev pub Left : {X : Type 0} → Map X → Map X → Type 0
@@ -174,10 +175,6 @@ collects_below new d (Loose {mid = mid} g rest) = below_then d.state mid.state n
 pub collects_questions : (new d : Progress) → Collects new d → new.state.questions ≡ d.state.questions
 collects_questions new d (Tight h) = refl
 collects_questions new d (Loose {mid = mid} g rest) = collects_questions new mid rest ∙ goes_questions d mid g
-
-pub collected_tight : (new d : Progress) → Collects new d → IsTight new.state
-collected_tight new d (Tight h) = h
-collected_tight new d (Loose {mid = mid} g rest) = collected_tight new mid rest
 
 give_one_left : (m : Map Import) (e : ℕ) (o : Option Import) → map.get m e ≡ o → LeftImports m (give_one m e o)
 give_one_left m e None f = imports_same m

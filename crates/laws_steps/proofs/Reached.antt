@@ -213,7 +213,7 @@ pub are_there : NodesAreThere
 are_there s h = is_whole s (comes_whole s (start h.0 h.1 h.2) (empty_whole h.0 h.1 h.2 None) h.3)
 
 -- So the promise or the outcome is.
-own_there : (s : State) (n : Node) → Stands s n → IsThere s n
+pub own_there : (s : State) (n : Node) → Stands s n → IsThere s n
 own_there s (node.Object o) h = tt
 own_there s (node.Promise p) h = h
 own_there s (node.Field o path) h = h

@@ -35,7 +35,9 @@ use Rattle.laws_steps.proofs.NamedNodes.{Present, asker, askers, Tied, AllIn, Ea
 use Rattle.laws_steps.proofs.GivenBack.{of_closed, still_here, gives}
 use Rattle.laws_steps.proofs.HeldQuestions.{brings_none, brought_put, brought_cut}
 use Rattle.laws_steps.proofs.NamedPieces.{collects}
-use Rattle.laws_steps.proofs.Below.{IsClosed, Below, none_below, below_same, below_then, collects_below, collects_questions, collected_tight, goes_questions, gives_below, closes_below, still_below}
+use Rattle.laws_steps.proofs.Below.{IsClosed, Below, none_below, below_same, below_then, collects_below, collects_questions, goes_questions, gives_below, closes_below, still_below}
+use Rattle.laws_acts.proofs.Ends.{closed_other}
+use Rattle.laws_acts.proofs.Pieces.{tight_then}
 
 -- Of the questions nothing is known.
 abbrev Anything : Map Question → Type 0
@@ -100,10 +102,6 @@ finished_questions : (d : Progress) (q : ℕ) (x : Question) (f : Finishing) →
 finished_questions d q x finishing.Owed h = ap (λ (m : Map Question). closed_map m q x x.returned) (given_questions d.state (flag_for d.state (got_of x.returned)) (got_of x.returned))
 finished_questions d q x finishing.Sent h = absurd h
 finished_questions d q x finishing.Waived h = refl
-
-pub closed_other : (m : Map Question) (q : ℕ) (x : Question) (o : Option Returned) (k : ℕ) → nat_eq k q ≡ false → map.get (closed_map m q x o) k ≡ map.get m k
-closed_other m q x None k e = get_other m q (record x { finish = finishing.Sent }) k e
-closed_other m q x (Some said) k e = get_left m q k e
 
 closed_here : (m : Map Question) (q : ℕ) (x : Question) (o : Option Returned) → x.returned ≡ o → IsClosed (map.get (closed_map m q x o) q)
 closed_here m q x None e = subst IsClosed (sym (get-insert_same m q (record x { finish = finishing.Sent }))) (e, refl)
@@ -322,7 +320,7 @@ swept {w} d new i h =
     let all : Finished (askers s.questions) s (map.entries over) mid.state = finishes_each d (map.entries over) mid (map.entries_sorted over) rest start g.1 in
     let same : t.questions ≡ mid.state.questions = collects_questions tight mid k.1 in
     let below : Below s t = below_then s mid.state t all.below (collects_below tight mid k.1) in
-    let ends : IsTight t = collected_tight tight mid k.1 in
+    let ends : IsTight t = tight_then tight mid k.1 in
     let shut : (q : ℕ) → Present (map.get over q) → IsClosed (map.get t.questions q) = λ q p. subst (λ (m : Map Question). IsClosed (map.get m q)) (sym same) (all.done q (present_of _ _ (map.get-entries over q) p)) in
     let others : (q : ℕ) → map.get over q ≡ None → map.get t.questions q ≡ map.get s.questions q = λ q e. ap (λ (m : Map Question). map.get m q) same ∙ all.others q (sym (map.get-entries over q) ∙ e) in
     let fine : Fine (askers t.questions) t = still_fine s t over from others (withers_done d over t wither below ends shut) (collects tight mid all.sound k.1) in

@@ -47,6 +47,7 @@ use Rattle.laws_messages.proofs.Oldest.{same_plain}
 use Rattle.laws_meanings.specs.NodeLabels.{Labels, label}
 use Rattle.laws_wires.specs.SceneWires.{CommandsKeepNamed, MessagesKeepNamed}
 use Rattle.laws_wires.proofs.SentSo.{goes_so, grown_on}
+use Rattle.laws_acts.proofs.Walked.{not_plain}
 
 -- ---- The first act of a command adds exports
 
@@ -78,9 +79,6 @@ module _ (h : History) (l : Labels) (s : State) where
   started c g d (first.Turns r x by n t q e f i j k m o b a u) = rw u (all_there s.exports)
 
 -- ---- The exports that a message leaves
-
-not_plain : {A : Type 0} (m k : PlainMessage) → message.Plain m ≡ message.Unimplemented k → A
-not_plain m k e = absurd (let bad : message.Plain m ≡ message.Unimplemented k = e in cc)
 
 nothing : (l : Level) (t : State) → t ≡ record t { imports = (take_at l t []).imports }
 nothing Zero t = refl

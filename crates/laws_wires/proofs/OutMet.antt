@@ -52,7 +52,8 @@ use Rattle.laws_wires.specs.SceneOut.{AreAskedSo, CommandsMeetOut, IsAskedSo, Me
 use Rattle.laws_wires.proofs.Behind.{past_off}
 use Rattle.laws_wires.proofs.LinksRead.{links_say_so}
 use Rattle.laws_wires.proofs.ReadActs.{Ready, all}
-use Rattle.laws_wires.proofs.ReadSo.{Agrees, IfDirect, IsOwing, has_question, owing_before}
+use Rattle.laws_wires.proofs.ReadSo.{Agrees, IfDirect, IsOwing, owing_before}
+use Rattle.laws_routes.proofs.ReturnSent.{past_questions}
 
 -- ---- Behind the first act of a message
 
@@ -263,7 +264,7 @@ module _ (h : History) (w : Around) (out : List Message) (said : ℕ → Session
 
   aimed : (back : List Message) → ((q : ℕ) → QuestionAgrees w.k q (past w.u said back q) (map.get w.z.questions q)) → (q : ℕ) → EachOpen (λ k. nat_eq k q ≡ false) back → has.question q ≡ true → AreOfOne (said q) (by.question q)
   aimed back kq q off i =
-      let a = subst (λ (f : ℕ → Bool). f q ≡ true) (has_question (has_of [] w.z.imports w.z.questions) out) i in
+      let a = subst (λ (f : ℕ → Bool). f q ≡ true) (past_questions (has_of [] w.z.imports w.z.questions) out) i in
       subst (λ (b : Session). AreOfOne b (by.question q)) (past_off w.u q said back off) (of_one q (past w.u said back q) (map.get w.z.questions q) (kq q) a)
 
   first_read : (ms : List Message) → SaidFirst ms → AllRead w.v w.m by said has now ms

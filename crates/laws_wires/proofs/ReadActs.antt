@@ -25,7 +25,8 @@ use Rattle.laws_wires.specs.SceneOut.{AreAskedSo, IsAskedSo}
 use Rattle.laws_wires.proofs.AskedOnce.{MovedAt, moved}
 use Rattle.laws_wires.proofs.Behind.{past_off}
 use Rattle.laws_wires.proofs.ImportsBrought.{kept_there}
-use Rattle.laws_wires.proofs.ReadSo.{Agrees, IfDirect, IsOwing, Reads, all_join, all_sent_read, first_in, first_owed, has_question, owing_before}
+use Rattle.laws_wires.proofs.ReadSo.{Agrees, IfDirect, IsOwing, Reads, all_join, all_sent_read, first_in, first_owed, owing_before}
+use Rattle.laws_routes.proofs.ReturnSent.{past_questions}
 
 -- ---- What is newly asked
 
@@ -90,7 +91,7 @@ module _ (v : Vat) (m : Labels) (x : Reader) (said : ℕ → Session) (has : Has
       let did = kept_ready d mid i.ready a in
       let sends = d.effects.sends in
       let owed = first_in (λ q. IsOwing (answerer_of (map.get d.state.answers q))) (λ q. (has_past has sends).question q ≡ true → AreOfOne (said q) (x.question q)) (sent_by a)
-      (λ q owing waits. i.owed q owing (subst (λ (f : ℕ → _). f q ≡ true) (has_question has sends) waits)) (first_owed d.state mid.state (sent_by a) did.moves.returns) in
+      (λ q owing waits. i.owed q owing (subst (λ (f : ℕ → _). f q ≡ true) (past_questions has sends) waits)) (first_owed d.state mid.state (sent_by a) did.moves.returns) in
       let here : Reads v m x said (past v now sends) d.state = record { imports = i.imports; asked = i.asked } in
       let more = all_sent_read v m x said (has_past has sends) (past v now sends) d mid a names here owed in
       record {

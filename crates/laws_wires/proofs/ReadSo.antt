@@ -56,13 +56,9 @@ use Rattle.laws_meanings.specs.NodeLabels.{Labels}
 use Rattle.laws_wires.specs.Wires.{Session, Reader, has_past, past, past_one}
 use Rattle.laws_wires.specs.SentWires.{AreOfOne, EachRead, IsReadTarget}
 use Rattle.laws_wires.specs.SentLinks.{AllRead}
+use Rattle.laws_routes.proofs.ReturnSent.{past_questions}
 
 -- ---- Lists
-
-pub has_question : (has : Has) (ms : List Message) → (has_past has ms).question ≡ has.question
-has_question has [] = refl
-has_question has (message.Plain m ∷ ms) = has_question (has_behind has (descriptors_of (message.Plain m))) ms
-has_question has (message.Unimplemented m ∷ ms) = has_question has ms
 
 -- Of the first message that was sent, if it is a Return.
 abbrev pub FirstReturn : (ℕ → Type 0) → List Noted → Type 0

@@ -69,7 +69,7 @@ is_kept s (node.Import e) i = tt
 is_kept s (node.Pipe q path) i = tt
 is_kept s (node.Broken reason) i = tt
 
-all_same : (l : Labels) (s : State) → LabelsKept l l s
+pub all_same : (l : Labels) (s : State) → LabelsKept l l s
 all_same l s = record { promises = λ p y e. refl; imports = λ e. refl; outcomes = λ o y e. refl; questions = λ q y e. refl }
 
 module _ (acts : StepsAreSmallActs) (plain : FirstActsMean) (openings : FirstOpeningsMean) (commands : CommandsSaySo) (steps : StepsSaySo) where

@@ -35,7 +35,7 @@ use Rattle.vat_machine.specs.Steps.{Handles}
 use Rattle.machine_examples.proofs.EndOfStep.{ends_quietly}
 use Rattle.machine_examples.proofs.TurningBack.{get_put_same}
 
-understood : (l : Level) (r : Return) → is_foreign l (plain.Return r) ≡ false
+pub understood : (l : Level) (r : Return) → is_foreign l (plain.Return r) ≡ false
 understood Zero r = refl
 understood One r = refl
 

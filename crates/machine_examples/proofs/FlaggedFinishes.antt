@@ -21,9 +21,9 @@ use Rattle.vat_machine.specs.Sweeping.{IsToFinish, closed, Withers, Over, Thing,
 use Rattle.vat_machine.specs.Commands.{FinishesCall}
 use Rattle.machine_examples.specs.ExactFlags.{received_often, to_the_import, returned_question, got_once, finish_with, FinishesWith}
 use Rattle.machine_examples.proofs.GivenMaps.{m, found, entries_empty, entries_of, progress, tight_of, names_of, gone}
-use Rattle.machine_examples.proofs.Keeping.{equal, get_put}
 use Rattle.machine_examples.proofs.EndOfStep.{none_arose}
 use Rattle.machine_examples.proofs.OnlyEnd.{nothing_goes, stays_tight}
+use Rattle.finite_maps.proofs.Tested.{equal, get_put}
 
 abbrev saying : List Message → Effects
 saying ms = record { sends = ms; deliveries = []; answers = []; down = None }
@@ -121,7 +121,7 @@ module _ (rs : List (ℕ × Reference)) (n : ℕ) (b : Bool) where
         ap (λ (t : State). map.get t.imports 0) (ends.new_is ∙ ap (λ (p : Progress). p.state) swept) ∙ is_left,
       )
 
-not_loose : (s : State) (k : ℕ) → names s (is_import 0) ≡ suc k → ¬ (names s (is_import 0) ≡ 0)
+pub not_loose : (s : State) (k : ℕ) → names s (is_import 0) ≡ suc k → ¬ (names s (is_import 0) ≡ 0)
 not_loose s k named h = let e : suc k ≡ 0 = sym named ∙ h in absurd (omega arith)
 
 abbrev imports_once : List (ℕ × Import)

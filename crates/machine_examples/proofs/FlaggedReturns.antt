@@ -35,6 +35,7 @@ use Rattle.machine_examples.specs.ExactFlags.{received_often, to_the_import, ope
 use Rattle.machine_examples.proofs.GivenMaps.{m, look, found, AtEach, at_each, entries_empty, progress, NothingOver, tight_of, names_of, gone}
 use Rattle.machine_examples.proofs.EndOfStep.{gives}
 use Rattle.machine_examples.proofs.OnlyEnd.{stays_tight, only_end}
+use Rattle.machine_examples.proofs.FlaggedFinishes.{not_loose}
 
 abbrev results : Value
 results = value.Results null_payload []
@@ -53,10 +54,10 @@ none_described : (s : State) (ds : List Descriptor) (new : State) → DescribesA
 none_described s [] new h = (refl, h)
 none_described s (d ∷ ds) new h = absurd h
 
-asks_nothing : (s : State) → s.questions ≡ m [] → NothingOver s
+pub asks_nothing : (s : State) → s.questions ≡ m [] → NothingOver s
 asks_nothing s e q = subst (λ x. ¬ (IsToFinish s q (map.get x q))) (sym e) (at_each (λ j x. ¬ (IsToFinish s j x)) [] (λ k h. h) tt q)
 
-kept_by : (s : State) (ans : List (ℕ × AnswerEntry)) (a : AnswerEntry) → s.answers ≡ m ans → look 1 ans ≡ Some a → a.outcome ≡ 1 → AnswerIsOther 1 (map.get s.answers 1) → ⊥
+pub kept_by : (s : State) (ans : List (ℕ × AnswerEntry)) (a : AnswerEntry) → s.answers ≡ m ans → look 1 ans ≡ Some a → a.outcome ≡ 1 → AnswerIsOther 1 (map.get s.answers 1) → ⊥
 kept_by s ans a e f g h = subst (AnswerIsOther 1) (ap (λ x. map.get x 1) e ∙ found ans 1 ∙ f) h g
 
 -- The task is gone.
@@ -161,9 +162,6 @@ module _ (rs : List (ℕ × Reference)) (n : ℕ) where
       tight_of (last rs n b) [] outcomes_last ims ps os is tt
       ((λ h. kept_by (last rs n b) answers_last closed_answer ans refl refl h.1), ((λ h. kept_by (last rs n b) answers_last closed_answer ans refl refl h.1), ((λ h. h), tt)))
       named
-
-not_loose : (s : State) (k : ℕ) → names s (is_import 0) ≡ suc k → ¬ (names s (is_import 0) ≡ 0)
-not_loose s k named h = let e : suc k ≡ 0 = sym named ∙ h in absurd (omega arith)
 
 -- ---- Nothing else names it
 

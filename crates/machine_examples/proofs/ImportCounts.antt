@@ -41,8 +41,9 @@ use Rattle.vat_machine.specs.Faults.{is_foreign}
 use Rattle.vat_machine.specs.Steps.{Handles}
 use Rattle.machine_examples.specs.CountedResolves.{released_for, NoTrueFlag}
 use Rattle.machine_examples.proofs.GivenMaps.{entries_empty}
-use Rattle.machine_examples.proofs.Keeping.{equal, get_put, get_cut, IsThere}
+use Rattle.machine_examples.proofs.Keeping.{IsThere}
 use Rattle.machine_examples.proofs.EndOfStep.{Swept, collected, finishes_each, none_arose}
+use Rattle.finite_maps.proofs.Tested.{equal, get_put, get_cut}
 
 -- ---- Sums of what is released
 

@@ -45,24 +45,8 @@ use Rattle.vat_machine.specs.Flags.{give_if, flag_for}
 use Rattle.vat_machine.specs.Settling.{known, PutsIn, Untangles, Fits, TellsCall, SaysBack, Returns, TellsPeer, Tells, ResolvesTo, ResolvesBy, ResolvesEach, SettlesOpen, SettlesFrom, SettlesOutcome, FixesFrom, FixesPromise, Drains, NoneLeft, OneMore}
 use Rattle.machine_examples.specs.HeldEmbargoes.{GoesOn}
 use Rattle.machine_examples.specs.TakenQuestions.{asks}
-
-pub ties : (q k : ℕ) → eq_by_cmp nat_cmp q k ≡ nat_eq q k
-ties q k = grind (arith)
-
-pub equal : (q k : ℕ) → nat_eq q k ≡ true → q ≡ k
-equal q k e = grind (arith)
-
-pub get_put : {X : Type 0} (m : Map X) (k : ℕ) (x : X) (q : ℕ) → map.get (map.insert m k x) q ≡ cond (nat_eq q k) (Some x) (map.get m q)
-get_put m k x q = map.get-insert nat_cmp_total m k x q ∙ ap (λ b. cond b (Some x) (map.get m q)) (ties q k)
-
-pub get_cut : {X : Type 0} (m : Map X) (k : ℕ) (q : ℕ) → map.get (map.remove m k) q ≡ cond (nat_eq q k) None (map.get m q)
-get_cut m k q = map.get-remove nat_cmp_total m k q ∙ ap (λ b. cond b None (map.get m q)) (ties q k)
-
-pub how_many-append : {X : Type 0} (f : X → Bool) (xs ys : List X) → how_many f (xs ++ ys) ≡ how_many f xs + how_many f ys
-how_many-append f [] ys = omega arith
-how_many-append f (x ∷ xs) ys =
-    let r = how_many-append f xs ys in
-    elim (f x) as (λ b. cond b (suc (how_many f (xs ++ ys))) (how_many f (xs ++ ys)) ≡ cond b (suc (how_many f xs)) (how_many f xs) + how_many f ys) [ true ↦ omega arith | false ↦ r ]
+use Rattle.finite_maps.proofs.Tested.{ties, equal, get_put, get_cut}
+use Rattle.vat_machine.proofs.ExportCounts.{how_many-append}
 
 -- The same part of two states, of the State only what is kept here: the exports change.
 abbrev pub Apart : State → State → Type 0

@@ -60,8 +60,10 @@ use Rattle.vat_machine.specs.Faults.{target_node, is_foreign}
 use Rattle.vat_machine.specs.Steps.{Ends, Does, Handles}
 use Rattle.machine_examples.specs.HeldEmbargoes.{GoesOn, IsLoopback, IsLift}
 use Rattle.machine_examples.specs.TakenQuestions.{asks}
-use Rattle.machine_examples.proofs.Keeping.{equal, get_put, get_cut, how_many-append, Apart, refs_alike, IsThere, goes_on_same, asked, Keeps, then, quiet, same, quiet_by, says_by, asks_by, questions_asked, routes, routes_all, settles, fixes, drains}
+use Rattle.machine_examples.proofs.Keeping.{Apart, refs_alike, IsThere, goes_on_same, asked, Keeps, then, quiet, same, quiet_by, says_by, asks_by, questions_asked, routes, routes_all, settles, fixes, drains}
 use Rattle.machine_examples.proofs.EndOfStep.{Swept, asks_none, sweeps, none_arose}
+use Rattle.finite_maps.proofs.Tested.{equal, get_put, get_cut}
+use Rattle.vat_machine.proofs.ExportCounts.{how_many-append}
 
 some_is : {X : Type 0} (a b : X) → Some a ≡ Some b → a ≡ b
 some_is a b h = cc

@@ -37,9 +37,9 @@ use Rattle.machine_examples.specs.OneCall.{root_descriptor, object, root_value, 
 use Rattle.machine_examples.specs.FullAnswers.{up_to, answer, outcome, given_often, asked_often, root_return, FullAnswersFall}
 use Rattle.machine_examples.proofs.GivenMaps.{look, found, AtEach, at_each, tied, entries_empty, entries_of, puts, progress, NothingOver, settles_here, quiet_ends}
 use Rattle.machine_examples.proofs.StepTools.{below, leads_elsewhere}
-use Rattle.machine_examples.proofs.Keeping.{get_put}
 use Rattle.machine_examples.proofs.TurningBack.{get_put_same}
 use Rattle.machine_examples.proofs.FullAnswers.{no_fault, full_falls}
+use Rattle.finite_maps.proofs.Tested.{get_put}
 
 -- ---- Maps with the keys below a number
 

@@ -15,9 +15,7 @@ use Rattle.vat_machine.specs.Messages.{Lifts}
 use Rattle.vat_machine.specs.Steps.{Handles}
 use Rattle.machine_examples.proofs.GivenMaps.{m, found, at_each, entries_empty, entries_of, progress, NothingOver, quiet_ends, settles_here, tight_of, names_of, gone}
 use Rattle.machine_examples.specs.ReceivedSteps.{saying, new_vat, resolve, hosted, released, release, object, embargoed, embargo, kept, waits, lifted, gone_on, delivering, back, opened, received, named_by, still_named, OfMessages}
-
-asks_nothing : (s : State) → s.questions ≡ m [] → NothingOver s
-asks_nothing s e q = subst (λ x. ¬ (IsToFinish s q (map.get x q))) (sym e) (at_each (λ j x. ¬ (IsToFinish s j x)) [] (λ k h. h) tt q)
+use Rattle.machine_examples.proofs.FlaggedReturns.{asks_nothing}
 
 -- ---- The capability of a Resolve whose promise is gone is taken, and released
 

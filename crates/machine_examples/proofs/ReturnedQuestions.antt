@@ -37,9 +37,10 @@ use Rattle.vat_machine.specs.Messages.{results_of, value_of_results, kept_return
 use Rattle.vat_machine.specs.Faults.{is_foreign}
 use Rattle.vat_machine.specs.Steps.{Handles}
 use Rattle.machine_examples.proofs.GivenMaps.{entries_empty}
-use Rattle.machine_examples.proofs.Keeping.{equal, get_put, get_cut}
 use Rattle.machine_examples.proofs.EndOfStep.{none_arose}
 use Rattle.machine_examples.proofs.TurningBack.{get_put_same}
+use Rattle.machine_examples.proofs.DescriptorsFirst.{understood}
+use Rattle.finite_maps.proofs.Tested.{equal, get_put, get_cut}
 
 abbrev Others : ℕ → List (ℕ × Question) → Type 0
 Others q [] = Unit {0}
@@ -157,10 +158,6 @@ obeyed_same s true ids = (refl, refl)
 refs_same : (s : State) (ns : List Node) → Same s (with_refs s ns)
 refs_same s [] = (refl, refl)
 refs_same s (n ∷ ns) = refs_same (record s { refs = map.insert s.refs s.next_ref (record { head = n; embargo = None; made = 0 }); next_ref = s.next_ref + 1 }) ns
-
-understood : (l : Level) (r : Return) → is_foreign l (plain.Return r) ≡ false
-understood Zero r = refl
-understood One r = refl
 
 pub returned_stay : (s : State) (r : Return) (fx : Effects) (new : State) (x : Question) (c : CallId) (from : OwnCall) → Handles s (message.Plain (plain.Return r)) fx new → map.get s.questions r.answer.0 ≡ Some x → x.role ≡ role.Direct c → x.finish ≡ finishing.Owed → map.get s.calls c.0 ≡ Some from → map.get new.questions r.answer.0 ≡ Some (record x { returned = Some (results_of s r.body) })
 returned_stay s r fx new x c from h there direct owed told =

@@ -27,6 +27,7 @@ use Rattle.vat_machine.specs.Advancing.{Known, Advances, AdvancesTo, known_by_re
 use Rattle.vat_machine.specs.Steps.{Does}
 use Rattle.machine_examples.proofs.GivenMaps.{null, m, look, found, at_each, entries_empty, entries_of, progress, NothingOver, quiet_end, settles_here, settles_next, tight_of, names_of, links_of_entries, gone}
 use Rattle.machine_examples.specs.SingleSteps.{saying, headed_by, own_call, busy, waiting_for_it, of_own, own_calls, r0, broken, fixed, r_fixed, ends, outcomes_0, outcomes_1, r1, ended, telling, own_object, import_node, resolved_import, exports_5, t0, refs_turned, embargo, t_turned, t1, disembargo, turning, received, opened, of_peer, f0, answered, f_known, closed, f_returned, f1, flagged, asked, q0, q1, q2, sends_finish, OfCommands}
+use Rattle.machine_examples.proofs.FlaggedReturns.{asks_nothing, kept_by}
 
 has : {X : Type 0} (es : List (ℕ × X)) (k : ℕ) (x : X) → look k es ≡ Some x → map.get (m es) k ≡ None → ⊥
 has es k x e h = let f : Some x ≡ None = sym e ∙ sym (found es k) ∙ h in cc
@@ -123,9 +124,6 @@ leaves = ImportGoes 0 (subst (IsLooseImport t_turned 0) (sym (found ((0, resolve
 tight_t1 : IsTight t1
 tight_t1 = tight_of t1 [] [] [] refl refl (gone 0 resolved_import) tt tt tt
 
-asks_nothing : (s : State) → s.questions ≡ m [] → NothingOver s
-asks_nothing s e q = subst (λ x. ¬ (IsToFinish s q (map.get x q))) (sym e) (at_each (λ j x. ¬ (IsToFinish s j x)) [] (λ k h. h) tt q)
-
 knows : known_of_wire t0 import_node ≡ known_by_resolve (Some (resolution.To (descriptor.ReceiverHosted (record { 0 = 5 })) own_object))
 knows = ap (λ x. known_by_resolve (resolution_of x)) (found ((0, resolved_import) ∷ []) 0)
 
@@ -163,9 +161,6 @@ named_once = names_of f_known [] [] [] ((1, of_peer (Some answered)) ∷ (1, of_
 
 flag_is : flag_for f_known (0 ∷ []) ≡ true
 flag_is = rw (found ((0, received) ∷ []) 0, named_once) refl
-
-kept_by : (s : State) (ans : List (ℕ × AnswerEntry)) (a : AnswerEntry) → s.answers ≡ m ans → look 1 ans ≡ Some a → a.outcome ≡ 1 → AnswerIsOther 1 (map.get s.answers 1) → ⊥
-kept_by s ans a e f g h = subst (AnswerIsOther 1) (ap (λ x. map.get x 1) e ∙ found ans 1 ∙ f) h g
 
 tight_known : IsTight f_known
 tight_known =

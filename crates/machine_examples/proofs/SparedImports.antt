@@ -11,7 +11,7 @@ use Rattle.vat_machine.specs.Nodes.{is_import}
 use Rattle.vat_machine.specs.Lists.{how_many, is_empty}
 use Rattle.vat_machine.specs.Places.{names}
 use Rattle.vat_machine.specs.Flags.{may_lose, is_spared, flag_at, flag_for, give_one, give_each, give_if, give_back}
-use Rattle.machine_examples.proofs.Keeping.{equal, get_put, get_cut}
+use Rattle.finite_maps.proofs.Tested.{equal, get_put, get_cut}
 
 -- ---- What the flag says
 

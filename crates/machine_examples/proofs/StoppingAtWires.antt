@@ -43,8 +43,8 @@ use Rattle.vat_machine.specs.Faults.{target_node, is_foreign}
 use Rattle.vat_machine.specs.Steps.{Ends, Does, Handles}
 use Rattle.vat_machine.proofs.Following.{settles_alike}
 use Rattle.machine_examples.specs.SteadyPaths.{called, GoesOutTo}
-use Rattle.machine_examples.proofs.Keeping.{equal, get_put}
 use Rattle.machine_examples.proofs.EndOfStep.{AllLetGo, ends_quietly}
+use Rattle.finite_maps.proofs.Tested.{equal, get_put}
 
 -- ---- Links of two states
 

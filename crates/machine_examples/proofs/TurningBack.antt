@@ -22,11 +22,8 @@ use Rattle.vat_machine.specs.Progress.{Progress, begin}
 use Rattle.vat_machine.specs.Advancing.{Known, Leads, known_of_wire, wire_target, Embargoes, AdvancesBy, AdvancesTo, AdvancesFrom, Advances}
 use Rattle.vat_machine.specs.Steps.{Ends, Does}
 use Rattle.machine_examples.specs.HeldEmbargoes.{IsReceiverKind, disembargos, TurnsBack}
-use Rattle.machine_examples.proofs.Keeping.{get_put}
 use Rattle.machine_examples.proofs.EndOfStep.{no_disembargos, ends_quietly}
-
-itself : (k : ℕ) → nat_eq k k ≡ true
-itself k = grind (arith)
+use Rattle.finite_maps.proofs.Tested.{itself, get_put}
 
 pub get_put_same : {X : Type 0} (m : Map X) (k : ℕ) (x : X) → map.get (map.insert m k x) k ≡ Some x
 get_put_same m k x = get_put m k x k ∙ ap (λ b. cond b (Some x) (map.get m k)) (itself k)

@@ -20,14 +20,7 @@ use Rattle.laws_nodes.specs.Settling.{AllStop, Settling}
 use Rattle.laws_nodes.specs.Embargoes.{ArePaired, HasIts, IsOf, embargo_of}
 use Rattle.step_routes.specs.Fitting.{IsOpenThere}
 use Rattle.step_calls.specs.Ways.{GoesThrough, GoesBy, GoesSomewhere}
-
-there_that_stands : (s : State) (n : Node) → Stands s n → IsThere s n
-there_that_stands s (node.Object o) h = tt
-there_that_stands s (node.Promise p) h = h
-there_that_stands s (node.Field o path) h = h
-there_that_stands s (node.Import e) h = tt
-there_that_stands s (node.Pipe q path) h = tt
-there_that_stands s (node.Broken reason) h = tt
+use Rattle.laws_steps.proofs.Reached.{own_there}
 
 open_promise : (o : Option Promise) → IsSome o → promise_link o ≡ None → IsOpen o
 open_promise None there h = cc
@@ -48,7 +41,7 @@ embargo_there r (Some b) h = refl
 
 module _ (s : State) (whole : IsWhole s) (stops : AllStop s) (settles : Settling) (paired : ArePaired s) where
   all_there : AreThere s
-  all_there n among = there_that_stands s n (whole.there n among)
+  all_there n among = own_there s n (whole.there n among)
 
   head_there : (r : ℕ) (x : Reference) → map.get s.refs r ≡ Some x → IsOpenThere s (settle s x.head)
   head_there r x is =

@@ -15,13 +15,10 @@ use Rattle.store_names.specs.Changes.{counted_once}
 use Rattle.step_base.specs.declared.step.Step.{Step}
 use Rattle.step_base.specs.InProgress.{progress_of, IsReady}
 use Rattle.step_calls.specs.Ways.{numbered}
-
-pub heads_long : (s : State) (rs : List RefId) → length (heads s rs) ≡ length rs
-heads_long s [] = λ i. 0
-heads_long s (r ∷ rs) = ap suc (heads_long s rs)
+use Rattle.step_checks.proofs.CallParts.{heads_length}
 
 pub caps_long : (s : State) (c : CallCommand) (x : Reference) (r : Request) → r ≡ request s c x → length r.caps ≡ length c.refs
-caps_long s c x r is = ap (λ (q : Request). length q.caps) is ∙ heads_long s c.refs
+caps_long s c x r is = ap (λ (q : Request). length q.caps) is ∙ heads_length s c.refs
 
 module _ (x mid : Step) (k : ℕ) (is : progress_of mid ≡ numbered (progress_of x) k) where
   pub more_calls : mid.store.next_call ≡ x.store.next_call + 1

@@ -19,7 +19,7 @@ use Rattle.vat_machine.specs.Refusals.{refused, while_down, wrong_level, unknown
 use Rattle.vat_machine.specs.Fullness.{is_spent, lacks_room_at, lacks_room_through, call_lacks_room}
 use Rattle.step_checks.specs.Rooms.{lacks_at, lacks_through, call_lacks, refused_but_exports, exports_lack_at, exports_lack_through, exports_lack, exports_lack_for}
 
-heads_length : (s : State) (rs : List RefId) → length (heads s rs) ≡ length rs
+pub heads_length : (s : State) (rs : List RefId) → length (heads s rs) ≡ length rs
 heads_length s [] = refl
 heads_length s (r ∷ rs) = ap (λ (k : ℕ). suc k) (heads_length s rs)
 

@@ -20,6 +20,7 @@ use Rattle.step_checks.specs.Sending.{sent_out, times_among, counts_behind, Leav
 use Rattle.vat_tables.specs.Exports.{node_eq}
 use Rattle.vat_tables.proofs.NodeKeys.{node_same, node_itself}
 use Rattle.step_checks.proofs.Wires.{same_node, is_itself}
+use Rattle.vat_tables.proofs.Foreseeing.{added_none}
 
 -- ---- What goes out with references, and with more of them
 
@@ -73,10 +74,6 @@ times_next s n xs i x d k more new lt at before one is =
 behind_more : (counts : Node → Option ℕ) (xs ys : List Node) → counts_behind counts (xs ++ ys) ≡ counts_behind (counts_behind counts xs) ys
 behind_more counts [] ys = refl
 behind_more counts (x ∷ xs) ys = behind_more (counts_then counts x) xs ys
-
-added_none : (o : Option ℕ) → added o zero ≡ o
-added_none None = refl
-added_none (Some c) = let e : c + zero ≡ c = omega arith in ap Some e
 
 added_more : (o : Option ℕ) (k : ℕ) → added (Some (one_more o)) k ≡ added o (suc k)
 added_more None k = let e : 1 + k ≡ suc k = omega arith in ap Some e

@@ -15,6 +15,7 @@ use Rattle.vat_machine.specs.Flags.{give_one, give_each}
 use Rattle.vat_machine.specs.Lists.{how_many, is_empty}
 use Rattle.vat_machine.specs.Progress.{numbers}
 use Rattle.vat_machine.specs.Sweeping.{descriptors_said}
+use Rattle.step_collects.proofs.Giving.{counted}
 
 abbrev pub got : List (Descriptor × Node) → List ℕ
 got cs = given (descriptors_said cs)
@@ -37,13 +38,9 @@ got_more (x ∷ cs) c =
 
 -- ---- Counting
 
-added : (b : Bool) (n m k : ℕ) → n ≡ m + k → cond b (suc n) n ≡ cond b (suc m) m + k
-added true n m k e = omega (arith, e)
-added false n m k e = e
-
 many_append : (test : ℕ → Bool) (xs ys : List ℕ) → how_many test (xs ++ ys) ≡ how_many test xs + how_many test ys
 many_append test [] ys = omega (arith)
-many_append test (x ∷ xs) ys = added (test x) (how_many test (xs ++ ys)) (how_many test xs) (how_many test ys) (many_append test xs ys)
+many_append test (x ∷ xs) ys = counted (test x) (how_many test (xs ++ ys)) (how_many test xs) (how_many test ys) (many_append test xs ys)
 
 pub many_got : (test : ℕ → Bool) (cs : List (Descriptor × Node)) (c : Descriptor × Node) → how_many test (got (cs ++ c ∷ [])) ≡ how_many test (got cs) + how_many test (got_by c.0)
 many_got test cs c = ap (how_many test) (got_more cs c) ∙ many_append test (got cs) (got_by c.0)

@@ -17,7 +17,7 @@ pub give_more : (m : Map Import) (es : List ExportId) (e : ExportId) → give_ea
 give_more m [] e = refl
 give_more m (x ∷ es) e = give_more (give_one m x.0 (map.get m x.0)) es e
 
-counted : (b : Bool) (n m k : ℕ) → n ≡ m + k → cond b (suc n) n ≡ cond b (suc m) m + k
+pub counted : (b : Bool) (n m k : ℕ) → n ≡ m + k → cond b (suc n) n ≡ cond b (suc m) m + k
 counted true n m k e = omega (arith, e)
 counted false n m k e = e
 

@@ -107,7 +107,7 @@ loose_there s e (Some x) z h = z
 -- ---- Of what is noted the last is taken out
 
 -- What is noted otherwise, and isn't the one that was taken out.
-others : (xs ys : List ℕ) (k j : ℕ) (P : ℕ → Type 0) → xs ≡ ys ++ k ∷ [] → ¬ (P k) → P j → Contains xs j → Contains ys j
+pub others : (xs ys : List ℕ) (k j : ℕ) (P : ℕ → Type 0) → xs ≡ ys ++ k ∷ [] → ¬ (P k) → P j → Contains xs j → Contains ys j
 others xs ys k j P e none here h = by (Contains-push_cases ys k j (subst (λ (zs : List ℕ). Contains zs j) e h))
   where
     by : Contains ys j ⊎ (k ≡ j) → Contains ys j

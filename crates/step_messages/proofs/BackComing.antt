@@ -28,7 +28,8 @@ use Rattle.vat_machine.specs.Messages.{ComesFor, ComesBack, kept_returned, value
 use Rattle.store_peer.specs.Peer.{question_said, question_waived}
 use Rattle.step_checks.specs.Parts.{before_body, before_return, given_with}
 use Rattle.step_messages.specs.Parts.{ComesBackFor, KeepsFor}
-use Rattle.step_messages.proofs.Opened.{taken_only, first_none, alone}
+use Rattle.step_messages.proofs.Opened.{first_none, alone}
+use Rattle.laws_acts.proofs.Alone.{all_alone}
 
 pub nodes_more : (cs : List (Descriptor × Node)) (c : Descriptor × Node) → nodes (cs ++ c ∷ []) ≡ nodes cs ++ c.1 ∷ []
 nodes_more [] c = refl
@@ -73,7 +74,7 @@ return_found s flag b (Some x) g before none is =
 
 same_flag : (s : State) (ds : List Descriptor) (flag : Bool) (ids : List ℕ) → flag_fault (take_all s ds) flag ids ≡ flag_fault s flag ids
 same_flag s ds false ids = refl
-same_flag s ds true ids = ap (λ (u : State). flag_fault u true ids) (taken_only s ds)
+same_flag s ds true ids = ap (λ (u : State). flag_fault u true ids) (all_alone s ds)
 
 -- Where nothing was found before, and by the descriptors, it is what its flag takes off.
 pub return_fault_is : (s t : State) (r : Return) (g : Option ℕ) → before_return r.body (map.get s.questions r.answer.0) ≡ None → descriptors_fault s (descriptors_of_body r.body) ≡ None
@@ -83,7 +84,7 @@ return_fault_is s t r g before none is found =
     let ds = descriptors_of_body r.body in
     return_found s r.release_param_caps r.body (map.get s.questions r.answer.0) g before none
     (sym (same_flag s ds r.release_param_caps (given_with (map.get s.questions r.answer.0)))
-    ∙ ap (λ (u : State). flag_fault (take_all s ds) r.release_param_caps (given_with (map.get u.questions r.answer.0))) (sym (taken_only s ds))
+    ∙ ap (λ (u : State). flag_fault (take_all s ds) r.release_param_caps (given_with (map.get u.questions r.answer.0))) (sym (all_alone s ds))
     ∙ ap (λ (u : State). flag_fault u r.release_param_caps (given_with (map.get u.questions r.answer.0))) (sym is)
     ∙ found)
 
@@ -109,10 +110,10 @@ takes_return p t m r said new taken obeyed is h =
     let at : m ≡ behind p r o =
     obeyed
     ∙ ap (λ (d : Progress). with_state d (obey d.state r.release_param_caps (given_with (map.get d.state.questions q)))) taken
-    ∙ ap (λ (u : State). with_state p (obey (take_all p.state ds) r.release_param_caps (given_with (map.get u.questions q)))) (taken_only p.state ds) in
+    ∙ ap (λ (u : State). with_state p (obey (take_all p.state ds) r.release_param_caps (given_with (map.get u.questions q)))) (all_alone p.state ds) in
     let same : map.get (behind p r o).state.questions q ≡ o =
     ap (λ (m : Map Question). map.get m q) (same_questions (take_all p.state ds) r.release_param_caps (given_with o))
-    ∙ ap (λ (u : State). map.get u.questions q) (taken_only p.state ds) in
+    ∙ ap (λ (u : State). map.get u.questions q) (all_alone p.state ds) in
     let one = subst (λ (d : Progress). ComesBackFor d q said (map.get d.state.questions q) new) at h in
     let two = subst (λ (x : Option Question). ComesBackFor (behind p r o) q said x new) same one in
     comes_back p r o new (subst (λ (x : Returned). ComesBackFor (behind p r o) q x o new) is two)

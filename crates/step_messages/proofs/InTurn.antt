@@ -10,6 +10,7 @@ use Rattle.vat_machine.specs.Progress.{export_ids}
 use Rattle.vat_machine.specs.Flags.{lower_each}
 use Rattle.vat_machine.specs.Descriptors.{read, read_all, read_beside, take_each}
 use Rattle.step_checks.specs.Parts.{fault_in_turn, flag_in_turn}
+use Rattle.step_routes.proofs.Describing.{given_more}
 
 -- ---- Reading
 
@@ -20,14 +21,6 @@ read_more s (x ∷ xs) d = ap (λ ns. read s x ∷ ns) (read_more s xs d)
 pub beside_more : (s : State) (ds : List Descriptor) (d : Descriptor) → read_beside s (ds ++ d ∷ []) ≡ read_beside s ds ++ (d, read s d) ∷ []
 beside_more s [] d = refl
 beside_more s (x ∷ xs) d = ap (λ ns. (x, read s x) ∷ ns) (beside_more s xs d)
-
-pub given_more : (ds : List Descriptor) (d : Descriptor) → export_ids (given (ds ++ d ∷ [])) ≡ export_ids (given ds) ++ export_ids (given (d ∷ []))
-given_more [] d = refl
-given_more (descriptor.None ∷ xs) d = given_more xs d
-given_more (descriptor.SenderHosted e ∷ xs) d = ap (λ ids. e ∷ ids) (given_more xs d)
-given_more (descriptor.SenderPromise e ∷ xs) d = ap (λ ids. e ∷ ids) (given_more xs d)
-given_more (descriptor.ReceiverHosted e ∷ xs) d = given_more xs d
-given_more (descriptor.ReceiverAnswer q path ∷ xs) d = given_more xs d
 
 -- ---- Descriptors
 

@@ -23,26 +23,13 @@ use Rattle.step_checks.specs.Parts.{before_call}
 use Rattle.step_checks.specs.Laws.{TakingChangesNone}
 use Rattle.step_messages.specs.Parts.{OpensFor, with_caps}
 use Rattle.step_messages.specs.Stopping.{Stops}
+use Rattle.laws_acts.proofs.Alone.{one_alone, each_alone, all_alone}
 
 -- ---- Descriptors that are taken change imports alone
 
-one_only : (s : State) (d : Descriptor) → take_one s d ≡ record s { imports = (take_one s d).imports }
-one_only s descriptor.None = refl
-one_only s (descriptor.SenderHosted e) = refl
-one_only s (descriptor.SenderPromise e) = refl
-one_only s (descriptor.ReceiverHosted e) = refl
-one_only s (descriptor.ReceiverAnswer q path) = refl
-
-each_only : (s : State) (ds : List Descriptor) → take_each s ds ≡ record s { imports = (take_each s ds).imports }
-each_only s [] = refl
-each_only s (d ∷ ds) = each_only (take_one s d) ds ∙ ap (λ (t : State). record t { imports = (take_each (take_one s d) ds).imports }) (one_only s d)
-
 at_only : (l : Level) (s : State) (ds : List Descriptor) → take_at l s ds ≡ record s { imports = (take_at l s ds).imports }
 at_only Zero s ds = refl
-at_only One s ds = each_only s ds
-
-pub taken_only : (s : State) (ds : List Descriptor) → take_all s ds ≡ record s { imports = (take_all s ds).imports }
-taken_only s ds = at_only s.level s ds
+at_only One s ds = each_alone s ds
 
 -- ---- The checks
 
@@ -77,7 +64,7 @@ call_fault s t c o law before none is held =
 
 pub is_new : (s t : State) (c : Call) → before_call s c ≡ None → t ≡ take_all s c.descriptors → map.get t.answers c.question.0 ≡ None
 is_new s t c before is =
-    ap (λ (u : State). map.get u.answers c.question.0) (is ∙ taken_only s c.descriptors)
+    ap (λ (u : State). map.get u.answers c.question.0) (is ∙ all_alone s c.descriptors)
     ∙ is_free (map.get s.answers c.question.0) _ (first_none _ _ before)
 
 -- What one part finds is what all find.
@@ -97,4 +84,4 @@ opens_call p m c taken caps n new is ids heads at h =
     let two = subst (λ (l : List ExportId). OpensFor d c.question.0 l (with_caps c caps) n new) ids one in
     let three = subst (λ (l : List Node). OpensFor d c.question.0 said (with_caps c l) n new) heads two in
     let four = subst (λ (x : Node). OpensFor d c.question.0 said (received_request p.state c) x new) at three in
-    (four.0, sym (ap (λ (u : State). map.get u.outcomes four.0) (taken_only p.state c.descriptors)) ∙ four.1, four.2)
+    (four.0, sym (ap (λ (u : State). map.get u.outcomes four.0) (all_alone p.state c.descriptors)) ∙ four.1, four.2)

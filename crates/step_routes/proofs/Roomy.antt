@@ -18,12 +18,7 @@ use Rattle.vat_tables.specs.Exports.{IsOther, IsNotExported, IsNameLimit, IsOneE
 use Rattle.step_checks.proofs.Outgoing.{has_count}
 use Rattle.step_checks.proofs.Wires.{same_node, is_itself}
 use Rattle.step_routes.specs.Fitting.{IsCount, AreCounts, HasExportRoom}
-
-some_is : {A : Type 0} {x y : A} → Some x ≡ Some y → x ≡ y
-some_is e = cc
-
-not_none : {A : Type 0} {x : A} (o : Option A) → o ≡ Some x → o ≡ None → ⊥
-not_none {x = x} o some none = let e : Some x ≡ None = sym some ∙ none in cc
+use Rattle.vat_tables.proofs.ExportLemmas.{not_none, some_same}
 
 stands : (m : Map Export) (n : Node) (e : ℕ) (x : Export) → map.get m e ≡ Some x → x.node ≡ n → IsNotExported m n → ⊥
 stands m n e x at is none = subst (IsOther n) at (none e) is
@@ -39,7 +34,7 @@ first_counts s one n goes = by (count_of s n) (has_count s n goes)
       stands s.exports n h.0 (record { node = n; count = c }) h.1 refl,
       λ e x at is.
           let k : h.0 ≡ e = one h.0 e (record { node = n; count = c }) x h.1 at (sym is) in
-          let same : record { node = n; count = c } ≡ x = some_is (sym h.1 ∙ ap (map.get s.exports) k ∙ at) in
+          let same : record { node = n; count = c } ≡ x = some_same (sym h.1 ∙ ap (map.get s.exports) k ∙ at) in
           let count : c ≡ x.count = ap (λ (y : Export). y.count) same in
           omega (arith, count),
     )
@@ -75,7 +70,7 @@ other_stays m e v n c (Some count) apart was has =
       ]),
       λ k x at is. elim (cases_eq k e) [
         | inl here ↦
-            let same : record { node = v; count = c } ≡ x = some_is (sym (get-insert_same m e (record { node = v; count = c })) ∙ ap (map.get new) (sym here) ∙ at) in
+            let same : record { node = v; count = c } ≡ x = some_same (sym (get-insert_same m e (record { node = v; count = c })) ∙ ap (map.get new) (sym here) ∙ at) in
             absurd (apart (sym (ap (λ (y : Export). y.node) same ∙ is)))
         | inr far ↦ has.1 k x (sym (get-insert_other m e (record { node = v; count = c }) k far) ∙ at) is
       ],
@@ -91,7 +86,7 @@ itself_counts m e v c most =
       stands new v e (record { node = v; count = c }) (get-insert_same m e (record { node = v; count = c })) refl,
       λ k x at is. elim (cases_eq k e) [
         | inl here ↦
-            let same : record { node = v; count = c } ≡ x = some_is (sym (get-insert_same m e (record { node = v; count = c })) ∙ ap (map.get new) (sym here) ∙ at) in
+            let same : record { node = v; count = c } ≡ x = some_same (sym (get-insert_same m e (record { node = v; count = c })) ∙ ap (map.get new) (sym here) ∙ at) in
             let count : c ≡ x.count = ap (λ (y : Export). y.count) same in
             omega (arith, count)
         | inr far ↦ most k x (sym (get-insert_other m e (record { node = v; count = c }) k far) ∙ at) is
@@ -141,7 +136,7 @@ named_as s counts v e (Some x) new at are goes h = by (counts v) refl (are v goe
         let most : x.count ≤ c = has.1 e x at h.0 in
         let up : (k : ℕ) (y : Export) → map.get s.exports k ≡ Some y → y.node ≡ v → y.count ≤ c + 1 = counts_less s.exports v c (c + 1) has (omega arith) in
         subst (Named s counts v) (sym h.1) (
-          counts_put s counts e v (x.count + 1) are (λ y some. ap (λ (z : Export). z.node) (some_is (sym some ∙ at)) ∙ h.0)
+          counts_put s counts e v (x.count + 1) are (λ y some. ap (λ (z : Export). z.node) (some_same (sym some ∙ at)) ∙ h.0)
               (subst (λ (p : Option ℕ). IsCount (map.insert s.exports e (record { node = v; count = x.count + 1 })) v (Some (one_more p))) (sym is)
               (bounded (map.insert s.exports e (record { node = v; count = x.count + 1 })) c
               (stands (map.insert s.exports e (record { node = v; count = x.count + 1 })) v e (record { node = v; count = x.count + 1 }) (get-insert_same s.exports e (record { node = v; count = x.count + 1 })) refl)
@@ -155,7 +150,7 @@ named_as s counts v e (Some x) new at are goes h = by (counts v) refl (are v goe
         most_then : (c : ℕ) → x.count ≤ c → ((k : ℕ) (y : Export) → map.get s.exports k ≡ Some y → y.node ≡ v → y.count ≤ c + 1) → (k : ℕ) (y : Export) → map.get (map.insert s.exports e (record { node = v; count = x.count + 1 })) k ≡ Some y → y.node ≡ v → y.count ≤ c + 1
         most_then c most up k y there is = elim (cases_eq k e) [
           | inl here ↦
-              let same : record { node = v; count = x.count + 1 } ≡ y = some_is (sym (get-insert_same s.exports e (record { node = v; count = x.count + 1 })) ∙ ap (map.get (map.insert s.exports e (record { node = v; count = x.count + 1 }))) (sym here) ∙ there) in
+              let same : record { node = v; count = x.count + 1 } ≡ y = some_same (sym (get-insert_same s.exports e (record { node = v; count = x.count + 1 })) ∙ ap (map.get (map.insert s.exports e (record { node = v; count = x.count + 1 }))) (sym here) ∙ there) in
               let count : x.count + 1 ≡ y.count = ap (λ (z : Export). z.count) same in
               omega (arith, count, most)
           | inr far ↦ up k y (sym (get-insert_other s.exports e (record { node = v; count = x.count + 1 }) k far) ∙ there) is

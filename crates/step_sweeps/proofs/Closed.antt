@@ -23,6 +23,7 @@ use Rattle.vat_store.specs.Holding.{state_of, IsSound}
 use Rattle.step_base.specs.declared.step.Step.{Step}
 use Rattle.step_base.specs.InProgress.{IsEnding}
 use Rattle.step_sweeps.specs.Ending.{flag_of, close_giving, finished_if, OnlyFinishes}
+use Rattle.laws_acts.proofs.Ends.{finished_other}
 
 -- ---- Imports do not grow
 
@@ -112,16 +113,9 @@ questions_given : (s : State) (flag : Bool) (es : List ℕ) → (give_if s flag 
 questions_given s false es = refl
 questions_given s true es = refl
 
-others_by : (d : Progress) (q : ℕ) (x : Question) (f : Finishing) (k : ℕ) → nat_eq k q ≡ false → map.get (finished_by d q x f).state.questions k ≡ map.get d.state.questions k
-others_by d q x finishing.Owed k h =
-    others_closed (give_if d.state (flag_of d.state (Some x)) (got_of x.returned)).questions q x x.returned k h
-    ∙ ap (λ (m : Map Question). map.get m k) (questions_given d.state (flag_of d.state (Some x)) (got_of x.returned))
-others_by d q x finishing.Sent k h = refl
-others_by d q x finishing.Waived k h = others_closed d.state.questions q x x.returned k h
-
 others_if : (d : Progress) (q : ℕ) (o : Option Question) (k : ℕ) → nat_eq k q ≡ false → map.get (finished_if d q o).state.questions k ≡ map.get d.state.questions k
 others_if d q None k h = refl
-others_if d q (Some x) k h = others_by d q x x.finish k h
+others_if d q (Some x) k h = finished_other d q x x.finish k h
 
 other : (q k : ℕ) → k ≢ q → nat_eq k q ≡ false
 other q k h = by (nat_eq k q) refl where

@@ -25,8 +25,9 @@ use Rattle.laws_acts.specs.Alike.{Alike}
 use Rattle.laws_acts.proofs.Parts.{how_many_append}
 use Rattle.laws_acts.proofs.Loose.{loose_by_names}
 use Rattle.step_sweeps.specs.Thinking.{IsLoose, IsLeft, Covers, without, without_question, is_of, IsFinished}
-use Rattle.step_sweeps.proofs.Entries.{other_key, one_key, is_gone, is_finished}
+use Rattle.step_sweeps.proofs.Entries.{one_key, is_gone, is_finished}
 use Rattle.step_sweeps.proofs.Looking.{done_like}
+use Rattle.vat_names.proofs.Counting.{other_key}
 
 -- ---- One node is looked at
 

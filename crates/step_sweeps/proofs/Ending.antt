@@ -28,9 +28,9 @@ use Rattle.vat_store.specs.Holding.{state_of, all_named, IsCovered, IsNotedFor, 
 use Rattle.step_sweeps.specs.declared.thought.Thought.{Thought}
 use Rattle.step_sweeps.specs.Over.{AreOver, AreRising, IsAboveAll}
 use Rattle.step_sweeps.specs.Thinking.{IsLeft, WithersBy, Covers, IsThought, AreFound, IsQuiet, gone_of, all_gone, left, is_id, picked, promise_node, field_node, import_node, pipe_node}
-use Rattle.step_sweeps.proofs.Entries.{same_key}
 use Rattle.step_sweeps.proofs.Looking.{counts_none, counts_places, promise_from, outcome_from, import_from}
 use Rattle.step_sweeps.proofs.Rising.{entries_standing}
+use Rattle.finite_maps.proofs.Tested.{itself}
 
 -- ---- The beginning
 
@@ -150,8 +150,8 @@ not_less j k h = grind (arith, h)
 -- Two that are one.
 two : (j k n : ℕ) → j ≡ k → cond (nat_eq j j) (suc (cond (nat_eq k j) (suc n) n)) (cond (nat_eq k j) (suc n) n) ≤ 1 → ⊥
 two j k n same h =
-    let a : nat_eq j j ≡ true = same_key j in
-    let b : nat_eq k j ≡ true = ap (λ i. nat_eq i j) (sym same) ∙ same_key j in
+    let a : nat_eq j j ≡ true = itself j in
+    let b : nat_eq k j ≡ true = ap (λ i. nat_eq i j) (sym same) ∙ itself j in
     let g : suc (suc n) ≤ 1 = subst (λ c. suc (cond c (suc n) n) ≤ 1) b (subst (λ c. cond c (suc (cond (nat_eq k j) (suc n) n)) (cond (nat_eq k j) (suc n) n) ≤ 1) a h) in
     absurd (omega (arith, g))
 

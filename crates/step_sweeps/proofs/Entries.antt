@@ -8,12 +8,8 @@ use Rattle.vat_machine.specs.declared.entries.Returned.{Returned}
 use Rattle.vat_machine.specs.declared.entries.Finishing.TheVariants as finishing
 use Rattle.vat_machine.specs.Sweeping.{closed_map}
 use Rattle.step_sweeps.specs.Thinking.{IsKept, IsKeptOpen, IsFinished, picked}
-
-pub same_key : (k : ℕ) → nat_eq k k ≡ true
-same_key k = grind arith
-
-pub other_key : (j k : ℕ) → j ≢ k → nat_eq k j ≡ false
-other_key j k apart = grind arith
+use Rattle.finite_maps.proofs.Tested.{itself}
+use Rattle.vat_names.proofs.Counting.{other_key}
 
 pub one_key : (j k : ℕ) → nat_eq j k ≡ true → k ≡ j
 one_key j k e = grind (arith, e)
@@ -26,7 +22,7 @@ one_more p f k = cond (nat_eq p k) (suc (f k)) (f k)
 pub with_one_more : (P : ℕ → ℕ → Type 0) (p : ℕ) (f : ℕ → ℕ) → P p (suc (f p)) → ((k : ℕ) → k ≢ p → P k (f k)) → (k : ℕ) → P k (one_more p f k)
 with_one_more P p f here others =
     at_each (λ k. P k (one_more p f k)) p
-    (subst (λ b. P p (cond b (suc (f p)) (f p))) (sym (same_key p)) here)
+    (subst (λ b. P p (cond b (suc (f p)) (f p))) (sym (itself p)) here)
     (λ k apart. subst (λ b. P k (cond b (suc (f k)) (f k))) (sym (other_key k p apart)) (others k apart))
 
 pub kept_without : {X : Type 0} (old new : Map X) (p : ℕ) (f : ℕ → ℕ) → ((k : ℕ) → IsKept (f k) (map.get old k) (map.get new k)) → (k : ℕ) → IsKept (one_more p f k) (map.get old k) (map.get (map.remove new p) k)

@@ -8,7 +8,7 @@ use Rattle.vat_machine.specs.State.{State}
 use Rattle.vat_machine.specs.Lists.{how_many}
 use Rattle.laws_acts.proofs.Parts.{how_many_append}
 use Rattle.step_sweeps.specs.Thinking.{IsLoose, IsFound, AreFound, is_of}
-use Rattle.step_sweeps.proofs.Entries.{same_key}
+use Rattle.finite_maps.proofs.Tested.{itself as same_key}
 
 -- A node that is loose is of itself.
 of_itself : (s : State) (n : Node) → IsLoose s n → is_of n n ≡ true

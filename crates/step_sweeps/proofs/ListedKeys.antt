@@ -7,9 +7,7 @@ use Rattle.std.specs.FinMap as map
 use Rattle.finite_maps.specs.Tally.{Map}
 use Rattle.finite_maps.proofs.Gets.{alike, at_each, get-insert_other, get-remove_same, get-remove_other}
 use Rattle.step_sweeps.specs.Listed.{AreListed}
-
-in_none : (k : ℕ) → ¬ (Contains [] k)
-in_none k h = absurd (let below = h.1 in omega (arith, below))
+use Rattle.laws_acts.proofs.Loose.{in_none}
 
 pub listed_empty : AreListed map.empty []
 listed_empty = λ k none. map.get-empty nat_cmp k

@@ -13,7 +13,8 @@ use Rattle.vat_machine.specs.State.{State}
 use Rattle.vat_machine.specs.Lists.{how_many}
 use Rattle.step_sweeps.specs.Over.{IsAboveAll, AreRising, beside, standing}
 use Rattle.step_sweeps.specs.Thinking.{is_id, picked}
-use Rattle.step_sweeps.proofs.Entries.{same_key, other_key}
+use Rattle.finite_maps.proofs.Tested.{itself}
+use Rattle.vat_names.proofs.Counting.{other_key}
 
 -- ---- In order
 
@@ -65,7 +66,7 @@ module _ (s : State) where
           rest ∙ ap (λ o. picked n o None) here ∙ picked_none n ∙ sym (picked_none (cond (nat_eq q k) (suc n) n)) ∙ ap (λ o. picked (cond (nat_eq q k) (suc n) n) o None) (sym here)
       go (inl t) (Some x) at =
           let here : map.get s.questions k ≡ Some x = ap (λ j. map.get s.questions j) t.1 ∙ at in
-          let one : nat_eq q k ≡ true = ap (λ j. nat_eq q j) t.1 ∙ same_key q in
+          let one : nat_eq q k ≡ true = ap (λ j. nat_eq q j) t.1 ∙ itself q in
           let tied : eq_by_cmp nat_cmp k q ≡ true = ap (λ j. eq_by_cmp nat_cmp j q) t.1 ∙ tied_same q in
           ap (λ b. cond b (Some x) (find nat_cmp k es)) tied ∙ sym here ∙ ap (λ b. picked (cond b (suc n) n) (map.get s.questions k) None) (sym one)
       go (inr t) None at = rest ∙ ap (λ b. picked (cond b (suc n) n) (map.get s.questions k) None) (sym (other_key k q t.1))

@@ -16,7 +16,7 @@ use Rattle.vat_names.specs.Names.{Counted, Names, Counts, Takes, times_named, no
 use Rattle.vat_store.specs.declared.store.Store.{Store}
 use Rattle.vat_store.specs.Holding.{state_of, IsNotedFor, IsNotedAs, HasReturned, IsSound}
 use Rattle.vat_store.specs.Noted.{Notes, noted_of, nothing_noted}
-use Rattle.step_collects.proofs.Searching.{with_notes, noted_again}
+use Rattle.step_collects.proofs.Searching.{with_notes, noted_again, others}
 use Rattle.step_sweeps.specs.Thinking.{AreFound, IsQuiet, promise_node, field_node, import_node, pipe_node}
 use Rattle.step_sweeps.proofs.Looking.{counts_places}
 use Rattle.step_sweeps.proofs.Ending.{covers_noted}
@@ -41,13 +41,6 @@ quiet_unnoted x h none rested n loose =
     omega (arith, among)
 
 -- ---- A question is noted no more
-
-others : (xs ys : List ℕ) (k j : ℕ) (P : ℕ → Type 0) → xs ≡ ys ++ k ∷ [] → ¬ (P k) → P j → Contains xs j → Contains ys j
-others xs ys k j P e none here h = by (Contains-push_cases ys k j (subst (λ (zs : List ℕ). Contains zs j) e h))
-  where
-    by : Contains ys j ⊎ (k ≡ j) → Contains ys j
-    by (inl there) = there
-    by (inr same) = absurd (none (subst P (sym same) here))
 
 module _ (x : Store) (none : x.waits.taken ≡ []) (h : IsSound x) where
   abbrev s : State

@@ -9,9 +9,7 @@ use Rattle.vat_script.specs.declared.fault.GiveFault.{GiveFault}
 use Rattle.vat_script.specs.declared.fault.GiveFault.TheVariants as gives
 use Rattle.vat_world.specs.World.{Seen}
 use Rattle.trace_program.specs.Playing.{Plays, PlaysLine, IsUnnamedAt}
-
-one_more : {X : Type 0} (xs : List X) (i : ℕ) (x : X) → i < length xs → x ≡ get_or xs i x → take (i + 1) xs ≡ take i xs ++ x ∷ []
-one_more xs i x within is = take_more xs i x within ∙ ap (λ y. take i xs ++ y ∷ []) (sym is)
+use Rattle.trace_file.proofs.Going.{one_more}
 
 plays_pushed : (w mid new : Seen) (names now bound : Names) (xs : List Line) (x : Line)
     → Plays w names xs mid now → PlaysLine mid now x (Ok tt) new bound → Plays w names (xs ++ x ∷ []) new bound

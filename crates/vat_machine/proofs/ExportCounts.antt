@@ -38,16 +38,11 @@ use Rattle.vat_machine.specs.Collecting.{Goes, PromiseGoes, OutcomeGoes, ImportG
 use Rattle.vat_machine.specs.Flags.{give_if, flag_for}
 use Rattle.vat_machine.specs.Settling.{PutsIn, Untangles, Fits, TellsCall, SaysBack, Returns, TellsPeer, Tells, ResolvesTo, ResolvesBy, ResolvesEach, SettlesOpen, SettlesFrom, SettlesOutcome, Drains, NoneLeft, OneMore}
 use Rattle.vat_machine.specs.Limits.{export_count}
+use Rattle.finite_maps.proofs.Tested.{ties, equal}
 
 -- The count of the export e.
 abbrev pub count : ℕ → State → ℕ
 count e s = export_count (map.get s.exports e)
-
-pub ties : (q k : ℕ) → eq_by_cmp nat_cmp q k ≡ nat_eq q k
-ties q k = grind (arith)
-
-pub equal : (q k : ℕ) → nat_eq q k ≡ true → q ≡ k
-equal q k e = grind (arith)
 
 -- One entry is new: with n more than before.
 set_count : (s : State) (k n : ℕ) (x : Export) → x.count ≡ count k s + n → (e : ℕ) → count e (record s { exports = map.insert s.exports k x }) ≡ count e s + cond (nat_eq e k) n 0
@@ -73,7 +68,7 @@ described s (node.Import i) d new h e = rw (h.0, h.1) (omega arith)
 described s (node.Pipe q path) d new h e = rw (h.0, h.1) (omega arith)
 described s (node.Broken reason) d new h e = rw (h.0, h.1) (omega arith)
 
-how_many-append : {X : Type 0} (f : X → Bool) (xs ys : List X) → how_many f (xs ++ ys) ≡ how_many f xs + how_many f ys
+pub how_many-append : {X : Type 0} (f : X → Bool) (xs ys : List X) → how_many f (xs ++ ys) ≡ how_many f xs + how_many f ys
 how_many-append f [] ys = omega arith
 how_many-append f (x ∷ xs) ys =
     let r = how_many-append f xs ys in
@@ -96,7 +91,7 @@ describes_all s (n ∷ ns) (d ∷ ds) new h e =
     let c = ap (how_many (nat_eq e)) (given-cons d ds) ∙ how_many-append (nat_eq e) (given (d ∷ [])) (given ds) in
     rw c (omega arith)
 
-giving-append : (e : ℕ) (ms ns : List Message) → giving e (ms ++ ns) ≡ giving e ms + giving e ns
+pub giving-append : (e : ℕ) (ms ns : List Message) → giving e (ms ++ ns) ≡ giving e ms + giving e ns
 giving-append e [] ns = omega arith
 giving-append e (m ∷ ms) ns = let r = giving-append e ms ns in omega arith
 

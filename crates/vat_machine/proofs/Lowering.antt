@@ -11,7 +11,8 @@ use Rattle.vat_machine.specs.Lists.{how_many}
 use Rattle.vat_machine.specs.Limits.{export_count}
 use Rattle.vat_machine.specs.Flags.{lowered, lower_by, lower_each, obey}
 use Rattle.vat_machine.specs.Faults.{is_short, flag_fault}
-use Rattle.vat_machine.proofs.ExportCounts.{count, ties, equal}
+use Rattle.vat_machine.proofs.ExportCounts.{count}
+use Rattle.finite_maps.proofs.Tested.{ties, equal}
 
 abbrev at : ℕ → Map Export → ℕ
 at e m = export_count (map.get m e)

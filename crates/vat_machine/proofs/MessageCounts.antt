@@ -49,9 +49,10 @@ use Rattle.vat_machine.specs.Faults.{flag_fault, return_fault, body_fault, finis
 use Rattle.vat_machine.specs.declared.entries.Export.{Export}
 use Rattle.vat_machine.specs.Limits.{export_count}
 use Rattle.vat_machine.specs.UnderWay.{takes_off, call_gave, return_gave, if_true, plain_takes}
-use Rattle.vat_machine.proofs.ExportCounts.{count, Balanced, same, sends, routes, routes_all, refs_count, settles, equal}
+use Rattle.vat_machine.proofs.ExportCounts.{count, Balanced, same, sends, routes, routes_all, refs_count, settles}
 use Rattle.vat_machine.proofs.Lowering.{obey_count, lower_by_count, no_fault, or_no}
 use Rattle.vat_machine.proofs.StepCounts.{ends}
+use Rattle.finite_maps.proofs.Tested.{equal}
 
 few : (n c : ℕ) → nat_lt c n ≡ false → n ≤ c
 few n c h = grind (arith)

@@ -230,7 +230,7 @@ few_links s (suc d) n h =
     let c = few s in
     omega arith
 
-stays : (s : State) (k : ℕ) (n : Node) → link s n ≡ None → follow s k n ≡ n
+pub stays : (s : State) (k : ℕ) (n : Node) → link s n ≡ None → follow s k n ≡ n
 stays s zero n h = refl
 stays s (suc k) n h = ap (λ o. follow s k (unwrap_or o n)) h ∙ stays s k n h
 

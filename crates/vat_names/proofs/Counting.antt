@@ -8,25 +8,23 @@ use Rattle.vat_machine.specs.declared.node.Node.TheVariants as node
 use Rattle.vat_machine.specs.Lists.{how_many}
 use Rattle.vat_machine.specs.Nodes.{is_promise, is_field, is_import, is_pipe}
 use Rattle.vat_names.specs.Names.{Counted, count_of, times, raised_by, lowered_by, noted_by, lowered, Names, named, unnamed, Counts}
+use Rattle.finite_maps.proofs.Tested.{itself}
 
 -- One more at the key k, in a count f.
 abbrev pub one_more : ℕ → (ℕ → ℕ) → ℕ → ℕ
 one_more k f j = cond (nat_eq k j) (suc (f j)) (f j)
 
-same_key : (k : ℕ) → nat_eq k k ≡ true
-same_key k = grind arith
-
-other_key : (j k : ℕ) → j ≢ k → nat_eq k j ≡ false
+pub other_key : (j k : ℕ) → j ≢ k → nat_eq k j ≡ false
 other_key j k apart = grind arith
 
 raises_by : (m : Map ℕ) (k : ℕ) (f : ℕ → ℕ) (o : Option ℕ) → map.get m k ≡ o → ((j : ℕ) → times m j ≡ f j) → (j : ℕ) → count_of (map.get (raised_by m k o) j) ≡ one_more k f j
 raises_by m k f None is h =
     each_inserted (λ j o. count_of o ≡ one_more k f j) m k 1
-    (let a : 0 ≡ f k = ap count_of (sym is) ∙ h k in ap suc a ∙ ap (λ b. cond b (suc (f k)) (f k)) (sym (same_key k)))
+    (let a : 0 ≡ f k = ap count_of (sym is) ∙ h k in ap suc a ∙ ap (λ b. cond b (suc (f k)) (f k)) (sym (itself k)))
     (λ j apart. h j ∙ ap (λ b. cond b (suc (f j)) (f j)) (sym (other_key j k apart)))
 raises_by m k f (Some n) is h =
     each_inserted (λ j o. count_of o ≡ one_more k f j) m k (n + 1)
-    (let a : n ≡ f k = ap count_of (sym is) ∙ h k in let b : n + 1 ≡ suc (f k) = omega (arith, a) in b ∙ ap (λ b. cond b (suc (f k)) (f k)) (sym (same_key k)))
+    (let a : n ≡ f k = ap count_of (sym is) ∙ h k in let b : n + 1 ≡ suc (f k) = omega (arith, a) in b ∙ ap (λ b. cond b (suc (f k)) (f k)) (sym (itself k)))
     (λ j apart. h j ∙ ap (λ b. cond b (suc (f j)) (f j)) (sym (other_key j k apart)))
 
 pub raises : (m : Map ℕ) (k : ℕ) (f : ℕ → ℕ) → ((j : ℕ) → times m j ≡ f j) → (j : ℕ) → times (raised_by m k (map.get m k)) j ≡ one_more k f j
@@ -38,10 +36,10 @@ lowers_at m k n f false e is h = each_inserted (λ j o. count_of o ≡ f j) m k 
 
 lowers_by : (m : Map ℕ) (k : ℕ) (f : ℕ → ℕ) (o : Option ℕ) → map.get m k ≡ o → ((j : ℕ) → times m j ≡ one_more k f j) → (j : ℕ) → times (lowered_by m k o) j ≡ f j
 lowers_by m k f None is h =
-    let a : 0 ≡ suc (f k) = ap count_of (sym is) ∙ h k ∙ ap (λ b. cond b (suc (f k)) (f k)) (same_key k) in
+    let a : 0 ≡ suc (f k) = ap count_of (sym is) ∙ h k ∙ ap (λ b. cond b (suc (f k)) (f k)) (itself k) in
     absurd (omega (arith, a))
 lowers_by m k f (Some n) is h =
-    let a : n ≡ suc (f k) = ap count_of (sym is) ∙ h k ∙ ap (λ b. cond b (suc (f k)) (f k)) (same_key k) in
+    let a : n ≡ suc (f k) = ap count_of (sym is) ∙ h k ∙ ap (λ b. cond b (suc (f k)) (f k)) (itself k) in
     lowers_at m k n f (nat_le n 1) refl a (λ j apart. h j ∙ ap (λ b. cond b (suc (f j)) (f j)) (other_key j k apart))
 
 pub lowers : (m : Map ℕ) (k : ℕ) (f : ℕ → ℕ) → ((j : ℕ) → times m j ≡ one_more k f j) → (j : ℕ) → times (lowered_by m k (map.get m k)) j ≡ f j

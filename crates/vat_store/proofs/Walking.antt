@@ -4,12 +4,9 @@ use Rattle.vat_machine.specs.declared.node.Node.{Node}
 use Rattle.vat_machine.specs.State.{State}
 use Rattle.vat_machine.specs.Nodes.{link, follow}
 use Rattle.vat_store.specs.Walking.{link_within}
-
-follow_none : (s : State) (k : ℕ) (n : Node) → link s n ≡ None → follow s k n ≡ n
-follow_none s zero n none = refl
-follow_none s (suc k) n none = ap (λ o. follow s k (unwrap_or o n)) none ∙ follow_none s k n none
+use Rattle.vat_machine.proofs.Settles.{stays}
 
 -- A node without a further link leads no further.
 pub stops_there : (s : State) (k : ℕ) (n : Node) → link_within s k n ≡ None → follow s k n ≡ n
 stops_there s zero n none = refl
-stops_there s (suc k) n none = follow_none s (suc k) n none
+stops_there s (suc k) n none = stays s (suc k) n none

@@ -72,7 +72,7 @@ foresee_met size counts xs i x lt at met =
     ap (meet_limit size (counts_at counts (take i xs))) (ahead xs i x lt at)
     ∙ ap (λ b. b || meet_limit (size_then size (counts_at counts (take i xs) x)) (counts_then (counts_at counts (take i xs)) x) (drop (i + 1) xs)) met
 
-added_none : (o : Option ℕ) → added o zero ≡ o
+pub added_none : (o : Option ℕ) → added o zero ≡ o
 added_none None = refl
 added_none (Some c) = let e : c + zero ≡ c = omega arith in ap Some e
 

@@ -12,12 +12,7 @@ use Rattle.vat_machine.specs.declared.node.Node.{Node}
 use Rattle.vat_machine.specs.declared.entries.Export.{Export}
 use Rattle.vat_tables.specs.Exports.{node_eq, Exported, IsIndex, IsOther, IsNotExported, IsNameLimit, IsOneEach, IsCounted, NamedBy, NamedEach, HasCount, Tells, lowered, is_name_limit, size_then, one_more, counts_then, meet_limit}
 use Rattle.vat_tables.proofs.NodeKeys.{node_same, node_itself}
-
-not_none : {A : Type 0} {x : A} (o : Option A) → o ≡ Some x → o ≡ None → ⊥
-not_none {x = x} o some none = let e : Some x ≡ None = sym some ∙ none in cc
-
-some_is : {A : Type 0} {x y : A} → Some x ≡ Some y → x ≡ y
-some_is e = cc
+use Rattle.vat_tables.proofs.ExportLemmas.{not_none, some_same}
 
 -- ---- What is named is counted
 
@@ -25,12 +20,12 @@ pub counted_by : (old new : Exported) (node : Node) (id : ℕ) (o : Option Expor
 counted_by old new node id None is named =
     subst IsCounted (sym named.2)
     (each_inserted (λ k o. (x : Export) → o ≡ Some x → 0 < x.count) old id (record { node = node; count = 1 })
-    (λ x e. let c : 1 ≡ x.count = ap (λ (y : Export). y.count) (some_is e) in omega (arith, c))
+    (λ x e. let c : 1 ≡ x.count = ap (λ (y : Export). y.count) (some_same e) in omega (arith, c))
     (λ k apart x e. is k x e))
 counted_by old new node id (Some export) is named =
     subst IsCounted (sym named.2)
     (each_inserted (λ k o. (x : Export) → o ≡ Some x → 0 < x.count) old id (record { node = node; count = export.count + 1 })
-    (λ x e. let c : export.count + 1 ≡ x.count = ap (λ (y : Export). y.count) (some_is e) in omega (arith, c))
+    (λ x e. let c : export.count + 1 ≡ x.count = ap (λ (y : Export). y.count) (some_same e) in omega (arith, c))
     (λ k apart x e. is k x e))
 
 -- ---- Taking back
@@ -91,7 +86,7 @@ pub same_count : (m : Exported) (node : Node) (o : Option ℕ) (id : ℕ) (expor
 same_count m node None id export one has at is = absurd (subst (IsOther node) at (has id) is)
 same_count m node (Some count) id export one has at is =
     let k : has.0 ≡ id = one has.0 id _ export has.1 at (sym is) in
-    let e : record { node = node; count = count } ≡ export = some_is (sym has.1 ∙ ap (map.get m) k ∙ at) in
+    let e : record { node = node; count = count } ≡ export = some_same (sym has.1 ∙ ap (map.get m) k ∙ at) in
     ap (λ (x : Export). Some x.count) e
 
 pub no_count : (m : Exported) (node : Node) (o : Option ℕ) → HasCount m node o → IsNotExported m node → o ≡ None
@@ -140,7 +135,7 @@ step_by old new counts node id (Some export) at one tells named =
     let below : nat_le 4294967295 export.count ≡ false = grind (arith, named.1) in (
       ap (is_name_limit (map.len old)) e ∙ below,
       ap map.len named.2 ∙ len_same old id export (record { node = node; count = export.count + 1 }) at ∙ sym (ap (size_then (map.len old)) e),
-      tells_then old new counts node id (export.count + 1) tells (ap one_more e) (λ x some. ap (λ (y : Export). y.node) (some_is (sym some ∙ at)) ∙ named.0) named.2,
+      tells_then old new counts node id (export.count + 1) tells (ap one_more e) (λ x some. ap (λ (y : Export). y.node) (some_same (sym some ∙ at)) ∙ named.0) named.2,
     )
 
 -- each node still has one export at most
@@ -149,12 +144,12 @@ one_each_insert m id x one mine i j a b at_i at_j same = elim (cases_eq i id) [
   | inl here ↦ elim (cases_eq j id) [
     | inl there ↦ here ∙ sym there
     | inr far ↦
-        let a_is : x ≡ a = some_is (sym (get-insert_same m id x) ∙ ap (map.get (map.insert m id x)) (sym here) ∙ at_i) in
+        let a_is : x ≡ a = some_same (sym (get-insert_same m id x) ∙ ap (map.get (map.insert m id x)) (sym here) ∙ at_i) in
         here ∙ sym (mine j b (sym (get-insert_other m id x j far) ∙ at_j) (sym same ∙ ap (λ (y : Export). y.node) (sym a_is)))
   ]
   | inr away ↦ elim (cases_eq j id) [
     | inl there ↦
-        let b_is : x ≡ b = some_is (sym (get-insert_same m id x) ∙ ap (map.get (map.insert m id x)) (sym there) ∙ at_j) in
+        let b_is : x ≡ b = some_same (sym (get-insert_same m id x) ∙ ap (map.get (map.insert m id x)) (sym there) ∙ at_j) in
         mine i a (sym (get-insert_other m id x i away) ∙ at_i) (same ∙ ap (λ (y : Export). y.node) (sym b_is)) ∙ sym there
     | inr far ↦ one i j a b (sym (get-insert_other m id x i away) ∙ at_i) (sym (get-insert_other m id x j far) ∙ at_j) same
   ]

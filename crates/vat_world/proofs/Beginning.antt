@@ -12,6 +12,7 @@ use Rattle.vat_world.specs.declared.side.Side as kept
 use Rattle.vat_world.specs.Rooms.{side_of, seen_of, owed, CanAbort, CanFallBy, HasRoom}
 use Rattle.vat_world.specs.World.{Seen, new_seen, IsReached}
 use Rattle.vat_world.proofs.Reaching.{reached_new}
+use Rattle.vat_world.proofs.Standing.{owed_three}
 
 abbrev Entries : Type 0
 Entries = List JournalEntry × ℕ
@@ -32,10 +33,6 @@ seen_new a b j root_a root_b ea eb ej sa sb =
     ∙ ap (λ (l : List JournalEntry). seen_by (new_a root_a) (new_b root_b) l a.was_shut b.was_shut) ej
     ∙ ap (λ (p : Bool). seen_by (new_a root_a) (new_b root_b) [] p b.was_shut) sa
     ∙ ap (λ (q : Bool). seen_by (new_a root_a) (new_b root_b) [] false q) sb
-
-owed_three : (o : Option ℕ) → owed o ≤ 3
-owed_three None = omega arith
-owed_three (Some n) = omega arith
 
 can_fall : (o : Option ℕ) (s peer : kept.Side) → CanAbort s peer → CanFallBy o s peer
 can_fall None s peer h = h

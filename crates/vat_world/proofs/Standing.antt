@@ -49,7 +49,7 @@ pub deliver_b : (v : Vat) (a b a' b' : kept.Side) (j j' : Entries) (answer : Giv
 deliver_b A a b a' b' j j' answer e h s t = absurd (let f : A ≡ B = e in cc)
 deliver_b B a b a' b' j j' answer e h s t = deliver_steps B (seen_of a b j) (seen_of a' b' j') answer h (s, t)
 
-owed_three : (o : Option ℕ) → owed o ≤ 3
+pub owed_three : (o : Option ℕ) → owed o ≤ 3
 owed_three None = omega arith
 owed_three (Some n) = omega arith
 

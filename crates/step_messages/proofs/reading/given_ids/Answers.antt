@@ -4,7 +4,7 @@ use Rattle.rpc_msg.specs.declared.ids.ExportId.{ExportId}
 use Rattle.rpc_msg.specs.declared.parts.Descriptor.{Descriptor}
 use Rattle.rpc_msg.specs.Messages.{given}
 use Rattle.vat_machine.specs.Progress.{export_ids}
-use Rattle.step_messages.proofs.InTurn.{given_more}
+use Rattle.step_routes.proofs.Describing.{given_more}
 use Rattle.step_messages.proofs.reading.given_ids.Goals as goal
 
 pub loop-descriptor-preserved : goal.loop-descriptor-preserved
