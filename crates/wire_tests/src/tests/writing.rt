@@ -178,6 +178,40 @@ fn writes_worked_values(rt: HostRuntime) -> Result<(), Fail> {
     Ok(())
 }
 
+// A copy is the tree, and neither is null but where both are.
+fn is_copied(rt: &impl Abort, alloc: Global, tree: &Tree) -> Result<(), Fail> {
+    let copy = tree.copy(alloc)?;
+    assert!(rt; copy == *tree);
+    assert_eq!(rt; copy == Tree::Null, matches!(tree, Tree::Null));
+    Ok(())
+}
+
+#[test]
+fn trees_are_copied(rt: HostRuntime) -> Result<(), Fail> {
+    for number in 0..WRITTEN {
+        let (tree, _, _) = written(rt.alloc(), number)?;
+        is_copied(&rt, rt.alloc(), &tree)?;
+    }
+    Ok(())
+}
+
+#[test]
+fn texts_and_data_are_bytes(rt: HostRuntime) -> Result<(), Fail> {
+    let text = Tree::text(rt.alloc(), "ab")?;
+    is_written(
+        &rt,
+        rt.alloc(),
+        &text,
+        0,
+        "00000000 02000000 | 010000001a000000 6162000000000000",
+    )?;
+    let data = Tree::data(rt.alloc(), &[97, 98, 0])?;
+    assert!(rt; data == text);
+    let other = Tree::data(rt.alloc(), &[97, 98, 1])?;
+    assert!(rt; other != text);
+    Ok(())
+}
+
 /// Trees at the limits, and some that are not written, by their numbers.
 const LIMITED: u32 = 12;
 
