@@ -6,8 +6,7 @@
 //!
 //! ```text
 //! let mut pointers = Pointers::new(alloc);
-//! let text = Vec::from_slice(alloc, b"hello\0")?;
-//! pointers.push(Tree::List(Items::Bytes(text))).map_err(|(fault, _)| fault)?;
+//! pointers.push(Tree::text(alloc, "hello")?).map_err(|(fault, _)| fault)?;
 //! pointers.push(Tree::Cap(0)).map_err(|(fault, _)| fault)?;
 //! let words = vec![in alloc; 7]?;
 //! let tree = Tree::Struct { words, pointers };
@@ -17,6 +16,13 @@
 //! payload.cap_at(&[Op::Field(1)]); // CapAt::Cap(0)
 //! payload.cap_at(&[Op::Field(0)]); // CapAt::NotCap: the text
 //! payload.cap_at(&[Op::Field(2)]); // CapAt::Null: there is no third pointer
+//!
+//! let view = payload.view();
+//! let root = view.root();
+//! root.number::<u64>(0); // Some(7)
+//! if let Some(text) = root.field(0) {
+//!     text.text(); // Some("hello")
+//! }
 //! ```
 //!
 //! Read and written are at most 16 segments (written is one) of at most 65,536 words together, with contents that nest
@@ -25,18 +31,18 @@
 //!
 //! Bytes that are no payload are refused by the first check that fails, as a [`PayloadFault`] with its number; nothing is
 //! read of them. So a [`Payload`] can't be malformed, and `cap_at` and `tree` of one have no faults but want of memory.
-//! What is written reads back as the tree ([`write_and_read`]). The rules and the order of the checks are in
+//! What is written reads back as the tree ([`laws::write_and_read`]). The rules and the order of the checks are in
 //! docs/encoding.md.
 #![tactic(auto)]
 
 mod faults;
 mod find;
+pub mod laws;
 mod path;
 mod payload;
-mod round_trip;
 
 pub use faults::Memory;
 pub use path::{CapAt, Op};
 pub use payload::Payload;
-pub use round_trip::write_and_read;
-pub use wire_trees::{Fields, Items, PayloadFault, Pointers, Tree, WriteFault};
+pub use wire_cursor::{Kind, Place, View};
+pub use wire_trees::{Element, Fields, Items, PayloadFault, Pointers, Tree, WriteFault};

@@ -1,6 +1,6 @@
 //! A payload: bytes of the encoding that were read once, and the number of its capabilities.
-ghost use Rattle.std.specs.Prelude.{◌≡◌, ◌⊎◌, ℕ, List, IfOk, IfErr, MatchOption, MatchResult, Err};
-ghost use Rattle.wire_reading.specs.Reading.{message_of};
+ghost use Rattle.std.specs.Prelude.{◌≡◌, ◌<◌, ◌⊎◌, ℕ, List, IfOk, IfErr, MatchOption, MatchResult, Err};
+ghost use Rattle.wire_reading.specs.Reading.{message_of, root_of, tree_read};
 ghost use Rattle.wire_trees.specs.declared.faults.PayloadFault.TheVariants as faults;
 ghost use Rattle.wire_trees.specs.declared.faults.WriteFault.TheVariants as write_faults;
 
@@ -10,6 +10,7 @@ use crate::path::{CapAt, Op};
 use std::alloc::{AllocError, Global};
 use std::marker::Model;
 use std::sync::Arc;
+use wire_cursor::View;
 use wire_reading::{Message, build_tree, visited_words};
 use wire_trees::{PayloadFault, Tree, WriteFault};
 use wire_writing::write_tree;
@@ -133,10 +134,14 @@ impl Payload {
     pub fn cap_at(&self, path: &[Op]) -> CapAt
         ensures { result ≡ capability_at (tree_of self.now) path.now }
     {
-        let Ok(message) = Message::parse(self.bytes.as_slice()) else {
-            unreachable!()
-        };
-        find(&message, self.caps, path)
+        find(&self.view(), path)
+    }
+
+    /// Its message, to be looked into from the root on: what stands there is what the tree says.
+    pub fn view(&self) -> View<'_>
+        ensures { tree_read (root_of result.message result.caps) ≡ tree_of self.now }
+    {
+        View::of(self.bytes.as_slice(), self.caps)
     }
 
     /// What the payload says, as a tree.
@@ -151,7 +156,9 @@ impl Payload {
     }
 
     /// How many payloads share its bytes: itself, and its copies that are still there.
-    pub fn owners(&self) -> usize {
+    pub fn owners(&self) -> usize
+        ensures { 0 < result }
+    {
         Arc::strong_count(&self.bytes)
     }
 

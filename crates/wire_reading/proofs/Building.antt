@@ -1,5 +1,5 @@
 -- One more element, one more tree.
-use Rattle.std.proofs.Common.{◌≡◌, ℕ, zero, suc, ◌+◌, ◌-◌, ◌*◌, ◌/◌, ◌%◌, ◌^◌, ◌<◌, ◌≤◌, List, [], ◌∷◌, ◌++◌, get_or, refl, sym, ap, ◌∙◌, append_assoc, arith}
+use Rattle.std.proofs.Common.{◌≡◌, ℕ, zero, suc, ◌+◌, ◌-◌, ◌*◌, ◌/◌, ◌%◌, ◌^◌, ◌<◌, ◌≤◌, List, [], ◌∷◌, ◌++◌, get_or, refl, sym, ap, ◌∙◌, append_assoc, arith, length}
 use Rattle.std.proofs.lemmas.List.{append-nil}
 use Rattle.std.proofs.Math.Nat.{mul-le-mul_right, mod-one}
 use Rattle.std.specs.Prelude.{replicate}
@@ -32,3 +32,15 @@ elements_void ws k zero = refl
 elements_void ws k (suc n) =
     let none : element ws 0 k ≡ 0 = mod-one (get_or ws (k * 0 / 64) 0 / 2 ^ (k * 0 % 64)) in
     rw (none, elements_void ws (k + 1) n) refl
+
+-- how many elements there are, and each
+pub elements_counted : (ws : List ℕ) (bits k n : ℕ) → length (elements ws bits k n) ≡ n
+unfolding elements
+elements_counted ws bits k zero = refl
+elements_counted ws bits k (suc n) = ap suc (elements_counted ws bits (k + 1) n)
+
+pub elements_get : (ws : List ℕ) (bits k n j : ℕ) → j < n → get_or (elements ws bits k n) j 0 ≡ element ws bits (k + j)
+unfolding elements
+elements_get ws bits k zero j lt = absurd (omega arith)
+elements_get ws bits k (suc n) zero lt = ap (element ws bits) (let e : k ≡ k + 0 = omega arith in e)
+elements_get ws bits k (suc n) (suc j) lt = elements_get ws bits (k + 1) n j (omega arith) ∙ ap (element ws bits) (let e : k + 1 + j ≡ k + suc j = omega arith in e)

@@ -1,3 +1,4 @@
+pub mod Bytes
 pub mod Building
 pub mod Depths
 pub mod Framed

@@ -37,7 +37,7 @@ fn words_at(
 }
 
 /// An element of so many bits.
-fn element_at(message: &Message, segment: u32, start: u32, bits: u8, number: u32) -> u64
+pub fn element_at(message: &Message, segment: u32, start: u32, bits: u8, number: u32) -> u64
     requires bits { bits ≤ 64 }
     requires inside { start + number * bits / 64 < length (segment_of message.now segment) }
     requires small { start + number * bits / 64 < 2 ^ 32 }

@@ -10,7 +10,7 @@ mod referent;
 mod span;
 mod walk;
 
-pub use build::build_tree;
+pub use build::{build_tree, element_at};
 pub use layout::{Layout, lay_out};
 pub use message::Message;
 pub use pointer::Shape;

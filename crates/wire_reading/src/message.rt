@@ -1,12 +1,13 @@
 //! A message's segments, and where they lie in its bytes.
-ghost use Rattle.std.specs.Prelude.{◌≡◌, ◌+◌, ◌*◌, ◌^◌, ◌≤◌, ◌<◌, length, nat_lt, IfSome};
+ghost use Rattle.std.specs.Prelude.{◌≡◌, ◌+◌, ◌*◌, ◌^◌, ◌≤◌, ◌<◌, ◌/◌, length, drop, nat_lt, IfSome};
 ghost use Rattle.wire_reading.specs.Segments.{segment_of, word_at, size_of};
+ghost use Rattle.wire_reading.specs.Reading.{elements};
 ghost use Rattle.wire_reading.specs.Framing.{framing, table_words, is_padded};
 
 use crate::numbers::{u32_at, u64_at};
 use crate::span::{Span, spans_of};
 use std::marker::Model;
-use wire_trees::PayloadFault;
+use wire_trees::{Element, PayloadFault};
 use wire_trees::limits::{MOST_SEGMENTS, MOST_WORDS};
 
 /// The bytes of a message with an index of its segments. Contracts see the segments, as lists of words.
@@ -97,5 +98,23 @@ impl<'a> Message<'a> {
         let span = self.spans[segment as usize];
         let place = span.start + u64::from(index);
         u64_at(self.bytes, 8 * place as usize)
+    }
+
+    /// So many bytes from a word of a segment on.
+    pub fn bytes(&self, segment: u32, start: u32, count: u32) -> &'a [u8]
+        requires inside { start + (count * 8 + 63) / 64 ≤ length (segment_of self.now segment) }
+        requires small { start + (count * 8 + 63) / 64 < 2 ^ 32 }
+        ensures { result.now ≡ elements (drop start (segment_of self.now segment)) 8 0 count }
+    {
+        if count == 0 {
+            let (none, _) = self.bytes.split_at(0);
+            return none;
+        }
+        u8::fit(self.bytes);
+        let span = self.spans[segment as usize];
+        let place = 8 * (span.start + u64::from(start));
+        let (_, rest) = self.bytes.split_at(place as usize);
+        let (found, _) = rest.split_at(count as usize);
+        found
     }
 }

@@ -1,5 +1,6 @@
 //! Payloads: read, looked into, written, and as the `capnp` tool made them; and values, messages and entries.
 mod copies;
+mod places;
 mod reading;
 mod segments;
 mod values;

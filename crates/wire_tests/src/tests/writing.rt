@@ -1,6 +1,7 @@
 //! Trees that are written.
 use crate::tests::bytes_of;
-use capn_wire::{Fields, Items, Payload, Pointers, Tree, WriteFault, write_and_read};
+use capn_wire::laws::write_and_read;
+use capn_wire::{Fields, Items, Payload, Pointers, Tree, WriteFault};
 use std::alloc::Global;
 use std::process::Abort;
 use std::test::Fail;

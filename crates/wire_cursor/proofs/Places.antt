@@ -1,7 +1,5 @@
 -- What a place stands for, by the reading that led to it.
-use Rattle.std.proofs.Common.{◌≡◌, ℕ, zero, suc, ◌+◌, ◌<◌, ◌≤◌, Bool, true, false, cond, eqb, ltb, List, take, drop, length, Option, Some, None, Result, Ok, Err, refl, sym, ap, subst, ◌∙◌, arith}
-use Rattle.std.specs.Prelude.{IsOk}
-use Rattle.std.proofs.lemmas.List.{drop_all}
+use Rattle.std.proofs.Common.{◌≡◌, ℕ, zero, suc, ◌+◌, ◌<◌, ◌≤◌, Bool, true, false, eqb, ltb, List, take, drop, length, Option, Some, None, Result, Ok, refl, sym, ap, subst, ◌∙◌, arith}
 use Rattle.wire_trees.specs.declared.faults.PayloadFault.{PayloadFault}
 use Rattle.wire_trees.specs.declared.faults.PayloadFault.TheVariants.{OutOfBounds}
 use Rattle.wire_reading.specs.declared.pointer.Pointer.{Pointer}
@@ -11,19 +9,15 @@ use Rattle.wire_reading.specs.declared.referent.Referent.{Referent}
 use Rattle.wire_reading.specs.declared.referent.Referent.TheVariants as referent
 use Rattle.wire_reading.specs.declared.layout.Layout.{Layout}
 use Rattle.wire_reading.specs.declared.layout.Layout.TheVariants as layout
-use Rattle.capn_wire.specs.declared.path.Op.{Op}
-use Rattle.capn_wire.specs.declared.path.CapAt.{CapAt}
-use Rattle.capn_wire.specs.declared.path.CapAt.TheVariants as cap_at
-use Rattle.wire_trees.specs.Widths.{bits_of}
 use Rattle.wire_reading.specs.Pointers.{decoded}
 use Rattle.wire_reading.specs.Segments.{segment_of, word_at, size_of}
 use Rattle.wire_reading.specs.Following.{◌>>=◌, visit, target, pad_words, pad_at, far, capability, leads, followed}
 use Rattle.wire_reading.specs.Layouts.{laid, weight}
 use Rattle.wire_trees.specs.Trees as tree
 use Rattle.wire_trees.specs.Trees.{Tree, Trees, pointer_at}
-use Rattle.wire_reading.specs.Reading.{Reading, elements, pointers_at, structs_at, content_of, shallow, deep, reading, root_of}
+use Rattle.wire_reading.specs.Reading.{Reading, pointers_at, structs_at, content_of, shallow, deep, reading, root_of}
 use Rattle.wire_trees.specs.Limits.{most_levels}
-use Rattle.capn_wire.specs.Walking.{field, found_at, capability_at, meaning, StandsFor}
+use Rattle.wire_cursor.specs.Looking.{field, meaning, StandsFor, LeadsTo}
 use Rattle.wire_reading.proofs.Rooted.{bind_ok, passed, read_as, first_is}
 
 abbrev some : Tree → Option Tree
@@ -32,7 +26,7 @@ some t = Some t
 abbrev done : {A : Type 0} → A → Result A PayloadFault
 done x = Ok x
 
-ok_is : {A : Type 0} (x y : A) → done x ≡ done y → x ≡ y
+pub ok_is : {A : Type 0} (x y : A) → done x ≡ done y → x ≡ y
 ok_is x y e = cc
 
 fresh_pad : (b : Bool) → visit 0 (pad_words b) ≡ Ok (pad_words b)
@@ -114,7 +108,7 @@ pointers_past read s i (suc count) v ts after (suc n) e le =
     let whole : tree.tree a.0.0 b.0.0 ≡ ts = first_is (tree.tree a.0.0 b.0.0) ts b.0.1 after b.2 in
     ap (λ (us : Trees). pointer_at us (suc n)) (sym whole) ∙ pointers_past read s (i + 1) count a.0.1 b.0.0 b.0.1 n b.1 (omega arith)
 
-null_stands : (m : List (List ℕ)) (caps : ℕ) → StandsFor m caps referent.Null tree.null
+pub null_stands : (m : List (List ℕ)) (caps : ℕ) → StandsFor m caps referent.Null tree.null
 unfolding shallow
 null_stands m caps = record { levels = 0; before = 0; after = 0; reads = refl }
 
@@ -141,6 +135,8 @@ pub record IsRead (m : List (List ℕ)) (caps : ℕ) (c : Content) (t : Tree) : 
   pub before : ℕ
   pub after : ℕ
   pub is_laid : laid m c ≡ Ok place
+  pub start : ℕ
+  pub weighed : visit start (weight place) ≡ Ok before
   pub is_read : content_of m (reading m caps levels) c.segment place before ≡ Ok (t, after)
 
 content_means : (m : List (List ℕ)) (caps levels v : ℕ) (c : Content) (t : Tree) (after : ℕ) → meaning m caps levels (referent.Content c) v ≡ Ok (t, after) → IsRead m caps c t
@@ -149,12 +145,12 @@ content_means m caps zero v c t after e = absurd cc
 content_means m caps (suc n) v c t after e =
     let a = bind_ok (laid m c) (λ place. visit v (weight place) >>= λ next. content_of m (reading m caps n) c.segment place next) (t, after) e in
     let b = bind_ok (visit v (weight a.0)) (λ next. content_of m (reading m caps n) c.segment a.0 next) (t, after) a.2 in
-    record { levels = n; place = a.0; before = b.0; after = after; is_laid = a.1; is_read = b.2 }
+    record { levels = n; place = a.0; before = b.0; after = after; is_laid = a.1; start = v; weighed = b.1; is_read = b.2 }
 
 pub content_read : (m : List (List ℕ)) (caps : ℕ) (c : Content) (t : Tree) → StandsFor m caps (referent.Content c) t → IsRead m caps c t
 content_read m caps c t stands = content_means m caps stands.levels stands.before c t stands.after stands.reads
 
-struct_read : (m : List (List ℕ)) (read : ℕ → ℕ → ℕ → Reading Tree) (s start d p v : ℕ) (t : Tree) (after : ℕ) → content_of m read s (layout.Struct start d p) v ≡ Ok (t, after)
+pub struct_read : (m : List (List ℕ)) (read : ℕ → ℕ → ℕ → Reading Tree) (s start d p v : ℕ) (t : Tree) (after : ℕ) → content_of m read s (layout.Struct start d p) v ≡ Ok (t, after)
     → (ts : Trees) × (next : ℕ) × (pointers_at read s (start + d) p v ≡ Ok (ts, next)) × (t ≡ tree.struct (take d (drop start (segment_of m s))) ts)
 unfolding content_of
 struct_read m read s start d p v t after e =
@@ -174,17 +170,9 @@ no_field m read s (layout.Structs start count d p words) v t after n e none =
     let a = bind_ok (structs_at m read s d p start count v) (λ found. Ok (tree.list (tree.structs d p found.0), found.1)) (t, after) e in
     ap (λ (u : Tree). field u n) (sym (first_is (tree.list (tree.structs d p a.0.0)) t a.0.1 after a.2))
 
--- a field of what stands at a place, and the place to go on from
-pub record IsField (m : List (List ℕ)) (caps : ℕ) (t : Tree) (n s i : ℕ) : Type 0 where
-  pub next : Referent
-  pub visited : ℕ
-  pub tree : Tree
-  pub is_followed : followed m caps s i 0 ≡ Ok (next, visited)
-  pub is_field : field t n ≡ Some tree
-  pub stands : StandsFor m caps next tree
-
+-- a field of what stands at a place, and the pointer that leads to it
 pub struct_field : (m : List (List ℕ)) (caps : ℕ) (c : Content) (t : Tree) (start d p n : ℕ) → StandsFor m caps (referent.Content c) t → Ok (layout.Struct start d p) ≡ laid m c → n < p
-    → IsField m caps t n c.segment (start + d + n)
+    → (u : Tree) × (field t n ≡ Some u) × LeadsTo m caps c.segment (start + d + n) u
 struct_field m caps c t start d p n stands is_laid lt =
     let r = content_read m caps c t stands in
     let same : r.place ≡ layout.Struct start d p = ok_is r.place (layout.Struct start d p) (sym r.is_laid ∙ sym is_laid) in
@@ -192,7 +180,7 @@ struct_field m caps c t start d p n stands is_laid lt =
     let a = struct_read m (reading m caps r.levels) c.segment start d p r.before t r.after read in
     let b = pointers_read (reading m caps r.levels) c.segment (start + d) p r.before a.0 a.1 n a.2 lt in
     let f = reading_stands m caps r.levels c.segment (start + d + n) b.0 (pointer_at a.0 n) b.1 b.2 in
-    record { next = f.0; visited = f.1; tree = pointer_at a.0 n; is_followed = f.2; is_field = ap (λ (u : Tree). field u n) a.3; stands = f.3 }
+    (pointer_at a.0 n, ap (λ (u : Tree). field u n) a.3, record { next = f.0; visited = f.1; is_followed = f.2; stands = f.3 })
 
 pub struct_past : (m : List (List ℕ)) (caps : ℕ) (c : Content) (t : Tree) (start d p n : ℕ) → StandsFor m caps (referent.Content c) t → Ok (layout.Struct start d p) ≡ laid m c → p ≤ n
     → (u : Tree) × (field t n ≡ Some u) × StandsFor m caps referent.Null u
@@ -213,36 +201,3 @@ not_struct m caps c t place n stands is_laid none =
     let r = content_read m caps c t stands in
     let same : r.place ≡ place = ok_is r.place place (sym r.is_laid ∙ sym is_laid) in
     no_field m (reading m caps r.levels) c.segment place r.before t r.after n (subst (λ (l : Layout). content_of m (reading m caps r.levels) c.segment l r.before ≡ Ok (t, r.after)) same r.is_read) none
-
--- no capability stands where a content does
-content_found : (m : List (List ℕ)) (read : ℕ → ℕ → ℕ → Reading Tree) (s : ℕ) (place : Layout) (v : ℕ) (t : Tree) (after : ℕ) → content_of m read s place v ≡ Ok (t, after) → cap_at.NotCap ≡ found_at (Some t)
-unfolding content_of
-content_found m read s (layout.Struct start d p) v t after e =
-    let a = struct_read m read s start d p v t after e in
-    ap (λ (u : Tree). found_at (Some u)) (sym a.3)
-content_found m read s (layout.Packed start width count) v t after e = ap (λ (u : Tree). found_at (Some u)) (first_is (tree.list (tree.packed (bits_of width) (elements (drop start (segment_of m s)) (bits_of width) 0 count))) t v after e)
-content_found m read s (layout.Pointers start count) v t after e =
-    let a = bind_ok (pointers_at read s start count v) (λ found. Ok (tree.list (tree.pointers found.0), found.1)) (t, after) e in
-    ap (λ (u : Tree). found_at (Some u)) (first_is (tree.list (tree.pointers a.0.0)) t a.0.1 after a.2)
-content_found m read s (layout.Structs start count d p words) v t after e =
-    let a = bind_ok (structs_at m read s d p start count v) (λ found. Ok (tree.list (tree.structs d p found.0), found.1)) (t, after) e in
-    ap (λ (u : Tree). found_at (Some u)) (first_is (tree.list (tree.structs d p a.0.0)) t a.0.1 after a.2)
-
--- what a place answers at the end of a path
-abbrev pub answer_of : Referent → CapAt
-answer_of referent.Null = cap_at.Null
-answer_of (referent.Capability index) = cap_at.Cap index
-answer_of (referent.Content c) = cap_at.NotCap
-
-pub found_there : (m : List (List ℕ)) (caps : ℕ) (r : Referent) (t : Tree) → StandsFor m caps r t → answer_of r ≡ found_at (Some t)
-found_there m caps referent.Null t stands = ap (λ (u : Tree). found_at (Some u)) (sym (is_null m caps t stands))
-found_there m caps (referent.Capability index) t stands = ap (λ (u : Tree). found_at (Some u)) (sym (is_capability m caps index t stands))
-found_there m caps (referent.Content c) t stands =
-    let r = content_read m caps c t stands in
-    content_found m (reading m caps r.levels) c.segment r.place r.before t r.after r.is_read
-
--- at the end of the path
-pub found_last : (m : List (List ℕ)) (caps : ℕ) (r q : Referent) (t : Tree) (path : List Op) (i : ℕ) (whole : CapAt) → StandsFor m caps r t → r ≡ q → length path ≤ i
-    → capability_at t (drop i path) ≡ whole → answer_of q ≡ whole
-found_last m caps r q t path i whole stands is_q past so_far =
-    ap answer_of (sym is_q) ∙ found_there m caps r t stands ∙ ap (capability_at t) (sym (drop_all i path past)) ∙ so_far

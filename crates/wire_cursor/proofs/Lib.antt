@@ -1,0 +1,4 @@
+pub mod Places
+pub mod Grown
+pub mod Held
+pub mod Shown
