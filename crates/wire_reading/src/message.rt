@@ -7,8 +7,8 @@ ghost use Rattle.wire_reading.specs.Framing.{framing, table_words, is_padded};
 use crate::numbers::{u32_at, u64_at};
 use crate::span::{Span, spans_of};
 use std::marker::Model;
-use wire_trees::{Element, PayloadFault};
 use wire_trees::limits::{MOST_SEGMENTS, MOST_WORDS};
+use wire_trees::{Element, PayloadFault};
 
 /// The bytes of a message with an index of its segments. Contracts see the segments, as lists of words.
 #[derive(Drop)]

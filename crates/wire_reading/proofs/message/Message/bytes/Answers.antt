@@ -49,10 +49,10 @@ returns c =
     let size = size-spanned a.bytes.now a.count c.args.segment a.spans none c.self.invariant.few there in
     let from : span.start + c.from.result ≡ span.start + c.args.start = omega (arith, c.from.ensures) in
     let stand : (k : ℕ) → k * 8 < c.args.count → slice_index ws k ≡ little_number 8 (drop (8 * (span.start + c.args.start + k)) a.bytes.now) = λ k lt.
-        let below : c.args.start + k < length (segment_of m c.args.segment) = omega (arith, lt, inside) in
-        let place : span.start + (c.args.start + k) ≡ span.start + c.args.start + k = omega arith in
-        get_or-drop c.args.start (segment_of m c.args.segment) k 0 ∙ word-spanned a.bytes.now a.count c.args.segment (c.args.start + k) a.spans none c.self.invariant.few there below
-        ∙ ap (λ (i : ℕ). little_number 8 (drop (8 * i) a.bytes.now)) place in
+    let below : c.args.start + k < length (segment_of m c.args.segment) = omega (arith, lt, inside) in
+    let place : span.start + (c.args.start + k) ≡ span.start + c.args.start + k = omega arith in
+    get_or-drop c.args.start (segment_of m c.args.segment) k 0 ∙ word-spanned a.bytes.now a.count c.args.segment (c.args.start + k) a.spans none c.self.invariant.few there below
+    ∙ ap (λ (i : ℕ). little_number 8 (drop (8 * i) a.bytes.now)) place in
     let small : (k : ℕ) → slice_index a.bytes.now k < 256 = λ k. rw (map-id a.bytes.now) at (c.fit.ensures k) in
     c.split_at-3.ensures.front ∙ ap (take c.args.count) (c.split_at-2.ensures.back ∙ ap (λ (i : ℕ). drop (8 * i) a.bytes.now) from)
     ∙ bytes_of_words a.bytes.now ws (span.start + c.args.start) c.args.count small stand (omega (arith, c.self.invariant.inside c.args.segment none there, size, inside))
