@@ -8,8 +8,9 @@ use Rattle.wire_reading.specs.declared.referent.Referent.TheVariants as referent
 use Rattle.wire_trees.specs.declared.width.Width.{Width}
 use Rattle.wire_reading.specs.declared.layout.Layout.{Layout}
 use Rattle.wire_reading.specs.declared.layout.Layout.TheVariants as layout
-use Rattle.wire_reading.specs.Segments.{segment_of}
-use Rattle.wire_reading.specs.Following.{◌>>=◌, visit, followed}
+use Rattle.wire_reading.specs.Segments.{segment_of, word_at}
+use Rattle.wire_reading.specs.Pointers.{decoded}
+use Rattle.wire_reading.specs.Following.{◌>>=◌, visit, leads, followed}
 use Rattle.wire_reading.specs.Layouts.{laid, weight}
 use Rattle.wire_trees.specs.Trees.{Tree, struct, list, tree, pointers, structs, struct_of}
 use Rattle.wire_reading.specs.Reading.{Reading, pointers_at, structs_at, content_of, shallow, deep, reading, visited_of}
@@ -131,6 +132,12 @@ reading_plain m caps zero s i v r after found none =
     shallow_plain r after none ∙ ap (λ (f : Reading Referent). visited_of (f >>= λ found. shallow found.0 found.1)) found
 reading_plain m caps (suc n) s i v r after found none =
     deep_plain m (reading m caps n) r after none ∙ ap (λ (f : Reading Referent). visited_of (f >>= λ found. deep m (reading m caps n) found.0 found.1)) found
+
+-- a word of zeros is a null pointer
+pub reading_null : (m : List (List ℕ)) (caps levels s i v : ℕ) → word_at m s i ≡ 0 → visited_of (reading m caps levels s i v) ≡ Ok v
+unfolding leads
+reading_null m caps levels s i v zeros =
+    sym (reading_plain m caps levels s i v referent.Null v (ap (λ (w : ℕ). leads m caps s i (decoded w) v) (sym zeros)) (λ c same. absurd cc))
 
 -- no level is left for a content
 pub reading_too_deep : (m : List (List ℕ)) (caps levels s i v : ℕ) (c : Content) (after : ℕ) → Ok (referent.Content c, after) ≡ followed m caps s i v

@@ -49,6 +49,7 @@ pub fn walk_pointer(
 
 /// The pointers of a content, in their order.
 #[cycle(walk)]
+#[inline(always)]
 fn walk_content(
     message: &Message,
     caps: u32,
@@ -150,6 +151,10 @@ fn walk_pointers(
     ensures { result ≡ visited_of (pointers_at (reading message.now caps levels) segment start count visited) }
 {
     for k in 0..count {
+        // Most pointers are null, and no call is made for these.
+        if message.word(segment, start + k) == 0 {
+            continue;
+        }
         visited = walk_pointer(message, caps, segment, start + k, levels, visited)?;
     }
     Ok(visited)

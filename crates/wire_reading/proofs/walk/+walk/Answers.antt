@@ -1,7 +1,7 @@
 use Rattle.std.proofs.Common.{◌≡◌, ◌+◌, ◌-◌, Ok, sym, ◌∙◌, arith}
 use Rattle.std.proofs.lemmas.Result.{err_from_is_err_and}
 use Rattle.wire_reading.specs.Reading.{reading, pointers_at, visited_of}
-use Rattle.wire_reading.proofs.Steps.{pointers_more, pointers_stop, pointers_done, structs_more, structs_stop, structs_done, reading_stop, reading_plain, reading_too_deep, reading_unlaid, reading_heavy, reading_content, content_of-Struct, content_of-Packed, content_of-Pointers, content_of-Structs, content_of-Structs_skipped}
+use Rattle.wire_reading.proofs.Steps.{pointers_more, pointers_stop, pointers_done, structs_more, structs_stop, structs_done, reading_stop, reading_null, reading_plain, reading_too_deep, reading_unlaid, reading_heavy, reading_content, content_of-Struct, content_of-Packed, content_of-Pointers, content_of-Structs, content_of-Structs_skipped}
 use Rattle.wire_reading.proofs.walk.+walk.Goals as goal
 
 pub walk_pointer-returns-in_err-referent : goal.walk_pointer-returns-in_err-referent
@@ -39,6 +39,11 @@ pub walk_pointers-returns-in_err-visited : goal.walk_pointers-returns-in_err-vis
 walk_pointers-returns-in_err-visited t c =
     let p = err_from_is_err_and c.from_residual.result c.from_residual.ensures.1 in
     rw (p.1, p.2) (pointers_stop (reading c.args.message.now c.args.caps c.args.levels) c.args.segment c.args.start c.args.count c.loop-k.k c.loop-k.visited c.in_err-visited.field-0.0 _ c.loop-k-test.true c.in_err-visited.ensures c.loop-k.invariant)
+
+pub walk_pointers-loop-k-preserved-then-word-eq0 : goal.walk_pointers-loop-k-preserved-then-word-eq0
+walk_pointers-loop-k-preserved-then-word-eq0 t c =
+    let read = reading_null c.args.message.now c.args.caps c.args.levels c.args.segment (c.args.start + c.loop-k.k) c.loop-k.visited (sym c.word.ensures ∙ c.if-word-eq0.true) in
+    pointers_more (reading c.args.message.now c.args.caps c.args.levels) c.args.segment c.args.start c.args.count c.loop-k.k c.loop-k.visited c.loop-k.visited _ c.loop-k-test.true read c.loop-k.invariant
 
 pub walk_pointers-loop-k-preserved : goal.walk_pointers-loop-k-preserved
 walk_pointers-loop-k-preserved t c =
