@@ -1,3 +1,4 @@
+pub mod Constant
 pub mod Ends
 pub mod Packed
 pub mod Placed

@@ -97,9 +97,8 @@ impl Payload {
     pub fn null(alloc: Global) -> Result<Payload, Memory>
         ensures { IfOk result (λ p. (p ≡ null_payload) × (tree_of p ≡ null)) }
     {
-        let Ok(payload) = Payload::write(alloc, &Tree::Null, 0) else {
-            return Err(Memory);
-        };
+        let bytes = Vec::from_slice(alloc, &[0, 0, 0, 0, 1, 0, 0, 0, 0, 0, 0, 0, 0, 0, 0, 0])?;
+        let payload = Payload::sharing(alloc, bytes, 0)?;
         Ok(payload)
     }
 
@@ -107,9 +106,8 @@ impl Payload {
     pub fn root_capability(alloc: Global) -> Result<Payload, Memory>
         ensures { IfOk result (λ p. (p ≡ root_payload) × (tree_of p ≡ capability 0)) }
     {
-        let Ok(payload) = Payload::write(alloc, &Tree::Cap(0), 1) else {
-            return Err(Memory);
-        };
+        let bytes = Vec::from_slice(alloc, &[0, 0, 0, 0, 1, 0, 0, 0, 3, 0, 0, 0, 0, 0, 0, 0])?;
+        let payload = Payload::sharing(alloc, bytes, 1)?;
         Ok(payload)
     }
 
