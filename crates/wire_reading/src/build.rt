@@ -17,7 +17,6 @@ use wire_trees::{
     null_tree, pointers_tree, struct_tree, structs_tree,
 };
 
-/// So many words.
 fn words_at(
     alloc: Global,
     message: &Message,
@@ -50,7 +49,6 @@ pub fn element_at(message: &Message, segment: u32, start: u32, bits: u8, number:
     if bits == 64 { from } else { from % (1 << bits) }
 }
 
-/// So many elements.
 fn elements_at<E: Element + Drop>(
     alloc: Global,
     message: &Message,
@@ -95,7 +93,6 @@ fn packed_items(
     }
 }
 
-/// So many elements without content.
 fn void_items(count: u32) -> Items
     ensures { items_view result ≡ packed 0 (replicate count 0) }
 {

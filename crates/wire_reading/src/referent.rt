@@ -25,7 +25,7 @@ pub enum Referent {
     Content(Content),
 }
 
-/// Counts visited words.
+/// The visited words after so many more, if that is not too many.
 pub fn visited_after(visited: u32, more: u64) -> Result<u32, PayloadFault>
     requires { more < 2 ^ 63 }
     ensures { result ≡ visit visited more }

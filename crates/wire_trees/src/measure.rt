@@ -65,7 +65,6 @@ impl Measure {
     }
 }
 
-/// A capability.
 fn capability_measure(index: u32, caps: u32) -> Measure
     ensures { (levels : ℕ) → result ≡ own caps (record { levels = levels; what = capability index }) }
 {

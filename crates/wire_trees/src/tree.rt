@@ -136,21 +136,18 @@ pub fn struct_tree(words: Vec<u64>, pointers: Pointers) -> Tree
     Tree::Struct { words, pointers }
 }
 
-/// A list of these elements.
 pub fn list_tree(items: Items) -> Tree
     ensures { view result ≡ list (items_view items) }
 {
     Tree::List(items)
 }
 
-/// A list of pointers.
 pub fn pointers_tree(pointers: Pointers) -> Tree
     ensures { view result ≡ list (pointers_of (trees_view (held pointers))) }
 {
     Tree::List(Items::Pointers(pointers))
 }
 
-/// A list of structs.
 pub fn structs_tree(data_words: u16, pointer_words: u16, items: Vec<Fields>) -> Tree
     ensures { view result ≡ list (structs data_words pointer_words (structs_view items.items)) }
 {
@@ -162,14 +159,12 @@ pub fn structs_tree(data_words: u16, pointer_words: u16, items: Vec<Fields>) -> 
     Tree::List(items)
 }
 
-/// The capability of that index.
 pub fn capability_tree(index: u32) -> Tree
     ensures { view result ≡ capability index }
 {
     Tree::Cap(index)
 }
 
-/// Null.
 pub fn null_tree() -> Tree
     ensures { view result ≡ null }
 {

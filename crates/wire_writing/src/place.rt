@@ -21,7 +21,6 @@ fn word_of_struct(offset: u64, data_words: u64, pointer_words: u64) -> u64
     4 * offset + 0x1_0000_0000 * (data_words + 0x1_0000 * pointer_words)
 }
 
-/// The word of a list pointer.
 fn word_of_list(offset: u64, size: u64, count: u64) -> u64
     requires offset { offset < 2 ^ 30 }
     requires size { size < 8 }
@@ -31,7 +30,6 @@ fn word_of_list(offset: u64, size: u64, count: u64) -> u64
     1 + 4 * offset + 0x1_0000_0000 * (size + 8 * count)
 }
 
-/// The word of a capability.
 fn word_of_capability(index: u32) -> u64
     ensures { result ≡ capability_word index }
 {
@@ -94,7 +92,6 @@ fn push_packed<E: Element>(words: &mut Vec<u64>, elements: &[E]) -> Result<(), A
     Ok(())
 }
 
-/// So many zeros.
 fn push_zeros(words: &mut Vec<u64>, count: usize) -> Result<(), AllocError>
     ensures { OnOk result (words.new.items ≡ words.old.items ++ replicate count 0) }
 {
@@ -104,7 +101,6 @@ fn push_zeros(words: &mut Vec<u64>, count: usize) -> Result<(), AllocError>
     Ok(())
 }
 
-/// Lays down words.
 fn push_eights(eights: &[u64], words: &mut Vec<u64>) -> Result<(), AllocError>
     ensures items { OnOk result (words.new.items ≡ words.old.items ++ packed_words 64 (packed_size 64 (length eights.now)) eights.now) }
     ensures fit { AreOf 64 eights.now }

@@ -1,6 +1,6 @@
 //! Payloads looked into without their trees.
 use crate::tests::bytes_of;
-use capn_wire::{Fields, Items, Kind, Payload, Place, Pointers, Tree};
+use capn_wire::{CapAt, Fields, Items, Kind, Op, Payload, Place, Pointers, Tree};
 use std::alloc::Global;
 use std::process::Abort;
 use std::test::Fail;
@@ -65,6 +65,33 @@ fn has_bytes(place: &Place, want: &[u8]) -> bool {
         Some(bytes) => bytes == want,
         None => false,
     }
+}
+
+/// The example of `capn_wire`'s first page.
+#[test]
+fn a_text_and_a_capability(rt: HostRuntime) -> Result<(), Fail> {
+    let alloc = rt.alloc();
+    let mut pointers = Pointers::new(alloc);
+    put(&mut pointers, Tree::text(alloc, "hello")?)?;
+    put(&mut pointers, Tree::Cap(0))?;
+    let words = vec![in alloc; 7]?;
+    let tree = Tree::Struct { words, pointers };
+
+    let written = Payload::write(alloc, &tree, 1)?;
+    let payload = Payload::read(alloc, written.bytes(), written.caps())?;
+    assert_eq!(rt; payload.cap_at(&[Op::Field(1)]), CapAt::Cap(0));
+    assert_eq!(rt; payload.cap_at(&[Op::Field(0)]), CapAt::NotCap);
+    assert_eq!(rt; payload.cap_at(&[Op::Field(2)]), CapAt::Null);
+
+    let view = payload.view();
+    let root = view.root();
+    assert_eq!(rt; root.number::<u64>(0), Some(7));
+    let text = root.field(0);
+    assert!(rt; text.is_some());
+    if let Some(text) = text {
+        assert!(rt; is_text(&text, "hello"));
+    }
+    Ok(())
 }
 
 #[test]
