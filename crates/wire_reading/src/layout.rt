@@ -109,6 +109,7 @@ impl Layout {
 }
 
 /// Where a content lies, or the first check of its place and its tag that fails.
+#[inline(always)]
 #[tactic(auto, unfolding(crate::specs::Layouts::laid))]
 pub fn lay_out(message: &Message, content: Content) -> Result<Layout, PayloadFault>
     ensures laid { result ≡ laid message.now content }

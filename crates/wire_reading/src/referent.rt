@@ -126,6 +126,7 @@ fn pad_of(
 }
 
 /// What a far pointer leads to.
+#[inline(always)]
 #[tactic(auto, unfolding(crate::specs::Following::far))]
 fn far_of(
     message: &Message,
@@ -149,6 +150,7 @@ fn far_of(
 }
 
 /// What the pointer at a place leads to, and the visited words after its pads.
+#[inline(always)]
 #[tactic(auto, unfolding(crate::specs::Following::leads))]
 pub fn follow(
     message: &Message,
