@@ -1,4 +1,4 @@
-ghost use Rattle.std.specs.Prelude.{◌≡◌, ◌+◌, ◌≤◌, ◌<◌, [], ◌∷◌, ◌++◌, length, vec_len, vec_capacity, IsOk, OnOk};
+ghost use Rattle.std.specs.Prelude.{◌≡◌, ◌+◌, ◌≤◌, ◌<◌, [], ◌∷◌, ◌++◌, length, vec_len, vec_capacity, IsOk, IsTrue, OnOk};
 ghost use Rattle.vat_outbox.specs.Outgoing.{finish_messages, release_messages};
 
 use rpc_msg::{ExportId, Finish, Memory, Message, PlainMessage, QuestionId, Release};
@@ -57,6 +57,13 @@ fn grow_empty<Item: Drop>(list: &mut Vec<Item>, more: usize, alloc: Global) -> R
     Ok(())
 }
 
+/// Whether there is room for so many more.
+pub(crate) fn fits<Item>(list: &Vec<Item>, more: usize) -> bool
+    ensures { IsTrue result → vec_len list.now + more ≤ vec_capacity list.now }
+{
+    more <= list.capacity() - list.len()
+}
+
 /// Makes memory in which a few items can go out. Refused only where there was none.
 pub(crate) fn make_few<Item: Drop>(few: &mut Vec<Item>, alloc: Global) -> Result<(), Memory> {
     if FEW <= few.capacity() {
@@ -93,6 +100,17 @@ pub(crate) fn hand_out<Item: Drop>(
     ensures left { list.new.items ≡ [] }
     ensures len { vec_len list.new ≡ 0 }
 {
+    if list.is_empty() && list.capacity() <= KEPT {
+        return Vec::new(alloc);
+    }
+    hand_out_all(list, few, alloc)
+}
+
+fn hand_out_all<Item: Drop>(list: &mut Vec<Item>, few: &mut Vec<Item>, alloc: Global) -> Vec<Item>
+    ensures items { result.items ≡ list.old.items }
+    ensures left { list.new.items ≡ [] }
+    ensures len { vec_len list.new ≡ 0 }
+{
     few.clear();
     if few.capacity() < list.len() {
         return mem::replace(list, Vec::new(alloc));
@@ -111,9 +129,6 @@ fn move_out<Item: Drop>(list: &mut Vec<Item>, few: &mut Vec<Item>, alloc: Global
     ensures left { list.new.items ≡ [] }
     ensures len { vec_len list.new ≡ 0 }
 {
-    if list.is_empty() {
-        return Vec::new(alloc);
-    }
     match few.append(list) {
         Ok(()) => mem::replace(few, Vec::new(alloc)),
         Err(_) => unreachable!(),

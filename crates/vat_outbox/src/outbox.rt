@@ -3,7 +3,9 @@ ghost use Rattle.std.specs.FinMap as map;
 ghost use Rattle.rpc_msg.specs.declared.message.Message.TheVariants.{Plain, Unimplemented};
 
 use crate::abort::AbortRoom;
-use crate::lists::{grow, hand_out, make_few, push_finishes, push_kept, push_releases, reuse};
+use crate::lists::{
+    fits, grow, hand_out, make_few, push_finishes, push_kept, push_releases, reuse,
+};
 use crate::rising::Rising;
 use rpc_msg::{ExportId, Items, Memory, Message, PlainMessage, QuestionId};
 use std::alloc::Global;
@@ -117,6 +119,13 @@ impl Outbox {
         make_few(&mut self.few_sends, self.alloc)?;
         make_few(&mut self.few_deliveries, self.alloc)?;
         make_few(&mut self.few_answers, self.alloc)?;
+        if fits(&self.sends, messages)
+            && fits(&self.deliveries, more)
+            && fits(&self.answers, more)
+        {
+            self.room = more;
+            return Ok(());
+        }
         grow(&mut self.sends, messages, self.alloc)?;
         grow(&mut self.deliveries, more, self.alloc)?;
         grow(&mut self.answers, more, self.alloc)?;
