@@ -4,7 +4,7 @@ ghost use Rattle.serde_json.specs.View.{view};
 ghost use Rattle.trace_write.specs.Parts.{list, reference_data, op_data, pair_data, descriptor_data};
 ghost use Rattle.trace_write.specs.Fits.{FitsAny, FitsAll, FitsOp, FitsPair, FitsDescriptor};
 
-use crate::write_parts::write_answer_place;
+use crate::write_parts::{write_answer_place, write_number, write_only};
 use rpc_msg::{Descriptor, ExportId, Op, RefId};
 use serde_json::{Value, json};
 use std::alloc::{AllocError, Global};
@@ -72,12 +72,12 @@ impl Part for Descriptor {
     fn write(&self, alloc: Global) -> Result<Value, AllocError> {
         match self {
             Descriptor::None => json!(in alloc; "none"),
-            Descriptor::SenderHosted(id) => json!(in alloc; {"senderHosted": id.0}),
-            Descriptor::SenderPromise(id) => json!(in alloc; {"senderPromise": id.0}),
-            Descriptor::ReceiverHosted(id) => json!(in alloc; {"receiverHosted": id.0}),
+            Descriptor::SenderHosted(id) => write_number(alloc, "senderHosted", id.0),
+            Descriptor::SenderPromise(id) => write_number(alloc, "senderPromise", id.0),
+            Descriptor::ReceiverHosted(id) => write_number(alloc, "receiverHosted", id.0),
             Descriptor::ReceiverAnswer(question, path) => {
                 let answer = write_answer_place(alloc, *question, path.as_slice())?;
-                json!(in alloc; {"receiverAnswer": answer})
+                write_only(alloc, "receiverAnswer", answer)
             }
         }
     }

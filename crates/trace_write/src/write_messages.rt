@@ -1,15 +1,17 @@
 ghost use Rattle.std.specs.Prelude.{◌≡◌, IfOk, OnOk};
 ghost use Rattle.serde_json.specs.View.{view};
 ghost use Rattle.trace_write.specs.Parts.{in_base64};
-ghost use Rattle.trace_write.specs.Messages.{call_by, body_by, return_by, finish_data, resolved_data, resolve_data, context_data, disembargo_data, plain_by, message_by};
-ghost use Rattle.trace_write.specs.Fits.{FitsCall, FitsBody, FitsReturn, FitsFinish, FitsResolved, FitsResolve, FitsContext, FitsDisembargo, FitsPlain, FitsMessage};
+ghost use Rattle.trace_write.specs.Messages.{call_by, body_by, return_by, finish_data, resolved_data, resolve_data, release_data, context_data, disembargo_data, plain_by, message_by};
+ghost use Rattle.trace_write.specs.Fits.{FitsCall, FitsBody, FitsReturn, FitsFinish, FitsResolved, FitsResolve, FitsRelease, FitsContext, FitsDisembargo, FitsPlain, FitsMessage};
 
 use crate::version::TraceVersion;
 use crate::write_lists::{Part, write_list};
-use crate::write_parts::{write_exception, write_payload, write_stamp, write_target};
+use crate::write_parts::{
+    write_exception, write_number, write_only, write_payload, write_stamp, write_target,
+};
 use rpc_msg::{
-    Call, Disembargo, DisembargoContext, Finish, Message, PlainMessage, Resolve, ResolvedTo,
-    Return, ReturnBody,
+    Call, Disembargo, DisembargoContext, Finish, Message, PlainMessage, Release, Resolve,
+    ResolvedTo, Return, ReturnBody,
 };
 use serde_json::{Value, json};
 use std::alloc::{AllocError, Global};
@@ -41,11 +43,12 @@ fn write_body(alloc: Global, body: &ReturnBody) -> Result<Value, AllocError>
         ReturnBody::Results(payload, descriptors) => {
             let caps = write_list(alloc, descriptors.as_slice())?;
             let payload = write_payload(alloc, payload)?;
-            json!(in alloc; {"results": {"caps": caps, "payload": payload}})
+            let results = json!(in alloc; {"caps": caps, "payload": payload})?;
+            write_only(alloc, "results", results)
         }
         ReturnBody::Exception(exception) => {
             let exception = write_exception(alloc, exception)?;
-            json!(in alloc; {"exception": exception})
+            write_only(alloc, "exception", exception)
         }
         ReturnBody::Canceled => json!(in alloc; "canceled"),
     }
@@ -85,11 +88,11 @@ fn write_resolved(alloc: Global, to: &ResolvedTo) -> Result<Value, AllocError>
     match to {
         ResolvedTo::Cap(descriptor) => {
             let descriptor = descriptor.write(alloc)?;
-            json!(in alloc; {"cap": descriptor})
+            write_only(alloc, "cap", descriptor)
         }
         ResolvedTo::Exception(exception) => {
             let exception = write_exception(alloc, exception)?;
-            json!(in alloc; {"exception": exception})
+            write_only(alloc, "exception", exception)
         }
     }
 }
@@ -102,13 +105,20 @@ fn write_resolve(alloc: Global, resolve: &Resolve) -> Result<Value, AllocError>
     json!(in alloc; {"promise": resolve.promise.0, "to": to})
 }
 
+fn write_release(alloc: Global, release: &Release) -> Result<Value, AllocError>
+    ensures is { IfOk result (λ v. view v ≡ release_data release.now) }
+    ensures fits { OnOk result (FitsRelease release.now) }
+{
+    json!(in alloc; {"count": release.count, "id": release.export.0})
+}
+
 fn write_context(alloc: Global, context: &DisembargoContext) -> Result<Value, AllocError>
     ensures is { IfOk result (λ v. view v ≡ context_data context.now) }
     ensures fits { OnOk result (FitsContext context.now) }
 {
     match context {
-        DisembargoContext::SenderLoopback(id) => json!(in alloc; {"senderLoopback": id.0}),
-        DisembargoContext::ReceiverLoopback(id) => json!(in alloc; {"receiverLoopback": id.0}),
+        DisembargoContext::SenderLoopback(id) => write_number(alloc, "senderLoopback", id.0),
+        DisembargoContext::ReceiverLoopback(id) => write_number(alloc, "receiverLoopback", id.0),
     }
 }
 
@@ -132,35 +142,37 @@ fn write_plain(
     match message {
         PlainMessage::Abort(exception) => {
             let exception = write_exception(alloc, exception)?;
-            json!(in alloc; {"abort": exception})
+            write_only(alloc, "abort", exception)
         }
         PlainMessage::Bootstrap(question) => {
-            json!(in alloc; {"bootstrap": {"question": question.0}})
+            let bootstrap = write_number(alloc, "question", question.0)?;
+            write_only(alloc, "bootstrap", bootstrap)
         }
         PlainMessage::Call(call) => {
             let call = write_call(alloc, call)?;
-            json!(in alloc; {"call": call})
+            write_only(alloc, "call", call)
         }
         PlainMessage::Return(said) => {
             let said = write_return(alloc, said, version)?;
-            json!(in alloc; {"return": said})
+            write_only(alloc, "return", said)
         }
         PlainMessage::Finish(finish) => {
             let finish = write_finish(alloc, finish, version)?;
-            json!(in alloc; {"finish": finish})
+            write_only(alloc, "finish", finish)
         }
         PlainMessage::Resolve(resolve) => {
             let resolve = write_resolve(alloc, resolve)?;
-            json!(in alloc; {"resolve": resolve})
+            write_only(alloc, "resolve", resolve)
         }
         PlainMessage::Release(release) => {
-            json!(in alloc; {"release": {"count": release.count, "id": release.export.0}})
+            let release = write_release(alloc, release)?;
+            write_only(alloc, "release", release)
         }
         PlainMessage::Disembargo(disembargo) => {
             let disembargo = write_disembargo(alloc, disembargo)?;
-            json!(in alloc; {"disembargo": disembargo})
+            write_only(alloc, "disembargo", disembargo)
         }
-        PlainMessage::Other(number) => json!(in alloc; {"other": *number}),
+        PlainMessage::Other(number) => write_only(alloc, "other", Value::from(*number)),
     }
 }
 
@@ -176,7 +188,7 @@ pub(crate) fn write_message(
         Message::Plain(plain) => write_plain(alloc, plain, version),
         Message::Unimplemented(plain) => {
             let plain = write_plain(alloc, plain, version)?;
-            json!(in alloc; {"unimplemented": plain})
+            write_only(alloc, "unimplemented", plain)
         }
     }
 }

@@ -1,12 +1,12 @@
 ghost use Rattle.std.specs.Prelude.{◌≡◌, IfOk, OnOk};
 ghost use Rattle.serde_json.specs.View.{view};
-ghost use Rattle.trace_write.specs.Parts.{vat_name, kind_name, advanced_name, answer_data, target_data, stamp_data, payload_data, in_base64, exception_data, outcome_by, origin_data, counts_data};
+ghost use Rattle.trace_write.specs.Parts.{nat, only, vat_name, kind_name, advanced_name, answer_data, target_data, stamp_data, payload_data, in_base64, exception_data, outcome_by, origin_data, counts_data};
 ghost use Rattle.trace_write.specs.Fits.{FitsU32, FitsAll, FitsOp, FitsTarget, FitsPayload, FitsOutcome, FitsOrigin, FitsCounts};
 
 use crate::write_lists::write_list;
 use base64::engine::general_purpose::STANDARD;
 use rpc_msg::{Exception, ExceptionKind, Op, Payload, QuestionId, Stamp, Target, Vat};
-use serde_json::{Value, json};
+use serde_json::{Map, Value, json, put};
 use std::alloc::{AllocError, Global};
 use vat_journal::{Advanced, Counts, Origin, Outcome};
 
@@ -41,6 +41,23 @@ pub(crate) fn name_of_advanced(advanced: Advanced) -> &'static str
     }
 }
 
+/// An object of one member.
+pub(crate) fn write_only(alloc: Global, key: &str, value: Value) -> Result<Value, AllocError>
+    ensures { IfOk result (λ v. view v ≡ only key.now (view value)) }
+{
+    let mut object = Map::new(alloc);
+    put(&mut object, alloc, key, value)?;
+    Ok(Value::Object(object))
+}
+
+/// An object of one member, a number.
+pub(crate) fn write_number(alloc: Global, key: &str, number: u32) -> Result<Value, AllocError>
+    ensures is { IfOk result (λ v. view v ≡ only key.now (nat number)) }
+    ensures fits { OnOk result (FitsU32 number) }
+{
+    write_only(alloc, key, Value::from(number))
+}
+
 pub(crate) fn write_answer_place(
     alloc: Global,
     question: QuestionId,
@@ -58,10 +75,10 @@ pub(crate) fn write_target(alloc: Global, target: &Target) -> Result<Value, Allo
     ensures fits { OnOk result (FitsTarget target.now) }
 {
     match target {
-        Target::ImportedCap(id) => json!(in alloc; {"import": id.0}),
+        Target::ImportedCap(id) => write_number(alloc, "import", id.0),
         Target::PromisedAnswer(question, path) => {
             let answer = write_answer_place(alloc, *question, path.as_slice())?;
-            json!(in alloc; {"answer": answer})
+            write_only(alloc, "answer", answer)
         }
     }
 }
@@ -98,11 +115,11 @@ pub(crate) fn write_outcome(alloc: Global, outcome: &Outcome) -> Result<Value, A
     match outcome {
         Outcome::Results(payload) => {
             let payload = write_payload(alloc, payload)?;
-            json!(in alloc; {"results": payload})
+            write_only(alloc, "results", payload)
         }
         Outcome::Exception(exception) => {
             let exception = write_exception(alloc, exception)?;
-            json!(in alloc; {"exception": exception})
+            write_only(alloc, "exception", exception)
         }
     }
 }
@@ -112,12 +129,13 @@ pub(crate) fn write_origin(alloc: Global, origin: &Origin) -> Result<Value, Allo
     ensures fits { OnOk result (FitsOrigin origin.now) }
 {
     match origin {
-        Origin::Object(object) => json!(in alloc; {"object": object.0}),
-        Origin::Promise(promise) => json!(in alloc; {"promise": promise.0}),
-        Origin::Clone(reference) => json!(in alloc; {"clone": reference.0}),
+        Origin::Object(object) => write_only(alloc, "object", Value::from(object.0)),
+        Origin::Promise(promise) => write_only(alloc, "promise", Value::from(promise.0)),
+        Origin::Clone(reference) => write_only(alloc, "clone", Value::from(reference.0)),
         Origin::Field(call, path) => {
             let path = write_list(alloc, path.as_slice())?;
-            json!(in alloc; {"field": {"call": call.0, "path": path}})
+            let field = json!(in alloc; {"call": call.0, "path": path})?;
+            write_only(alloc, "field", field)
         }
     }
 }
