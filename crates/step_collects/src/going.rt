@@ -1,7 +1,8 @@
-ghost use Rattle.std.specs.Prelude.{◌≡◌, ℕ, [], MatchBool};
+ghost use Rattle.std.specs.Prelude.{◌≡◌, ℕ, [], IsTrue, MatchBool};
 ghost use Rattle.std.specs.FinMap as map;
 ghost use Rattle.vat_machine.specs.Collecting.{IsLoosePromise, IsLooseOutcome, IsLooseImport, IsTight, Collects};
-ghost use Rattle.vat_store.specs.Holding.{state_of};
+ghost use Rattle.vat_names.specs.Names.{Counts};
+ghost use Rattle.vat_store.specs.Holding.{state_of, all_named, IsCovered};
 ghost use Rattle.step_base.specs.InProgress.{progress_of, IsReady, IsEnding};
 ghost use Rattle.step_collects.specs.Dropping.{Drops, Rests, OnlyReleases};
 
@@ -9,6 +10,7 @@ use crate::search::{next_loose_import, next_loose_outcome, next_loose_promise};
 use step_base::Step;
 use store_peer::take_import;
 use store_waits::{remove_outcome, remove_promise};
+use vat_store::Store;
 
 /// What no place names goes, one thing after the other, until nothing is left that would; each import is released with its
 /// whole count. Takes no memory. No call may be taken out to be routed.
@@ -32,7 +34,22 @@ pub fn collect_ending(step: &mut Step)
     ensures rest { OnlyReleases step.old step.new }
     ensures ending { IsEnding step.new }
 {
+    if is_unnoted(&step.store) {
+        return;
+    }
     'dropping: while drop_one(step) {}
+}
+
+// Whether no promise, outcome or import is noted, so that nothing may go.
+fn is_unnoted(store: &Store) -> bool
+    requires covered { IsCovered (state_of store.now) store.now.names }
+    requires counted { Counts store.now.names (all_named store.now) }
+    requires none_taken { store.now.waits.taken ≡ [] }
+    ensures { IsTrue result → IsTight (state_of store.now) }
+{
+    store.names.noted_promises().is_empty()
+        && store.names.noted_outcomes().is_empty()
+        && store.names.noted_imports().is_empty()
 }
 
 // One thing goes that no place names, if there is one.

@@ -1,4 +1,5 @@
-use Rattle.vat_machine.specs.Collecting.{Loose}
+use Rattle.std.proofs.Common.{refl}
+use Rattle.vat_machine.specs.Collecting.{Tight, Loose}
 use Rattle.step_base.specs.InProgress.{progress_of}
 use Rattle.step_collects.proofs.Dropping.{rests_tight, only_after}
 use Rattle.step_collects.proofs.going.collect_ending.Goals as goal
@@ -17,3 +18,6 @@ returns-clause-collects c =
 
 pub returns-clause-rest : goal.returns-clause-rest
 returns-clause-rest c = only_after c.args.step.now c.dropping.step c.drop_one.new.step c.dropping.invariant.only c.drop_one.ensures.rest
+
+pub returns-then-is_unnoted-clause-collects : goal.returns-then-is_unnoted-clause-collects
+returns-then-is_unnoted-clause-collects c = Tight (c.if-is_unnoted.ensures refl)
