@@ -1,5 +1,5 @@
 -- Where the thought begins and ends.
-use Rattle.std.proofs.Common.{◌≡◌, ◌≢◌, ℕ, suc, ◌+◌, ◌≤◌, ◌<◌, Bool, true, false, cond, nat_eq, List, [], ◌∷◌, length, reverse, get_or, Option, None, Some, IsSome, refl, sym, ap, subst, ◌∙◌, arith}
+use Rattle.std.proofs.Common.{◌≡◌, ◌≢◌, ℕ, zero, suc, ◌+◌, ◌≤◌, ◌<◌, Bool, true, false, cond, nat_eq, List, [], ◌∷◌, ◌++◌, length, reverse, get_or, Option, None, Some, IsSome, refl, sym, ap, subst, ◌∙◌, arith}
 use Rattle.std.specs.Ordering.{nat_cmp, is_lt}
 use Rattle.std.specs.List.{Contains, sum_by}
 use Rattle.std.specs.List.Sorted.{IsPermutation, IsSortedBy}
@@ -17,22 +17,41 @@ use Rattle.vat_machine.specs.declared.entries.Role.TheVariants as role
 use Rattle.vat_machine.specs.declared.entries.Returned.{Returned}
 use Rattle.vat_machine.specs.State.{State}
 use Rattle.vat_machine.specs.Lists.{how_many}
-use Rattle.vat_machine.specs.Nodes.{is_promise, is_field, is_import}
+use Rattle.vat_machine.specs.Nodes.{is_promise, is_field, is_import, is_pipe}
 use Rattle.vat_machine.specs.Places.{places}
 use Rattle.vat_machine.specs.Progress.{Progress, begin}
 use Rattle.vat_machine.specs.Collecting.{IsTight}
 use Rattle.vat_machine.specs.Sweeping.{IsToFinish, IsOver, Withers, Over}
+use Rattle.laws_acts.proofs.Parts.{how_many_append}
 use Rattle.vat_names.specs.Names.{Names, Counts, no_names}
 use Rattle.vat_store.specs.declared.store.Store.{Store}
 use Rattle.vat_store.specs.Holding.{state_of, all_named, IsCovered, IsNotedFor, IsNotedAs, HasReturned}
 use Rattle.step_sweeps.specs.declared.thought.Thought.{Thought}
 use Rattle.step_sweeps.specs.Over.{AreOver, AreRising, IsAboveAll}
-use Rattle.step_sweeps.specs.Thinking.{IsLeft, WithersBy, Covers, IsThought, AreFound, IsQuiet, gone_of, all_gone, left, is_id, picked, promise_node, field_node, import_node, pipe_node}
+use Rattle.step_sweeps.specs.Thinking.{IsLeft, WithersBy, Covers, IsThought, IsQuiet, nodes_of, gone_of, all_gone, left, is_id, picked, promise_node, field_node, import_node, pipe_node}
 use Rattle.step_sweeps.proofs.Looking.{counts_none, counts_places, promise_from, outcome_from, import_from}
 use Rattle.step_sweeps.proofs.Rising.{entries_standing}
 use Rattle.finite_maps.proofs.Tested.{itself}
 
 -- ---- The beginning
+
+-- The node of a key is among those of the keys.
+among : (node_of : ℕ → Node) (test : Node → Bool) (keys : List ℕ) (k : ℕ) → test (node_of k) ≡ true → Contains keys k → 0 < how_many test (nodes_of node_of keys)
+among node_of test keys k is here = at keys here.0 here.1 here.2
+  where
+    at : (js : List ℕ) (i : ℕ) → i < length js → get_or js i k ≡ k → 0 < how_many test (nodes_of node_of js)
+    at [] i below same = absurd (omega (arith, below))
+    at (j ∷ js) zero below same =
+        let b : test (node_of j) ≡ true = ap (λ (m : ℕ). test (node_of m)) same ∙ is in
+        let a : how_many test (nodes_of node_of (j ∷ js)) ≡ suc (how_many test (nodes_of node_of js)) = ap (λ b. cond b (suc (how_many test (nodes_of node_of js))) (how_many test (nodes_of node_of js))) b in
+        omega (arith, a)
+    at (j ∷ js) (suc i) below same =
+        let a = at js i (omega (arith, below)) same in
+        by (test (node_of j)) a
+      where
+        by : (b : Bool) → 0 < how_many test (nodes_of node_of js) → 0 < cond b (suc (how_many test (nodes_of node_of js))) (how_many test (nodes_of node_of js))
+        by true g = omega (arith, g)
+        by false g = g
 
 -- Nothing went.
 begins : (s : State) → IsLeft s s [] [] []
@@ -67,41 +86,59 @@ module _ (x : Store) (counted : Counts x.names (all_named x)) (none : x.waits.ta
   noted_question q None h g = absurd h
   noted_question q (Some y) h g = noted_over q y y.role h.1 (g h.0)
 
-  module _ (p0 p1 p2 p3 p4 : List Node) (a : AreFound s promise_node x.names.promises.noted p0 p1) (b : AreFound s field_node x.names.outcomes.noted p1 p2) (c : AreFound s import_node x.names.imports.noted p2 p3)
-      (d : AreFound s pipe_node x.names.questions.noted p3 p4) where
-    pub covers_noted : Covers s p4
+  abbrev ps : List Node
+  ps = nodes_of promise_node x.names.promises.noted
+
+  abbrev os : List Node
+  os = nodes_of field_node x.names.outcomes.noted
+
+  abbrev es : List Node
+  es = nodes_of import_node x.names.imports.noted
+
+  abbrev qs : List Node
+  qs = nodes_of pipe_node x.names.questions.noted
+
+  module _ (more : List Node) where
+    pub how_many_noted : (test : Node → Bool) → how_many test (ps ++ ((os ++ (es ++ qs)) ++ more)) ≡ how_many test ps + (how_many test os + (how_many test es + how_many test qs)) + how_many test more
+    how_many_noted test =
+        let a = how_many_append test ps ((os ++ (es ++ qs)) ++ more) in
+        let b = how_many_append test (os ++ (es ++ qs)) more in
+        let c = how_many_append test os (es ++ qs) in
+        let d = how_many_append test es qs in
+        omega (arith, a, b, c, d)
+
+    pub covers_noted : Covers s (ps ++ ((os ++ (es ++ qs)) ++ more))
     covers_noted (node.Object o) h = absurd h
     covers_noted (node.Promise p) h =
         let k = promise_from s s refl refl true p (map.get s.promises p) h in
-        let one = a.found p (covered.promises p k.0 (here.promises p ∙ k.1)) h in
-        let two = b.kept (is_promise p) in let three = c.kept (is_promise p) in let four = d.kept (is_promise p) in
-        omega (arith, one, two, three, four)
+        let one = among promise_node (is_promise p) x.names.promises.noted p (itself p) (covered.promises p k.0 (here.promises p ∙ k.1)) in
+        let all = how_many_noted (is_promise p) in
+        omega (arith, one, all)
     covers_noted (node.Field o path) h =
         let k = outcome_from s s refl refl true o (map.get s.outcomes o) h in
-        let one = b.found o (covered.outcomes o k.0 (here.outcomes o ∙ k.1)) h in
-        let three = c.kept (is_field o) in let four = d.kept (is_field o) in
-        omega (arith, one, three, four)
+        let one = among field_node (is_field o) x.names.outcomes.noted o (itself o) (covered.outcomes o k.0 (here.outcomes o ∙ k.1)) in
+        let all = how_many_noted (is_field o) in
+        omega (arith, one, all)
     covers_noted (node.Import e) h =
         let k = import_from s s refl refl true e.0 (map.get s.imports e.0) h in
-        let one = c.found e.0 (covered.imports e.0 k.0 (here.imports e.0 ∙ k.1)) h in
-        let four = d.kept (is_import e.0) in
-        omega (arith, one, four)
-    covers_noted (node.Pipe q path) h = d.found q.0 (noted_question q.0 (map.get s.questions q.0) h (covered.questions q.0)) h
+        let one = among import_node (is_import e.0) x.names.imports.noted e.0 (itself e.0) (covered.imports e.0 k.0 (here.imports e.0 ∙ k.1)) in
+        let all = how_many_noted (is_import e.0) in
+        omega (arith, one, all)
+    covers_noted (node.Pipe q path) h =
+        let one = among pipe_node (is_pipe q.0) x.names.questions.noted q.0 (itself q.0) (noted_question q.0 (map.get s.questions q.0) h (covered.questions q.0)) in
+        let all = how_many_noted (is_pipe q.0) in
+        omega (arith, one, all)
     covers_noted (node.Broken reason) h = absurd h
 
-    pub thought_begins : (y : Thought) → y.gone.items ≡ [] → y.last ≡ None → y.marks ≡ no_names → y.over.items ≡ [] → y.less ≡ no_names → IsThought s y p4
+    pub thought_begins : (y : Thought) → y.gone.items ≡ [] → y.last ≡ None → y.marks ≡ no_names → y.over.items ≡ [] → y.less ≡ no_names → IsThought s y (ps ++ ((os ++ (es ++ qs)) ++ more))
     thought_begins y gone last marks over less =
         let all : gone_of y ≡ [] = ap (λ (o : Option Node). all_gone o (reverse y.gone.items)) last ∙ ap (λ (ns : List Node). reverse ns) gone in record {
           went = [];
           is_left = subst (λ (g : List Node). IsLeft s (left s g) g [] (reverse y.over.items)) (sym all) (subst (λ (ids : List QuestionId). IsLeft s s [] [] (reverse ids)) (sym over) (begins s));
           less = subst (λ (c : Names). Counts c []) (sym less) counts_none;
           marks = subst (λ (c : Names). Counts c (reverse y.gone.items)) (sym marks) (subst (λ (ns : List Node). Counts no_names (reverse ns)) (sym gone) counts_none);
-          covers = subst (λ (g : List Node). Covers (left s g) p4) (sym all) covers_noted;
+          covers = subst (λ (g : List Node). Covers (left s g) (ps ++ ((os ++ (es ++ qs)) ++ more))) (sym all) covers_noted;
         }
-
-    -- Where nothing is loose, nothing is found.
-    pub none_found : p0 ≡ [] → IsQuiet s → p4 ≡ []
-    none_found start quiet = d.none quiet ∙ c.none quiet ∙ b.none quiet ∙ a.none quiet ∙ start
 
 -- What is tight and has no question to finish.
 pub quiet_by : (s : State) → IsTight s → ((q : ℕ) → ¬ (IsToFinish s q (map.get s.questions q))) → IsQuiet s
@@ -127,6 +164,15 @@ tight_by t h = record {
 
 ended : (t : State) → IsQuiet t → (e : Progress) → e.state ≡ t → Withers e map.empty
 ended t h e at = Over (subst (λ (y : State). IsTight y) (sym at) (tight_by t h)) (subst (λ (y : State). (q : ℕ) → ¬ (IsToFinish y q (map.get y.questions q))) (sym at) (λ q. h (node.Pipe (record { 0 = q }) [])))
+
+-- No question is over then.
+pub none_over : (s : State) → IsQuiet s → (ids : List QuestionId) → ids ≡ [] → AreOver s ids
+none_over s h ids none = subst (λ (qs : List QuestionId). AreOver s qs) (sym none) (record {
+  over = map.empty;
+  withers = λ d at. ended s h d at;
+  entries = entries_standing s map.empty [] tt (λ k. map.get-empty nat_cmp k);
+  rising = tt;
+})
 
 -- ---- In order
 

@@ -5,7 +5,6 @@ pub mod Entries
 pub mod Leaving
 pub mod Looking
 pub mod Covering
-pub mod FoundAll
 pub mod Things
 pub mod Thoughts
 pub mod Rising

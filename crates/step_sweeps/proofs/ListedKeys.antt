@@ -1,5 +1,5 @@
 -- Keys that have an entry stay listed.
-use Rattle.std.proofs.Common.{◌≡◌, ◌≢◌, ◌⊎◌, inl, inr, ℕ, List, [], ◌∷◌, ◌++◌, Option, None, Some, sym, ◌∙◌, arith}
+use Rattle.std.proofs.Common.{◌≡◌, ◌≢◌, ◌⊎◌, inl, inr, ℕ, ◌==◌, true, List, [], ◌∷◌, ◌++◌, length, Option, None, Some, refl, sym, ◌∙◌, arith}
 use Rattle.std.specs.Ordering.{nat_cmp}
 use Rattle.std.specs.List.{Contains}
 use Rattle.std.proofs.lemmas.List.Elements.{Contains-append_left, Contains-push, Contains-push_cases}
@@ -43,3 +43,7 @@ listed_less m keys k h =
 -- Where no key is listed, nothing is there.
 pub listed_none : (m : Map ℕ) → AreListed m [] → m ≡ map.empty
 listed_none m h = alike m map.empty (λ k. h k (in_none k) ∙ sym (map.get-empty nat_cmp k))
+
+pub none_listed : (keys : List ℕ) → (length keys == 0) ≡ true → keys ≡ []
+none_listed [] e = refl
+none_listed (k ∷ ks) e = absurd (grind (arith, e))

@@ -1,6 +1,6 @@
 -- The thought goes on.
-use Rattle.std.proofs.Common.{◌≡◌, suc, ◌+◌, ◌≤◌, ◌<◌, ◌==◌, List, [], ◌∷◌, ◌++◌, length, length-append, reverse, Option, None, Some, option_to_list, refl, sym, ap, subst, ◌∙◌, arith}
-use Rattle.std.proofs.lemmas.List.{reverse-append}
+use Rattle.std.proofs.Common.{◌≡◌, ℕ, suc, ◌+◌, ◌≤◌, ◌<◌, ◌==◌, List, [], ◌∷◌, ◌++◌, length, length-append, append_assoc, get_or, drop, reverse, Option, None, Some, option_to_list, refl, sym, ap, subst, ◌∙◌, arith}
+use Rattle.std.proofs.lemmas.List.{reverse-append, drop_more, drop_all}
 use Rattle.rpc_msg.specs.declared.ids.QuestionId.{QuestionId}
 use Rattle.vat_machine.specs.declared.node.Node.{Node}
 use Rattle.vat_machine.specs.declared.node.Node.TheVariants as node
@@ -14,7 +14,7 @@ use Rattle.vat_names.proofs.Listing.{counts_more_all}
 use Rattle.vat_store.specs.declared.store.Store.{Store}
 use Rattle.vat_store.specs.Holding.{state_of, all_named}
 use Rattle.step_sweeps.specs.declared.thought.Thought.{Thought}
-use Rattle.step_sweeps.specs.Thinking.{IsLoose, IsLooseIf, IsLeft, Covers, IsThought, gone_of, all_gone, left, without, named_by_thing, asked_by, is_of, any, work}
+use Rattle.step_sweeps.specs.Thinking.{IsLoose, IsLooseIf, IsLeft, Covers, IsThought, gone_of, all_gone, left, without, named_by_thing, nodes_of, asked_by, is_of, any, work}
 use Rattle.step_sweeps.proofs.Looking.{counts_of, same_left, is_loose_to, is_loose_from}
 use Rattle.step_sweeps.proofs.Covering.{covers_less, gone_firm, thing_leaves, covers_more}
 use Rattle.step_sweeps.proofs.Leaving.{thing_goes}
@@ -100,7 +100,7 @@ module _ (store : Store) (counted : Counts store.names (all_named store)) (none 
 
   -- It goes.
   module _ (y : Thought) (loose : IsLooseIf s (times_named store.names n == times_named x.less n) n) (gone : y.gone.items ≡ x.gone.items) (now : y.last ≡ Some n) (marks : y.marks ≡ x.marks) (over : y.over.items ≡ x.over.items ++ asked_by n)
-      (less : y.less ≡ named_all x.less (named_by_thing s n)) (more : y.pending.items ≡ pending ++ named_by_thing s n) where
+      (less : y.less ≡ named_all x.less (named_by_thing s n)) where
     abbrev said : List Node
     said = named_by_thing s n
 
@@ -138,14 +138,14 @@ module _ (store : Store) (counted : Counts store.names (all_named store)) (none 
         let f = how_many_append test said (places (without t n)) in
         omega (arith, a, b, c, d, e, f)
 
-    pub thought_goes : IsThought s y y.pending.items
-    thought_goes = record {
+    pub thought_goes : (all : List Node) → all ≡ pending ++ said → IsThought s y all
+    thought_goes all more = record {
       went = said ++ h.went;
       is_left = subst (λ (g : List Node). IsLeft s (left s g) g (said ++ h.went) (reverse y.over.items)) (sym gone_then)
           (subst (λ (ids : List QuestionId). IsLeft s (without t n) (n ∷ gone_of x) (said ++ h.went) ids) (sym asked_then) goes);
       less = subst (λ (c : Names). Counts c (said ++ h.went)) (sym less) (counts_more_all x.less h.went said h.less);
       marks = subst (λ (c : Names). Counts c (reverse y.gone.items)) (sym marks) (subst (λ (ns : List Node). Counts x.marks (reverse ns)) (sym gone) h.marks);
-      covers = subst (λ (g : List Node). Covers (left s g) y.pending.items) (sym gone_then)
+      covers = subst (λ (g : List Node). Covers (left s g) all) (sym gone_then)
           (subst (λ (ns : List Node). Covers (without t n) ns) (sym more)
           (covers_more t (without t n) n said pending (thing_leaves t said n (is_now loose) alike_then) h.covers));
     }
@@ -154,8 +154,8 @@ module _ (store : Store) (counted : Counts store.names (all_named store)) (none 
     all_any [] = refl
     all_any (m ∷ ns) = ap suc (all_any ns)
 
-    pub work_goes : work s y ≤ length pending + how_many any (places t)
-    work_goes =
+    pub work_goes : y.pending.items ≡ pending ++ said → work s y ≤ length pending + how_many any (places t)
+    work_goes more =
         let a : how_many any (places (left s (gone_of y))) ≡ how_many any (places (without t n)) = ap (λ (g : List Node). how_many any (places (left s g))) gone_then in
         let b = alike_then any in
         let c = how_many_append any said (places (without t n)) in
@@ -163,6 +163,35 @@ module _ (store : Store) (counted : Counts store.names (all_named store)) (none 
         let e : length y.pending.items ≡ length (pending ++ said) = ap (λ (ns : List Node). length ns) more in
         let f = length-append pending said in
         omega (arith, a, b, c, d, e, f)
+
+-- ---- Of these nodes one after the other is looked at
+
+module _ (s : State) where
+  -- What looking at a node does, whatever is pending besides.
+  abbrev pub Considers : Thought → Thought → Node → Type 0
+  Considers x y n = (rest : List Node) → IsThought s x (n ∷ (rest ++ x.pending.items)) → IsThought s y (rest ++ y.pending.items)
+
+  pub considered_next : (node_of : ℕ → Node) (keys : List ℕ) (i : ℕ) (x y : Thought) → i < length keys → Considers x y (node_of (get_or keys i 0)) → (rest : List Node) → IsThought s x (nodes_of node_of (drop i keys) ++ (rest ++ x.pending.items))
+      → IsThought s y (nodes_of node_of (drop (i + 1) keys) ++ (rest ++ y.pending.items))
+  considered_next node_of keys i x y within step rest h =
+      let n = node_of (get_or keys i 0) in
+      let behind = nodes_of node_of (drop (i + 1) keys) in
+      let first : IsThought s x (n ∷ (behind ++ (rest ++ x.pending.items))) = subst (λ (ks : List ℕ). IsThought s x (nodes_of node_of ks ++ (rest ++ x.pending.items))) (drop_more keys i 0 within) h in
+      let beside : IsThought s x (n ∷ ((behind ++ rest) ++ x.pending.items)) = subst (λ (ns : List Node). IsThought s x (n ∷ ns)) (sym (append_assoc behind rest x.pending.items)) first in
+      subst (λ (ns : List Node). IsThought s y ns) (append_assoc behind rest y.pending.items) (step (behind ++ rest) beside)
+
+  pub considered_all : (node_of : ℕ → Node) (keys : List ℕ) (i : ℕ) (y : Thought) → length keys ≤ i → (rest : List Node) → IsThought s y (nodes_of node_of (drop i keys) ++ (rest ++ y.pending.items)) → IsThought s y (rest ++ y.pending.items)
+  considered_all node_of keys i y over rest h = subst (λ (ks : List ℕ). IsThought s y (nodes_of node_of ks ++ (rest ++ y.pending.items))) (drop_all i keys over) h
+
+  -- What looking at all of these does.
+  abbrev pub ConsidersAll : Thought → Thought → List Node → Type 0
+  ConsidersAll x y ns = (rest : List Node) → IsThought s x (ns ++ (rest ++ x.pending.items)) → IsThought s y (rest ++ y.pending.items)
+
+  pub considered_four : (y0 y1 y2 y3 y4 : Thought) (ps os es qs : List Node) → ConsidersAll y0 y1 ps → ConsidersAll y1 y2 os → ConsidersAll y2 y3 es → ConsidersAll y3 y4 qs → IsThought s y0 (ps ++ ((os ++ (es ++ qs)) ++ y0.pending.items)) → IsThought s y4 y4.pending.items
+  considered_four y0 y1 y2 y3 y4 ps os es qs a b c d h =
+      let one = subst (λ (ns : List Node). IsThought s y1 ns) (append_assoc os (es ++ qs) y1.pending.items) (a (os ++ (es ++ qs)) h) in
+      let two = subst (λ (ns : List Node). IsThought s y2 ns) (append_assoc es qs y2.pending.items) (b (es ++ qs) one) in
+      d [] (c qs two)
 
 -- ---- The next node
 

@@ -1,5 +1,5 @@
 -- What is noted no more: where nothing is noted nothing is loose, and a question that is not to be finished needs no note.
-use Rattle.std.proofs.Common.{◌≡◌, ◌⊎◌, inl, inr, ℕ, ◌+◌, ◌≤◌, List, [], ◌∷◌, ◌++◌, Option, None, Some, IsSome, refl, sym, ap, subst, ◌∙◌, arith}
+use Rattle.std.proofs.Common.{◌≡◌, ◌⊎◌, inl, inr, ℕ, ◌+◌, ◌≤◌, List, [], ◌∷◌, ◌++◌, Option, None, Some, IsSome, refl, sym, ap, subst, ◌∙◌, arith, Bool}
 use Rattle.std.specs.List.{Contains}
 use Rattle.std.proofs.lemmas.List.Elements.{Contains-push_cases}
 use Rattle.std.specs.FinMap as map
@@ -10,6 +10,7 @@ use Rattle.vat_machine.specs.declared.entries.Returned.{Returned}
 use Rattle.vat_machine.specs.declared.entries.Role.{Role}
 use Rattle.vat_machine.specs.declared.entries.Role.TheVariants as role
 use Rattle.vat_machine.specs.State.{State}
+use Rattle.vat_machine.specs.Lists.{how_many}
 use Rattle.vat_machine.specs.Places.{places}
 use Rattle.vat_machine.specs.Sweeping.{IsToFinish, IsOver}
 use Rattle.vat_names.specs.Names.{Counted, Names, Counts, Takes, times_named, noting}
@@ -17,28 +18,24 @@ use Rattle.vat_store.specs.declared.store.Store.{Store}
 use Rattle.vat_store.specs.Holding.{state_of, IsNotedFor, IsNotedAs, HasReturned, IsSound}
 use Rattle.vat_store.specs.Noted.{Notes, noted_of, nothing_noted}
 use Rattle.step_collects.proofs.Searching.{with_notes, noted_again, others}
-use Rattle.step_sweeps.specs.Thinking.{AreFound, IsQuiet, promise_node, field_node, import_node, pipe_node}
+use Rattle.step_sweeps.specs.Thinking.{IsQuiet, is_of, nodes_of, promise_node, field_node, import_node, pipe_node}
 use Rattle.step_sweeps.proofs.Looking.{counts_places}
-use Rattle.step_sweeps.proofs.Ending.{covers_noted}
+use Rattle.step_sweeps.proofs.Ending.{how_many_noted, covers_noted}
 
 -- ---- Nothing is noted
 
-none_found : (s : State) (node_of : ℕ → Node) (keys : List ℕ) → keys ≡ [] → AreFound s node_of keys [] []
-none_found s node_of keys none = record {
-  found = λ k here loose. let at = subst (λ (ks : List ℕ). Contains ks k) none here in let few = at.1 in omega (arith, few);
-  kept = λ test. omega arith;
-  none = λ quiet. refl;
-}
+none_of : (node_of : ℕ → Node) (test : Node → Bool) (keys : List ℕ) → keys ≡ [] → how_many test (nodes_of node_of keys) ≡ 0
+none_of node_of test keys none = ap (λ (ks : List ℕ). how_many test (nodes_of node_of ks)) none
 
 pub quiet_unnoted : (x : Store) → IsSound x → x.waits.taken ≡ [] → noted_of x.names ≡ nothing_noted → IsQuiet (state_of x)
 quiet_unnoted x h none rested n loose =
-    let s = state_of x in
-    let among = covers_noted x h.counted none h.covered [] [] [] [] []
-    (none_found s promise_node x.names.promises.noted (ap (λ (m : Notes). m.promises) rested))
-    (none_found s field_node x.names.outcomes.noted (ap (λ (m : Notes). m.outcomes) rested))
-    (none_found s import_node x.names.imports.noted (ap (λ (m : Notes). m.imports) rested))
-    (none_found s pipe_node x.names.questions.noted (ap (λ (m : Notes). m.questions) rested)) n loose in
-    omega (arith, among)
+    let among = covers_noted x h.counted none h.covered [] n loose in
+    let all = how_many_noted x h.counted none h.covered [] (is_of n) in
+    let a = none_of promise_node (is_of n) x.names.promises.noted (ap (λ (m : Notes). m.promises) rested) in
+    let b = none_of field_node (is_of n) x.names.outcomes.noted (ap (λ (m : Notes). m.outcomes) rested) in
+    let c = none_of import_node (is_of n) x.names.imports.noted (ap (λ (m : Notes). m.imports) rested) in
+    let d = none_of pipe_node (is_of n) x.names.questions.noted (ap (λ (m : Notes). m.questions) rested) in
+    omega (arith, among, all, a, b, c, d)
 
 -- ---- A question is noted no more
 

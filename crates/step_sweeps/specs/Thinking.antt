@@ -18,7 +18,7 @@ use Rattle.vat_machine.specs.Progress.{Progress}
 use Rattle.vat_machine.specs.Collecting.{IsLoosePromise, IsLooseOutcome, IsLooseImport}
 use Rattle.vat_machine.specs.Sweeping.{IsNotSent, IsToFinish, closed, Withers}
 use Rattle.laws_acts.specs.Alike.{Alike}
-use Rattle.vat_names.specs.Names.{Counts}
+use Rattle.vat_names.specs.Names.{Counts, no_names}
 use Rattle.vat_store.specs.Holding.{IsFixed, IsTold, IsThere}
 use Rattle.step_sweeps.specs.declared.thought.Thought.{Thought}
 
@@ -199,17 +199,16 @@ import_node k = node.Import (record { 0 = k })
 abbrev pub pipe_node : ℕ → Node
 pipe_node k = node.Pipe (record { 0 = k }) []
 
--- The node is among the new ones, if what it is of is loose.
-pub record IsFound (s : State) (n : Node) (old new : List Node) : Type 0 where
-  pub found : IsLoose s n → 0 < how_many (is_of n) new
-  pub kept : (test : Node → Bool) → how_many test old ≤ how_many test new
-  pub none : ¬ (IsLoose s n) → new ≡ old
-
--- So is the node of each of these keys.
-pub record AreFound (s : State) (node_of : ℕ → Node) (keys : List ℕ) (old new : List Node) : Type 0 where
-  pub found : (k : ℕ) → Contains keys k → IsLoose s (node_of k) → 0 < how_many (is_of (node_of k)) new
-  pub kept : (test : Node → Bool) → how_many test old ≤ how_many test new
-  pub none : ((n : Node) → ¬ (IsLoose s n)) → new ≡ old
+-- The nodes of these keys.
+abbrev pub nodes_of : (ℕ → Node) → List ℕ → List Node
+nodes_of node_of [] = []
+nodes_of node_of (k ∷ ks) = node_of k ∷ nodes_of node_of ks
 
 abbrev pub IsQuiet : State → Type 0
 IsQuiet s = (n : Node) → ¬ (IsLoose s n)
+
+-- Nothing went, and nothing is pending.
+pub record IsStill (x : Thought) : Type 0 where
+  pub last : x.last ≡ None
+  pub less : x.less ≡ no_names
+  pub pending : x.pending.items ≡ []

@@ -1,4 +1,4 @@
-ghost use Rattle.std.specs.Prelude.{◌≡◌, OnOk};
+ghost use Rattle.std.specs.Prelude.{◌≡◌, IsTrue, OnOk};
 
 use crate::tally::Tally;
 use rpc_msg::{Memory, QuestionId};
@@ -76,10 +76,23 @@ impl Tallies {
         }
     }
 
+    // Whether nothing is counted.
+    fn is_clear(&self) -> bool
+        ensures { IsTrue result → self.now ≡ no_names }
+    {
+        self.promises.is_clear()
+            && self.outcomes.is_clear()
+            && self.imports.is_clear()
+            && self.questions.is_clear()
+    }
+
     /// Counts nothing any more. Takes no memory, and keeps what it has.
     pub fn clear(&mut self)
         ensures { self.new ≡ no_names }
     {
+        if self.is_clear() {
+            return;
+        }
         self.promises.clear();
         self.outcomes.clear();
         self.imports.clear();

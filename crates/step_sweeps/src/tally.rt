@@ -1,4 +1,4 @@
-ghost use Rattle.std.specs.Prelude.{◌≡◌, None, OnOk};
+ghost use Rattle.std.specs.Prelude.{◌≡◌, None, IsTrue, OnOk};
 ghost use Rattle.std.specs.FinMap as map;
 ghost use Rattle.vat_names.specs.Names.{times, raised, nothing_counted};
 
@@ -80,6 +80,13 @@ impl Tally {
             return Err(Memory);
         };
         Ok(())
+    }
+
+    /// Whether nothing is counted. Takes no memory.
+    pub fn is_clear(&self) -> bool
+        ensures { IsTrue result → self.now ≡ nothing_counted }
+    {
+        self.keys.as_slice().is_empty()
     }
 
     /// Counts nothing any more. Takes no memory.

@@ -1,4 +1,4 @@
-ghost use Rattle.std.specs.Prelude.{◌≡◌, ◌<◌, ◌∷◌, ◌++◌, None, [], option_to_list, MatchBool, OnOk, IfOk, IfNone};
+ghost use Rattle.std.specs.Prelude.{◌≡◌, ◌<◌, ◌∷◌, ◌++◌, None, [], option_to_list, MatchBool, IsOk, OnOk, IfOk, IfNone};
 ghost use Rattle.vat_names.specs.Names.{named, named_all, times_named, no_names};
 ghost use Rattle.step_sweeps.specs.Thinking.{asked_by};
 ghost use Rattle.vat_machine.specs.Places.{nodes};
@@ -75,6 +75,7 @@ impl Thought {
         ensures less { OnOk result (self.new.less ≡ self.old.less) }
         ensures pending { OnOk result (self.new.pending.items ≡ self.old.pending.items) }
         ensures value { IfOk result (λ gone. MatchBool gone (0 < times_named self.new.marks node.now) (times_named self.new.marks node.now ≡ 0)) }
+        ensures never { self.old.last ≡ None → IsOk result }
     {
         self.mark()?;
         Ok(0 < self.marks.of_node(node))
@@ -88,6 +89,7 @@ impl Thought {
         ensures over { OnOk result (self.new.over.items ≡ self.old.over.items) }
         ensures less { OnOk result (self.new.less ≡ self.old.less) }
         ensures pending { OnOk result (self.new.pending.items ≡ self.old.pending.items) }
+        ensures never { self.old.last ≡ None → IsOk result }
     {
         let Some(node) = self.last else {
             return Ok(());

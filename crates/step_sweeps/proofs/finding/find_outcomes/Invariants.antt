@@ -1,7 +1,0 @@
-use Rattle.std.proofs.Common.{take}
-use Rattle.vat_store.specs.Holding.{state_of}
-use Rattle.step_sweeps.specs.Thinking.{AreFound, field_node}
-use Rattle.step_sweeps.proofs.finding.find_outcomes.Given as goal
-
-abbrev pub invariant-loop-key : goal.invariant-loop-key
-invariant-loop-key l = AreFound (state_of l.store) field_node (take l.key-index l.store.names.outcomes.noted) l.fn.pending.items l.pending.items
