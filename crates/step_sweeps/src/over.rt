@@ -9,9 +9,7 @@ ghost use Rattle.step_sweeps.specs.Over.{AreOver};
 ghost use Rattle.step_sweeps.specs.Thinking.{IsThought, IsQuiet, work, asked_by, named_by_thing};
 
 use crate::considering::consider;
-use crate::finding::{
-    consider_imports, consider_outcomes, consider_promises, consider_questions,
-};
+use crate::finding::{consider_imports, consider_outcomes, consider_promises, consider_questions};
 use crate::thought::Thought;
 use rpc_msg::Memory;
 use vat_store::Store;
