@@ -87,6 +87,9 @@ impl<Entry> Numbered<Entry> {
     pub fn get(&self, number: u64) -> Option<&Entry>
         ensures { option_copied result ≡ map.get self.now.entries number }
     {
+        if self.hashed.is_empty() {
+            return None;
+        }
         self.hashed.get(&number)
     }
 
