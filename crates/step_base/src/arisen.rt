@@ -1,4 +1,4 @@
-ghost use Rattle.std.specs.Prelude.{◌≡◌, ◌+◌, ◌<◌, ◌≤◌, [], ◌∷◌, ◌++◌, OnOk, IsOk, IfSome, IfNone};
+ghost use Rattle.std.specs.Prelude.{◌≡◌, ◌+◌, ◌<◌, ◌≤◌, [], ◌∷◌, ◌++◌, OnOk, IsOk, IsTrue, IfSome, IfNone};
 
 use rpc_msg::Memory;
 use std::alloc::Global;
@@ -31,6 +31,13 @@ impl Arisen {
         Arisen {
             outcomes: VecDeque::new(alloc),
         }
+    }
+
+    /// Whether there is room for so many more.
+    pub(crate) fn has_room(&self, more: usize) -> bool
+        ensures { IsTrue result → more ≤ self.now.1 }
+    {
+        more <= self.outcomes.capacity() - self.outcomes.len()
     }
 
     /// Makes room for so many more. `Err` where there was no room and the growth was refused; the outcomes stay as they

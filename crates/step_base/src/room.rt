@@ -1,4 +1,4 @@
-ghost use Rattle.std.specs.Prelude.{◌≡◌, ◌≤◌, ◌+◌, IsOk, OnOk, OnErr};
+ghost use Rattle.std.specs.Prelude.{◌≡◌, ◌≤◌, ◌+◌, IsOk, IsTrue, OnOk, OnErr};
 ghost use Rattle.std.specs.FinMap as map;
 ghost use Rattle.vat_machine.specs.Progress.{begin};
 ghost use Rattle.vat_store.specs.Holding.{state_of, IsSound, IsSameButRoom};
@@ -19,6 +19,9 @@ pub fn begin(step: &mut Step, more: usize) -> Result<(), Memory>
     ensures idle { OnErr result (IsIdle step.new) }
 {
     vat_store::reserve(&mut step.store, more)?;
+    if has_room(step, step.store.slack) {
+        return Ok(());
+    }
     make_room(step, step.store.slack)
 }
 
@@ -42,6 +45,23 @@ pub fn reserve(step: &mut Step, more: usize) -> Result<(), Memory>
     make_room(step, room)?;
     step.store.slack = room;
     Ok(())
+}
+
+// Whether there is room for what the step says, and for the outcomes that arise in it.
+fn has_room(step: &Step, more: usize) -> bool
+    ensures { IsTrue result →
+        (more ≤ step.now.outbox.room)
+        × (more ≤ step.now.arisen.1)
+        × (map.len step.now.store.questions.entries + more ≤ step.now.outbox.finish_room)
+        × (map.len step.now.store.imports.entries + more ≤ step.now.outbox.release_room) }
+{
+    let Some(finishes) = more.checked_add(step.store.questions.len()) else {
+        return false;
+    };
+    let Some(releases) = more.checked_add(step.store.imports.len()) else {
+        return false;
+    };
+    step.outbox.has_room(more, finishes, releases) && step.arisen.has_room(more)
 }
 
 // Makes room for what the step says, and for the outcomes that arise in it.

@@ -33,7 +33,7 @@ pub fn begin_quietly(step: &mut Step, more: usize) -> Result<(), Memory>
 /// Ends a step that said nothing: the room for what it might have said is given back where it is much.
 pub fn end_silently(step: &mut Step)
     ensures store { step.new.store ≡ step.old.store }
-    ensures outbox { step.new.outbox ≡ emptied step.old.outbox }
+    ensures outbox { step.new.outbox ≡ record (emptied step.old.outbox) { room = step.new.outbox.room; finish_room = step.new.outbox.finish_room; release_room = step.new.outbox.release_room } }
     ensures arisen { step.new.arisen ≡ step.old.arisen }
 {
     let _ = step.outbox.take();

@@ -6,5 +6,6 @@ mod abort;
 mod lists;
 mod outbox;
 mod rising;
+mod spare;
 
 pub use outbox::Outbox;

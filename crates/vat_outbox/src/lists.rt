@@ -1,6 +1,7 @@
 ghost use Rattle.std.specs.Prelude.{◌≡◌, ◌+◌, ◌≤◌, ◌<◌, [], ◌∷◌, ◌++◌, length, vec_len, vec_capacity, IsOk, IsTrue, OnOk};
 ghost use Rattle.vat_outbox.specs.Outgoing.{finish_messages, release_messages};
 
+use crate::spare::Spare;
 use rpc_msg::{ExportId, Finish, Memory, Message, PlainMessage, QuestionId, Release};
 use std::alloc::Global;
 use std::mem;
@@ -8,11 +9,11 @@ use std::mem;
 // What is reserved beyond what is asked of a list that is empty, so that growth is rare.
 const SPARE: usize = 64;
 
-// So many items go out of a list in memory of their own.
-const FEW: usize = 4;
+/// So many items go out of a list in memory of their own.
+pub(crate) const FEW: usize = 4;
 
-// A list that is empty keeps memory for so many items at most.
-const KEPT: usize = 512;
+/// A list that is empty keeps memory for so many items at most.
+pub(crate) const KEPT: usize = 512;
 
 /// Makes room for so many more. Refused only where the growth was. Memory in which nothing stands is not copied.
 pub(crate) fn grow<Item: Drop>(
@@ -64,18 +65,6 @@ pub(crate) fn fits<Item>(list: &Vec<Item>, more: usize) -> bool
     more <= list.capacity() - list.len()
 }
 
-/// Makes memory in which a few items can go out. Refused only where there was none.
-pub(crate) fn make_few<Item: Drop>(few: &mut Vec<Item>, alloc: Global) -> Result<(), Memory> {
-    if FEW <= few.capacity() {
-        return Ok(());
-    }
-    let Ok(made) = Vec::with_capacity(alloc, FEW) else {
-        return Err(Memory);
-    };
-    *few = made;
-    Ok(())
-}
-
 /// Puts an item at the end, where there is room.
 pub(crate) fn push_kept<Item: Drop>(list: &mut Vec<Item>, item: Item)
     requires { vec_len list.old < vec_capacity list.old }
@@ -89,11 +78,11 @@ pub(crate) fn push_kept<Item: Drop>(list: &mut Vec<Item>, item: Item)
     }
 }
 
-/// The list. A few items go out in the memory that is kept for a few, and the list then keeps its own, unless that is much;
-/// more go out in the list's memory.
+/// The list. Where the spare memory is as much as the list's own, it takes its place, and nothing is copied. Else a few items
+/// go out in the spare memory, and the list then keeps its own, unless that is much; more go out in the list's memory.
 pub(crate) fn hand_out<Item: Drop>(
     list: &mut Vec<Item>,
-    few: &mut Vec<Item>,
+    spare: &mut Spare<Item>,
     alloc: Global,
 ) -> Vec<Item>
     ensures items { result.items ≡ list.old.items }
@@ -103,50 +92,32 @@ pub(crate) fn hand_out<Item: Drop>(
     if list.is_empty() && list.capacity() <= KEPT {
         return Vec::new(alloc);
     }
-    hand_out_all(list, few, alloc)
+    if list.capacity() <= spare.capacity() {
+        return mem::replace(list, spare.take(alloc));
+    }
+    hand_out_few(list, spare, alloc)
 }
 
-fn hand_out_all<Item: Drop>(list: &mut Vec<Item>, few: &mut Vec<Item>, alloc: Global) -> Vec<Item>
+fn hand_out_few<Item: Drop>(
+    list: &mut Vec<Item>,
+    spare: &mut Spare<Item>,
+    alloc: Global,
+) -> Vec<Item>
     ensures items { result.items ≡ list.old.items }
     ensures left { list.new.items ≡ [] }
     ensures len { vec_len list.new ≡ 0 }
 {
-    few.clear();
-    if few.capacity() < list.len() {
+    if spare.capacity() < list.len() {
         return mem::replace(list, Vec::new(alloc));
     }
-    let handed = move_out(list, few, alloc);
+    let mut handed = spare.take(alloc);
+    let Ok(()) = handed.append(list) else {
+        unreachable!()
+    };
     if KEPT < list.capacity() {
         *list = Vec::new(alloc);
     }
     handed
-}
-
-fn move_out<Item: Drop>(list: &mut Vec<Item>, few: &mut Vec<Item>, alloc: Global) -> Vec<Item>
-    requires none { few.old.items ≡ [] }
-    requires room { vec_len few.old + vec_len list.old ≤ vec_capacity few.old }
-    ensures items { result.items ≡ list.old.items }
-    ensures left { list.new.items ≡ [] }
-    ensures len { vec_len list.new ≡ 0 }
-{
-    match few.append(list) {
-        Ok(()) => mem::replace(few, Vec::new(alloc)),
-        Err(_) => unreachable!(),
-    }
-}
-
-/// Takes the memory of a list in place of that of one that is empty, where it is more, or else of that for a few.
-pub(crate) fn reuse<Item: Drop>(list: &mut Vec<Item>, few: &mut Vec<Item>, mut spare: Vec<Item>)
-    ensures items { list.new.items ≡ list.old.items }
-    ensures len { vec_len list.new ≡ vec_len list.old }
-    ensures capacity { vec_capacity list.old ≤ vec_capacity list.new }
-{
-    spare.clear();
-    if list.is_empty() && list.capacity() < spare.capacity() {
-        *list = spare;
-    } else if few.capacity() < spare.capacity() {
-        *few = spare;
-    }
 }
 
 /// Sends these Finishes, where there is room.

@@ -1,12 +1,11 @@
-ghost use Rattle.std.specs.Prelude.{◌≡◌, ◌+◌, ◌≤◌, ◌<◌, ◌↔◌, cond, false, IsOk, IfOk, IfErr, IfSome, OnOk, OnErr};
+ghost use Rattle.std.specs.Prelude.{◌≡◌, ◌+◌, ◌≤◌, ◌<◌, ◌↔◌, cond, false, IsOk, IfOk, IfErr, IfSome, IsTrue, OnOk, OnErr};
 ghost use Rattle.std.specs.FinMap as map;
 ghost use Rattle.rpc_msg.specs.declared.message.Message.TheVariants.{Plain, Unimplemented};
 
 use crate::abort::AbortRoom;
-use crate::lists::{
-    fits, grow, hand_out, make_few, push_finishes, push_kept, push_releases, reuse,
-};
+use crate::lists::{FEW, fits, grow, hand_out, push_finishes, push_kept, push_releases};
 use crate::rising::Rising;
+use crate::spare::Spare;
 use rpc_msg::{ExportId, Items, Memory, Message, PlainMessage, QuestionId};
 use std::alloc::Global;
 use std::marker::Model;
@@ -25,10 +24,12 @@ pub struct Outbox {
     releases: Rising<u32>,
     deliveries: Vec<Delivery>,
     answers: Vec<Ended>,
-    // Empty, with memory in which a few of each go out.
-    few_sends: Vec<Message>,
-    few_deliveries: Vec<Delivery>,
-    few_answers: Vec<Ended>,
+    // Empty, with memory in which some of each go out.
+    spare_sends: Spare<Message>,
+    spare_deliveries: Spare<Delivery>,
+    spare_answers: Spare<Ended>,
+    // Whether such memory came back since room was last made.
+    comes_back: bool,
     // So many more of each need no more memory: of messages, deliveries and ended calls; of Finishes; of Releases.
     room: usize,
     finish_room: usize,
@@ -80,9 +81,10 @@ impl Outbox {
             releases: Rising::new(alloc),
             deliveries: Vec::new(alloc),
             answers: Vec::new(alloc),
-            few_sends: Vec::new(alloc),
-            few_deliveries: Vec::new(alloc),
-            few_answers: Vec::new(alloc),
+            spare_sends: Spare::new(alloc),
+            spare_deliveries: Spare::new(alloc),
+            spare_answers: Spare::new(alloc),
+            comes_back: false,
             room: 0,
             finish_room: 0,
             release_room: 0,
@@ -98,8 +100,19 @@ impl Outbox {
         self.room
     }
 
+    /// Whether there is room for so many more messages, deliveries and ended calls, Finishes, and Releases, and memory comes
+    /// back, so that nothing is to be made.
+    pub fn has_room(&self, more: usize, finishes: usize, releases: usize) -> bool
+        ensures { IsTrue result → (more ≤ self.now.room) × (finishes ≤ self.now.finish_room) × (releases ≤ self.now.release_room) }
+    {
+        self.comes_back
+            && more <= self.room
+            && finishes <= self.finish_room
+            && releases <= self.release_room
+    }
+
     /// Makes room for so many more messages, deliveries and ended calls, of each kind. Where a growth is refused nothing
-    /// is changed; where there is room none is asked for.
+    /// is changed; where there is room none is refused.
     pub fn reserve(&mut self, more: usize) -> Result<(), Memory>
         ensures said { self.new ≡ record self.old { room = self.new.room } }
         ensures ok { OnOk result (more ≤ self.new.room) }
@@ -108,27 +121,59 @@ impl Outbox {
         ensures same { OnErr result (self.new ≡ self.old) }
     {
         if more <= self.room {
+            if !self.comes_back {
+                self.make_few();
+            }
             return Ok(());
         }
+        self.grow_lists(more)?;
+        if self.comes_back {
+            self.make_more();
+        }
+        self.make_few();
+        Ok(())
+    }
+
+    // Memory in which a few go out. Where none is found, a list goes out itself.
+    fn make_few(&mut self)
+        ensures { self.new ≡ self.old }
+    {
+        self.spare_sends.make(FEW, self.alloc);
+        self.spare_deliveries.make(FEW, self.alloc);
+        self.spare_answers.make(FEW, self.alloc);
+    }
+
+    // As much memory as the lists have, where that is not much, since it comes back.
+    fn make_more(&mut self)
+        ensures { self.new ≡ self.old }
+    {
+        self.comes_back = false;
+        self.spare_sends.make_like(&self.sends, self.alloc);
+        self.spare_deliveries
+            .make_like(&self.deliveries, self.alloc);
+        self.spare_answers.make_like(&self.answers, self.alloc);
+    }
+
+    // Makes room for more than there is room for.
+    fn grow_lists(&mut self, more: usize) -> Result<(), Memory>
+        requires { self.old.room ≤ more }
+        ensures ok { OnOk result (self.new ≡ record self.old { room = more }) }
+        ensures same { OnErr result (self.new ≡ self.old) }
+    {
         let Some(ends) = self.ends(self.finish_room, self.release_room) else {
             return Err(Memory);
         };
         let Some(messages) = more.checked_add(ends) else {
             return Err(Memory);
         };
-        make_few(&mut self.few_sends, self.alloc)?;
-        make_few(&mut self.few_deliveries, self.alloc)?;
-        make_few(&mut self.few_answers, self.alloc)?;
-        if fits(&self.sends, messages)
-            && fits(&self.deliveries, more)
-            && fits(&self.answers, more)
+        if !fits(&self.sends, messages)
+            || !fits(&self.deliveries, more)
+            || !fits(&self.answers, more)
         {
-            self.room = more;
-            return Ok(());
+            grow(&mut self.sends, messages, self.alloc)?;
+            grow(&mut self.deliveries, more, self.alloc)?;
+            grow(&mut self.answers, more, self.alloc)?;
         }
-        grow(&mut self.sends, messages, self.alloc)?;
-        grow(&mut self.deliveries, more, self.alloc)?;
-        grow(&mut self.answers, more, self.alloc)?;
         self.room = more;
         Ok(())
     }
@@ -261,34 +306,43 @@ impl Outbox {
         Ok(())
     }
 
-    /// The effects of the step: its messages, then its Finishes and its Releases, each by rising id. What is few
-    /// goes out in memory of its own, and the outbox keeps the rest.
+    /// The effects of the step: its messages, then its Finishes and its Releases, each by rising id. They go out in memory
+    /// of their own, and the room stays; or else in that of the outbox, and then there is none left.
     pub fn take(&mut self) -> Effects
         ensures effects { result ≡ effects_of self.old }
         ensures releases { AreReleasesOf result self.old }
-        ensures left { self.new ≡ emptied self.old }
+        ensures left { self.new ≡ record (emptied self.old) { room = self.new.room; finish_room = self.new.finish_room; release_room = self.new.release_room } }
     {
-        self.room = 0;
-        self.finish_room = 0;
-        self.release_room = 0;
         push_finishes(&mut self.sends, self.finishes.entries());
         push_releases(&mut self.sends, self.releases.entries());
         self.finishes.clear();
         self.releases.clear();
-        Effects {
-            sends: Items::from_vec(hand_out(&mut self.sends, &mut self.few_sends, self.alloc)),
+        let messages = self.sends.capacity();
+        let deliveries = self.deliveries.capacity();
+        let answers = self.answers.capacity();
+        let effects = Effects {
+            sends: Items::from_vec(hand_out(&mut self.sends, &mut self.spare_sends, self.alloc)),
             deliveries: Items::from_vec(hand_out(
                 &mut self.deliveries,
-                &mut self.few_deliveries,
+                &mut self.spare_deliveries,
                 self.alloc,
             )),
             answers: Items::from_vec(hand_out(
                 &mut self.answers,
-                &mut self.few_answers,
+                &mut self.spare_answers,
                 self.alloc,
             )),
             down: None,
+        };
+        if self.sends.capacity() < messages
+            || self.deliveries.capacity() < deliveries
+            || self.answers.capacity() < answers
+        {
+            self.room = 0;
+            self.finish_room = 0;
+            self.release_room = 0;
         }
+        effects
     }
 
     /// Takes back the memory of effects that were looked at, for those of later steps. What they still hold is dropped.
@@ -301,13 +355,10 @@ impl Outbox {
             answers,
             down: _,
         } = effects;
-        reuse(&mut self.sends, &mut self.few_sends, sends.into_vec());
-        reuse(
-            &mut self.deliveries,
-            &mut self.few_deliveries,
-            deliveries.into_vec(),
-        );
-        reuse(&mut self.answers, &mut self.few_answers, answers.into_vec());
+        self.comes_back = true;
+        self.spare_sends.reuse(sends.into_vec());
+        self.spare_deliveries.reuse(deliveries.into_vec());
+        self.spare_answers.reuse(answers.into_vec());
     }
 
     /// The effects of a step that takes the vat down with that number: one Abort alone, from the memory that was kept for
