@@ -1,12 +1,13 @@
 -- What the steps of placing leave.
-use Rattle.std.proofs.Common.{◌≡◌, ℕ, zero, suc, cond, eqb, ◌+◌, ◌*◌, ◌≤◌, true, List, [], ◌∷◌, ◌++◌, length, take, drop, Result, Ok, Err, sym, ap, ◌∙◌, append_assoc, arith}
+use Rattle.std.proofs.Common.{◌≡◌, ℕ, zero, suc, cond, eqb, ◌+◌, ◌*◌, ◌^◌, ◌<◌, ◌≤◌, Bool, true, false, List, [], ◌∷◌, ◌++◌, length, take, drop, Result, Ok, Err, sym, ap, ◌∙◌, append_assoc, arith}
 use Rattle.std.specs.Prelude.{replicate, OnOk}
 use Rattle.std.proofs.lemmas.List.{length-append, length-drop, length-take-le, length-replicate}
 use Rattle.wire_trees.specs.declared.tree.Tree as program
 use Rattle.wire_trees.specs.declared.tree.Fields.{Fields}
 use Rattle.wire_trees.specs.Views.{trees_view, structs_view}
 use Rattle.wire_trees.specs.Trees.{trees_count}
-use Rattle.wire_writing.specs.Placing.{placed_all, placed_structs, content_then}
+use Rattle.wire_trees.specs.Widths.{packed_size}
+use Rattle.wire_writing.specs.Placing.{size_number, placed_all, placed_structs, content_then}
 use Rattle.wire_trees.specs.Writable.{are_even}
 use Rattle.wire_writing.specs.Laying.{filled}
 use Rattle.wire_writing.proofs.Lengths.{length-placed_all, length-placed_structs}
@@ -16,6 +17,10 @@ use Rattle.wire_trees.proofs.Counts.{trees_counted, structs_counted}
 pub on_ok : {A E : Type 0} {P Q : Type 0} (r : Result A E) → (P → Q) → OnOk r P → OnOk r Q
 on_ok (Ok x) f p = f p
 on_ok (Err e) f p = tt
+
+pub on_result : {A E : Type 0} {P : Type 0} (r : Result A E) → P → OnOk r P
+on_result (Ok x) p = p
+on_result (Err e) p = tt
 
 pub fields_placed : (ts : List program.Tree) (ws done new ds : List ℕ) (at : ℕ) → done ≡ take at ws ++ (ds ++ drop (at + length ds) ws) → at + length ds + length ts ≤ length ws
     → new ≡ filled done (at + length ds) (placed_all (trees_view ts) (at + length ds) (length done))
@@ -86,3 +91,16 @@ struct_placed ts ws zs new ds next is_zs is_next is_new =
 pub few_structs : (n k : ℕ) → n * k + 1 + cond (eqb k 0) n 0 ≤ 65536 → n ≤ 65536
 few_structs n zero h = omega arith
 few_structs n (suc k) h = let split : n * suc k ≡ n * k + n = omega arith in omega (arith, split, h)
+
+-- a list that takes so few words has so few elements
+pub few_elements : (bits n : ℕ) → 0 < bits → packed_size bits n ≤ 65536 → n < 2 ^ 29
+few_elements zero n some h = omega arith
+few_elements (suc b) n some h = let split : n * suc b ≡ n * b + n = omega arith in omega (arith, split, h)
+
+small_either : (b : Bool) (x y : ℕ) → x < 8 → y < 8 → cond b x y < 8
+small_either true x y lx ly = lx
+small_either false x y lx ly = ly
+
+pub small_number : (bits : ℕ) → size_number bits < 8
+small_number bits =
+    small_either (eqb bits 0) 0 _ (omega arith) (small_either (eqb bits 1) 1 _ (omega arith) (small_either (eqb bits 8) 2 _ (omega arith) (small_either (eqb bits 16) 3 _ (omega arith) (small_either (eqb bits 32) 4 5 (omega arith) (omega arith)))))

@@ -1,8 +1,8 @@
 //! Lays down the words of a tree that can be written.
 ghost use Rattle.std.specs.Prelude.{◌≡◌, ℕ, List, true, ◌+◌, ◌*◌, ◌/◌, ◌^◌, ◌≤◌, ◌<◌, ◌∷◌, ◌++◌, length, map, replicate, take, drop, IfOk, OnOk};
-ghost use Rattle.wire_trees.specs.Trees.{struct, list};
+ghost use Rattle.wire_trees.specs.Trees.{struct, list, packed};
 ghost use Rattle.wire_trees.specs.Views.{view, fields_view, items_view, trees_view, structs_view};
-ghost use Rattle.wire_writing.specs.Placing.{joined, packed_words, struct_word, list_word, capability_word, struct_pointer, offset_of, content_then, placed, placed_all, placed_list, placed_structs, segment_for};
+ghost use Rattle.wire_writing.specs.Placing.{joined, packed_words, struct_word, list_word, size_number, capability_word, struct_pointer, offset_of, content_then, placed, placed_all, placed_list, placed_structs, segment_for};
 ghost use Rattle.wire_trees.specs.Widths.{AreOf, packed_size};
 ghost use Rattle.wire_writing.specs.Fitting.{Fits, FitsAll, FitsList, FitsStructs};
 ghost use Rattle.wire_trees.specs.Writable.{parts, parts_of_all, parts_of_structs, words_taken, all_words, are_even};
@@ -108,6 +108,41 @@ fn push_eights(eights: &[u64], words: &mut Vec<u64>) -> Result<(), AllocError>
     words.extend_from_slice(eights)
 }
 
+/// The pointer at word `at` to a list of elements, which are laid down behind all words.
+fn place_packed<E: Element>(
+    elements: &[E],
+    size: u64,
+    at: usize,
+    words: &mut Vec<u64>,
+) -> Result<u64, AllocError>
+    requires ahead { at < length words.old.items }
+    requires some { 0 < E.BITS }
+    requires whole { 64 / E.BITS * E.BITS ≡ 64 }
+    requires most { E.BITS < 64 }
+    requires size { size ≡ size_number E.BITS }
+    requires room { length words.old.items + packed_size E.BITS (length elements.now) ≤ 65536 }
+    ensures word { IfOk result (λ word. word ≡ (placed_list (packed E.BITS (map E.said elements.now)) at (length words.old.items)).0) }
+    ensures placed { OnOk result (words.new.items ≡ words.old.items ++ (placed_list (packed E.BITS (map E.said elements.now)) at (length words.old.items)).1) }
+    ensures fit { AreOf E.BITS (map E.said elements.now) }
+{
+    let next = words.len();
+    push_packed(words, elements)?;
+    Ok(word_of_list(distance(at, next), size, elements.len() as u64))
+}
+
+/// The pointer at word `at` to a list of words, which are laid down behind all words.
+fn place_eights(eights: &[u64], at: usize, words: &mut Vec<u64>) -> Result<u64, AllocError>
+    requires ahead { at < length words.old.items }
+    requires room { length words.old.items + packed_size 64 (length eights.now) ≤ 65536 }
+    ensures word { IfOk result (λ word. word ≡ (placed_list (packed 64 eights.now) at (length words.old.items)).0) }
+    ensures placed { OnOk result (words.new.items ≡ words.old.items ++ (placed_list (packed 64 eights.now) at (length words.old.items)).1) }
+    ensures fit { AreOf 64 eights.now }
+{
+    let next = words.len();
+    push_eights(eights, words)?;
+    Ok(word_of_list(distance(at, next), 5, eights.len() as u64))
+}
+
 /// Puts words into the place of others.
 fn put(words: &mut Vec<u64>, at: usize, others: &[u64])
     requires { at + length others.now ≤ length words.old.items }
@@ -157,26 +192,11 @@ fn place_items(items: &Items, at: usize, words: &mut Vec<u64>) -> Result<u64, Al
     let distance = distance(at, next);
     match items {
         Items::Void(count) => Ok(word_of_list(distance, 0, u64::from(*count))),
-        Items::Bits(bits) => {
-            push_packed(words, bits.as_slice())?;
-            Ok(word_of_list(distance, 1, bits.len() as u64))
-        }
-        Items::Bytes(bytes) => {
-            push_packed(words, bytes.as_slice())?;
-            Ok(word_of_list(distance, 2, bytes.len() as u64))
-        }
-        Items::Twos(twos) => {
-            push_packed(words, twos.as_slice())?;
-            Ok(word_of_list(distance, 3, twos.len() as u64))
-        }
-        Items::Fours(fours) => {
-            push_packed(words, fours.as_slice())?;
-            Ok(word_of_list(distance, 4, fours.len() as u64))
-        }
-        Items::Eights(eights) => {
-            push_eights(eights, words)?;
-            Ok(word_of_list(distance, 5, eights.len() as u64))
-        }
+        Items::Bits(bits) => place_packed(bits.as_slice(), 1, at, words),
+        Items::Bytes(bytes) => place_packed(bytes.as_slice(), 2, at, words),
+        Items::Twos(twos) => place_packed(twos.as_slice(), 3, at, words),
+        Items::Fours(fours) => place_packed(fours.as_slice(), 4, at, words),
+        Items::Eights(eights) => place_eights(eights.as_slice(), at, words),
         Items::Pointers(pointers) => {
             let trees = pointers.as_slice();
             place_pointers(trees, words)?;

@@ -1,6 +1,6 @@
-use Rattle.std.proofs.Common.{◌≡◌, ℕ, ◌+◌, ◌-◌, ◌*◌, ◌^◌, ◌<◌, ◌≤◌, ◌++◌, true, List, suc, ltb, length, set, refl, sym, ap, subst, ◌∙◌, arith, rules}
+use Rattle.std.proofs.Common.{◌≡◌, ℕ, ◌+◌, ◌-◌, ◌*◌, ◌^◌, ◌<◌, ◌≤◌, ◌++◌, Bool, true, List, map, suc, ltb, length, set, refl, sym, ap, subst, ◌∙◌, arith, rules}
 use Rattle.std.specs.Prelude.{replicate}
-use Rattle.std.proofs.lemmas.List.{length-set, length-map, length-replicate, length-append}
+use Rattle.std.proofs.lemmas.List.{length-set, length-map, length-replicate, length-append, map-id}
 use Rattle.std.proofs.lemmas.Bool.{not-false, or_parts, ltb-false}
 use Rattle.wire_trees.specs.declared.width.Width.TheVariants as width
 use Rattle.wire_trees.specs.declared.tree.Items.{the_lemmas}
@@ -14,9 +14,9 @@ use Rattle.wire_writing.specs.Laying.{HaveSizes}
 use Rattle.wire_writing.proofs.Lengths.{length-placed_all}
 use Rattle.wire_trees.proofs.Counts.{trees_counted, structs_counted}
 use Rattle.wire_writing.proofs.Filled.{zeros_fit, length-filled}
-use Rattle.wire_writing.proofs.Laid.{on_ok, fields_placed, pointers_placed, list_placed, struct_placed, few_structs}
+use Rattle.wire_writing.proofs.Laid.{on_ok, on_result, fields_placed, pointers_placed, list_placed, struct_placed, few_structs}
 use Rattle.wire_writing.proofs.Sized.{taken, taken_by, taken_by_all, trees_sizes, trees_taken, trees_fit, trees_placed, structs_sizes, structs_taken, structs_fit, structs_even, structs_placed}
-use Rattle.wire_trees.proofs.Viewed.{view_struct, view_void, view_bits, view_pointers, view_structs}
+use Rattle.wire_trees.proofs.Viewed.{view_struct, view_void, view_bits, view_bytes, view_twos, view_fours, view_eights, view_pointers, view_structs}
 use Rattle.wire_writing.proofs.place.+place.Goals as goal
 
 pub place_fields-returns-clause-placed : goal.place_fields-returns-clause-placed
@@ -48,12 +48,12 @@ place_items-place_list-requires t c =
     let sizes = subst (λ (es : Elements). HaveSizes (parts (tree.list es) 0)) e c.requires.sizes in
     let room = subst (λ (es : Elements). length c.args.words.now.items + taken (parts (tree.list es) 0) ≤ 65536) e c.requires.room in
     let n = structs_counted c.in-Structs.items.items in
-    let below : HaveSizes (parts_of_structs (structs_view c.deref-in-Structs.result.now) 0) = rw c.deref-in-Structs.ensures.value sizes.1 in
-    let even : are_even c.in-Structs.data_words c.in-Structs.pointer_words (structs_view c.deref-in-Structs.result.now) ≡ true = rw c.deref-in-Structs.ensures.value (not-false (are_even c.in-Structs.data_words c.in-Structs.pointer_words (structs_view c.in-Structs.items.items)) sizes.0.0.0) in
+    let below : HaveSizes (parts_of_structs (structs_view c.deref.result.now) 0) = rw c.deref.ensures.value sizes.1 in
+    let even : are_even c.in-Structs.data_words c.in-Structs.pointer_words (structs_view c.deref.result.now) ≡ true = rw c.deref.ensures.value (not-false (are_even c.in-Structs.data_words c.in-Structs.pointer_words (structs_view c.in-Structs.items.items)) sizes.0.0.0) in
     let few = few_structs (structs_count (structs_view c.in-Structs.items.items)) (c.in-Structs.data_words + c.in-Structs.pointer_words) sizes.0.1 in
     let same : structs_count (structs_view c.in-Structs.items.items) * (c.in-Structs.data_words + c.in-Structs.pointer_words) ≡ length c.in-Structs.items.items * (c.in-Structs.data_words + c.in-Structs.pointer_words) = ap (λ (k : ℕ). k * (c.in-Structs.data_words + c.in-Structs.pointer_words)) n in
-    let short : length c.deref-in-Structs.result.now < 2 ^ 30 = rw c.deref-in-Structs.ensures.value (omega (arith, few, n)) in
-    let fits : length c.args.words.now.items + (length c.deref-in-Structs.result.now * (c.in-Structs.data_words + c.in-Structs.pointer_words) + 1 + taken (parts_of_structs (structs_view c.deref-in-Structs.result.now) 0)) ≤ 65536 = rw c.deref-in-Structs.ensures.value (omega (arith, room, same)) in
+    let short : length c.deref.result.now < 2 ^ 30 = rw c.deref.ensures.value (omega (arith, few, n)) in
+    let fits : length c.args.words.now.items + (length c.deref.result.now * (c.in-Structs.data_words + c.in-Structs.pointer_words) + 1 + taken (parts_of_structs (structs_view c.deref.result.now) 0)) ≤ 65536 = rw c.deref.ensures.value (omega (arith, room, same)) in
     (search (rules, the_lemmas), (even, (below, (short, fits))))
 
 pub place_items-overflow_mul-size : goal.place_items-overflow_mul-size
@@ -64,7 +64,7 @@ place_items-overflow_mul-size t c =
     let n = structs_counted c.in-Structs.items.items in
     let same : structs_count (structs_view c.in-Structs.items.items) * (c.in-Structs.data_words + c.in-Structs.pointer_words) ≡ length c.in-Structs.items.items * (c.in-Structs.data_words + c.in-Structs.pointer_words) = ap (λ (k : ℕ). k * (c.in-Structs.data_words + c.in-Structs.pointer_words)) n in
     let small : length c.in-Structs.items.items * (c.in-Structs.data_words + c.in-Structs.pointer_words) ≤ 65536 = omega (arith, room, same) in
-    let is_len : c.len-in-Structs.result ≡ length c.in-Structs.items.items = omega arith in
+    let is_len : c.len.result ≡ length c.in-Structs.items.items = omega arith in
     rw (is_len, c.from-in-Structs.ensures, c.from-in-Structs-2.ensures) (omega (arith, small))
 
 pub place_items-word_of_list-requires-in-Pointers-clause-count : goal.place_items-word_of_list-requires-in-Pointers-clause-count
@@ -83,7 +83,7 @@ place_items-word_of_list-requires-in-Structs-clause-count t c =
     let n = structs_counted c.in-Structs.items.items in
     let same : structs_count (structs_view c.in-Structs.items.items) * (c.in-Structs.data_words + c.in-Structs.pointer_words) ≡ length c.in-Structs.items.items * (c.in-Structs.data_words + c.in-Structs.pointer_words) = ap (λ (k : ℕ). k * (c.in-Structs.data_words + c.in-Structs.pointer_words)) n in
     let small : length c.in-Structs.items.items * (c.in-Structs.data_words + c.in-Structs.pointer_words) ≤ 65536 = omega (arith, room, same) in
-    let is_len : c.len-in-Structs.result ≡ length c.in-Structs.items.items = omega arith in
+    let is_len : c.len.result ≡ length c.in-Structs.items.items = omega arith in
     rw (is_len, c.from-in-Structs.ensures, c.from-in-Structs-2.ensures) (omega (arith, small))
 
 pub place_items-returns-in-Void-clause-word : goal.place_items-returns-in-Void-clause-word
@@ -122,7 +122,7 @@ place_items-returns-in_ok-place_list-in-Structs-clause-word t c =
     let room = subst (λ (es : Elements). length c.args.words.now.items + taken (parts (tree.list es) 0) ≤ 65536) e c.requires.room in
     let n = structs_counted c.in-Structs.items.items in
     let is_next : c.len-next.result ≡ length c.args.words.now.items = omega arith in
-    let is_len : c.len-in-Structs.result ≡ length c.in-Structs.items.items = omega arith in
+    let is_len : c.len.result ≡ length c.in-Structs.items.items = omega arith in
     rw e (c.word_of_list-in-Structs.ensures ∙ rw (c.distance-distance.ensures, is_next, is_len, c.from-in-Structs.ensures, c.from-in-Structs-2.ensures, n) refl)
 
 pub place_items-returns-in_ok-place_list-in-Structs-clause-placed : goal.place_items-returns-in_ok-place_list-in-Structs-clause-placed
@@ -131,7 +131,7 @@ place_items-returns-in_ok-place_list-in-Structs-clause-placed t c =
     let sizes = subst (λ (es : Elements). HaveSizes (parts (tree.list es) 0)) e c.requires.sizes in
     let room = subst (λ (es : Elements). length c.args.words.now.items + taken (parts (tree.list es) 0) ≤ 65536) e c.requires.room in
     let n = structs_counted c.in-Structs.items.items in
-    rw e (rw n (rw c.deref-in-Structs.ensures.value at c.in_ok-place_list-in-Structs.ensures.placed))
+    rw e (rw n (rw c.deref.ensures.value at c.in_ok-place_list-in-Structs.ensures.placed))
 
 pub place_tree-place_fields-requires : goal.place_tree-place_fields-requires
 place_tree-place_fields-requires t c =
@@ -275,3 +275,112 @@ place_tree-returns-in_ok-place_fields-in-Struct-clause-placed t c =
     let count : c.len.result + length c.as_slice-trees.result.now ≡ length c.in-Struct.«data».items + length c.in-Struct.pointers.trees.items = omega (arith, k) in
     rw e (struct_placed c.in-Struct.pointers.trees.items c.args.words.now.items c.push_zeros.new.words.items c.place_fields.new.words.items c.in-Struct.«data».items c.len-next.result
     (c.in_ok-push_zeros-in-Struct.ensures ∙ ap (λ (k : ℕ). c.args.words.now.items ++ replicate k 0) count) (omega arith) made)
+
+pub place_items-place_packed-requires-clause-room : goal.place_items-place_packed-requires-clause-room
+place_items-place_packed-requires-clause-room t c =
+    let e = ap items_view c.in-Bits.is ∙ view_bits c.in-Bits.bits ∙ ap (λ (bs : List Bool). tree.packed 1 (map bit bs)) (sym c.as_slice.ensures.value) in
+    let room = subst (λ (es : Elements). length c.args.words.now.items + taken (parts (tree.list es) 0) ≤ 65536) e c.requires.room in
+    let n = length-map c.as_slice.result.now bit in
+    omega (arith, room, n)
+
+pub place_items-returns-in-Bits-clause-word : goal.place_items-returns-in-Bits-clause-word
+place_items-returns-in-Bits-clause-word t c =
+    let e = ap items_view c.in-Bits.is ∙ view_bits c.in-Bits.bits ∙ ap (λ (bs : List Bool). tree.packed 1 (map bit bs)) (sym c.as_slice.ensures.value) in
+    rw e c.place_packed.ensures.word
+
+pub place_items-returns-in-Bits-clause-placed : goal.place_items-returns-in-Bits-clause-placed
+place_items-returns-in-Bits-clause-placed t c =
+    let e = ap items_view c.in-Bits.is ∙ view_bits c.in-Bits.bits ∙ ap (λ (bs : List Bool). tree.packed 1 (map bit bs)) (sym c.as_slice.ensures.value) in
+    rw e c.place_packed.ensures.placed
+
+pub place_items-returns-in-Bits-clause-fits : goal.place_items-returns-in-Bits-clause-fits
+place_items-returns-in-Bits-clause-fits t c =
+    let e = ap items_view c.in-Bits.is ∙ view_bits c.in-Bits.bits ∙ ap (λ (bs : List Bool). tree.packed 1 (map bit bs)) (sym c.as_slice.ensures.value) in
+    on_result c.place_packed.result (subst FitsList (sym e) ((width.Bit, refl), c.place_packed.ensures.fit))
+
+pub place_items-place_packed-requires-in-Bytes-clause-room : goal.place_items-place_packed-requires-in-Bytes-clause-room
+place_items-place_packed-requires-in-Bytes-clause-room t c =
+    let e = ap items_view c.in-Bytes.is ∙ view_bytes c.in-Bytes.bytes ∙ ap (tree.packed 8) (sym c.as_slice-in-Bytes.ensures.value ∙ sym (map-id c.as_slice-in-Bytes.result.now)) in
+    let room = subst (λ (es : Elements). length c.args.words.now.items + taken (parts (tree.list es) 0) ≤ 65536) e c.requires.room in
+    let n = length-map c.as_slice-in-Bytes.result.now (λ (x : ℕ). x) in
+    omega (arith, room, n)
+
+pub place_items-returns-in-Bytes-clause-word : goal.place_items-returns-in-Bytes-clause-word
+place_items-returns-in-Bytes-clause-word t c =
+    let e = ap items_view c.in-Bytes.is ∙ view_bytes c.in-Bytes.bytes ∙ ap (tree.packed 8) (sym c.as_slice-in-Bytes.ensures.value ∙ sym (map-id c.as_slice-in-Bytes.result.now)) in
+    rw e c.place_packed-in-Bytes.ensures.word
+
+pub place_items-returns-in-Bytes-clause-placed : goal.place_items-returns-in-Bytes-clause-placed
+place_items-returns-in-Bytes-clause-placed t c =
+    let e = ap items_view c.in-Bytes.is ∙ view_bytes c.in-Bytes.bytes ∙ ap (tree.packed 8) (sym c.as_slice-in-Bytes.ensures.value ∙ sym (map-id c.as_slice-in-Bytes.result.now)) in
+    rw e c.place_packed-in-Bytes.ensures.placed
+
+pub place_items-returns-in-Bytes-clause-fits : goal.place_items-returns-in-Bytes-clause-fits
+place_items-returns-in-Bytes-clause-fits t c =
+    let e = ap items_view c.in-Bytes.is ∙ view_bytes c.in-Bytes.bytes ∙ ap (tree.packed 8) (sym c.as_slice-in-Bytes.ensures.value ∙ sym (map-id c.as_slice-in-Bytes.result.now)) in
+    on_result c.place_packed-in-Bytes.result (subst FitsList (sym e) ((width.Byte, refl), c.place_packed-in-Bytes.ensures.fit))
+
+pub place_items-place_packed-requires-in-Twos-clause-room : goal.place_items-place_packed-requires-in-Twos-clause-room
+place_items-place_packed-requires-in-Twos-clause-room t c =
+    let e = ap items_view c.in-Twos.is ∙ view_twos c.in-Twos.twos ∙ ap (tree.packed 16) (sym c.as_slice-in-Twos.ensures.value ∙ sym (map-id c.as_slice-in-Twos.result.now)) in
+    let room = subst (λ (es : Elements). length c.args.words.now.items + taken (parts (tree.list es) 0) ≤ 65536) e c.requires.room in
+    let n = length-map c.as_slice-in-Twos.result.now (λ (x : ℕ). x) in
+    omega (arith, room, n)
+
+pub place_items-returns-in-Twos-clause-word : goal.place_items-returns-in-Twos-clause-word
+place_items-returns-in-Twos-clause-word t c =
+    let e = ap items_view c.in-Twos.is ∙ view_twos c.in-Twos.twos ∙ ap (tree.packed 16) (sym c.as_slice-in-Twos.ensures.value ∙ sym (map-id c.as_slice-in-Twos.result.now)) in
+    rw e c.place_packed-in-Twos.ensures.word
+
+pub place_items-returns-in-Twos-clause-placed : goal.place_items-returns-in-Twos-clause-placed
+place_items-returns-in-Twos-clause-placed t c =
+    let e = ap items_view c.in-Twos.is ∙ view_twos c.in-Twos.twos ∙ ap (tree.packed 16) (sym c.as_slice-in-Twos.ensures.value ∙ sym (map-id c.as_slice-in-Twos.result.now)) in
+    rw e c.place_packed-in-Twos.ensures.placed
+
+pub place_items-returns-in-Twos-clause-fits : goal.place_items-returns-in-Twos-clause-fits
+place_items-returns-in-Twos-clause-fits t c =
+    let e = ap items_view c.in-Twos.is ∙ view_twos c.in-Twos.twos ∙ ap (tree.packed 16) (sym c.as_slice-in-Twos.ensures.value ∙ sym (map-id c.as_slice-in-Twos.result.now)) in
+    on_result c.place_packed-in-Twos.result (subst FitsList (sym e) ((width.TwoBytes, refl), c.place_packed-in-Twos.ensures.fit))
+
+pub place_items-place_packed-requires-in-Fours-clause-room : goal.place_items-place_packed-requires-in-Fours-clause-room
+place_items-place_packed-requires-in-Fours-clause-room t c =
+    let e = ap items_view c.in-Fours.is ∙ view_fours c.in-Fours.fours ∙ ap (tree.packed 32) (sym c.as_slice-in-Fours.ensures.value ∙ sym (map-id c.as_slice-in-Fours.result.now)) in
+    let room = subst (λ (es : Elements). length c.args.words.now.items + taken (parts (tree.list es) 0) ≤ 65536) e c.requires.room in
+    let n = length-map c.as_slice-in-Fours.result.now (λ (x : ℕ). x) in
+    omega (arith, room, n)
+
+pub place_items-returns-in-Fours-clause-word : goal.place_items-returns-in-Fours-clause-word
+place_items-returns-in-Fours-clause-word t c =
+    let e = ap items_view c.in-Fours.is ∙ view_fours c.in-Fours.fours ∙ ap (tree.packed 32) (sym c.as_slice-in-Fours.ensures.value ∙ sym (map-id c.as_slice-in-Fours.result.now)) in
+    rw e c.place_packed-in-Fours.ensures.word
+
+pub place_items-returns-in-Fours-clause-placed : goal.place_items-returns-in-Fours-clause-placed
+place_items-returns-in-Fours-clause-placed t c =
+    let e = ap items_view c.in-Fours.is ∙ view_fours c.in-Fours.fours ∙ ap (tree.packed 32) (sym c.as_slice-in-Fours.ensures.value ∙ sym (map-id c.as_slice-in-Fours.result.now)) in
+    rw e c.place_packed-in-Fours.ensures.placed
+
+pub place_items-returns-in-Fours-clause-fits : goal.place_items-returns-in-Fours-clause-fits
+place_items-returns-in-Fours-clause-fits t c =
+    let e = ap items_view c.in-Fours.is ∙ view_fours c.in-Fours.fours ∙ ap (tree.packed 32) (sym c.as_slice-in-Fours.ensures.value ∙ sym (map-id c.as_slice-in-Fours.result.now)) in
+    on_result c.place_packed-in-Fours.result (subst FitsList (sym e) ((width.FourBytes, refl), c.place_packed-in-Fours.ensures.fit))
+
+pub place_items-place_eights-requires-clause-room : goal.place_items-place_eights-requires-clause-room
+place_items-place_eights-requires-clause-room t c =
+    let e = ap items_view c.in-Eights.is ∙ view_eights c.in-Eights.eights ∙ ap (tree.packed 64) (sym c.as_slice-in-Eights.ensures.value) in
+    let room = subst (λ (es : Elements). length c.args.words.now.items + taken (parts (tree.list es) 0) ≤ 65536) e c.requires.room in
+    omega (arith, room)
+
+pub place_items-returns-in-Eights-clause-word : goal.place_items-returns-in-Eights-clause-word
+place_items-returns-in-Eights-clause-word t c =
+    let e = ap items_view c.in-Eights.is ∙ view_eights c.in-Eights.eights ∙ ap (tree.packed 64) (sym c.as_slice-in-Eights.ensures.value) in
+    rw e c.place_eights.ensures.word
+
+pub place_items-returns-in-Eights-clause-placed : goal.place_items-returns-in-Eights-clause-placed
+place_items-returns-in-Eights-clause-placed t c =
+    let e = ap items_view c.in-Eights.is ∙ view_eights c.in-Eights.eights ∙ ap (tree.packed 64) (sym c.as_slice-in-Eights.ensures.value) in
+    rw e c.place_eights.ensures.placed
+
+pub place_items-returns-in-Eights-clause-fits : goal.place_items-returns-in-Eights-clause-fits
+place_items-returns-in-Eights-clause-fits t c =
+    let e = ap items_view c.in-Eights.is ∙ view_eights c.in-Eights.eights ∙ ap (tree.packed 64) (sym c.as_slice-in-Eights.ensures.value) in
+    on_result c.place_eights.result (subst FitsList (sym e) ((width.EightBytes, refl), c.place_eights.ensures.fit))
