@@ -1,0 +1,54 @@
+use Rattle.std.proofs.Common.{Bool, ℕ, List, map, sym, ap, ◌∙◌}
+use Rattle.wire_trees.specs.Trees.{Trees, struct, list, packed, pointers, structs}
+use Rattle.wire_trees.specs.Views.{bit, view, held, items_view, trees_view, structs_view}
+use Rattle.wire_trees.proofs.Viewed.{view_struct, view_list, view_bits, view_bytes, view_twos, view_fours, view_eights, view_pointers, view_structs}
+use Rattle.wire_trees.proofs.copy.+copy.Goals as goal
+
+pub copy_items-returns-in-Void : goal.copy_items-returns-in-Void
+copy_items-returns-in-Void t c = sym (ap items_view c.in-Void.is)
+
+pub copy_items-returns-in_ok-from_slice-in-Bits : goal.copy_items-returns-in_ok-from_slice-in-Bits
+copy_items-returns-in_ok-from_slice-in-Bits t c =
+    view_bits _ ∙ ap (λ (bs : List Bool). packed 1 (map bit bs)) (c.in_ok-from_slice-in-Bits.ensures.items ∙ c.as_slice.ensures.value) ∙ sym (ap items_view c.in-Bits.is ∙ view_bits c.in-Bits.bits)
+
+pub copy_items-returns-in_ok-from_slice-in-Bytes : goal.copy_items-returns-in_ok-from_slice-in-Bytes
+copy_items-returns-in_ok-from_slice-in-Bytes t c =
+    view_bytes _ ∙ ap (packed 8) (c.in_ok-from_slice-in-Bytes.ensures.items ∙ c.as_slice-in-Bytes.ensures.value) ∙ sym (ap items_view c.in-Bytes.is ∙ view_bytes c.in-Bytes.bytes)
+
+pub copy_items-returns-in_ok-from_slice-in-Twos : goal.copy_items-returns-in_ok-from_slice-in-Twos
+copy_items-returns-in_ok-from_slice-in-Twos t c =
+    view_twos _ ∙ ap (packed 16) (c.in_ok-from_slice-in-Twos.ensures.items ∙ c.as_slice-in-Twos.ensures.value) ∙ sym (ap items_view c.in-Twos.is ∙ view_twos c.in-Twos.twos)
+
+pub copy_items-returns-in_ok-from_slice-in-Fours : goal.copy_items-returns-in_ok-from_slice-in-Fours
+copy_items-returns-in_ok-from_slice-in-Fours t c =
+    view_fours _ ∙ ap (packed 32) (c.in_ok-from_slice-in-Fours.ensures.items ∙ c.as_slice-in-Fours.ensures.value) ∙ sym (ap items_view c.in-Fours.is ∙ view_fours c.in-Fours.fours)
+
+pub copy_items-returns-in_ok-from_slice-in-Eights : goal.copy_items-returns-in_ok-from_slice-in-Eights
+copy_items-returns-in_ok-from_slice-in-Eights t c =
+    view_eights _ ∙ ap (packed 64) (c.in_ok-from_slice-in-Eights.ensures.items ∙ c.as_slice-in-Eights.ensures.value) ∙ sym (ap items_view c.in-Eights.is ∙ view_eights c.in-Eights.eights)
+
+pub copy_items-returns-in_ok-pointers-in-Pointers : goal.copy_items-returns-in_ok-pointers-in-Pointers
+copy_items-returns-in_ok-pointers-in-Pointers t c =
+    view_pointers _ ∙ ap pointers (c.in_ok-pointers-in-Pointers.ensures ∙ ap trees_view c.as_slice-in-Pointers.ensures) ∙ sym (ap items_view c.in-Pointers.is ∙ view_pointers c.in-Pointers.pointers)
+
+pub copy_items-returns-in_ok-items-in-Structs : goal.copy_items-returns-in_ok-items-in-Structs
+copy_items-returns-in_ok-items-in-Structs t c =
+    view_structs _ _ _ ∙ ap (structs c.in-Structs.data_words c.in-Structs.pointer_words) (c.in_ok-items-in-Structs.ensures ∙ ap structs_view c.as_slice-in-Structs.ensures.value)
+    ∙ sym (ap items_view c.in-Structs.is ∙ view_structs c.in-Structs.data_words c.in-Structs.pointer_words c.in-Structs.items)
+
+pub copy_tree-returns-in-Null : goal.copy_tree-returns-in-Null
+copy_tree-returns-in-Null t c = sym (ap view c.in-Null.is)
+
+pub copy_tree-returns-in-Cap : goal.copy_tree-returns-in-Cap
+copy_tree-returns-in-Cap t c = sym (ap view c.in-Cap.is)
+
+pub copy_tree-returns-in_ok-pointers-in-Struct : goal.copy_tree-returns-in_ok-pointers-in-Struct
+copy_tree-returns-in_ok-pointers-in-Struct t c =
+    let same = c.in_ok-words-in-Struct.ensures.items ∙ c.as_slice.ensures.value in
+    let held_same = c.in_ok-pointers-in-Struct.ensures ∙ ap trees_view c.as_slice-in-Struct.ensures in
+    view_struct _ _ ∙ ap (λ (ws : List ℕ). struct ws (trees_view (held c.in_ok-pointers-in-Struct.pointers))) same ∙ ap (struct c.in-Struct.words.items) held_same
+    ∙ sym (ap view c.in-Struct.is ∙ view_struct c.in-Struct.words c.in-Struct.pointers)
+
+pub copy_tree-returns-in_ok-items-in-List : goal.copy_tree-returns-in_ok-items-in-List
+copy_tree-returns-in_ok-items-in-List t c =
+    view_list _ ∙ ap list c.in_ok-items-in-List.ensures ∙ sym (ap view c.in-List.is ∙ view_list c.in-List.items)
