@@ -1,10 +1,10 @@
 -- From what was found in a tree to what is written for it.
-use Rattle.std.proofs.Common.{◌≡◌, ℕ, ◌+◌, ◌^◌, ◌<◌, ◌≤◌, Option, None, Some, List, [], ◌∷◌, length, get_or, sym, ap, subst, ◌∙◌, arith}
+use Rattle.std.proofs.Common.{◌≡◌, ℕ, ◌+◌, ◌≤◌, Option, None, Some, List, [], ◌∷◌, length, sym, ap, subst, ◌∙◌, arith}
 use Rattle.std.specs.Prelude.{MatchOption}
 use Rattle.wire_trees.specs.declared.faults.WriteFault.{WriteFault}
 use Rattle.wire_trees.specs.declared.measure.Measure.{Measure}
 use Rattle.wire_trees.specs.Trees.{Tree}
-use Rattle.wire_writing.specs.Placing.{segment_for, written}
+use Rattle.wire_writing.specs.Placing.{segment_for}
 use Rattle.wire_trees.specs.Writable.{Part, parts, words_taken, words_visited, all_words, refusal}
 use Rattle.wire_trees.specs.Measuring.{measured, told}
 use Rattle.wire_writing.specs.Laying.{HaveSizes}

@@ -1,5 +1,5 @@
 -- What the types of a program's tree say of its numbers.
-use Rattle.std.specs.Prelude.{◌≡◌, ℕ, ◌^◌, ◌<◌, List, get_or, ⊤}
+use Rattle.std.specs.Prelude.{◌≡◌, ◌^◌, ◌<◌, ⊤}
 use Rattle.wire_trees.specs.declared.width.Width.{Width}
 use Rattle.wire_trees.specs.Widths.{bits_of, AreOf}
 use Rattle.wire_trees.specs.Trees.{Tree, null, struct, list, capability, Trees, no_trees, tree, Elements, packed, pointers, structs, Structs, no_structs, struct_of}

@@ -1,4 +1,4 @@
-use Rattle.std.proofs.Common.{◌≡◌, ℕ, ◌+◌, ◌-◌, ◌*◌, ◌/◌, List, length, map, take, drop, min, sym, ap, subst, ◌∙◌, arith}
+use Rattle.std.proofs.Common.{◌≡◌, ℕ, ◌*◌, ◌/◌, length, map, take, drop, min, sym, ap, subst, ◌∙◌, arith}
 use Rattle.std.proofs.lemmas.List.{length-map, take-map, drop-map}
 use Rattle.wire_trees.specs.Widths.{AreOf, packed_size}
 use Rattle.wire_writing.proofs.Filled.{are_take, are_drop, packed_more}

@@ -1,4 +1,4 @@
-use Rattle.std.proofs.Common.{◌≡◌, ℕ, List, subst, refl, ap, ◌∙◌, rules}
+use Rattle.std.proofs.Common.{ℕ, List, subst, refl, ap, ◌∙◌, rules}
 use Rattle.wire_trees.specs.Views.{view}
 use Rattle.wire_trees.specs.Widths.{AreOf}
 use Rattle.wire_writing.specs.Placing.{one_segment}
