@@ -1,11 +1,10 @@
 -- The parts of a tree that can be written.
-use Rattle.std.proofs.Common.{◌≡◌, ℕ, zero, suc, ◌+◌, ◌-◌, ◌*◌, ◌/◌, ◌^◌, ◌<◌, ◌≤◌, Bool, true, false, cond, eqb, ltb, ◌&&◌, List, [], ◌∷◌, ◌++◌, length, take, drop, get_or, Option, Some, Ok, refl, sym, ap, subst, ◌∙◌, append_assoc, arith}
+use Rattle.std.proofs.Common.{◌≡◌, ℕ, ◌+◌, true, false, eqb, ◌&&◌, List, [], ◌∷◌, ◌++◌, length, arith}
 use Rattle.std.specs.Prelude.{⊤}
-use Rattle.std.proofs.lemmas.List.{length-append, get_or_at, drop_at, take_at, take-append-drop, length-take-le}
-use Rattle.std.proofs.lemmas.Bool.{eqb-true, eqb-false, ltb-false, le-ltb, and_parts, or_parts, not-false}
+use Rattle.std.proofs.lemmas.Bool.{eqb-true, and_parts}
 use Rattle.wire_trees.specs.Trees as tree
 use Rattle.wire_trees.specs.Trees.{Tree, Trees, Structs, trees_count}
-use Rattle.wire_trees.specs.Writable.{Part, parts, are_even, is_uneven, is_too_deep, is_beyond, is_too_wide, all_words}
+use Rattle.wire_trees.specs.Writable.{Part, are_even, is_uneven, is_too_deep, is_beyond, is_too_wide, all_words}
 
 -- a part that is no reason to refuse
 abbrev pub IsGood : ℕ → Part → Type 0

@@ -2,7 +2,6 @@
 use Rattle.std.proofs.Common.{◌≡◌, ℕ, Bool, List, map, sym, ap, ◌∙◌}
 use Rattle.std.specs.Prelude.{replicate}
 use Rattle.std.specs.Global.{Vec}
-use Rattle.wire_trees.specs.declared.tree.Tree as program
 use Rattle.wire_trees.specs.declared.tree.Tree.TheVariants as tree_form
 use Rattle.wire_trees.specs.declared.tree.Items.{Items}
 use Rattle.wire_trees.specs.declared.tree.Items.TheVariants as form

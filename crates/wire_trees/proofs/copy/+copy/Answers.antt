@@ -1,5 +1,5 @@
 use Rattle.std.proofs.Common.{Bool, ℕ, List, map, sym, ap, ◌∙◌}
-use Rattle.wire_trees.specs.Trees.{Trees, struct, list, packed, pointers, structs}
+use Rattle.wire_trees.specs.Trees.{struct, list, packed, pointers, structs}
 use Rattle.wire_trees.specs.Views.{bit, view, held, items_view, trees_view, structs_view}
 use Rattle.wire_trees.proofs.Viewed.{view_struct, view_list, view_bits, view_bytes, view_twos, view_fours, view_eights, view_pointers, view_structs}
 use Rattle.wire_trees.proofs.copy.+copy.Goals as goal
