@@ -10,6 +10,7 @@ mod run;
 mod words;
 
 pub use fault::{Failure, ScriptFault};
+pub use playing::play_lines;
 pub use program::{play, status};
 pub use run::{CheckedTrace, trace_of_script};
 pub use words::Word;

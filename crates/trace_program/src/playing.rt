@@ -14,7 +14,7 @@ use vat_world::{StepAnswer, World, WorldEvent};
 /// Plays the lines in order. `Unnamed` where a line names something that is not there when its turn comes, with its
 /// number, counted from 1, and the first such thing; what stands before it was played. `Memory` where a growth of the
 /// names, of a command or of the counts was refused.
-pub(crate) fn play_lines(
+pub fn play_lines(
     alloc: Global,
     world: &mut World,
     names: &mut Names,
