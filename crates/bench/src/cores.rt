@@ -1,15 +1,18 @@
 //! How long a round trip of two cores takes, and a cycle with an embargo.
 
+use crate::astray::Astray;
+use crate::done::{Outcome, Task};
 use crate::side::Side;
-use anyhow::Result;
 use rpc_msg::{ObjectId, RefId, Vat};
 use std::alloc::Global;
 use std::rt::Clock;
 use std::time::Instant;
 
-const ROUND_TRIPS: u32 = 400_000;
+/// How many round trips there are, where no number is given.
+pub const TRIPS: u32 = 400_000;
 
-const CYCLES: u32 = 40_000;
+/// How many cycles there are, where no number is given.
+pub const CYCLES: u32 = 40_000;
 
 /// What there is beside what is measured.
 #[derive(Clone, Copy, Drop)]
@@ -22,6 +25,13 @@ pub struct Load {
     pub exports: u32,
 }
 
+/// How often what is measured takes place.
+#[derive(Clone, Copy, Drop)]
+pub struct Rounds {
+    pub trips: u32,
+    pub cycles: u32,
+}
+
 /// Two vats. Vat a has a reference to the bootstrap object of vat b, which has one to an object of vat a.
 #[derive(Drop)]
 struct Pair {
@@ -32,83 +42,86 @@ struct Pair {
 }
 
 impl Pair {
-    fn new(alloc: Global) -> Result<Pair> {
+    fn new(alloc: Global) -> Result<Pair, Astray> {
         let mut a = Side::new(alloc, Vat::A, None)?;
         let mut b = Side::new(alloc, Vat::B, Some(ObjectId(0)))?;
-        a.ask_root()?;
-        exchange(&mut a, &mut b)?;
-        let root = a.take_given()?;
-        let own = a.core.host(ObjectId(1))?;
-        a.call(root, &[own])?;
-        exchange(&mut a, &mut b)?;
-        let theirs = b.take_given()?;
-        b.answer(&[])?;
-        exchange(&mut a, &mut b)?;
+        let results = a.bootstrap(&mut b)?;
+        let outcome: Outcome = a.receive(results)?;
+        a.finish::<()>(&mut b, outcome)?;
+        let root = given(outcome.given)?;
+        let own = a.host(ObjectId(1))?;
+        let theirs = pass(&mut a, &mut b, root, own)?;
         Ok(Pair { a, b, root, theirs })
     }
 
-    fn add(&mut self, load: Load) -> Result<()> {
+    fn add(&mut self, load: Load) -> Result<(), Astray> {
         for number in 0..load.exports {
-            let own = self.a.core.host(ObjectId(u64::from(number)))?;
-            self.a.call(self.root, &[own])?;
-            exchange(&mut self.a, &mut self.b)?;
-            self.b.answer(&[])?;
-            exchange(&mut self.a, &mut self.b)?;
+            let own = self.a.host(ObjectId(u64::from(number)))?;
+            pass(&mut self.a, &mut self.b, self.root, own)?;
         }
         for _ in 0..load.open {
-            self.a.call(self.root, &[])?;
+            let _task: Task = self.a.call(&mut self.b, self.root)?;
         }
-        exchange(&mut self.a, &mut self.b)?;
-        let (_, promised) = self.a.core.promise()?;
+        let (_, promised) = self.a.promise()?;
         for _ in 0..load.waiting {
-            self.a.call(promised, &[])?;
+            self.a.call_later(promised)?;
         }
         Ok(())
     }
 
     /// A call, its answer, and its end.
-    fn round_trip(&mut self) -> Result<()> {
-        self.a.call(self.root, &[])?;
-        self.b.receive(&mut self.a)?;
-        self.b.answer(&[])?;
-        self.a.receive(&mut self.b)?;
-        self.b.receive(&mut self.a)
+    fn round_trip(&mut self) -> Result<(), Astray> {
+        let task = self.a.call(&mut self.b, self.root)?;
+        let outcome = self.b.answer(&mut self.a, task)?;
+        self.a.finish(&mut self.b, outcome)
     }
 
     /// A promise of vat b is resolved to an object of vat a, which has called it already: it takes the short path, and calls
     /// again behind an embargo.
-    fn cycle(&mut self) -> Result<()> {
-        let (promise, promised) = self.b.core.promise()?;
-        self.a.call(self.root, &[])?;
-        exchange(&mut self.a, &mut self.b)?;
-        self.b.answer(&[promised])?;
+    fn cycle(&mut self) -> Result<(), Astray> {
+        let (promise, promised) = self.b.promise()?;
+        let task = self.a.call(&mut self.b, self.root)?;
+        let outcome: Outcome = self.b.answer_with(&mut self.a, task, promised)?;
         self.b.let_go(promised)?;
-        exchange(&mut self.a, &mut self.b)?;
-        let given = self.a.take_given()?;
-        self.a.call(given, &[])?;
-        exchange(&mut self.a, &mut self.b)?;
-        let effects = self.b.core.resolve(promise, self.theirs)?;
-        self.b.follow(effects)?;
-        self.a.receive(&mut self.b)?;
-        let (_, effects) = self.a.core.advance(given)?;
-        self.a.follow(effects)?;
-        self.a.call(given, &[])?;
-        exchange(&mut self.a, &mut self.b)?;
-        self.a.answer(&[])?;
-        self.a.answer(&[])?;
-        exchange(&mut self.a, &mut self.b)?;
-        self.a.let_go(given)?;
-        exchange(&mut self.a, &mut self.b)
+        self.a.finish::<()>(&mut self.b, outcome)?;
+        let reference = given(outcome.given)?;
+        // it waits at the promise
+        self.a.call::<()>(&mut self.b, reference)?;
+        let (comes_back, resolve) = self.b.resolve(promise, self.theirs)?;
+        let first = self.a.receive(comes_back)?;
+        self.a.receive::<()>(resolve)?;
+        self.embargo(reference, first)
+    }
+
+    fn embargo(&mut self, reference: RefId, first: Task) -> Result<(), Astray> {
+        let (disembargo, release) = self.a.advance(reference)?;
+        self.a.call_later(reference)?;
+        let echo = self.b.receive(disembargo)?;
+        self.b.receive::<()>(release)?;
+        let second = self.a.receive(echo)?;
+        let outcome = self.a.answer_own(second)?;
+        self.a.finish_own(outcome)?;
+        let (results, finish) = self.a.answer(&mut self.b, first)?;
+        let outcome = self.a.receive(results)?;
+        self.a.receive::<()>(finish)?;
+        self.a.finish::<()>(&mut self.b, outcome)?;
+        self.a.let_go(reference)
     }
 }
 
-/// Carries messages both ways, more often than it takes until none is left.
-fn exchange(a: &mut Side, b: &mut Side) -> Result<()> {
-    for _ in 0..3 {
-        b.receive(a)?;
-        a.receive(b)?;
+/// Vat a calls the root of vat b and passes it a reference: the one that vat b is given.
+fn pass(a: &mut Side, b: &mut Side, root: RefId, own: RefId) -> Result<RefId, Astray> {
+    let task: Task = a.call_with(b, root, own)?;
+    let outcome = b.answer(a, task)?;
+    a.finish::<()>(b, outcome)?;
+    given(task.given)
+}
+
+fn given(reference: Option<RefId>) -> Result<RefId, Astray> {
+    match reference {
+        Some(reference) => Ok(reference),
+        None => Err(Astray::Otherwise),
     }
-    Ok(())
 }
 
 /// How often something takes place in a second.
@@ -117,19 +130,23 @@ fn rate(count: u32, nanos: u128) -> u128 {
 }
 
 /// Prints how many round trips take place in a second, and how many embargoes.
-pub fn measure(rt: &(impl AllocGlobal + Clock + Print), load: Load) -> Result<()> {
+pub fn measure(
+    rt: &(impl AllocGlobal + Clock + Print),
+    load: Load,
+    rounds: Rounds,
+) -> anyhow::Result<()> {
     let mut pair = Pair::new(rt.alloc())?;
     pair.add(load)?;
     let start = Instant::now(rt)?;
-    for _ in 0..ROUND_TRIPS {
+    for _ in 0..rounds.trips {
         pair.round_trip()?;
     }
-    let trips = rate(ROUND_TRIPS, start.elapsed(rt)?.as_nanos());
+    let trips = rate(rounds.trips, start.elapsed(rt)?.as_nanos());
     let start = Instant::now(rt)?;
-    for _ in 0..CYCLES {
+    for _ in 0..rounds.cycles {
         pair.cycle()?;
     }
-    let cycles = rate(CYCLES, start.elapsed(rt)?.as_nanos());
+    let cycles = rate(rounds.cycles, start.elapsed(rt)?.as_nanos());
     println!(rt; "{trips} round trips and {cycles} cycles with an embargo a second")?;
     Ok(())
 }

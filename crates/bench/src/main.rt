@@ -3,21 +3,25 @@
 //! `bench pool N` pushes N calls to three waiting lists in turn and takes them out again, over and over.
 //! `bench payload FILE CAPS ROUNDS` reads a file's bytes as a payload that goes with CAPS capabilities, ROUNDS times.
 //! `bench trace FILE` reads a trace and checks it, apart and together.
-//! `bench core OPEN WAITING EXPORTS` takes calls from one core to another and back, beside so many open questions, waiting
-//! calls and exports, and embargoes.
-//! `bench world ROUNDS` does so over a `World`, which keeps the journal.
+//! `bench core OPEN WAITING EXPORTS [TRIPS [CYCLES]]` takes calls from one core to another and back, TRIPS times, and takes
+//! shorter paths behind embargoes, CYCLES times, beside so many open questions, waiting calls and exports.
+//! `bench world ROUNDS` takes calls over a `World`, which keeps the journal.
+//! `bench script FILE` reads a script and plays it, and prints no trace.
 //! Without arguments it does nothing.
 #![tactic(auto)]
 
+mod astray;
 mod cores;
+mod done;
 mod payload;
 mod pool;
+mod script;
 mod side;
 mod trace;
 mod world;
 
 use anyhow::Result;
-use cores::Load;
+use cores::{Load, Rounds};
 use std::env;
 use std::env::Args;
 use std::process::ExitCode;
@@ -34,13 +38,14 @@ fn main(rt: HostRuntime) -> Result<ExitCode> {
         "trace" => measure_trace(&rt, &mut words),
         "core" => measure_core(&rt, &mut words),
         "world" => measure_world(&rt, &mut words),
+        "script" => measure_script(&rt, &mut words),
         _ => usage(&rt),
     }
 }
 
 fn usage(rt: &impl Print) -> Result<ExitCode> {
     println!(rt;
-        "usage: bench pool N | bench payload FILE CAPS ROUNDS | bench trace FILE | bench core OPEN WAITING EXPORTS | bench world ROUNDS"
+        "usage: bench pool N | bench payload FILE CAPS ROUNDS | bench trace FILE | bench core OPEN WAITING EXPORTS [TRIPS [CYCLES]] | bench world ROUNDS | bench script FILE"
     )?;
     Ok(ExitCode::from(2))
 }
@@ -81,8 +86,20 @@ fn measure_core(rt: &HostRuntime, words: &mut Args) -> Result<ExitCode> {
         waiting: waiting.as_str().parse()?,
         exports: exports.as_str().parse()?,
     };
-    cores::measure(rt, load)?;
+    let rounds = Rounds {
+        trips: count(words, cores::TRIPS)?,
+        cycles: count(words, cores::CYCLES)?,
+    };
+    cores::measure(rt, load, rounds)?;
     Ok(ExitCode::SUCCESS)
+}
+
+/// The number that the next word is, or another where there is none.
+fn count(words: &mut Args, other: u32) -> Result<u32> {
+    match words.next() {
+        Some(word) => Ok(word.as_str().parse()?),
+        None => Ok(other),
+    }
 }
 
 fn measure_world(rt: &HostRuntime, words: &mut Args) -> Result<ExitCode> {
@@ -90,5 +107,13 @@ fn measure_world(rt: &HostRuntime, words: &mut Args) -> Result<ExitCode> {
         return usage(rt);
     };
     world::measure(rt, rt.alloc(), rounds.as_str().parse()?)?;
+    Ok(ExitCode::SUCCESS)
+}
+
+fn measure_script(rt: &HostRuntime, words: &mut Args) -> Result<ExitCode> {
+    let Some(file) = words.next() else {
+        return usage(rt);
+    };
+    script::measure(rt, file.as_str())?;
     Ok(ExitCode::SUCCESS)
 }

@@ -1,71 +1,98 @@
-//! A vat with what it has to do.
+//! A vat of which each step does one thing.
 
-use anyhow::{Result, bail};
-use rpc_msg::{Items, Message, ObjectId, Payload, RefId, TaskId, Vat};
+use crate::astray::Astray;
+use crate::done::{Done, Outcome, Task};
+use rpc_msg::{Items, Message, ObjectId, Payload, PromiseId, RefId, Vat};
 use std::alloc::Global;
-use std::mem;
 use vat_core::Core;
+use vat_journal::Advanced;
 use vat_machine::{CallCommand, Effects, Level};
 
-/// A vat, the messages that it has to send, the tasks that it has to answer, and the last reference that it was given.
+/// A vat, and the null payload of its calls and results, whose copies share its bytes. Each of its steps does the one thing
+/// that the caller says, or the vat is `Astray`. Where a call has another vat `to`, that is a message, which goes straight
+/// there, and what is answered is what it leads to.
 #[derive(Drop)]
 pub(crate) struct Side {
     alloc: Global,
-    pub(crate) core: Core,
-    outbox: Vec<Message>,
-    tasks: Vec<TaskId>,
-    given: Option<RefId>,
+    core: Core,
+    null: Payload,
 }
 
 impl Side {
-    pub(crate) fn new(alloc: Global, vat: Vat, root: Option<ObjectId>) -> Result<Side> {
-        Ok(Side {
-            alloc,
-            core: Core::new(alloc, vat, Level::One, root)?,
-            outbox: Vec::new(alloc),
-            tasks: Vec::new(alloc),
-            given: None,
-        })
+    pub(crate) fn new(alloc: Global, vat: Vat, root: Option<ObjectId>) -> Result<Side, Astray> {
+        let core = Core::new(alloc, vat, Level::One, root)?;
+        let null = Payload::null(alloc)?;
+        Ok(Side { alloc, core, null })
     }
 
-    /// Does what follows from a step. A call that has ended is finished.
-    pub(crate) fn follow(&mut self, effects: Effects) -> Result<()> {
-        if let Some(number) = effects.down {
-            bail!("a vat went down: {number}");
+    fn did<T: Done>(&mut self, effects: Effects) -> Result<T, Astray> {
+        let Effects {
+            sends,
+            deliveries,
+            answers,
+            down,
+        } = effects;
+        if let Some(number) = down {
+            return Err(Astray::Down(number));
         }
-        self.outbox.append(&mut effects.sends.into_vec())?;
-        for delivery in effects.deliveries.into_vec() {
-            self.tasks.push(delivery.task)?;
-            self.keep(delivery.refs.as_slice());
-        }
-        for ended in effects.answers.into_vec() {
-            self.keep(ended.refs.as_slice());
-            let finished = self.core.finish(ended.call)?;
-            self.outbox.append(&mut finished.sends.into_vec())?;
-        }
-        Ok(())
+        let mut sends = sends.into_vec();
+        T::take(&mut sends, deliveries.as_slice(), answers.as_slice())
     }
 
-    fn keep(&mut self, refs: &[RefId]) {
-        if let Some(given) = refs.first() {
-            self.given = Some(*given);
-        }
+    fn send<T: Done>(&mut self, to: &mut Side, effects: Effects) -> Result<T, Astray> {
+        let message = self.did(effects)?;
+        to.receive(message)
     }
 
-    pub(crate) fn take_given(&mut self) -> Result<RefId> {
-        match self.given.take() {
-            Some(given) => Ok(given),
-            None => bail!("no reference was given"),
-        }
+    pub(crate) fn receive<T: Done>(&mut self, message: Message) -> Result<T, Astray> {
+        let effects = self.core.receive(message);
+        self.did(effects)
     }
 
-    pub(crate) fn ask_root(&mut self) -> Result<()> {
+    pub(crate) fn host(&mut self, object: ObjectId) -> Result<RefId, Astray> {
+        Ok(self.core.host(object)?)
+    }
+
+    pub(crate) fn promise(&mut self) -> Result<(PromiseId, RefId), Astray> {
+        Ok(self.core.promise()?)
+    }
+
+    pub(crate) fn bootstrap<T: Done>(&mut self, to: &mut Side) -> Result<T, Astray> {
         let (_, effects) = self.core.bootstrap()?;
-        self.follow(effects)
+        self.send(to, effects)
     }
 
-    pub(crate) fn call(&mut self, reference: RefId, refs: &[RefId]) -> Result<()> {
-        let (payload, refs) = contents(self.alloc, refs)?;
+    pub(crate) fn call<T: Done>(&mut self, to: &mut Side, reference: RefId) -> Result<T, Astray> {
+        let payload = self.null.copy(self.alloc)?;
+        let effects = self.made(reference, payload, Items::new(self.alloc))?;
+        self.send(to, effects)
+    }
+
+    /// A call that passes a reference.
+    pub(crate) fn call_with<T: Done>(
+        &mut self,
+        to: &mut Side,
+        reference: RefId,
+        passed: RefId,
+    ) -> Result<T, Astray> {
+        let payload = Payload::root_capability(self.alloc)?;
+        let effects = self.made(reference, payload, one(self.alloc, passed)?)?;
+        self.send(to, effects)
+    }
+
+    /// A call that waits at this vat.
+    pub(crate) fn call_later(&mut self, reference: RefId) -> Result<(), Astray> {
+        let payload = self.null.copy(self.alloc)?;
+        let effects = self.made(reference, payload, Items::new(self.alloc))?;
+        self.did(effects)
+    }
+
+    fn made(
+        &mut self,
+        reference: RefId,
+        payload: Payload,
+        refs: Items<RefId>,
+    ) -> Result<Effects, Astray> {
         let call = CallCommand {
             reference,
             interface: 0,
@@ -73,41 +100,86 @@ impl Side {
             payload,
             refs,
         };
-        let (_, effects) = self.core.call(call).map_err(|refused| refused.0)?;
-        self.follow(effects)
-    }
-
-    /// Answers its newest task.
-    pub(crate) fn answer(&mut self, refs: &[RefId]) -> Result<()> {
-        let Some(task) = self.tasks.pop() else {
-            bail!("no task");
-        };
-        let (payload, refs) = contents(self.alloc, refs)?;
-        let answered = self.core.answer(task, payload, refs);
-        let effects = answered.map_err(|refused| refused.0)?;
-        self.follow(effects)
-    }
-
-    pub(crate) fn let_go(&mut self, reference: RefId) -> Result<()> {
-        let effects = self.core.drop_ref(reference)?;
-        self.follow(effects)
-    }
-
-    /// Receives what the other one has to send.
-    pub(crate) fn receive(&mut self, from: &mut Side) -> Result<()> {
-        for message in mem::replace(&mut from.outbox, Vec::new(self.alloc)) {
-            let effects = self.core.receive(message);
-            self.follow(effects)?;
+        match self.core.call(call) {
+            Ok((_, effects)) => Ok(effects),
+            Err((refusal, _)) => Err(Astray::Refused(refusal)),
         }
-        Ok(())
+    }
+
+    pub(crate) fn answer<T: Done>(&mut self, to: &mut Side, task: Task) -> Result<T, Astray> {
+        let payload = self.null.copy(self.alloc)?;
+        let effects = self.answered(task, payload, Items::new(self.alloc))?;
+        self.send(to, effects)
+    }
+
+    /// The answer to a task, with a reference.
+    pub(crate) fn answer_with<T: Done>(
+        &mut self,
+        to: &mut Side,
+        task: Task,
+        passed: RefId,
+    ) -> Result<T, Astray> {
+        let payload = Payload::root_capability(self.alloc)?;
+        let effects = self.answered(task, payload, one(self.alloc, passed)?)?;
+        self.send(to, effects)
+    }
+
+    /// The answer to a task that is a call of this vat's own.
+    pub(crate) fn answer_own(&mut self, task: Task) -> Result<Outcome, Astray> {
+        let payload = self.null.copy(self.alloc)?;
+        let effects = self.answered(task, payload, Items::new(self.alloc))?;
+        self.did(effects)
+    }
+
+    fn answered(
+        &mut self,
+        task: Task,
+        payload: Payload,
+        refs: Items<RefId>,
+    ) -> Result<Effects, Astray> {
+        match self.core.answer(task.id, payload, refs) {
+            Ok(effects) => Ok(effects),
+            Err((refusal, _, _)) => Err(Astray::Refused(refusal)),
+        }
+    }
+
+    pub(crate) fn finish<T: Done>(&mut self, to: &mut Side, outcome: Outcome) -> Result<T, Astray> {
+        let effects = self.core.finish(outcome.call)?;
+        self.send(to, effects)
+    }
+
+    /// Finishes a call to an object of this vat.
+    pub(crate) fn finish_own(&mut self, outcome: Outcome) -> Result<(), Astray> {
+        let effects = self.core.finish(outcome.call)?;
+        self.did(effects)
+    }
+
+    pub(crate) fn resolve<T: Done>(
+        &mut self,
+        promise: PromiseId,
+        reference: RefId,
+    ) -> Result<T, Astray> {
+        let effects = self.core.resolve(promise, reference)?;
+        self.did(effects)
+    }
+
+    /// Lets a reference take the shorter path, behind an embargo.
+    pub(crate) fn advance<T: Done>(&mut self, reference: RefId) -> Result<T, Astray> {
+        match self.core.advance(reference)? {
+            (Advanced::Embargoed, effects) => self.did(effects),
+            _ => Err(Astray::Otherwise),
+        }
+    }
+
+    pub(crate) fn let_go(&mut self, reference: RefId) -> Result<(), Astray> {
+        let effects = self.core.drop_ref(reference)?;
+        self.did(effects)
     }
 }
 
-/// No capability, or one as a payload has it.
-fn contents(alloc: Global, refs: &[RefId]) -> Result<(Payload, Items<RefId>)> {
-    let payload = match refs {
-        [] => Payload::null(alloc)?,
-        _ => Payload::root_capability(alloc)?,
-    };
-    Ok((payload, Items::from_vec(Vec::from_slice(alloc, refs)?)))
+fn one(alloc: Global, reference: RefId) -> Result<Items<RefId>, Astray> {
+    match Items::one(alloc, reference) {
+        Ok(refs) => Ok(refs),
+        Err(_) => Err(Astray::Memory),
+    }
 }

@@ -1,95 +1,115 @@
 //! How long a round trip of two vats takes, with the journal of it.
 
-use anyhow::{Result, bail};
-use rpc_msg::{CallId, Items, ObjectId, Payload, RefId, TaskId, Vat};
+use crate::astray::Astray;
+use crate::done::{Done, Outcome, Task};
+use rpc_msg::{Items, ObjectId, Payload, RefId, Vat};
 use std::alloc::Global;
 use std::rt::Clock;
 use std::time::Instant;
 use vat_core::Answer;
-use vat_machine::{CallCommand, Command, Event, Granted};
+use vat_machine::{CallCommand, Command, Effects, Event};
 use vat_world::{StepAnswer, World};
 
 /// Prints how many round trips take place in a second, of so many. Each call is made, delivered, answered, told and finished:
 /// six events of two vats, and eleven entries of their journal, which is kept.
-pub fn measure(rt: &(impl Clock + Print), alloc: Global, rounds: u32) -> Result<()> {
-    let mut world = World::new(alloc, None, Some(ObjectId(0)))?;
-    let root = meet(&mut world)?;
+pub fn measure(rt: &(impl Clock + Print), alloc: Global, rounds: u32) -> anyhow::Result<()> {
+    let mut vats = Vats::new(alloc)?;
+    let root = vats.meet()?;
     let start = Instant::now(rt)?;
     for _ in 0..rounds {
-        round_trip(alloc, &mut world, root)?;
+        vats.round_trip(root)?;
     }
     let micros = start.elapsed(rt)?.as_micros();
     let a_second = u128::from(rounds) * 1_000_000 / micros.max(1);
-    let entries = world.journal().len();
+    let entries = vats.world.journal().len();
     println!(rt; "{a_second} round trips a second, {entries} entries")?;
     Ok(())
 }
 
-/// Vat a comes to hold a reference to the other's bootstrap object.
-fn meet(world: &mut World) -> Result<RefId> {
-    let Granted::Call(call) = command(world, Vat::A, Command::Bootstrap)? else {
-        bail!("no call was made");
-    };
-    deliver(world, Vat::B)?;
-    let root = receive_result(world)?;
-    finish(world, call)?;
-    Ok(root)
+/// Two vats, and the null payload of their calls and results, whose copies share its bytes. Each event does the one thing that
+/// the caller says, or the vats are `Astray`.
+#[derive(Drop)]
+struct Vats {
+    alloc: Global,
+    world: World,
+    null: Payload,
 }
 
-/// Lets vat a receive the Return of a call, and says which reference came with it.
-fn receive_result(world: &mut World) -> Result<RefId> {
-    let StepAnswer::Handled(effects) = world.step(Event::Deliver(Vat::A)) else {
-        bail!("no message came");
-    };
-    let [ended] = effects.answers.as_slice() else {
-        bail!("no call has ended");
-    };
-    let [reference] = ended.refs.as_slice() else {
-        bail!("no reference came");
-    };
-    Ok(*reference)
-}
+impl Vats {
+    fn new(alloc: Global) -> Result<Vats, Astray> {
+        let world = World::new(alloc, None, Some(ObjectId(0)))?;
+        let null = Payload::null(alloc)?;
+        Ok(Vats { alloc, world, null })
+    }
 
-fn round_trip(alloc: Global, world: &mut World, root: RefId) -> Result<()> {
-    let call = Command::Call(CallCommand {
-        reference: root,
-        interface: 0,
-        method: 0,
-        payload: Payload::null(alloc)?,
-        refs: Items::new(alloc),
-    });
-    let Granted::Call(call) = command(world, Vat::A, call)? else {
-        bail!("no call was made");
-    };
-    let Some(task) = deliver(world, Vat::B)? else {
-        bail!("no call was delivered");
-    };
-    let answer = Command::Answer(task, Payload::null(alloc)?, Items::new(alloc));
-    command(world, Vat::B, answer)?;
-    deliver(world, Vat::A)?;
-    finish(world, call)
-}
+    /// Vat a comes to hold a reference to the other's bootstrap object.
+    fn meet(&mut self) -> Result<RefId, Astray> {
+        self.command(Vat::A, Command::Bootstrap)?;
+        self.deliver::<()>(Vat::B)?;
+        let outcome = self.deliver(Vat::A)?;
+        self.finish(outcome)?;
+        match outcome.given {
+            Some(root) => Ok(root),
+            None => Err(Astray::Otherwise),
+        }
+    }
 
-fn finish(world: &mut World, call: CallId) -> Result<()> {
-    command(world, Vat::A, Command::Finish(call))?;
-    deliver(world, Vat::B)?;
-    Ok(())
-}
+    fn round_trip(&mut self, root: RefId) -> Result<(), Astray> {
+        self.call(root)?;
+        let task = self.deliver(Vat::B)?;
+        self.answer(task)?;
+        let outcome = self.deliver(Vat::A)?;
+        self.finish(outcome)
+    }
 
-fn command(world: &mut World, vat: Vat, command: Command) -> Result<Granted> {
-    match world.step(Event::Command(vat, command)) {
-        StepAnswer::Answered(Answer::Done(granted, _)) => Ok(granted),
-        _ => bail!("a command was refused"),
+    fn call(&mut self, reference: RefId) -> Result<(), Astray> {
+        let call = CallCommand {
+            reference,
+            interface: 0,
+            method: 0,
+            payload: self.null.copy(self.alloc)?,
+            refs: Items::new(self.alloc),
+        };
+        self.command(Vat::A, Command::Call(call))
+    }
+
+    fn answer(&mut self, task: Task) -> Result<(), Astray> {
+        let payload = self.null.copy(self.alloc)?;
+        let refs = Items::new(self.alloc);
+        self.command(Vat::B, Command::Answer(task.id, payload, refs))
+    }
+
+    fn finish(&mut self, outcome: Outcome) -> Result<(), Astray> {
+        self.command(Vat::A, Command::Finish(outcome.call))?;
+        self.deliver(Vat::B)
+    }
+
+    fn command(&mut self, vat: Vat, command: Command) -> Result<(), Astray> {
+        match self.world.step(Event::Command(vat, command)) {
+            StepAnswer::Answered(Answer::Done(_, effects)) => did(effects),
+            StepAnswer::Answered(Answer::Refused(refusal, _)) => Err(Astray::Refused(refusal)),
+            _ => Err(Astray::Otherwise),
+        }
+    }
+
+    fn deliver<T: Done>(&mut self, vat: Vat) -> Result<T, Astray> {
+        match self.world.step(Event::Deliver(vat)) {
+            StepAnswer::Handled(effects) => did(effects),
+            _ => Err(Astray::Otherwise),
+        }
     }
 }
 
-/// Lets a vat receive a message, and says which task came with it.
-fn deliver(world: &mut World, vat: Vat) -> Result<Option<TaskId>> {
-    let StepAnswer::Handled(effects) = world.step(Event::Deliver(vat)) else {
-        bail!("no message came");
-    };
-    match effects.deliveries.as_slice() {
-        [delivery] => Ok(Some(delivery.task)),
-        _ => Ok(None),
+fn did<T: Done>(effects: Effects) -> Result<T, Astray> {
+    let Effects {
+        sends,
+        deliveries,
+        answers,
+        down,
+    } = effects;
+    if let Some(number) = down {
+        return Err(Astray::Down(number));
     }
+    let mut sends = sends.into_vec();
+    T::take(&mut sends, deliveries.as_slice(), answers.as_slice())
 }
