@@ -36,7 +36,14 @@ impl Side {
             return Err(Astray::Down(number));
         }
         let mut sends = sends.into_vec();
-        T::take(&mut sends, deliveries.as_slice(), answers.as_slice())
+        let done = T::take(&mut sends, deliveries.as_slice(), answers.as_slice());
+        self.core.recycle(Effects {
+            sends: Items::from_vec(sends),
+            deliveries,
+            answers,
+            down,
+        });
+        done
     }
 
     fn send<T: Done>(&mut self, to: &mut Side, effects: Effects) -> Result<T, Astray> {
