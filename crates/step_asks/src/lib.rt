@@ -7,3 +7,4 @@ mod opening;
 
 pub use calling::call;
 pub use opening::{bootstrap, promise};
+pub use step_ends as ends;

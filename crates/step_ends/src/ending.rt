@@ -6,7 +6,7 @@ ghost use Rattle.step_base.specs.InProgress.{progress_of, IsReady, IsIdle};
 use rpc_msg::Memory;
 use std::alloc::Global;
 use step_base::Step;
-use step_settles::drain;
+use step_messages::settles::drain;
 use step_sweeps::{Thought, sweep};
 use vat_machine::Effects;
 

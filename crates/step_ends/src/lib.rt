@@ -22,4 +22,6 @@ pub use machine::{Machine, Named};
 pub use receiving::receive;
 pub use settling::{answer, fail, reject, resolve};
 pub use shortening::advance;
+pub use step_base::{Arisen, Step};
+pub use step_sweeps::Thought;
 pub use undoing::lead_back;

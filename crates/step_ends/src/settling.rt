@@ -13,6 +13,7 @@ use crate::machine::Machine;
 use rpc_msg::{Exception, Items, Memory, Payload, PromiseId, RefId, TaskId};
 use std::alloc::Global;
 use step_base::{Step, begin};
+use step_messages::settles;
 use step_sweeps::Thought;
 use vat_machine::Effects;
 
@@ -54,7 +55,7 @@ fn resolve_whole(
     ensures idle { OnOk result (IsIdle step.new) }
 {
     begin(step, 1)?;
-    step_settles::resolve(step, alloc, promise, reference)?;
+    settles::resolve(step, alloc, promise, reference)?;
     let effects = end_step(step, alloc, thought)?;
     Ok(effects)
 }
@@ -96,7 +97,7 @@ fn reject_whole(
     ensures idle { OnOk result (IsIdle step.new) }
 {
     begin(step, 1)?;
-    step_settles::reject(step, alloc, promise, exception)?;
+    settles::reject(step, alloc, promise, exception)?;
     let effects = end_step(step, alloc, thought)?;
     Ok(effects)
 }
@@ -140,7 +141,7 @@ fn answer_whole(
     ensures idle { OnOk result (IsIdle step.new) }
 {
     begin(step, 1)?;
-    step_settles::answer(step, alloc, task, payload, refs)?;
+    settles::answer(step, alloc, task, payload, refs)?;
     let effects = end_step(step, alloc, thought)?;
     Ok(effects)
 }
@@ -176,7 +177,7 @@ fn fail_whole(
     ensures idle { OnOk result (IsIdle step.new) }
 {
     begin(step, 1)?;
-    step_settles::fail(step, alloc, task, exception)?;
+    settles::fail(step, alloc, task, exception)?;
     let effects = end_step(step, alloc, thought)?;
     Ok(effects)
 }

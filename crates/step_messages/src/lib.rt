@@ -23,3 +23,4 @@ pub use ending::{take_finish, take_release};
 pub use messages::take_message;
 pub use resolving::take_resolve;
 pub use returns::{take_echoed, take_return};
+pub use step_settles as settles;

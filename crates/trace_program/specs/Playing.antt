@@ -5,8 +5,8 @@ use Rattle.vat_journal.specs.declared.report.Delivery.{Delivery}
 use Rattle.vat_journal.specs.declared.report.Ended.{Ended}
 use Rattle.vat_machine.specs.declared.command.Effects.{Effects}
 use Rattle.vat_machine.specs.World.{tables_entry}
-use Rattle.vat_core.specs.declared.obey.Answer.{Answer}
-use Rattle.vat_core.specs.declared.obey.Answer.TheVariants.{Done, Refused}
+use Rattle.vat_world.specs.Answer.{Answer}
+use Rattle.vat_world.specs.Answer.TheVariants.{Done, Refused}
 use Rattle.vat_script.specs.declared.act.Act.{Act}
 use Rattle.vat_script.specs.declared.act.Act.TheVariants as act
 use Rattle.vat_script.specs.declared.line.Line.{Line}

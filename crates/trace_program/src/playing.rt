@@ -6,10 +6,9 @@ ghost use Rattle.trace_program.specs.Playing.{PlaysLine, PlaysAll, told, answere
 use crate::fault::ScriptFault;
 use rpc_msg::{Memory, Vat};
 use std::alloc::Global;
-use vat_core::Answer;
 use vat_machine::Effects;
 use vat_script::{Act, GiveFault, Line, LineCommand, Names};
-use vat_world::{StepAnswer, World, WorldEvent};
+use vat_world::{Answer, StepAnswer, World, WorldEvent};
 
 /// Plays the lines in order. `Unnamed` where a line names something that is not there when its turn comes, with its
 /// number, counted from 1, and the first such thing; what stands before it was played. `Memory` where a growth of the

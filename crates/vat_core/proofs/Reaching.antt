@@ -13,8 +13,8 @@ use Rattle.vat_machine.specs.Steps.{Obeys, Receives}
 use Rattle.laws_steps.specs.NodesThere.{ComesTo, Stays, Commanded, Received, Fell, IsReached}
 use Rattle.vat_outbox.specs.Outgoing.{Outgoing, nothing_said}
 use Rattle.vat_store.specs.Holding.{state_of, IsSound}
-use Rattle.step_ends.specs.declared.machine.Machine.{Machine}
-use Rattle.step_ends.specs.Whole.{IsResting}
+use Rattle.step_asks.specs.Machine.{Machine}
+use Rattle.step_asks.specs.Whole.{IsResting}
 use Rattle.vat_core.specs.Standing.{IsStanding}
 
 -- What leads on from the last state leads on from the first.

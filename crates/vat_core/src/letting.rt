@@ -7,6 +7,7 @@ ghost use Rattle.vat_machine.specs.Steps.{Obeys};
 use crate::vat::Core;
 use laws_nodes::calls_have_their_own;
 use rpc_msg::{CallId, RefId};
+use step_asks::ends;
 use step_checks::{check_advance, check_drop_ref, check_finish};
 use vat_journal::Advanced;
 use vat_machine::{Effects, Refusal};
@@ -18,7 +19,7 @@ impl Core {
         ensures refused { IfErr result (λ r. Obeys self.old (command.DropRef id) (Err r) quiet self.new) }
     {
         check_drop_ref(&self.machine.step.store, id)?;
-        let Ok(effects) = step_ends::drop_ref(&mut self.machine, id) else {
+        let Ok(effects) = ends::drop_ref(&mut self.machine, id) else {
             return Err(Refusal::Memory);
         };
         Ok(effects)
@@ -32,7 +33,7 @@ impl Core {
     {
         check_finish(&self.machine.step.store, id)?;
         calls_have_their_own();
-        let Ok(effects) = step_ends::finish(&mut self.machine, id) else {
+        let Ok(effects) = ends::finish(&mut self.machine, id) else {
             return Err(Refusal::Memory);
         };
         Ok(effects)
@@ -46,7 +47,7 @@ impl Core {
         ensures refused { IfErr result (λ r. Obeys self.old (command.Advance id) (Err r) quiet self.new) }
     {
         check_advance(&self.machine.step.store, id)?;
-        let Ok(done) = step_ends::advance(&mut self.machine, id) else {
+        let Ok(done) = ends::advance(&mut self.machine, id) else {
             return Err(Refusal::Memory);
         };
         Ok(done)

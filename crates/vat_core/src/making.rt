@@ -6,6 +6,7 @@ ghost use Rattle.vat_machine.specs.Steps.{Obeys};
 
 use crate::vat::Core;
 use rpc_msg::{CallId, Items, ObjectId, Op, PromiseId, RefId};
+use step_asks::ends;
 use step_checks::{check_clone_ref, check_field, check_host, check_promise};
 use vat_machine::Refusal;
 
@@ -17,7 +18,7 @@ impl Core {
         ensures refused { IfErr result (λ r. Obeys self.old (command.Host object) (Err r) quiet self.new) }
     {
         check_host(&self.machine.step.store, object)?;
-        let Ok(made) = step_ends::host(&mut self.machine, object) else {
+        let Ok(made) = ends::host(&mut self.machine, object) else {
             return Err(Refusal::Memory);
         };
         Ok(made)
@@ -30,7 +31,7 @@ impl Core {
         ensures refused { IfErr result (λ r. Obeys self.old (command.CloneRef id) (Err r) quiet self.new) }
     {
         check_clone_ref(&self.machine.step.store, id)?;
-        let Ok(made) = step_ends::clone_ref(&mut self.machine, id) else {
+        let Ok(made) = ends::clone_ref(&mut self.machine, id) else {
             return Err(Refusal::Memory);
         };
         Ok(made)
@@ -47,7 +48,7 @@ impl Core {
         if let Err(refusal) = check_field(&self.machine.step.store, id, &path) {
             return Err((refusal, path));
         }
-        let Ok(made) = step_ends::field(&mut self.machine, id, &path) else {
+        let Ok(made) = ends::field(&mut self.machine, id, &path) else {
             return Err((Refusal::Memory, path));
         };
         Ok(made)

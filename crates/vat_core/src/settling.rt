@@ -6,6 +6,7 @@ ghost use Rattle.vat_machine.specs.Steps.{Obeys};
 
 use crate::vat::Core;
 use rpc_msg::{Exception, Items, Payload, PromiseId, RefId, TaskId};
+use step_asks::ends;
 use step_checks::{check_answer, check_fail, check_reject, check_resolve};
 use vat_machine::{Effects, Refusal};
 
@@ -18,7 +19,7 @@ impl Core {
         ensures refused { IfErr result (λ r. Obeys self.old (command.Resolve promise reference) (Err r) quiet self.new) }
     {
         check_resolve(&self.machine.step.store, promise, reference)?;
-        let effects = step_ends::resolve(&mut self.machine, promise, reference);
+        let effects = ends::resolve(&mut self.machine, promise, reference);
         Ok(effects)
     }
 
@@ -36,7 +37,7 @@ impl Core {
         if let Err(refusal) = check_reject(&self.machine.step.store, promise) {
             return Err((refusal, exception));
         }
-        let effects = step_ends::reject(&mut self.machine, promise, exception);
+        let effects = ends::reject(&mut self.machine, promise, exception);
         Ok(effects)
     }
 
@@ -57,7 +58,7 @@ impl Core {
         if let Err(refusal) = check_answer(&self.machine.step.store, task, &payload, &refs) {
             return Err((refusal, payload, refs));
         }
-        let effects = step_ends::answer(&mut self.machine, task, payload, refs);
+        let effects = ends::answer(&mut self.machine, task, payload, refs);
         Ok(effects)
     }
 
@@ -75,7 +76,7 @@ impl Core {
         if let Err(refusal) = check_fail(&self.machine.step.store, task) {
             return Err((refusal, exception));
         }
-        let effects = step_ends::fail(&mut self.machine, task, exception);
+        let effects = ends::fail(&mut self.machine, task, exception);
         Ok(effects)
     }
 }

@@ -6,9 +6,8 @@ ghost use Rattle.vat_machine.specs.Steps.{Receives};
 use rpc_msg::{Memory, Message, ObjectId, Vat};
 use std::alloc::Global;
 use std::marker::Model;
-use step_base::{Arisen, Step};
-use step_ends::Machine;
-use step_sweeps::Thought;
+use step_asks::ends;
+use step_asks::ends::{Arisen, Machine, Step, Thought};
 use vat_machine::{Effects, Level};
 use vat_outbox::Outbox;
 use vat_store::Store;
@@ -94,7 +93,7 @@ impl Core {
     pub fn receive(&mut self, message: Message) -> Effects
         ensures { Receives self.old message result self.new }
     {
-        step_ends::receive(&mut self.machine, message)
+        ends::receive(&mut self.machine, message)
     }
 
     /// Takes back the memory of effects that were looked at, for those of later steps; what they still hold is dropped. Nothing
@@ -111,6 +110,6 @@ impl Core {
     pub fn shut(&mut self, number: u16) -> Effects
         ensures { ShutsFrom self.old number self.old.down result self.new }
     {
-        step_ends::shut(&mut self.machine, number)
+        ends::shut(&mut self.machine, number)
     }
 }

@@ -12,6 +12,7 @@ mod step;
 mod world;
 
 pub use answer::StepAnswer;
+pub use vat_core::Answer;
 pub use vat_journal::JournalEntry;
 pub use vat_machine::Event as WorldEvent;
 pub use world::World;

@@ -5,10 +5,9 @@ use rpc_msg::{
 use std::alloc::Global;
 use std::process::Abort;
 use std::test::Fail;
-use vat_core::Answer;
 use vat_journal::JournalEntry;
 use vat_machine::{CallCommand, Command, Refusal};
-use vat_world::{StepAnswer, World, WorldEvent};
+use vat_world::{Answer, StepAnswer, World, WorldEvent};
 
 /// The events of one bootstrapped call of A at B, by their numbers: from the Bootstrap to the last Release.
 pub(super) const EVENTS: u32 = 15;
