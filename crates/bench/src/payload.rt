@@ -1,7 +1,7 @@
 //! How fast payloads are read.
 
 use anyhow::Result;
-use capn_wire::{Payload, PayloadFault};
+use rpc_msg::{Payload, PayloadFault};
 use std::alloc::Global;
 use std::fs;
 use std::rt::Clock;

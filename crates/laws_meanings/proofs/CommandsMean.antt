@@ -7,12 +7,12 @@ use Rattle.rpc_msg.specs.declared.ids.Vat.{Vat}
 use Rattle.rpc_msg.specs.declared.ids.RefId.{RefId}
 use Rattle.rpc_msg.specs.declared.ids.Stamp.{Stamp}
 use Rattle.rpc_msg.specs.Paths.{fields}
-use Rattle.capn_wire.specs.declared.path.Op.{Op}
-use Rattle.capn_wire.specs.declared.path.Op.TheVariants as op
-use Rattle.capn_wire.specs.declared.path.CapAt.{CapAt}
-use Rattle.capn_wire.specs.declared.path.CapAt.TheVariants.{Cap, Null, NotCap}
-use Rattle.capn_wire.specs.Payloads.{Contents as Payload, tree_of}
-use Rattle.capn_wire.specs.Walking.{found_at}
+use Rattle.rpc_msg.specs.Op.{Op}
+use Rattle.rpc_msg.specs.Op.TheVariants as op
+use Rattle.rpc_msg.specs.CapAt.{CapAt}
+use Rattle.rpc_msg.specs.CapAt.TheVariants.{Cap, Null, NotCap}
+use Rattle.rpc_msg.specs.Payloads.{Contents as Payload, tree_of}
+use Rattle.rpc_msg.specs.Walking.{found_at}
 use Rattle.vat_journal.specs.declared.report.Outcome.TheVariants as outcome
 use Rattle.vat_journal.specs.History.{refs_at, answer_of}
 use Rattle.vat_journal.specs.Sources.{Asking, OfBootstrap, OfCall, asking, OwnObject, CloneOf, FieldOf, FixedTo, WasRejected}

@@ -6,9 +6,9 @@ use Rattle.std.specs.List.{slice_get}
 use Rattle.finite_maps.specs.Tally.{Map}
 use Rattle.finite_maps.proofs.Tested.{get_put, equal, itself}
 use Rattle.rpc_msg.specs.declared.ids.Vat.{Vat}
-use Rattle.capn_wire.specs.declared.path.CapAt.{CapAt}
-use Rattle.capn_wire.specs.declared.path.CapAt.TheVariants.{Cap, Null, NotCap}
-use Rattle.capn_wire.specs.Payloads.{Contents as Payload}
+use Rattle.rpc_msg.specs.CapAt.{CapAt}
+use Rattle.rpc_msg.specs.CapAt.TheVariants.{Cap, Null, NotCap}
+use Rattle.rpc_msg.specs.Payloads.{Contents as Payload}
 use Rattle.vat_journal.specs.Sources.{Asking}
 use Rattle.vat_journal.specs.Meaning.{History}
 use Rattle.vat_machine.specs.Payloads.{cap_at}

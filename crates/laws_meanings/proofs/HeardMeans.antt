@@ -20,9 +20,9 @@ use Rattle.rpc_msg.specs.declared.message.ResolvedTo.{ResolvedTo}
 use Rattle.rpc_msg.specs.declared.message.ResolvedTo.TheVariants as resolved
 use Rattle.rpc_msg.specs.Paths.{fields}
 use Rattle.rpc_msg.specs.Vats.{other_vat}
-use Rattle.capn_wire.specs.declared.path.Op.{Op}
-use Rattle.capn_wire.specs.declared.path.CapAt.{CapAt}
-use Rattle.capn_wire.specs.declared.path.CapAt.TheVariants.{Cap, Null, NotCap}
+use Rattle.rpc_msg.specs.Op.{Op}
+use Rattle.rpc_msg.specs.CapAt.{CapAt}
+use Rattle.rpc_msg.specs.CapAt.TheVariants.{Cap, Null, NotCap}
 use Rattle.vat_journal.specs.History as history
 use Rattle.vat_journal.specs.Sources.{Asking, OfBootstrap, OfCall}
 use Rattle.vat_journal.specs.Meaning.{History, Broken}

@@ -7,7 +7,7 @@ use Rattle.finite_maps.proofs.Tested.{at_put}
 use Rattle.rpc_msg.specs.declared.ids.Vat.{Vat}
 use Rattle.rpc_msg.specs.declared.ids.RefId.{RefId}
 use Rattle.rpc_msg.specs.declared.ids.Stamp.{Stamp}
-use Rattle.capn_wire.specs.declared.path.Op.{Op}
+use Rattle.rpc_msg.specs.Op.{Op}
 use Rattle.vat_journal.specs.declared.report.Delivery.{Delivery}
 use Rattle.vat_journal.specs.declared.report.Ended.{Ended}
 use Rattle.vat_journal.specs.History as history

@@ -4,9 +4,9 @@ use Rattle.std.specs.Prelude.{if◌then◌else◌}
 use Rattle.std.proofs.lemmas.Bool.Decides.{nat_tests}
 use Rattle.wire_trees.specs.declared.faults.PayloadFault.{PayloadFault}
 use Rattle.wire_trees.specs.declared.faults.PayloadFault.TheVariants.{OutOfBounds, CapIndex, BadOther, BadFar}
-use Rattle.capn_wire.specs.declared.path.Op.{Op}
-use Rattle.capn_wire.specs.declared.path.Op.TheVariants as op
-use Rattle.capn_wire.specs.declared.path.CapAt.TheVariants.{Cap}
+use Rattle.rpc_msg.specs.Op.{Op}
+use Rattle.rpc_msg.specs.Op.TheVariants as op
+use Rattle.rpc_msg.specs.CapAt.TheVariants.{Cap}
 use Rattle.wire_reading.specs.declared.pointer.Pointer.{Pointer}
 use Rattle.wire_reading.specs.declared.pointer.Pointer.TheVariants as pointer
 use Rattle.wire_reading.specs.declared.referent.Content.{Content}
@@ -24,7 +24,7 @@ use Rattle.wire_trees.specs.Trees as tree
 use Rattle.wire_trees.specs.Trees.{Tree, Trees, Structs, Elements, pointer_at}
 use Rattle.wire_reading.specs.Reading.{Reading, elements, pointers_at, structs_at, content_of, shallow, deep, reading, root_of, message_of}
 use Rattle.wire_trees.specs.Limits.{most_levels}
-use Rattle.capn_wire.specs.Walking.{capability_at}
+use Rattle.rpc_msg.specs.Walking.{capability_at}
 use Rattle.wire_reading.specs.Reading.{tree_read}
 use Rattle.laws_meanings.specs.WrittenCommands.{NamesItsCaps}
 

@@ -10,7 +10,7 @@ use Rattle.rpc_msg.specs.declared.message.PlainMessage.TheVariants as plain
 use Rattle.rpc_msg.specs.declared.message.ResolvedTo.{ResolvedTo}
 use Rattle.rpc_msg.specs.declared.message.ResolvedTo.TheVariants as resolved
 use Rattle.vat_machine.specs.declared.entries.Import.{Import}
-use Rattle.capn_wire.specs.declared.path.Op.{Op}
+use Rattle.rpc_msg.specs.Op.{Op}
 use Rattle.vat_journal.specs.History.{or_rest, if_so, caller}
 use Rattle.vat_journal.specs.Meaning.{History}
 use Rattle.vat_machine.specs.declared.node.Node.{Node}

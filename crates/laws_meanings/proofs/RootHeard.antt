@@ -5,11 +5,11 @@ use Rattle.rpc_msg.specs.declared.ids.Vat.{Vat}
 use Rattle.rpc_msg.specs.declared.ids.ObjectId.{ObjectId}
 use Rattle.rpc_msg.specs.Vats.{other_vat}
 use Rattle.rpc_msg.specs.Paths.{fields}
-use Rattle.capn_wire.specs.declared.path.Op.{Op}
-use Rattle.capn_wire.specs.declared.path.Op.TheVariants as op
+use Rattle.rpc_msg.specs.Op.{Op}
+use Rattle.rpc_msg.specs.Op.TheVariants as op
 use Rattle.wire_trees.specs.Trees.{Tree, capability}
-use Rattle.capn_wire.specs.Payloads.{tree_of}
-use Rattle.capn_wire.specs.Walking.{capability_at}
+use Rattle.rpc_msg.specs.Payloads.{tree_of}
+use Rattle.rpc_msg.specs.Walking.{capability_at}
 use Rattle.wire_reading.specs.Reading.{message_of, root_of, reading, deep}
 use Rattle.wire_reading.specs.Following.{leads}
 use Rattle.wire_reading.specs.Framing.{framing, segment_count, sizes}

@@ -5,7 +5,7 @@ use Rattle.finite_maps.specs.Tally.{Map, tally}
 use Rattle.finite_maps.proofs.Tallies.{tally-within}
 use Rattle.finite_maps.proofs.Tested.{at_put, at_cut, get_other}
 use Rattle.finite_maps.proofs.Gets.{get-insert_same}
-use Rattle.capn_wire.specs.Payloads.{Contents as Payload}
+use Rattle.rpc_msg.specs.Payloads.{Contents as Payload}
 use Rattle.rpc_msg.specs.declared.ids.RefId.{RefId}
 use Rattle.rpc_msg.specs.declared.ids.TaskId.{TaskId}
 use Rattle.rpc_msg.specs.declared.ids.ExportId.{ExportId}

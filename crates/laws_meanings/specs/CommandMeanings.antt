@@ -4,9 +4,9 @@ use Rattle.std.specs.FinMap as map
 use Rattle.rpc_msg.specs.declared.ids.Vat.{Vat}
 use Rattle.rpc_msg.specs.declared.ids.RefId.{RefId}
 use Rattle.rpc_msg.specs.declared.ids.Stamp.{Stamp}
-use Rattle.capn_wire.specs.declared.path.Op.{Op}
-use Rattle.capn_wire.specs.declared.path.CapAt.TheVariants.{Cap}
-use Rattle.capn_wire.specs.Payloads.{Contents as Payload}
+use Rattle.rpc_msg.specs.Op.{Op}
+use Rattle.rpc_msg.specs.CapAt.TheVariants.{Cap}
+use Rattle.rpc_msg.specs.Payloads.{Contents as Payload}
 use Rattle.vat_journal.specs.declared.report.Outcome.TheVariants as outcome
 use Rattle.vat_journal.specs.declared.entry.MadeCall.{MadeCall}
 use Rattle.vat_journal.specs.History.{refs_at, answer_of, made_with}

@@ -10,9 +10,9 @@ use Rattle.rpc_msg.specs.declared.message.Return.{Return}
 use Rattle.rpc_msg.specs.declared.message.ReturnBody.{ReturnBody}
 use Rattle.rpc_msg.specs.declared.message.ReturnBody.TheVariants as body
 use Rattle.rpc_msg.specs.declared.parts.Descriptor.{Descriptor}
-use Rattle.capn_wire.specs.declared.path.Op.{Op}
-use Rattle.capn_wire.specs.declared.path.CapAt.{CapAt}
-use Rattle.capn_wire.specs.declared.path.CapAt.TheVariants.{Cap, Null, NotCap}
+use Rattle.rpc_msg.specs.Op.{Op}
+use Rattle.rpc_msg.specs.CapAt.{CapAt}
+use Rattle.rpc_msg.specs.CapAt.TheVariants.{Cap, Null, NotCap}
 use Rattle.vat_journal.specs.History.{caller}
 use Rattle.vat_journal.specs.Sources.{Asking, SentWith}
 use Rattle.vat_journal.specs.Meaning.{History, Broken, root}

@@ -2,7 +2,7 @@
 -- is sent has.
 use Rattle.std.proofs.Common.{◌≡◌, inl, inr, ℕ, suc, ◌+◌, Bool, true, false, not, nat_eq, length, List, [], ◌∷◌, ◌++◌, Option, None, Some, refl, sym, ap, ◌∙◌, arith}
 use Rattle.std.specs.FinMap as map
-use Rattle.capn_wire.specs.Payloads.{Contents as Payload}
+use Rattle.rpc_msg.specs.Payloads.{Contents as Payload}
 use Rattle.finite_maps.specs.Tally.{Map}
 use Rattle.finite_maps.proofs.Tested.{at_put, at_cut}
 use Rattle.rpc_msg.specs.declared.ids.ObjectId.{ObjectId}

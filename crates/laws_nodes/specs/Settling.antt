@@ -1,7 +1,7 @@
 -- Each node stops, and where it settles after a change (docs/protocol.md, "Where a node leads").
 use Rattle.std.specs.Prelude.{◌≡◌, ℕ, true, false, cond, Option, None, Some, List}
 use Rattle.std.specs.FinMap as map
-use Rattle.capn_wire.specs.declared.path.Op.{Op}
+use Rattle.rpc_msg.specs.Op.{Op}
 use Rattle.vat_machine.specs.declared.node.Node.{Node}
 use Rattle.vat_machine.specs.declared.node.Node.TheVariants as node
 use Rattle.vat_machine.specs.declared.calls.WaitingCall.{WaitingCall}

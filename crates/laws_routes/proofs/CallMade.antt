@@ -1,7 +1,7 @@
 -- A call is made.
 use Rattle.std.specs.FinMap as map
 use Rattle.std.proofs.Common.{◌≡◌, ◌⊎◌, ℕ, suc, ◌+◌, Bool, nat_eq, true, false, List, [], ◌∷◌, ◌++◌, Option, None, Some, refl, sym, ap, ap₂, subst, ◌∙◌, arith}
-use Rattle.capn_wire.specs.declared.path.Op.{Op}
+use Rattle.rpc_msg.specs.Op.{Op}
 use Rattle.finite_maps.proofs.Gets.{get-insert_same}
 use Rattle.finite_maps.proofs.Tested.{apart, equal, get_other}
 use Rattle.rpc_msg.specs.declared.ids.Vat.{Vat}

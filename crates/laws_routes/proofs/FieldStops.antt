@@ -1,7 +1,7 @@
 -- An outcome becomes known: each of its fields goes where its node settles.
 use Rattle.std.specs.FinMap as map
 use Rattle.std.proofs.Common.{◌≡◌, ◌⊎◌, inl, inr, ℕ, zero, suc, Bool, nat_eq, true, false, List, Option, None, Some, IsSome, refl, sym, ap, subst, ◌∙◌, arith}
-use Rattle.capn_wire.specs.declared.path.Op.{Op}
+use Rattle.rpc_msg.specs.Op.{Op}
 use Rattle.finite_maps.proofs.Gets.{get-insert_same}
 use Rattle.finite_maps.proofs.Tested.{apart, get_other}
 use Rattle.rpc_msg.specs.declared.ids.Vat.{Vat}

@@ -4,10 +4,10 @@ use Rattle.std.proofs.Common.{◌≡◌, inl, inr, ℕ, ◌+◌, zero, suc, List
 use Rattle.finite_maps.specs.Tally.{Map}
 use Rattle.finite_maps.proofs.Gets.{get-insert_same}
 use Rattle.finite_maps.proofs.Tested.{at_put}
-use Rattle.capn_wire.specs.Payloads.{Contents as Payload}
-use Rattle.capn_wire.specs.declared.path.Op.{Op}
-use Rattle.capn_wire.specs.declared.path.CapAt.{CapAt}
-use Rattle.capn_wire.specs.declared.path.CapAt.TheVariants.{Cap, Null, NotCap}
+use Rattle.rpc_msg.specs.Payloads.{Contents as Payload}
+use Rattle.rpc_msg.specs.Op.{Op}
+use Rattle.rpc_msg.specs.CapAt.{CapAt}
+use Rattle.rpc_msg.specs.CapAt.TheVariants.{Cap, Null, NotCap}
 use Rattle.rpc_msg.specs.declared.ids.EmbargoId.{EmbargoId}
 use Rattle.rpc_msg.specs.declared.message.Message.{Message}
 use Rattle.vat_machine.specs.Payloads.{cap_at}

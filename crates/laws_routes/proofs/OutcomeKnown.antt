@@ -1,7 +1,7 @@
 -- An outcome becomes known: its group settles. The lists, the identities and the other vat; the stops are in FieldStops.
 use Rattle.std.specs.FinMap as map
 use Rattle.std.proofs.Common.{◌≡◌, ◌⊎◌, inl, inr, ℕ, nat_eq, false, List, [], ◌∷◌, Option, None, Some, IsSome, refl, sym, ap, subst, ◌∙◌, arith, ◌++◌}
-use Rattle.capn_wire.specs.declared.path.Op.{Op}
+use Rattle.rpc_msg.specs.Op.{Op}
 use Rattle.finite_maps.specs.Tally.{Map}
 use Rattle.finite_maps.proofs.Tested.{apart, at_put}
 use Rattle.rpc_msg.specs.declared.ids.Vat.{Vat}

@@ -2,10 +2,10 @@
 use Rattle.std.specs.FinMap as map
 use Rattle.std.proofs.Common.{◌≡◌, ℕ, zero, suc, ◌+◌, List, [], ◌∷◌, ◌++◌, Option, None, Some, IsSome, refl, sym, ap, subst, ◌∙◌}
 use Rattle.finite_maps.proofs.Gets.{get-insert_same}
-use Rattle.capn_wire.specs.Payloads.{Contents as Payload}
-use Rattle.capn_wire.specs.declared.path.Op.{Op}
-use Rattle.capn_wire.specs.declared.path.CapAt.{CapAt}
-use Rattle.capn_wire.specs.declared.path.CapAt.TheVariants.{Cap, Null, NotCap}
+use Rattle.rpc_msg.specs.Payloads.{Contents as Payload}
+use Rattle.rpc_msg.specs.Op.{Op}
+use Rattle.rpc_msg.specs.CapAt.{CapAt}
+use Rattle.rpc_msg.specs.CapAt.TheVariants.{Cap, Null, NotCap}
 use Rattle.rpc_msg.specs.declared.exception.Exception.{Exception}
 use Rattle.rpc_msg.specs.declared.parts.Descriptor.{Descriptor}
 use Rattle.rpc_msg.specs.declared.message.ReturnBody.TheVariants as body

@@ -2,8 +2,8 @@
 use mathlib.Core.Path.{fun_ext}
 use Rattle.std.specs.FinMap as map
 use Rattle.std.proofs.Common.{◌≡◌, ℕ, nat_eq, zero, suc, Bool, true, false, ◌||◌, List, [], ◌∷◌, ◌++◌, Option, None, Some, IsSome, refl, sym, subst, ap, ◌∙◌}
-use Rattle.capn_wire.specs.declared.path.CapAt.{CapAt}
-use Rattle.capn_wire.specs.declared.path.CapAt.TheVariants.{Cap, Null, NotCap}
+use Rattle.rpc_msg.specs.CapAt.{CapAt}
+use Rattle.rpc_msg.specs.CapAt.TheVariants.{Cap, Null, NotCap}
 use Rattle.finite_maps.specs.Tally.{Map}
 use Rattle.rpc_msg.specs.declared.ids.Vat.{Vat}
 use Rattle.rpc_msg.specs.declared.parts.Descriptor.{Descriptor}

@@ -28,7 +28,7 @@ use Rattle.vat_machine.specs.declared.node.Node.{Node}
 use Rattle.vat_machine.specs.declared.node.Node.TheVariants as node
 use Rattle.vat_machine.specs.declared.node.Reason.TheVariants.{BrokenPromise}
 use Rattle.rpc_msg.specs.declared.exception.Exception.{Exception}
-use Rattle.capn_wire.specs.declared.path.Op.{Op}
+use Rattle.rpc_msg.specs.Op.{Op}
 use Rattle.vat_machine.specs.State.{State}
 use Rattle.vat_machine.specs.Nodes.{settle}
 use Rattle.vat_machine.specs.Progress.{Progress, begin}

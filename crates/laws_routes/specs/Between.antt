@@ -1,7 +1,7 @@
 -- The record of the middle of a step, between two steps: what is so of each vat alone, and what is so across.
 use Rattle.std.specs.Prelude.{◌≡◌, ℕ, false, nat_eq, Option, None, Some, IsSome, List, []}
 use Rattle.std.specs.FinMap as map
-use Rattle.capn_wire.specs.declared.path.Op.{Op}
+use Rattle.rpc_msg.specs.Op.{Op}
 use Rattle.rpc_msg.specs.declared.parts.Descriptor.{Descriptor}
 use Rattle.rpc_msg.specs.declared.message.Message.{Message}
 use Rattle.vat_machine.specs.declared.entries.AnswerEntry.{AnswerEntry}

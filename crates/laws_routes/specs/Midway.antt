@@ -2,7 +2,7 @@
 -- of a state follows from it (docs/protocol.md, "Nodes", "Places", "Ids in use").
 use Rattle.std.specs.Prelude.{◌≡◌, ℕ, Bool, false, true, nat_eq, Option, None, Some, IsSome, List, [], ◌∷◌, ◌++◌}
 use Rattle.std.specs.FinMap as map
-use Rattle.capn_wire.specs.declared.path.Op.{Op}
+use Rattle.rpc_msg.specs.Op.{Op}
 use Rattle.rpc_msg.specs.declared.parts.Descriptor.{Descriptor}
 use Rattle.rpc_msg.specs.declared.message.Message.{Message}
 use Rattle.vat_machine.specs.declared.command.Command.{Command}

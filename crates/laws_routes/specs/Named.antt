@@ -1,7 +1,7 @@
 -- What is known, and what messages on their way say, names.
 use Rattle.std.specs.Prelude.{◌≡◌, ℕ, Bool, true, false, IsSome, List, [], ◌∷◌}
 use Rattle.std.specs.FinMap as map
-use Rattle.capn_wire.specs.declared.path.Op.{Op}
+use Rattle.rpc_msg.specs.Op.{Op}
 use Rattle.finite_maps.specs.Tally.{Map}
 use Rattle.rpc_msg.specs.declared.parts.Descriptor.{Descriptor}
 use Rattle.rpc_msg.specs.declared.parts.Descriptor.TheVariants as descriptor

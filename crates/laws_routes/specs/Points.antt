@@ -2,8 +2,8 @@
 -- an outcome have identities here, while a vat uses their keys again.
 use Rattle.std.specs.Prelude.{◌≡◌, ℕ, zero, suc, Bool, true, false, List, [], ◌∷◌, refl}
 use Rattle.std.proofs.Common.{ap, ap₂}
-use Rattle.capn_wire.specs.declared.path.Op.{Op}
-use Rattle.capn_wire.specs.declared.path.Op.TheVariants as op
+use Rattle.rpc_msg.specs.Op.{Op}
+use Rattle.rpc_msg.specs.Op.TheVariants as op
 use Rattle.rpc_msg.specs.declared.ids.Vat.{Vat}
 use Rattle.rpc_msg.specs.declared.ids.Vat.TheVariants.{A, B}
 use Rattle.vat_journal.specs.History.{Ref}

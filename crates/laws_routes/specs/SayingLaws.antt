@@ -11,7 +11,7 @@ use Rattle.rpc_msg.specs.Vats.{other_vat}
 use Rattle.rpc_msg.specs.declared.message.ReturnBody.{ReturnBody}
 use Rattle.rpc_msg.specs.declared.message.ReturnBody.TheVariants as body
 use Rattle.rpc_msg.specs.Messages.{descriptors_of_body}
-use Rattle.capn_wire.specs.Payloads.{Contents as Payload}
+use Rattle.rpc_msg.specs.Payloads.{Contents as Payload}
 use Rattle.rpc_msg.specs.declared.exception.Exception.{Exception}
 use Rattle.vat_machine.specs.declared.calls.Value.TheVariants as value
 use Rattle.vat_machine.specs.declared.command.Level.TheVariants.{One}

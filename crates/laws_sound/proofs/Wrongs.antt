@@ -4,7 +4,7 @@ use Rattle.std.specs.FinMap as map
 use Rattle.rpc_msg.specs.declared.ids.Vat.{Vat}
 use Rattle.rpc_msg.specs.declared.ids.Vat.TheVariants.{A, B}
 use Rattle.rpc_msg.specs.declared.ids.Stamp.{Stamp}
-use Rattle.capn_wire.specs.Payloads.{null_payload}
+use Rattle.rpc_msg.specs.Payloads.{null_payload}
 use Rattle.vat_journal.specs.declared.report.Outcome.TheVariants as outcome
 use Rattle.vat_journal.specs.declared.entry.JournalEntry.{JournalEntry}
 use Rattle.vat_journal.specs.declared.entry.JournalEntry.TheVariants as entry

@@ -1,8 +1,8 @@
 -- The run of a call that is finished early, event by event.
 use Rattle.std.proofs.Common.{◌≡◌, true, false, [], ◌∷◌, None, Some, inl, refl}
 use Rattle.std.specs.FinMap as map
-use Rattle.capn_wire.specs.declared.path.Op.TheVariants.{Field}
-use Rattle.capn_wire.specs.declared.path.CapAt.TheVariants.{Cap}
+use Rattle.rpc_msg.specs.Op.TheVariants.{Field}
+use Rattle.rpc_msg.specs.CapAt.TheVariants.{Cap}
 use Rattle.wire_reading.specs.Segments.{little_numbers, segments_in}
 use Rattle.wire_reading.specs.Framing.{framing, segment_count, sizes}
 use Rattle.wire_reading.specs.Following as following

@@ -4,7 +4,7 @@ use Rattle.std.specs.FinMap as map
 use Rattle.rpc_msg.specs.declared.ids.Vat.TheVariants.{A, B}
 use Rattle.rpc_msg.specs.declared.message.Message.{Message}
 use Rattle.rpc_msg.specs.declared.message.ReturnBody.TheVariants as body
-use Rattle.capn_wire.specs.declared.path.CapAt.TheVariants.{Cap}
+use Rattle.rpc_msg.specs.CapAt.TheVariants.{Cap}
 use Rattle.wire_reading.specs.Segments.{little_numbers, segments_in}
 use Rattle.wire_reading.specs.Framing.{framing, segment_count, sizes}
 use Rattle.wire_reading.specs.Following as following

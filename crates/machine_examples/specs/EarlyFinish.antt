@@ -1,8 +1,8 @@
 -- A whole run: A finishes a call before its results come. B is told by a Finish, answers with a Return that says canceled,
 -- and still delivers the call that waited for the results (docs/protocol.md, "Settling").
 use Rattle.std.specs.Prelude.{◌≡◌, true, false, None, Some, List, [], ◌∷◌}
-use Rattle.capn_wire.specs.declared.path.Op.{Op}
-use Rattle.capn_wire.specs.declared.path.Op.TheVariants.{Field}
+use Rattle.rpc_msg.specs.Op.{Op}
+use Rattle.rpc_msg.specs.Op.TheVariants.{Field}
 use Rattle.rpc_msg.specs.declared.ids.Vat.TheVariants.{A, B}
 use Rattle.rpc_msg.specs.declared.ids.Stamp.{Stamp}
 use Rattle.rpc_msg.specs.declared.parts.Target.TheVariants.{PromisedAnswer}

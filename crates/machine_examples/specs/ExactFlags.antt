@@ -2,7 +2,7 @@
 -- (docs/protocol.md, "Release by flag"; rpc.capnp, Return.releaseParamCaps and Finish.releaseResultCaps).
 use Rattle.std.specs.Prelude.{◌≡◌, ◌<◌, ℕ, nat_eq, Bool, true, false, Option, None, Some, List, [], ◌∷◌}
 use Rattle.std.specs.FinMap as map
-use Rattle.capn_wire.specs.Payloads.{Contents as Payload, null_payload}
+use Rattle.rpc_msg.specs.Payloads.{Contents as Payload, null_payload}
 use Rattle.rpc_msg.specs.declared.ids.Vat.TheVariants.{A, B}
 use Rattle.rpc_msg.specs.declared.ids.CallId.{CallId}
 use Rattle.rpc_msg.specs.declared.ids.ExportId.{ExportId}

@@ -2,7 +2,7 @@
 use Rattle.std.specs.Prelude.{ℕ, Bool, true, None, Ok, Err, Option, List, [], ◌∷◌}
 use Rattle.std.specs.FinMap as map
 use Rattle.finite_maps.specs.Tally.{Map}
-use Rattle.capn_wire.specs.Payloads.{Contents as Payload, null_payload}
+use Rattle.rpc_msg.specs.Payloads.{Contents as Payload, null_payload}
 use Rattle.rpc_msg.specs.declared.ids.Vat.{Vat}
 use Rattle.rpc_msg.specs.declared.ids.Stamp.{Stamp}
 use Rattle.rpc_msg.specs.declared.ids.RefId.{RefId}

@@ -1,8 +1,8 @@
 -- A run: B answers a call with what a call of its own will give, and tells A what that is once it knows. A's reference
 -- switches to it, and the promise goes by a flag (docs/protocol.md, "Settling" and "Shortening a path").
 use Rattle.std.specs.Prelude.{true, false, Option, None, Some, List, [], ◌∷◌}
-use Rattle.capn_wire.specs.declared.path.Op.{Op}
-use Rattle.capn_wire.specs.declared.path.Op.TheVariants.{Field}
+use Rattle.rpc_msg.specs.Op.{Op}
+use Rattle.rpc_msg.specs.Op.TheVariants.{Field}
 use Rattle.rpc_msg.specs.declared.ids.Vat.TheVariants.{A, B}
 use Rattle.rpc_msg.specs.declared.parts.Descriptor.{Descriptor}
 use Rattle.rpc_msg.specs.declared.parts.Descriptor.TheVariants as descriptor

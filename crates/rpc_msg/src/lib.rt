@@ -9,7 +9,7 @@ mod parts;
 mod path;
 mod text;
 
-pub use capn_wire::{CapAt, Memory, Op, Payload, PayloadFault, Tree};
+pub use capn_wire::{CapAt, Memory, Op, Payload, PayloadFault, Pointers, Tree};
 pub use exception::{Exception, ExceptionKind};
 pub use ids::{
     AnswerId, CallId, EmbargoId, ExportId, ImportId, ObjectId, PromiseId, QuestionId, RefId, Stamp,

@@ -3,7 +3,7 @@ use Rattle.std.proofs.Common.{◌≡◌, ℕ, Bool, true, false, nat_eq, List, [
 use Rattle.std.specs.FinMap as map
 use Rattle.finite_maps.proofs.Gets.{get-insert_same}
 use Rattle.finite_maps.proofs.Tested.{equal}
-use Rattle.capn_wire.specs.declared.path.Op.{Op}
+use Rattle.rpc_msg.specs.Op.{Op}
 use Rattle.rpc_msg.specs.declared.ids.CallId.{CallId}
 use Rattle.rpc_msg.specs.declared.ids.EmbargoId.{EmbargoId}
 use Rattle.vat_machine.specs.declared.node.Node.{Node}

@@ -1,9 +1,9 @@
 -- A wire that was resolved to something is known by a descriptor that is named.
 use Rattle.std.proofs.Common.{ℕ, zero, suc, Option, None, Some, List, [], ◌∷◌}
 use Rattle.std.specs.FinMap as map
-use Rattle.capn_wire.specs.declared.path.Op.{Op}
-use Rattle.capn_wire.specs.declared.path.CapAt.{CapAt}
-use Rattle.capn_wire.specs.declared.path.CapAt.TheVariants.{Cap, Null, NotCap}
+use Rattle.rpc_msg.specs.Op.{Op}
+use Rattle.rpc_msg.specs.CapAt.{CapAt}
+use Rattle.rpc_msg.specs.CapAt.TheVariants.{Cap, Null, NotCap}
 use Rattle.rpc_msg.specs.declared.parts.Descriptor.{Descriptor}
 use Rattle.rpc_msg.specs.declared.parts.Descriptor.TheVariants as descriptor
 use Rattle.vat_machine.specs.declared.node.Node.{Node}

@@ -1,7 +1,7 @@
 -- A reference that was made.
 use Rattle.std.proofs.Common.{◌≡◌, ℕ, [], ◌∷◌, Option, None, Some, List, ap, ◌∙◌, arith}
 use Rattle.std.specs.FinMap as map
-use Rattle.capn_wire.specs.declared.path.Op.{Op}
+use Rattle.rpc_msg.specs.Op.{Op}
 use Rattle.rpc_msg.specs.declared.ids.RefId.{RefId}
 use Rattle.vat_machine.specs.declared.node.Node.{Node}
 use Rattle.vat_machine.specs.declared.command.Granted.{Granted}

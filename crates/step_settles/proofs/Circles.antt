@@ -5,10 +5,10 @@ use Rattle.std.specs.List.{slice_get}
 use Rattle.std.specs.FinMap as map
 use Rattle.finite_maps.proofs.Gets.{get-insert_same, get-insert_other}
 use Rattle.finite_maps.proofs.Tested.{equal, itself}
-use Rattle.capn_wire.specs.declared.path.Op.{Op}
-use Rattle.capn_wire.specs.declared.path.CapAt.{CapAt}
-use Rattle.capn_wire.specs.declared.path.CapAt.TheVariants.{Cap, Null, NotCap}
-use Rattle.capn_wire.specs.Payloads.{Contents as Payload}
+use Rattle.rpc_msg.specs.Op.{Op}
+use Rattle.rpc_msg.specs.CapAt.{CapAt}
+use Rattle.rpc_msg.specs.CapAt.TheVariants.{Cap, Null, NotCap}
+use Rattle.rpc_msg.specs.Payloads.{Contents as Payload}
 use Rattle.vat_machine.specs.Payloads.{cap_at}
 use Rattle.vat_machine.specs.declared.node.Node.{Node}
 use Rattle.vat_machine.specs.declared.node.Node.TheVariants as node

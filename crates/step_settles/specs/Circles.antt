@@ -3,9 +3,9 @@
 use Rattle.std.specs.Prelude.{◌≡◌, ◌≤◌, ℕ, take, drop, length, Bool, true, false, cond, nat_eq, Option, unwrap_or, slice_get, List, [], ◌++◌}
 use Rattle.std.specs.FinMap as map
 use Rattle.finite_maps.specs.Tally.{Map}
-use Rattle.capn_wire.specs.declared.path.CapAt.{CapAt}
-use Rattle.capn_wire.specs.declared.path.CapAt.TheVariants.{Cap, Null, NotCap}
-use Rattle.capn_wire.specs.Payloads.{Contents as Payload}
+use Rattle.rpc_msg.specs.CapAt.{CapAt}
+use Rattle.rpc_msg.specs.CapAt.TheVariants.{Cap, Null, NotCap}
+use Rattle.rpc_msg.specs.Payloads.{Contents as Payload}
 use Rattle.vat_machine.specs.Payloads.{cap_at}
 use Rattle.vat_machine.specs.declared.node.Node.{Node}
 use Rattle.vat_machine.specs.declared.node.Node.TheVariants as node

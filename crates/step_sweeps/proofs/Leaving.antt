@@ -3,7 +3,7 @@ use Rattle.std.proofs.Common.{◌≡◌, ℕ, suc, ◌≤◌, cond, nat_eq, List
 use Rattle.std.specs.FinMap as map
 use Rattle.rpc_msg.specs.declared.ids.ExportId.{ExportId}
 use Rattle.rpc_msg.specs.declared.ids.QuestionId.{QuestionId}
-use Rattle.capn_wire.specs.declared.path.Op.{Op}
+use Rattle.rpc_msg.specs.Op.{Op}
 use Rattle.vat_machine.specs.declared.node.Node.{Node}
 use Rattle.vat_machine.specs.declared.node.Node.TheVariants as node
 use Rattle.vat_machine.specs.declared.calls.HeldCall.{HeldCall}

@@ -4,7 +4,7 @@ use Rattle.std.specs.FinMap as map
 use Rattle.finite_maps.specs.Tally.{Map}
 use Rattle.finite_maps.proofs.Gets.{each_inserted, each_removed, remove_absent}
 use Rattle.finite_maps.proofs.Tallies.{tally-new, tally-split}
-use Rattle.capn_wire.specs.declared.path.Op.{Op}
+use Rattle.rpc_msg.specs.Op.{Op}
 use Rattle.vat_machine.specs.declared.node.Node.{Node}
 use Rattle.vat_machine.specs.declared.calls.WaitingCall.{WaitingCall}
 use Rattle.vat_machine.specs.declared.calls.HeldCall.{HeldCall}

@@ -4,7 +4,7 @@ use Rattle.base64.specs.Engines.{standard}
 use Rattle.base64.specs.GeneralPurpose.{encode_of, decode_of, IsBytes}
 use Rattle.base64.proofs.EngineFacts.{decode_of-encode_of}
 use Rattle.serde_json.specs.Data.{Data}
-use Rattle.capn_wire.specs.Payloads.{Contents as Payload, IsEncoded, null_payload}
+use Rattle.rpc_msg.specs.Payloads.{Contents as Payload, IsEncoded, null_payload}
 use Rattle.rpc_msg.specs.declared.message.ReturnBody.{ReturnBody}
 use Rattle.rpc_msg.specs.declared.message.ReturnBody.TheVariants as body
 use Rattle.rpc_msg.specs.declared.message.PlainMessage.{PlainMessage}

@@ -7,7 +7,7 @@ use Rattle.wire_reading.specs.Segments.{little_numbers, segments_in}
 use Rattle.wire_reading.specs.Framing.{framing, segment_count, sizes}
 use Rattle.wire_reading.specs.Following.{leads}
 use Rattle.wire_reading.specs.Reading.{message_of, root_of, reading, deep}
-use Rattle.capn_wire.specs.Payloads.{Contents as Payload, IsEncoded, null_payload}
+use Rattle.rpc_msg.specs.Payloads.{Contents as Payload, IsEncoded, null_payload}
 use Rattle.trace_write.specs.Parts.{in_base64}
 use Rattle.trace_write.specs.Fits.{FitsPayload}
 

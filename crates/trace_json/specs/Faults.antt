@@ -3,7 +3,7 @@ use Rattle.std.specs.Prelude.{◌≡◌, ℕ, List, Option, Some, None, Err, IsE
 use Rattle.base64.specs.Engines.{standard}
 use Rattle.base64.specs.GeneralPurpose.{encode_of, decode_of, IsBytes}
 use Rattle.serde_json.specs.Data.{Data}
-use Rattle.capn_wire.specs.Payloads.{IsEncoded}
+use Rattle.rpc_msg.specs.Payloads.{IsEncoded}
 use Rattle.vat_journal.specs.declared.entry.JournalEntry.{JournalEntry}
 use Rattle.trace_write.specs.declared.version.TraceVersion.{TraceVersion}
 use Rattle.trace_json.specs.declared.fault.TraceFault.{TraceFault}

@@ -1,6 +1,6 @@
 -- The payload of an entry, and the entry with another: no entry has more than one.
 use Rattle.std.specs.Prelude.{Option, Some, None}
-use Rattle.capn_wire.specs.Payloads.{Contents as Payload}
+use Rattle.rpc_msg.specs.Payloads.{Contents as Payload}
 use Rattle.rpc_msg.specs.declared.message.ReturnBody.{ReturnBody}
 use Rattle.rpc_msg.specs.declared.message.ReturnBody.TheVariants as body
 use Rattle.rpc_msg.specs.declared.message.PlainMessage.{PlainMessage}

@@ -1,7 +1,7 @@
 ghost use Rattle.std.specs.Prelude.{◌≡◌, Some, IfOk, IfErr, IsOkUnless};
 ghost use Rattle.base64.specs.Engines.{standard};
 ghost use Rattle.base64.specs.GeneralPurpose.{encode_of, IsBytes};
-ghost use Rattle.capn_wire.specs.Payloads.{Contents as Payload, IsEncoded};
+ghost use Rattle.rpc_msg.specs.Payloads.{Contents as Payload, IsEncoded};
 ghost use Rattle.serde_json.specs.Read.{read};
 ghost use Rattle.serde_json.specs.View.{view};
 ghost use Rattle.vat_journal.specs.declared.entry.JournalEntry.{JournalEntry};

@@ -1,7 +1,7 @@
 ghost use Rattle.std.specs.Prelude.{◌≡◌, ◌^◌, codes, IfOk, IfErr, option_map};
 ghost use Rattle.serde_json.specs.Data.{string};
 ghost use Rattle.serde_json.specs.View.{view};
-ghost use Rattle.capn_wire.specs.Payloads.{null_payload};
+ghost use Rattle.rpc_msg.specs.Payloads.{null_payload};
 ghost use Rattle.trace_write.specs.Parts.{only, reference_data, vat_data, op_data, path_data, answer_data, target_data, descriptor_data, stamp_data, payload_data, kind_name, exception_data, outcome_by, origin_data, advanced_name, pair_data, counts_data};
 ghost use Rattle.trace_write.specs.Fits.{FitsAny, FitsU32, FitsOp, FitsPath, FitsAnswer, FitsTarget, FitsDescriptor, FitsPayload, FitsOutcome, FitsOrigin, FitsPair, FitsCounts};
 ghost use Rattle.trace_parts.specs.Reading.{Gives};

@@ -1,7 +1,7 @@
 -- Messages, as JSON: docs/trace.md, "Messages".
 use Rattle.std.specs.Prelude.{ℕ, List, codes}
 use Rattle.serde_json.specs.Data.{Data, boolean, string, object, no_members, member}
-use Rattle.capn_wire.specs.Payloads.{Contents as Payload}
+use Rattle.rpc_msg.specs.Payloads.{Contents as Payload}
 use Rattle.rpc_msg.specs.declared.message.Call.{Call}
 use Rattle.rpc_msg.specs.declared.message.ReturnBody.{ReturnBody}
 use Rattle.rpc_msg.specs.declared.message.ReturnBody.TheVariants as body

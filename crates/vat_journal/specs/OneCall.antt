@@ -2,7 +2,7 @@
 use Rattle.std.specs.Prelude.{◌≡◌, Some, None, List, [], ◌∷◌}
 use Rattle.rpc_msg.specs.declared.ids.Vat.TheVariants.{A, B}
 use Rattle.rpc_msg.specs.declared.ids.Stamp.{Stamp}
-use Rattle.capn_wire.specs.Payloads.{null_payload, root_payload}
+use Rattle.rpc_msg.specs.Payloads.{null_payload, root_payload}
 use Rattle.vat_journal.specs.declared.report.Outcome.TheVariants as outcome
 use Rattle.vat_journal.specs.declared.entry.Origin.TheVariants as origin
 use Rattle.vat_journal.specs.declared.entry.JournalEntry.{JournalEntry}

@@ -3,7 +3,7 @@ use Rattle.std.specs.Prelude.{ℕ, ◌+◌, Bool, true, false, cond, ◌&&◌, n
 use Rattle.rpc_msg.specs.declared.ids.Vat.{Vat}
 use Rattle.rpc_msg.specs.declared.ids.RefId.{RefId}
 use Rattle.rpc_msg.specs.declared.ids.Stamp.{Stamp}
-use Rattle.capn_wire.specs.declared.path.Op.{Op}
+use Rattle.rpc_msg.specs.Op.{Op}
 use Rattle.vat_journal.specs.declared.entry.Origin.{Origin}
 use Rattle.vat_journal.specs.declared.entry.Origin.TheVariants as origin
 use Rattle.vat_journal.specs.declared.entry.JournalEntry.{JournalEntry}

@@ -6,7 +6,7 @@ use Rattle.std.specs.FinMap as map
 use Rattle.rpc_msg.specs.declared.parts.Descriptor.{Descriptor}
 use Rattle.rpc_msg.specs.declared.parts.Descriptor.TheVariants as descriptor
 use Rattle.rpc_msg.specs.declared.exception.Exception.{Exception}
-use Rattle.capn_wire.specs.Payloads.{Contents as Payload}
+use Rattle.rpc_msg.specs.Payloads.{Contents as Payload}
 use Rattle.rpc_msg.specs.declared.parts.Target.{Target}
 use Rattle.rpc_msg.specs.declared.message.Message.{Message}
 use Rattle.rpc_msg.specs.declared.message.ReturnBody.{ReturnBody}

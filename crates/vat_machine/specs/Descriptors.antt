@@ -4,7 +4,7 @@ use Rattle.std.specs.Prelude.{◌≡◌, ◌≢◌, ℕ, ◌+◌, nat_eq, Option
 use Rattle.std.specs.FinMap as map
 use Rattle.rpc_msg.specs.declared.parts.Descriptor.{Descriptor}
 use Rattle.rpc_msg.specs.declared.parts.Descriptor.TheVariants as descriptor
-use Rattle.capn_wire.specs.declared.path.Op.{Op}
+use Rattle.rpc_msg.specs.Op.{Op}
 use Rattle.rpc_msg.specs.declared.message.Message.{Message}
 use Rattle.rpc_msg.specs.Messages.{given, descriptors_of}
 use Rattle.rpc_msg.specs.Paths.{fields}

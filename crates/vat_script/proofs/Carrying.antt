@@ -1,11 +1,11 @@
 -- The tree of a payload that carries capabilities.
 use Rattle.std.proofs.Common.{◌≡◌, ℕ, zero, suc, ◌+◌, ◌<◌, List, [], ◌∷◌, ◌++◌, map, Result, Ok, Err, refl, sym, ap, ◌∙◌, arith}
 use Rattle.std.specs.Prelude.{IfOk}
-use Rattle.capn_wire.specs.declared.faults.Memory.{Memory}
+use Rattle.rpc_msg.specs.Memory.{Memory}
 use Rattle.std.specs.List.{range_with_len}
 use Rattle.std.proofs.lemmas.List.FromFn.{map-range_with_len_more}
 use Rattle.wire_trees.specs.declared.tree.Tree as program
-use Rattle.capn_wire.specs.Payloads.{Contents}
+use Rattle.rpc_msg.specs.Payloads.{Contents}
 use Rattle.wire_trees.specs.Trees.{Tree, capability}
 use Rattle.wire_trees.specs.Views.{view}
 use Rattle.wire_writing.specs.Placing.{written}

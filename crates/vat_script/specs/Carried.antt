@@ -1,7 +1,7 @@
 -- The payloads and the exception of a script's commands (docs/script.md, "Lines").
 use Rattle.std.specs.Prelude.{ℕ, zero, suc, [], map, codes}
 use Rattle.std.specs.List.{range_with_len}
-use Rattle.capn_wire.specs.Payloads.{Contents, null_payload}
+use Rattle.rpc_msg.specs.Payloads.{Contents, null_payload}
 use Rattle.wire_trees.specs.Trees.{Tree, struct, capability}
 use Rattle.wire_trees.specs.Views.{trees_of}
 use Rattle.wire_writing.specs.Placing.{written}

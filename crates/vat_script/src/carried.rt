@@ -4,8 +4,7 @@ ghost use Rattle.wire_trees.specs.Trees.{capability};
 ghost use Rattle.wire_trees.specs.Views.{view};
 ghost use Rattle.vat_script.specs.Carried.{caps_tree, carrying, script_exception};
 
-use capn_wire::Pointers;
-use rpc_msg::{Exception, ExceptionKind, Memory, Payload, Text, Tree};
+use rpc_msg::{Exception, ExceptionKind, Memory, Payload, Pointers, Text, Tree};
 use std::alloc::Global;
 
 /// The payload that carries so many capabilities: null where there are none, else a struct without data whose pointers

@@ -1,7 +1,7 @@
 -- How a step is told, from how its parts are.
 use Rattle.std.proofs.Common.{◌≡◌, ℕ, Bool, true, false, Option, None, Some, Result, Ok, List, ◌++◌, refl, sym, subst}
 use Rattle.std.specs.Option.{option_to_list}
-use Rattle.capn_wire.specs.declared.faults.Memory.{Memory}
+use Rattle.rpc_msg.specs.Memory.{Memory}
 use Rattle.rpc_msg.specs.declared.ids.Vat.{Vat}
 use Rattle.rpc_msg.specs.declared.message.Message.{Message}
 use Rattle.vat_journal.specs.declared.entry.JournalEntry.{JournalEntry}

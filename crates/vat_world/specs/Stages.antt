@@ -1,7 +1,7 @@
 -- The step of one vat: it, the messages to its peer, and the journal.
 use Rattle.std.specs.Prelude.{◌≡◌, ◌⊎◌, ℕ, Bool, true, false, cond, ◌&&◌, Option, None, Some, is_some, Result, Ok, Err, List, [], ◌∷◌, ◌++◌}
 use Rattle.std.specs.Option.{option_to_list}
-use Rattle.capn_wire.specs.declared.faults.Memory.{Memory}
+use Rattle.rpc_msg.specs.Memory.{Memory}
 use Rattle.rpc_msg.specs.declared.ids.Vat.{Vat}
 use Rattle.rpc_msg.specs.declared.message.Message.{Message}
 use Rattle.vat_journal.specs.declared.entry.JournalEntry.{JournalEntry}

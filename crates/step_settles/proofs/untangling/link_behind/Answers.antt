@@ -1,5 +1,5 @@
 use Rattle.std.proofs.Common.{◌≡◌, ◌++◌, List, suc, ap, ◌∙◌, arith}
-use Rattle.capn_wire.specs.declared.path.Op.{Op}
+use Rattle.rpc_msg.specs.Op.{Op}
 use Rattle.vat_machine.specs.Nodes.{node_of_cap}
 use Rattle.vat_machine.specs.Payloads.{cap_at}
 use Rattle.vat_machine.specs.Settling.{absent}
