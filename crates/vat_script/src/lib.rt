@@ -12,6 +12,7 @@ mod handed;
 mod line;
 mod name;
 mod names;
+mod parts;
 mod reading;
 mod script;
 mod words;

@@ -3,8 +3,8 @@ ghost use Rattle.vat_script.specs.Lines.{line_of, line_for, is_marked, is_skippe
 
 use crate::fault::{LineFault, ReadFault};
 use crate::name::Name;
+use crate::parts::split_at_each;
 use crate::reading::read_words;
-use crate::words::split_words;
 use rpc_msg::{Items, ObjectId, Op, TaskId, Vat};
 use std::alloc::Global;
 
@@ -124,7 +124,7 @@ impl Line {
         if bytes.last() == Some(&b'\r') {
             return Err(ReadFault::Line(LineFault::CarriageReturn));
         }
-        let words = split_words(alloc, text)?;
+        let words = split_at_each(alloc, text, b' ')?;
         read_for(alloc, program, words.as_slice())
     }
 

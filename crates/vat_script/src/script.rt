@@ -3,6 +3,7 @@ ghost use Rattle.vat_script.specs.Scripts.{ReadsScript, ReadsLines, lines_from, 
 
 use crate::fault::{ReadFault, ScriptFault};
 use crate::line::{Line, Program};
+use crate::parts::split_at_each;
 use rpc_msg::Items;
 use std::alloc::{AllocError, Global};
 use std::str;
@@ -31,7 +32,7 @@ pub fn read_script(
 fn split_lines(alloc: Global, script: &str) -> Result<Vec<&str>, AllocError>
     ensures { IfOk result (λ texts. map (λ text. text.now) texts.items ≡ texts_of script.now) }
 {
-    script.split('\n').collect(alloc)
+    split_at_each(alloc, script, b'\n')
 }
 
 fn read_texts(alloc: Global, program: Program, texts: &[&str]) -> Result<Items<Line>, ScriptFault>

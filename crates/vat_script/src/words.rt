@@ -1,37 +1,16 @@
 ghost use Rattle.std.specs.Prelude.{◌≡◌, ◌==◌, ◌<◌, ◌≢◌, ◌^◌, nat_lt, IfOk, map, drop};
-ghost use Rattle.std.specs.List.{slice_split};
 ghost use Rattle.std.specs.Str.{all_ascii_digits};
 ghost use Rattle.vat_script.specs.Lines.{Reads};
 ghost use Rattle.vat_script.specs.Words.{vat_of, name_of, number_of, field_number, each_of, path_of, caps_of, caps_of_parts};
 
 use crate::fault::{LineFault, ReadFault};
 use crate::name::Name;
+use crate::parts::split_at_each;
 use rpc_msg::{Items, Op, Vat};
-use std::alloc::{AllocError, Global};
+use std::alloc::Global;
 
 /// The most capabilities that a line may name.
 const CAPS_LIMIT: usize = 65_535;
-
-/// The words of a line, which single spaces part.
-pub(crate) fn split_words(alloc: Global, text: &str) -> Result<Vec<&str>, AllocError>
-    ensures { IfOk result (λ words. map (λ word. word.now) words.items ≡ slice_split (λ c. c == 32) text.now) }
-{
-    text.split(' ').collect(alloc)
-}
-
-/// The parts of a path, which dots part.
-fn split_path(alloc: Global, word: &str) -> Result<Vec<&str>, AllocError>
-    ensures { IfOk result (λ parts. map (λ part. part.now) parts.items ≡ slice_split (λ c. c == 46) word.now) }
-{
-    word.split('.').collect(alloc)
-}
-
-/// The names of capabilities, which commas part.
-fn split_caps(alloc: Global, word: &str) -> Result<Vec<&str>, AllocError>
-    ensures { IfOk result (λ parts. map (λ part. part.now) parts.items ≡ slice_split (λ c. c == 44) word.now) }
-{
-    word.split(',').collect(alloc)
-}
 
 pub(crate) fn read_vat(word: &str) -> Result<Vat, LineFault>
     ensures { result ≡ vat_of word.now }
@@ -102,7 +81,7 @@ pub(crate) fn read_path(alloc: Global, word: &str) -> Result<Items<Op>, ReadFaul
     if word == "-" {
         return Ok(Items::new(alloc));
     }
-    let parts = split_path(alloc, word)?;
+    let parts = split_at_each(alloc, word, b'.')?;
     read_fields(alloc, parts.as_slice())
 }
 
@@ -126,7 +105,7 @@ pub(crate) fn read_caps(alloc: Global, word: &str) -> Result<Items<Name>, ReadFa
     if word == "-" {
         return Ok(Items::new(alloc));
     }
-    let parts = split_caps(alloc, word)?;
+    let parts = split_at_each(alloc, word, b',')?;
     if parts.len() > CAPS_LIMIT {
         return Err(ReadFault::Line(LineFault::ManyCaps));
     }
