@@ -1,8 +1,8 @@
 -- Links that are followed one after the other.
-use Rattle.std.proofs.Common.{◌≡◌, ℕ, zero, suc, None, unwrap_or, refl, ap, ◌∙◌}
+use Rattle.std.proofs.Common.{◌≡◌, ℕ, zero, suc, None, refl, sym}
 use Rattle.vat_machine.specs.declared.node.Node.{Node}
 use Rattle.vat_machine.specs.State.{State}
-use Rattle.vat_machine.specs.Nodes.{link, follow}
+use Rattle.vat_machine.specs.Nodes.{link, links, follow, settle}
 use Rattle.vat_store.specs.Walking.{link_within}
 use Rattle.vat_machine.proofs.Settles.{stays}
 
@@ -10,3 +10,7 @@ use Rattle.vat_machine.proofs.Settles.{stays}
 pub stops_there : (s : State) (k : ℕ) (n : Node) → link_within s k n ≡ None → follow s k n ≡ n
 stops_there s zero n none = refl
 stops_there s (suc k) n none = stays s (suc k) n none
+
+-- Nor does it settle elsewhere.
+pub settles_there : (s : State) (n : Node) → link s n ≡ None → n ≡ settle s n
+settles_there s n none = sym (stays s (links s) n none)

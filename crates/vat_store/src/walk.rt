@@ -36,7 +36,23 @@ fn link_within(store: &Store, node: Node, left: u64) -> Option<Node>
 }
 
 /// Where a node leads within the vat. Takes no memory.
+#[inline(always)]
 pub fn settle(store: &Store, node: Node) -> Node
+    requires { IsSound store.now }
+    ensures { result ≡ settle (state_of store.now) node }
+{
+    match node {
+        Node::Promise(_) => follow(store, node),
+        Node::Field(_, _) => follow(store, node),
+        Node::Object(_) => node,
+        Node::Import(_) => node,
+        Node::Pipe(_, _) => node,
+        Node::Broken(_) => node,
+    }
+}
+
+// By its links, one after the other.
+fn follow(store: &Store, node: Node) -> Node
     requires { IsSound store.now }
     ensures { result ≡ settle (state_of store.now) node }
 {

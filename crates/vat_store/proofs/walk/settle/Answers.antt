@@ -1,8 +1,21 @@
-use Rattle.std.proofs.Common.{sym, ◌∙◌}
+use Rattle.std.proofs.Common.{ap}
+use Rattle.vat_machine.specs.Nodes.{link}
 use Rattle.vat_store.specs.Holding.{state_of}
-use Rattle.vat_store.proofs.Walking.{stops_there}
+use Rattle.vat_store.proofs.Walking.{settles_there}
 use Rattle.vat_store.proofs.walk.settle.Goals as goal
 
-pub returns : goal.returns
-returns c =
-    sym (stops_there (state_of c.args.store.now) c.loop-next.left c.loop-next.at (sym c.loop-next.invariant.next ∙ c.in_default.is)) ∙ c.loop-next.invariant.leads
+pub returns-in-Object : goal.returns-in-Object
+returns-in-Object c =
+    settles_there (state_of c.args.store.now) c.args.node (ap (link (state_of c.args.store.now)) c.in-Object.is)
+
+pub returns-in-Import : goal.returns-in-Import
+returns-in-Import c =
+    settles_there (state_of c.args.store.now) c.args.node (ap (link (state_of c.args.store.now)) c.in-Import.is)
+
+pub returns-in-Pipe : goal.returns-in-Pipe
+returns-in-Pipe c =
+    settles_there (state_of c.args.store.now) c.args.node (ap (link (state_of c.args.store.now)) c.in-Pipe.is)
+
+pub returns-in-Broken : goal.returns-in-Broken
+returns-in-Broken c =
+    settles_there (state_of c.args.store.now) c.args.node (ap (link (state_of c.args.store.now)) c.in-Broken.is)

@@ -2,7 +2,7 @@ use Rattle.std.proofs.Common.{◌≡◌}
 use Rattle.vat_machine.specs.Nodes.{follow, settle}
 use Rattle.vat_store.specs.Holding.{state_of}
 use Rattle.vat_store.specs.Walking.{link_within}
-use Rattle.vat_store.proofs.walk.settle.Given as goal
+use Rattle.vat_store.proofs.walk.follow.Given as goal
 
 abbrev pub invariant-loop-next : goal.invariant-loop-next
 invariant-loop-next l = record {
