@@ -84,11 +84,19 @@ impl<Entry> Numbered<Entry> {
     }
 
     /// The entry with that number. Takes no memory, as do `get_mut`, `set` and `remove`.
+    #[inline(always)]
     pub fn get(&self, number: u64) -> Option<&Entry>
         ensures { option_copied result ≡ map.get self.now.entries number }
     {
         if self.hashed.is_empty() {
             return None;
+        }
+        // The first entry is tried before any is hashed: where there are few, it is often that one.
+        let mut entries = self.hashed.iter();
+        if let Some((first, entry)) = entries.next() {
+            if *first == number {
+                return Some(entry);
+            }
         }
         self.hashed.get(&number)
     }
