@@ -167,6 +167,7 @@ impl Counter {
 
     /// Notes the key, whatever its count. `Err` where no place was spare and the growth was refused; nothing is
     /// changed then.
+    #[inline(always)]
     pub fn note(&mut self, key: u64) -> Result<(), Memory>
         ensures ok { OnOk result (self.new ≡ noting self.old key) }
         ensures had_spare { 0 < self.old.spare → IsOk result }

@@ -201,6 +201,7 @@ impl Names {
     }
 
     /// Notes an outcome that may have to go, as `note_promise` does a promise.
+    #[inline(always)]
     pub fn note_outcome(&mut self, key: u64) -> Result<(), Memory>
         ensures ok { OnOk result (self.new ≡ record self.old { outcomes = noting self.old.outcomes key }) }
         ensures had_spare { 0 < self.old.outcomes.spare → IsOk result }
@@ -219,6 +220,7 @@ impl Names {
     }
 
     /// Notes a question that may be over, as `note_promise` does a promise.
+    #[inline(always)]
     pub fn note_question(&mut self, id: QuestionId) -> Result<(), Memory>
         ensures ok { OnOk result (self.new ≡ record self.old { questions = noting self.old.questions id.0 }) }
         ensures had_spare { 0 < self.old.questions.spare → IsOk result }
