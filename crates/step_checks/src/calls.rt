@@ -1,4 +1,4 @@
-ghost use Rattle.std.specs.Prelude.{◌≡◌, ◌||◌, None, Some, [], true, false, nat_le, OnOk, IfErr};
+ghost use Rattle.std.specs.Prelude.{◌≡◌, ◌||◌, None, Some, [], true, false, nat_le, option_copied, OnOk, IfErr};
 ghost use Rattle.std.specs.FinMap as map;
 ghost use Rattle.vat_machine.specs.declared.command.Refusal.TheVariants as refusal;
 ghost use Rattle.vat_machine.specs.declared.command.Command.TheVariants as command;
@@ -7,13 +7,11 @@ ghost use Rattle.vat_machine.specs.Fullness.{is_spent};
 ghost use Rattle.vat_machine.specs.Limits.{held, held_limit};
 ghost use Rattle.vat_machine.specs.Refusals.{refused};
 ghost use Rattle.vat_store.specs.Holding.{state_of, IsSound};
-ghost use Rattle.step_checks.specs.Rooms.{lacks_at, lacks_through, call_lacks, refused_but_exports, exports_lack_at, exports_lack_for};
+ghost use Rattle.step_checks.specs.Rooms.{lacks_at, lacks_through, call_lacks, refused_but_exports, exports_lack_at, exports_lack};
 
 use crate::exports::check_call_exports;
 use crate::laws::calls_are_refused;
-use crate::refusals::{
-    has_caps, has_level, has_number, has_question_room, has_ref, has_refs, is_up,
-};
+use crate::refusals::{has_caps, has_level, has_number, has_question_room, has_refs, is_up};
 use rpc_msg::RefId;
 use vat_machine::{CallCommand, Node, Reference, Refusal};
 use vat_store::{Store, settle};
@@ -80,35 +78,16 @@ fn has_room_through(store: &Store, caps: usize, reference: &Reference) -> Result
     }
 }
 
-// All but the exports have room for a call through that reference.
-fn has_call_room(store: &Store, caps: usize, id: RefId) -> Result<(), Refusal>
+// All but the exports have room for a call through a reference.
+fn has_call_room(store: &Store, caps: usize, reference: &Reference) -> Result<(), Refusal>
     requires sound { IsSound store.now }
     requires handed_out { store.now.waits.taken ≡ [] }
-    ensures ok { OnOk result (call_lacks (state_of store.now) caps (map.get store.now.refs.entries id.0) ≡ false) }
-    ensures err { IfErr result (λ r. (r ≡ refusal.Full) × (call_lacks (state_of store.now) caps (map.get store.now.refs.entries id.0) ≡ true)) }
+    ensures ok { OnOk result (call_lacks (state_of store.now) caps (Some reference.now) ≡ false) }
+    ensures err { IfErr result (λ r. (r ≡ refusal.Full) × (call_lacks (state_of store.now) caps (Some reference.now) ≡ true)) }
 {
-    let Some(reference) = store.refs.get(id.0) else {
-        return Ok(());
-    };
     has_number(store.next_call)?;
     has_number(reference.made)?;
     has_room_through(store, caps, reference)
-}
-
-/// Whether `call` is refused, whatever room the exports have, and with what. Where it goes over a wire, the exports need
-/// room for the capabilities that go out: that comes last (`calls_are_refused`), and `check_call_whole` looks at it too.
-pub fn check_call(store: &Store, call: &CallCommand) -> Result<(), Refusal>
-    requires sound { IsSound store.now }
-    requires handed_out { store.now.waits.taken ≡ [] }
-    ensures ok { OnOk result (refused_but_exports (state_of store.now) call.now ≡ None) }
-    ensures err { IfErr result (λ r. refused_but_exports (state_of store.now) call.now ≡ Some r) }
-{
-    is_up(store)?;
-    has_level(store, !call.refs.is_empty())?;
-    has_ref(store, call.reference)?;
-    has_refs(store, call.refs.as_slice())?;
-    has_caps(&call.payload, call.refs.as_slice())?;
-    has_call_room(store, call.refs.len(), call.reference)
 }
 
 // By where it goes: over a wire its capabilities go out.
@@ -128,18 +107,37 @@ fn has_room_over(store: &Store, refs: &[RefId], node: Node) -> Result<(), Refusa
 }
 
 // Where the call goes over a wire, the exports have room for its capabilities.
-fn has_export_room(store: &Store, call: &CallCommand) -> Result<(), Refusal>
+fn has_export_room(store: &Store, refs: &[RefId], reference: &Reference) -> Result<(), Refusal>
     requires sound { IsSound store.now }
-    ensures ok { OnOk result (exports_lack_for (state_of store.now) call.now ≡ false) }
-    ensures err { IfErr result (λ r. (r ≡ refusal.Full) × (exports_lack_for (state_of store.now) call.now ≡ true)) }
+    ensures ok { OnOk result (exports_lack (state_of store.now) (heads (state_of store.now) refs.now) (Some reference.now) ≡ false) }
+    ensures err { IfErr result (λ r. (r ≡ refusal.Full) × (exports_lack (state_of store.now) (heads (state_of store.now) refs.now) (Some reference.now) ≡ true)) }
 {
-    let Some(reference) = store.refs.get(call.reference.0) else {
-        return Ok(());
-    };
     match reference.embargo {
         Some(_) => Ok(()),
-        None => has_room_over(store, call.refs.as_slice(), settle(store, reference.head)),
+        None => has_room_over(store, refs, settle(store, reference.head)),
     }
+}
+
+// Whether a call is refused through the reference with its number, where that is there; whatever room the exports have.
+fn check_call_through(
+    store: &Store,
+    call: &CallCommand,
+    found: Option<&Reference>,
+) -> Result<(), Refusal>
+    requires sound { IsSound store.now }
+    requires handed_out { store.now.waits.taken ≡ [] }
+    requires found { option_copied found ≡ map.get store.now.refs.entries call.now.reference.0 }
+    ensures ok { OnOk result (refused_but_exports (state_of store.now) call.now ≡ None) }
+    ensures err { IfErr result (λ r. refused_but_exports (state_of store.now) call.now ≡ Some r) }
+{
+    is_up(store)?;
+    has_level(store, !call.refs.is_empty())?;
+    let Some(reference) = found else {
+        return Err(Refusal::UnknownRef);
+    };
+    has_refs(store, call.refs.as_slice())?;
+    has_caps(&call.payload, call.refs.as_slice())?;
+    has_call_room(store, call.refs.len(), reference)
 }
 
 /// Whether `call` is refused, and with what. Takes no memory.
@@ -150,6 +148,10 @@ pub fn check_call_whole(store: &Store, call: &CallCommand) -> Result<(), Refusal
     ensures err { IfErr result (λ r. refused (state_of store.now) (command.Call call.now) ≡ Some r) }
 {
     calls_are_refused();
-    check_call(store, call)?;
-    has_export_room(store, call)
+    let found = store.refs.get(call.reference.0);
+    check_call_through(store, call, found)?;
+    let Some(reference) = found else {
+        return Ok(());
+    };
+    has_export_room(store, call.refs.as_slice(), reference)
 }

@@ -2,7 +2,7 @@
 
 ghost use Rattle.step_checks.specs.Laws.{CallsAreRefused, DescriptorsInTurn, FlagsInTurn, FaultsInParts, TakingChangesNone};
 
-/// What a call is refused with is what `check_call` finds, and then want of room in the exports for what goes out.
+/// What a call is refused with is what it is refused with whatever room the exports have, and then want of room in the exports for what goes out.
 pub fn calls_are_refused()
     ensures { CallsAreRefused }
 {}

@@ -14,7 +14,7 @@ mod received;
 mod refusals;
 
 pub use advancing::check_advance;
-pub use calls::{check_call, check_call_whole};
+pub use calls::check_call_whole;
 pub use descriptors::{fault_of_descriptor, fault_of_one, fault_of_only};
 pub use exports::check_call_exports;
 pub use faults::{
