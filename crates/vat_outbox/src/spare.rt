@@ -46,11 +46,17 @@ impl<Item: Drop> Spare<Item> {
 
     /// Takes the memory of a list that came back, where it is more, and not much.
     pub(crate) fn reuse(&mut self, list: Vec<Item>) {
-        if self.list.capacity() < list.capacity() && list.capacity() <= KEPT {
-            *self = Spare {
-                list: emptied(list),
-            };
+        if list.capacity() <= self.list.capacity() || KEPT < list.capacity() {
+            return let_go(list);
         }
+        let before = mem::replace(
+            self,
+            Spare {
+                list: emptied(list),
+            },
+        );
+        let Spare { list } = before;
+        let_go(list)
     }
 
     /// The memory, as a list that is empty.
@@ -62,6 +68,15 @@ impl<Item: Drop> Spare<Item> {
         let spare = mem::replace(self, Spare::new(alloc));
         let Spare { list } = spare;
         list
+    }
+}
+
+// Drops a list. One without memory has nothing to drop, and most have none.
+fn let_go<Item: Drop>(list: Vec<Item>) {
+    if list.capacity() == 0 {
+        mem::forget(list);
+    } else {
+        mem::drop(list);
     }
 }
 
