@@ -34,14 +34,14 @@ pub fn collect_ending(step: &mut Step)
     ensures rest { OnlyReleases step.old step.new }
     ensures ending { IsEnding step.new }
 {
-    if is_unnoted(&step.store) {
+    if no_thing_is_noted(&step.store) {
         return;
     }
-    'dropping: while drop_one(step) {}
+    drop_all(step);
 }
 
 // Whether no promise, outcome or import is noted, so that nothing may go.
-fn is_unnoted(store: &Store) -> bool
+fn no_thing_is_noted(store: &Store) -> bool
     requires covered { IsCovered (state_of store.now) store.now.names }
     requires counted { Counts store.now.names (all_named store.now) }
     requires none_taken { store.now.waits.taken ≡ [] }
@@ -50,6 +50,18 @@ fn is_unnoted(store: &Store) -> bool
     store.names.noted_promises().is_empty()
         && store.names.noted_outcomes().is_empty()
         && store.names.noted_imports().is_empty()
+}
+
+// What no place names goes, one thing after the other, until nothing is left that would.
+fn drop_all(step: &mut Step)
+    requires ending { IsEnding step.old }
+    requires none_taken { step.old.store.waits.taken ≡ [] }
+    ensures collects { Collects (progress_of step.new) (progress_of step.old) }
+    ensures taken { step.new.store.waits.taken ≡ [] }
+    ensures rest { OnlyReleases step.old step.new }
+    ensures ending { IsEnding step.new }
+{
+    'dropping: while drop_one(step) {}
 }
 
 // One thing goes that no place names, if there is one.

@@ -1,23 +1,6 @@
 use Rattle.std.proofs.Common.{refl}
-use Rattle.vat_machine.specs.Collecting.{Tight, Loose}
-use Rattle.step_base.specs.InProgress.{progress_of}
-use Rattle.step_collects.proofs.Dropping.{rests_tight, only_after}
+use Rattle.vat_machine.specs.Collecting.{Tight}
 use Rattle.step_collects.proofs.going.collect_ending.Goals as goal
 
-pub dropping-preserved : goal.dropping-preserved
-dropping-preserved c = record {
-  rest = λ new all. c.dropping.invariant.rest new (Loose c.dropping-test.ensures.drops.goes all);
-  taken = c.drop_one.ensures.taken;
-  only = only_after c.args.step.now c.dropping.step c.drop_one.new.step c.dropping.invariant.only c.drop_one.ensures.rest;
-  ending = c.drop_one.ensures.ending;
-}
-
-pub returns-clause-collects : goal.returns-clause-collects
-returns-clause-collects c =
-    c.dropping.invariant.rest (progress_of c.drop_one.new.step) (rests_tight c.dropping.step c.drop_one.new.step c.dropping-test.ensures.drops)
-
-pub returns-clause-rest : goal.returns-clause-rest
-returns-clause-rest c = only_after c.args.step.now c.dropping.step c.drop_one.new.step c.dropping.invariant.only c.drop_one.ensures.rest
-
-pub returns-then-is_unnoted-clause-collects : goal.returns-then-is_unnoted-clause-collects
-returns-then-is_unnoted-clause-collects c = Tight (c.if-is_unnoted.ensures refl)
+pub returns-then-no_thing_is_noted-clause-collects : goal.returns-then-no_thing_is_noted-clause-collects
+returns-then-no_thing_is_noted-clause-collects c = Tight (c.if-no_thing_is_noted.ensures refl)

@@ -4,7 +4,7 @@ use Rattle.vat_machine.specs.Collecting.{Collects}
 use Rattle.vat_store.specs.Holding.{state_of}
 use Rattle.step_base.specs.InProgress.{progress_of, IsEnding}
 use Rattle.step_collects.specs.Dropping.{things, OnlyReleases}
-use Rattle.step_collects.proofs.going.collect_ending.Given as goal
+use Rattle.step_collects.proofs.going.drop_all.Given as goal
 
 -- What goes from now on goes from the beginning.
 abbrev pub invariant-dropping : goal.invariant-dropping
