@@ -26,6 +26,7 @@ pub fn collect(step: &mut Step)
 }
 
 /// As `collect`, when Finishes may be made already: they stay, as does all that the step said.
+#[inline(always)]
 pub fn collect_ending(step: &mut Step)
     requires ending { IsEnding step.old }
     requires none_taken { step.old.store.waits.taken ≡ [] }
