@@ -54,7 +54,7 @@ among node_of test keys k is here = at keys here.0 here.1 here.2
         by false g = g
 
 -- Nothing went.
-begins : (s : State) → IsLeft s s [] [] []
+pub begins : (s : State) → IsLeft s s [] [] []
 begins s = record {
   beside = refl;
   promises = λ k. refl;
@@ -152,7 +152,7 @@ quiet_by s tight none (node.Broken reason) = λ h. h
 -- ---- The end
 
 -- Nothing is loose.
-quiet : (t : State) → Covers t [] → IsQuiet t
+pub quiet : (t : State) → Covers t [] → IsQuiet t
 quiet t h n = λ loose. let a = h n loose in absurd (omega (arith, a))
 
 tight_by : (t : State) → IsQuiet t → IsTight t
@@ -219,15 +219,13 @@ rising : (qs : List QuestionId) → IsUp qs → ((k : ℕ) → how_many (is_id k
 rising [] up once = tt
 rising (q ∷ qs) up once = above_first q qs up once
 
-pub is_over : (s : State) (x : Thought) (qs : List QuestionId) → IsThought s x [] → IsPermutation x.over.items qs → IsSortedBy (λ (a b : QuestionId). is_lt (nat_cmp a.0 b.0)) qs → AreOver s qs
-is_over s x qs h moved sorted =
-    let t = left s (gone_of x) in
-    let asked = reverse x.over.items in
-    let same : (k : ℕ) → how_many (is_id k) qs ≡ how_many (is_id k) asked = λ k. many_moved (is_id k) x.over.items qs moved ∙ sym (many_moved (is_id k) x.over.items asked (IsPermutation-reverse x.over.items)) in
+-- These are over, where what is left is quiet.
+pub over_by : (s t : State) (gone went : List Node) (asked qs : List QuestionId) → IsLeft s t gone went asked → Covers t [] → ((k : ℕ) → how_many (is_id k) qs ≡ how_many (is_id k) asked) → IsSortedBy (λ (a b : QuestionId). is_lt (nat_cmp a.0 b.0)) qs → AreOver s qs
+over_by s t gone went asked qs h covers same sorted =
     let up : IsUp qs = λ k d below. subst (λ j. is_lt (nat_cmp (get_or qs j d).0 (get_or qs k d).0) ≡ false) (let e : k + 1 ≡ suc k = omega arith in e) (sorted k d (omega arith) (omega (arith, below))) in
-    let once : (k : ℕ) → how_many (is_id k) qs ≤ 1 = λ k. let a = same k in let b = h.is_left.ids k in let c = h.is_left.once k in omega (arith, a, b, c) in
+    let once : (k : ℕ) → how_many (is_id k) qs ≤ 1 = λ k. let a = same k in let b = h.ids k in let c = h.once k in omega (arith, a, b, c) in
     let start : Progress = begin s in
-    let end : (d : Progress) → d.state ≡ s → WithersBy s asked d map.empty = λ d is. h.is_left.withers d map.empty is (ended t (quiet t h.covers)) in
+    let end : (d : Progress) → d.state ≡ s → WithersBy s asked d map.empty = λ d is. h.withers d map.empty is (ended t (quiet t covers)) in
     let w = end start refl in
     let order = rising qs up once in
     let are : (d : Progress) (is : d.state ≡ s) (k : ℕ) → map.get (end d is).over k ≡ picked (how_many (is_id k) qs) (map.get s.questions k) None = λ d is k.
@@ -238,3 +236,8 @@ is_over s x qs h moved sorted =
       entries = entries_standing s w.over qs order (are start refl);
       rising = order;
     }
+
+pub is_over : (s : State) (x : Thought) (qs : List QuestionId) → IsThought s x [] → IsPermutation x.over.items qs → IsSortedBy (λ (a b : QuestionId). is_lt (nat_cmp a.0 b.0)) qs → AreOver s qs
+is_over s x qs h moved sorted =
+    over_by s (left s (gone_of x)) (gone_of x) h.went (reverse x.over.items) qs h.is_left h.covers
+    (λ k. many_moved (is_id k) x.over.items qs moved ∙ sym (many_moved (is_id k) x.over.items (reverse x.over.items) (IsPermutation-reverse x.over.items))) sorted

@@ -11,3 +11,4 @@ pub mod Rising
 pub mod Ending
 pub mod ListedKeys
 pub mod Unnoted
+pub mod Single

@@ -140,6 +140,11 @@ pub record IsLeft (s t : State) (gone went : List Node) (asked : List QuestionId
 abbrev pub Covers : State → List Node → Type 0
 Covers t pending = (n : Node) → IsLoose t n → 0 < how_many (is_of n) pending
 
+-- At most the node's thing is loose, and it names nothing.
+pub record GoesAlone (s : State) (n : Node) : Type 0 where
+  pub covers : Covers s (n ∷ [])
+  pub silent : named_by_thing s n ≡ []
+
 -- ---- The thought
 
 abbrev pub all_gone : Option Node → List Node → List Node

@@ -1,6 +1,7 @@
 //! The end of a step: which questions are over, and what is sent for what goes.
 #![tactic(auto)]
 
+mod alone;
 mod considering;
 mod effects;
 mod finding;

@@ -8,6 +8,7 @@ ghost use Rattle.vat_store.specs.Noted.{noted_of, nothing_noted};
 ghost use Rattle.step_sweeps.specs.Over.{AreOver};
 ghost use Rattle.step_sweeps.specs.Thinking.{IsThought, IsQuiet, work, asked_by, named_by_thing};
 
+use crate::alone::{find_over_alone, leaves_none_over, question_alone};
 use crate::considering::consider;
 use crate::finding::{consider_imports, consider_outcomes, consider_promises, consider_questions};
 use crate::thought::Thought;
@@ -26,9 +27,25 @@ pub fn find_over(store: &Store, thought: &mut Thought) -> Result<(), Memory>
     ensures rested { noted_of store.now.names ≡ nothing_noted → IsOk result }
 {
     thought.over.clear();
-    if is_unnoted(store) {
+    if nothing_is_noted(store) {
         return Ok(());
     }
+    if leaves_none_over(store) {
+        return Ok(());
+    }
+    if let Some(id) = question_alone(store) {
+        return find_over_alone(store, &mut thought.over, id);
+    }
+    think_of_noted(store, thought)
+}
+
+// Finds the questions that are over by a thought of all that is noted.
+fn think_of_noted(store: &Store, thought: &mut Thought) -> Result<(), Memory>
+    requires sound { IsSound store.now }
+    requires none_taken { store.now.waits.taken ≡ [] }
+    ensures over { OnOk result (AreOver (state_of store.now) thought.new.over.items) }
+    ensures never { IsQuiet (state_of store.now) → IsOk result }
+{
     thought.clear();
     consider_promises(store, thought)?;
     consider_outcomes(store, thought)?;
@@ -39,8 +56,8 @@ pub fn find_over(store: &Store, thought: &mut Thought) -> Result<(), Memory>
     Ok(())
 }
 
-// Whether nothing is noted.
-fn is_unnoted(store: &Store) -> bool
+// Whether nothing is noted, of any kind.
+fn nothing_is_noted(store: &Store) -> bool
     ensures { IsTrue result → noted_of store.now.names ≡ nothing_noted }
 {
     store.names.noted_promises().is_empty()

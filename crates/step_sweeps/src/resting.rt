@@ -57,7 +57,7 @@ fn rest_questions(store: &mut Store) -> Result<(), Memory>
 }
 
 // Whether the question is over, and its Finish was not sent.
-fn is_to_be_finished(store: &Store, id: QuestionId) -> bool
+pub(crate) fn is_to_be_finished(store: &Store, id: QuestionId) -> bool
     requires counted { Counts store.now.names (all_named store.now) }
     requires none_taken { store.now.waits.taken ≡ [] }
     ensures { MatchBool result (IsToFinish (state_of store.now) id.0 (map.get (state_of store.now).questions id.0)) (¬ (IsToFinish (state_of store.now) id.0 (map.get (state_of store.now).questions id.0))) }

@@ -1,24 +1,14 @@
-use Rattle.std.proofs.Common.{refl}
+use Rattle.std.proofs.Common.{List, refl, sym, subst}
+use Rattle.rpc_msg.specs.declared.ids.QuestionId.{QuestionId}
 use Rattle.vat_store.specs.Holding.{state_of}
-use Rattle.step_sweeps.specs.Thinking.{nodes_of, promise_node, field_node, import_node, pipe_node}
-use Rattle.step_sweeps.proofs.Thoughts.{considered_four}
-use Rattle.step_sweeps.proofs.Ending.{thought_begins, none_over, is_over}
+use Rattle.step_sweeps.specs.Over.{AreOver}
+use Rattle.step_sweeps.proofs.Ending.{none_over}
 use Rattle.step_sweeps.proofs.Unnoted.{quiet_unnoted}
 use Rattle.step_sweeps.proofs.over.find_over.Goals as goal
 
-pub returns-then-is_unnoted-clause-over : goal.returns-then-is_unnoted-clause-over
-returns-then-is_unnoted-clause-over c =
-    none_over (state_of c.args.store.now) (quiet_unnoted c.args.store.now c.requires.sound c.requires.none_taken (c.if-is_unnoted.ensures refl)) _ c.clear.ensures.items
+pub returns-then-nothing_is_noted-clause-over : goal.returns-then-nothing_is_noted-clause-over
+returns-then-nothing_is_noted-clause-over c =
+    none_over (state_of c.args.store.now) (quiet_unnoted c.args.store.now c.requires.sound c.requires.none_taken (c.if-nothing_is_noted.ensures refl)) _ c.clear.ensures.items
 
-pub think-requires-clause-thought : goal.think-requires-clause-thought
-think-requires-clause-thought c =
-    let x = c.args.store.now in
-    let y = c.clear-2.new.self in
-    considered_four (state_of x) y c.consider_promises.new.thought c.consider_outcomes.new.thought c.consider_imports.new.thought c.consider_questions.new.thought
-    (nodes_of promise_node x.names.promises.noted) (nodes_of field_node x.names.outcomes.noted) (nodes_of import_node x.names.imports.noted) (nodes_of pipe_node x.names.questions.noted)
-    c.in_ok-consider_promises.ensures.thought c.in_ok-consider_outcomes.ensures.thought c.in_ok-consider_imports.ensures.thought c.in_ok-consider_questions.ensures.thought
-    (thought_begins x c.requires.sound.counted c.requires.none_taken c.requires.sound.covered y.pending.items y c.clear-2.ensures.gone c.clear-2.ensures.last c.clear-2.ensures.marks c.clear-2.ensures.over c.clear-2.ensures.less)
-
-pub returns-clause-over : goal.returns-clause-over
-returns-clause-over c =
-    is_over (state_of c.args.store.now) c.think.new.thought c.sort_unstable.new.self.items c.in_ok-think.ensures.thought c.sort_unstable.ensures.permutation c.sort_unstable.ensures.sorted
+pub returns-then-leaves_none_over-clause-over : goal.returns-then-leaves_none_over-clause-over
+returns-then-leaves_none_over-clause-over c = subst (λ (ids : List QuestionId). AreOver (state_of c.args.store.now) ids) (sym c.clear.ensures.items) (c.if-leaves_none_over.ensures refl)

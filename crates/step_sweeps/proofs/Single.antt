@@ -1,0 +1,136 @@
+-- Where one thing alone may go, and it names nothing.
+use Rattle.std.proofs.Common.{◌≡◌, ◌≢◌, ◌⊎◌, inl, inr, ℕ, zero, suc, List, [], ◌∷◌, ◌++◌, length, get_or, Option, None, Some, refl, sym, ap, subst, ◌∙◌, arith}
+use Rattle.std.specs.Ordering.{nat_cmp, is_lt}
+use Rattle.std.specs.List.Sorted.{IsSortedBy}
+use Rattle.std.specs.FinMap as map
+use Rattle.rpc_msg.specs.declared.ids.QuestionId.{QuestionId}
+use Rattle.vat_machine.specs.declared.node.Node.{Node}
+use Rattle.vat_machine.specs.declared.node.Node.TheVariants as node
+use Rattle.vat_machine.specs.declared.calls.Caller.{Caller}
+use Rattle.vat_machine.specs.declared.calls.Caller.TheVariants as caller
+use Rattle.vat_machine.specs.declared.calls.HeldCall.{HeldCall}
+use Rattle.vat_machine.specs.declared.calls.KeptOutcome.{KeptOutcome}
+use Rattle.vat_machine.specs.declared.calls.Value.{Value}
+use Rattle.vat_machine.specs.declared.entries.AnswerEntry.{AnswerEntry}
+use Rattle.vat_machine.specs.State.{State}
+use Rattle.vat_machine.specs.Lists.{how_many}
+use Rattle.vat_machine.specs.Nodes.{is_field}
+use Rattle.vat_machine.specs.Places.{places, names}
+use Rattle.vat_machine.specs.Collecting.{IsLooseOutcome, IsLooseValue, CallerIsDone, AnswerIsOther}
+use Rattle.vat_machine.specs.Sweeping.{IsToFinish}
+use Rattle.laws_acts.specs.Alike.{Alike}
+use Rattle.laws_acts.proofs.Parts.{how_many_append}
+use Rattle.vat_names.specs.Names.{Names}
+use Rattle.vat_store.specs.declared.store.Store.{Store}
+use Rattle.vat_store.specs.Holding.{state_of, IsSound}
+use Rattle.vat_store.specs.Noted.{Notes, noted_of, nothing_noted}
+use Rattle.step_sweeps.specs.Over.{AreOver}
+use Rattle.step_sweeps.specs.Thinking.{IsLoose, IsLeft, IsQuiet, Covers, GoesAlone, without, named_by_thing, asked_by, is_of, is_id, nodes_of, promise_node, field_node, import_node, pipe_node}
+use Rattle.step_sweeps.proofs.Covering.{covers_less, covers_more, thing_leaves}
+use Rattle.step_sweeps.proofs.Leaving.{thing_goes}
+use Rattle.step_sweeps.proofs.Ending.{begins, quiet, none_over, over_by, covers_noted}
+
+-- ---- Whether an outcome is loose
+
+all_three : {A B C : Type 0} → A ⊎ ¬ A → B ⊎ ¬ B → C ⊎ ¬ C → (A × B × C) ⊎ ¬ (A × B × C)
+all_three (inl a) (inl b) (inl c) = inl (a, b, c)
+all_three (inl a) (inl b) (inr c) = inr (λ h. c h.2)
+all_three (inl a) (inr b) c = inr (λ h. b h.1)
+all_three (inr a) b c = inr (λ h. a h.0)
+
+none_or_not : {X : Type 0} (o : Option X) → (◌≡◌ {A = Option X} o None) ⊎ ¬ (◌≡◌ {A = Option X} o None)
+none_or_not None = inl refl
+none_or_not (Some x) = inr (λ h. absurd (let e : Some x ≡ None = h in cc))
+
+empty_or_not : (xs : List HeldCall) → (xs ≡ []) ⊎ ¬ (xs ≡ [])
+empty_or_not [] = inl refl
+empty_or_not (x ∷ xs) = inr (λ h. absurd (let e : (x ∷ xs) ≡ [] = h in cc))
+
+same_or_not : (m n : ℕ) → (m ≡ n) ⊎ (m ≢ n)
+same_or_not zero zero = inl refl
+same_or_not zero (suc n) = inr (λ h. absurd (omega (arith, h)))
+same_or_not (suc m) zero = inr (λ h. absurd (omega (arith, h)))
+same_or_not (suc m) (suc n) = more (same_or_not m n)
+  where
+    more : (m ≡ n) ⊎ (m ≢ n) → (suc m ≡ suc n) ⊎ (suc m ≢ suc n)
+    more (inl e) = inl (ap suc e)
+    more (inr e) = inr (λ h. e (omega (arith, h)))
+
+other_or_not : (o : ℕ) (a : Option AnswerEntry) → AnswerIsOther o a ⊎ ¬ (AnswerIsOther o a)
+other_or_not o None = inl tt
+other_or_not o (Some a) = turned (same_or_not a.outcome o)
+  where
+    turned : (a.outcome ≡ o) ⊎ (a.outcome ≢ o) → (a.outcome ≢ o) ⊎ ¬ (a.outcome ≢ o)
+    turned (inl e) = inr (λ h. h e)
+    turned (inr e) = inl e
+
+done_or_not : (s : State) (o : ℕ) (who : Caller) → CallerIsDone s o who ⊎ ¬ (CallerIsDone s o who)
+done_or_not s o (caller.Application c) = none_or_not (map.get s.calls c.0)
+done_or_not s o (caller.Peer q) = other_or_not o (map.get s.answers q.0)
+
+value_or_not : (s : State) (o : ℕ) (x : KeptOutcome) (v : Option Value) → IsLooseValue s o x v ⊎ ¬ (IsLooseValue s o x v)
+value_or_not s o x None = inr (λ h. h)
+value_or_not s o x (Some v) = all_three (empty_or_not x.waiting) (done_or_not s o x.caller) (same_or_not (names s (is_field o)) 0)
+
+outcome_or_not : (s : State) (o : ℕ) (x : Option KeptOutcome) → IsLooseOutcome s o x ⊎ ¬ (IsLooseOutcome s o x)
+outcome_or_not s o None = inr (λ h. h)
+outcome_or_not s o (Some x) = value_or_not s o x x.value
+
+-- ---- It goes, or not
+
+module _ (s : State) (n : Node) (alone : GoesAlone s n) where
+  abbrev said : List Node
+  said = named_by_thing s n
+
+  -- It is not loose.
+  pub none_alone : ¬ (IsLoose s n) → AreOver s []
+  none_alone firm = none_over s (quiet s (covers_less s n [] firm alone.covers)) [] refl
+
+  module _ (loose : IsLoose s n) where
+    goes : IsLeft s (without s n) (n ∷ []) (said ++ []) (asked_by n ++ [])
+    goes = thing_goes s s [] [] [] (begins s) n loose refl
+
+    leaves : Alike (places s) (said ++ places (without s n))
+    leaves = λ test.
+        let a = goes.alike test in
+        let b = how_many_append test (said ++ []) (places (without s n)) in
+        let c = how_many_append test said [] in
+        let d = how_many_append test said (places (without s n)) in
+        omega (arith, a, b, c, d)
+
+    rests : Covers (without s n) []
+    rests = subst (λ (ns : List Node). Covers (without s n) ns) alone.silent (covers_more s (without s n) n said [] (thing_leaves s said n loose leaves) alone.covers)
+
+    pub over_alone : (qs : List QuestionId) → ((k : ℕ) → how_many (is_id k) qs ≡ how_many (is_id k) (asked_by n ++ [])) → IsSortedBy (λ (a b : QuestionId). is_lt (nat_cmp a.0 b.0)) qs → AreOver s qs
+    over_alone qs same sorted = over_by s (without s n) (n ∷ []) (said ++ []) (asked_by n ++ []) qs goes rests same sorted
+
+-- Of an outcome no question is over, whether it goes or not.
+pub outcome_alone : (s : State) (o : ℕ) → GoesAlone s (field_node o) → AreOver s []
+outcome_alone s o alone = by (outcome_or_not s o (map.get s.outcomes o))
+  where
+    by : IsLooseOutcome s o (map.get s.outcomes o) ⊎ ¬ (IsLooseOutcome s o (map.get s.outcomes o)) → AreOver s []
+    by (inl loose) = over_alone s (field_node o) alone loose [] (λ k. refl) (λ k d low below. absurd (omega (arith, below)))
+    by (inr firm) = none_alone s (field_node o) alone firm
+
+-- A question is over, if it is to be finished.
+module _ (s : State) (q : QuestionId) (alone : GoesAlone s (pipe_node q.0)) where
+  pub question_over : IsToFinish s q.0 (map.get s.questions q.0) → AreOver s (q ∷ [])
+  question_over loose = over_alone s (pipe_node q.0) alone loose (q ∷ []) (λ k. refl) (λ k d low below. absurd (omega (arith, below)))
+
+  pub question_firm : ¬ (IsToFinish s q.0 (map.get s.questions q.0)) → AreOver s []
+  question_firm firm = none_alone s (pipe_node q.0) alone firm
+
+-- ---- By what is noted
+
+module _ (x : Store) (h : IsSound x) (none : x.waits.taken ≡ []) where
+  abbrev nodes_noted : Notes → List Node
+  nodes_noted m = nodes_of promise_node m.promises ++ ((nodes_of field_node m.outcomes ++ (nodes_of import_node m.imports ++ nodes_of pipe_node m.questions)) ++ [])
+
+  covers_all : (m : Notes) → noted_of x.names ≡ m → Covers (state_of x) (nodes_noted m)
+  covers_all m is = subst (λ (m : Notes). Covers (state_of x) (nodes_noted m)) is (covers_noted x h.counted none h.covered [])
+
+  pub outcome_noted : (o : ℕ) → noted_of x.names ≡ record nothing_noted { outcomes = o ∷ [] } → named_by_thing (state_of x) (field_node o) ≡ [] → AreOver (state_of x) []
+  outcome_noted o is silent = outcome_alone (state_of x) o (record { covers = covers_all (record nothing_noted { outcomes = o ∷ [] }) is; silent = silent })
+
+  pub question_noted : (q : ℕ) → noted_of x.names ≡ record nothing_noted { questions = q ∷ [] } → named_by_thing (state_of x) (pipe_node q) ≡ [] → GoesAlone (state_of x) (pipe_node q)
+  question_noted q is silent = record { covers = covers_all (record nothing_noted { questions = q ∷ [] }) is; silent = silent }
