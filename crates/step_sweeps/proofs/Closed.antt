@@ -9,12 +9,11 @@ use Rattle.finite_maps.proofs.Tested.{get_other, get_left, equal}
 use Rattle.vat_machine.specs.declared.entries.Import.{Import}
 use Rattle.vat_machine.specs.declared.entries.Question.{Question}
 use Rattle.vat_machine.specs.declared.entries.Returned.{Returned}
-use Rattle.vat_machine.specs.declared.entries.Finishing.{Finishing}
 use Rattle.vat_machine.specs.declared.entries.Finishing.TheVariants as finishing
 use Rattle.vat_machine.specs.State.{State}
 use Rattle.vat_machine.specs.Progress.{Progress}
 use Rattle.vat_machine.specs.Flags.{give_one, give_each, give_if}
-use Rattle.vat_machine.specs.Sweeping.{got_of, closed_map, finished_by}
+use Rattle.vat_machine.specs.Sweeping.{got_of, closed_map}
 use Rattle.vat_outbox.specs.Outgoing.{Outgoing, with_finish}
 use Rattle.vat_outbox.specs.Rising.{AllBelow}
 use Rattle.vat_outbox.proofs.Search.{put_last}
@@ -22,7 +21,7 @@ use Rattle.vat_store.specs.declared.store.Store.{Store}
 use Rattle.vat_store.specs.Holding.{state_of, IsSound}
 use Rattle.step_base.specs.declared.step.Step.{Step}
 use Rattle.step_base.specs.InProgress.{IsEnding}
-use Rattle.step_sweeps.specs.Ending.{flag_of, close_giving, finished_if, OnlyFinishes}
+use Rattle.step_sweeps.specs.Ending.{close_giving, finished_if, OnlyFinishes}
 use Rattle.laws_acts.proofs.Ends.{finished_other}
 
 -- ---- Imports do not grow

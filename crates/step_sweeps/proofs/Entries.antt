@@ -1,5 +1,5 @@
 -- Entries that went, and questions that were closed.
-use Rattle.std.proofs.Common.{◌≡◌, ◌≢◌, ℕ, zero, suc, ◌<◌, true, false, cond, nat_eq, Option, None, Some, refl, sym, ap, subst, ◌∙◌, arith}
+use Rattle.std.proofs.Common.{◌≡◌, ◌≢◌, ℕ, zero, suc, ◌<◌, true, cond, nat_eq, Option, None, Some, refl, sym, ap, subst, ◌∙◌, arith}
 use Rattle.std.specs.FinMap as map
 use Rattle.finite_maps.specs.Tally.{Map}
 use Rattle.finite_maps.proofs.Gets.{at_each, get-insert_same, get-insert_other, get-remove_same, get-remove_other}

@@ -1,11 +1,10 @@
 -- Where one thing alone may go, and it names nothing.
-use Rattle.std.proofs.Common.{◌≡◌, ◌≢◌, ◌⊎◌, inl, inr, ℕ, zero, suc, List, [], ◌∷◌, ◌++◌, length, get_or, Option, None, Some, refl, sym, ap, subst, ◌∙◌, arith}
+use Rattle.std.proofs.Common.{◌≡◌, ◌≢◌, ◌⊎◌, inl, inr, ℕ, zero, suc, List, [], ◌∷◌, ◌++◌, Option, None, Some, refl, ap, subst, arith}
 use Rattle.std.specs.Ordering.{nat_cmp, is_lt}
 use Rattle.std.specs.List.Sorted.{IsSortedBy}
 use Rattle.std.specs.FinMap as map
 use Rattle.rpc_msg.specs.declared.ids.QuestionId.{QuestionId}
 use Rattle.vat_machine.specs.declared.node.Node.{Node}
-use Rattle.vat_machine.specs.declared.node.Node.TheVariants as node
 use Rattle.vat_machine.specs.declared.calls.Caller.{Caller}
 use Rattle.vat_machine.specs.declared.calls.Caller.TheVariants as caller
 use Rattle.vat_machine.specs.declared.calls.HeldCall.{HeldCall}
@@ -20,12 +19,11 @@ use Rattle.vat_machine.specs.Collecting.{IsLooseOutcome, IsLooseValue, CallerIsD
 use Rattle.vat_machine.specs.Sweeping.{IsToFinish}
 use Rattle.laws_acts.specs.Alike.{Alike}
 use Rattle.laws_acts.proofs.Parts.{how_many_append}
-use Rattle.vat_names.specs.Names.{Names}
 use Rattle.vat_store.specs.declared.store.Store.{Store}
 use Rattle.vat_store.specs.Holding.{state_of, IsSound}
 use Rattle.vat_store.specs.Noted.{Notes, noted_of, nothing_noted}
 use Rattle.step_sweeps.specs.Over.{AreOver}
-use Rattle.step_sweeps.specs.Thinking.{IsLoose, IsLeft, IsQuiet, Covers, GoesAlone, without, named_by_thing, asked_by, is_of, is_id, nodes_of, promise_node, field_node, import_node, pipe_node}
+use Rattle.step_sweeps.specs.Thinking.{IsLoose, IsLeft, Covers, GoesAlone, without, named_by_thing, asked_by, is_id, nodes_of, promise_node, field_node, import_node, pipe_node}
 use Rattle.step_sweeps.proofs.Covering.{covers_less, covers_more, thing_leaves}
 use Rattle.step_sweeps.proofs.Leaving.{thing_goes}
 use Rattle.step_sweeps.proofs.Ending.{begins, quiet, none_over, over_by, covers_noted}

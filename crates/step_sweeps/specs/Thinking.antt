@@ -1,7 +1,6 @@
 -- A step that is only thought, to find which questions are over: what is left of a vat once some things went.
 use Rattle.std.specs.Prelude.{◌≡◌, ℕ, zero, suc, ◌+◌, ◌≤◌, ◌<◌, Bool, true, false, nat_eq, Option, None, Some, IsSome, List, [], ◌∷◌, ◌++◌, length, reverse}
 use Rattle.std.specs.FinMap as map
-use Rattle.std.specs.List.{Contains}
 use Rattle.finite_maps.specs.Tally.{Map}
 use Rattle.rpc_msg.specs.declared.ids.QuestionId.{QuestionId}
 use Rattle.vat_machine.specs.declared.node.Node.{Node}

@@ -1,4 +1,4 @@
-use Rattle.std.proofs.Common.{rules, ◌≡◌, ◌<◌, true, false, arith, List, ◌∷◌, ◌++◌, append_assoc, length, sym, ap, subst, ◌∙◌}
+use Rattle.std.proofs.Common.{rules, ◌≡◌, ◌<◌, arith, List, ◌∷◌, ◌++◌, append_assoc, length, sym, ap, subst, ◌∙◌}
 use Rattle.vat_machine.specs.declared.node.Node.{Node}
 use Rattle.vat_machine.specs.Lists.{how_many}
 use Rattle.vat_machine.specs.Places.{places}

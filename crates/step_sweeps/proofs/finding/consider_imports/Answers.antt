@@ -1,8 +1,7 @@
-use Rattle.std.proofs.Common.{◌≡◌, ◌+◌, ℕ, List, ◌++◌, get_or, drop, sym, ap, subst}
-use Rattle.vat_machine.specs.declared.node.Node.{Node}
+use Rattle.std.proofs.Common.{◌+◌, ℕ, List, ◌++◌, get_or, drop, sym, subst}
 use Rattle.vat_store.specs.Holding.{state_of}
 use Rattle.step_sweeps.specs.Thinking.{IsThought, nodes_of, import_node}
-use Rattle.step_sweeps.proofs.Thoughts.{Considers, considered_next, considered_all}
+use Rattle.step_sweeps.proofs.Thoughts.{Considers, considered_next}
 use Rattle.step_sweeps.proofs.finding.consider_imports.Goals as goal
 
 pub loop-key-preserved : goal.loop-key-preserved

@@ -1,10 +1,10 @@
-use Rattle.std.proofs.Common.{◌≡◌, ◌+◌, ℕ, List, ◌++◌, get_or, drop, sym, ap, subst}
+use Rattle.std.proofs.Common.{◌+◌, ℕ, List, ◌++◌, get_or, drop, sym, ap, subst}
 use Rattle.rpc_msg.specs.Op.{Op}
 use Rattle.vat_machine.specs.declared.node.Node.TheVariants as node
 use Rattle.vat_machine.specs.declared.node.Node.{Node}
 use Rattle.vat_store.specs.Holding.{state_of}
 use Rattle.step_sweeps.specs.Thinking.{IsThought, nodes_of, field_node}
-use Rattle.step_sweeps.proofs.Thoughts.{Considers, considered_next, considered_all}
+use Rattle.step_sweeps.proofs.Thoughts.{Considers, considered_next}
 use Rattle.step_sweeps.proofs.finding.consider_outcomes.Goals as goal
 
 pub loop-key-preserved : goal.loop-key-preserved
