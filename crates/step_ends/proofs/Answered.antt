@@ -15,7 +15,9 @@ use Rattle.vat_machine.specs.Limits.{IsWithin}
 use Rattle.vat_machine.specs.Down.{falling, fallen}
 use Rattle.vat_machine.specs.Refusals.{is_shut, refusals, without_room, refused}
 use Rattle.vat_machine.specs.Commands.{Acts}
+use Rattle.vat_machine.specs.Settling.{Drains}
 use Rattle.vat_machine.specs.Steps.{Ends, Does, Obeys, GoesDown, LacksMemory, IsDone, MayFall, MayLackMemory}
+use Rattle.step_ends.specs.Whole.{WasDone}
 
 up_of : (o : Option ℕ) (b : Bool) (rest : Option Refusal) → b ≡ false → or_rest (if_so (is_some o && not b) refusal.Down) rest ≡ None → o ≡ None
 up_of None b rest other free = refl
@@ -33,6 +35,14 @@ does s c g d acted effects new began acts ends = record { acted = acted; acts = 
 -- It is done, within the limits.
 pub done : (s : State) (c : Command) (g : Granted) (effects : Effects) (new : State) → refused s c ≡ None → Does s c g effects new → IsWithin new → Obeys s c (Ok g) effects new
 done s c g effects new free does within = IsDone g free refl does within
+
+-- The first act of a step that just began, and what arose is settled.
+pub settled : (s : State) (c : Command) (g : Granted) (d acted now : Progress) → d ≡ begin s → Acts d c g acted → Drains now acted → WasDone s c g now
+settled s c g d acted now began acts drains = (acted, subst (λ (x : Progress). Acts x c g acted) began acts, drains)
+
+-- The step of it ends then, within the limits.
+pub ended : (s : State) (c : Command) (g : Granted) (now : Progress) (effects : Effects) (new : State) → refused s c ≡ None → WasDone s c g now → ((acted : Progress) → Drains now acted → Ends acted effects new) → IsWithin new → Obeys s c (Ok g) effects new
+ended s c g now effects new free (acted, acts, drains) ends within = done s c g effects new free (record { acted = acted; acts = acts; ends = ends acted drains }) within
 
 -- It takes the vat down.
 pub fell : (s : State) (c : Command) (effects : Effects) (new : State) → refused s c ≡ None → MayFall c → effects ≡ falling want_of_room → new ≡ fallen s want_of_room → Obeys s c (Ok granted.Done) effects new

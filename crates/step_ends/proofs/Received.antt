@@ -14,9 +14,12 @@ use Rattle.vat_machine.specs.Numbers.{fault_number, peer_abort}
 use Rattle.vat_machine.specs.Down.{silent, falling, falling_by, fallen}
 use Rattle.vat_machine.specs.Faults.{is_foreign, unless_foreign, fault_of}
 use Rattle.vat_machine.specs.Messages.{Takes}
-use Rattle.vat_machine.specs.Steps.{Ends, Handles, Receives, MayLackRoom, FaultsBy, LacksRoom}
+use Rattle.vat_machine.specs.Settling.{Drains}
+use Rattle.vat_machine.specs.Limits.{IsWithin}
+use Rattle.vat_machine.specs.Steps.{Ends, Receives, IsHandled, MayLackRoom, FaultsBy, LacksRoom}
 use Rattle.step_messages.specs.Stopping.{StopsBy}
 use Rattle.step_ends.specs.Aborts.{is_abort}
+use Rattle.step_ends.specs.Whole.{WasTaken}
 
 -- A message that is no Abort may want room, and its fault is told the other vat.
 others : (m : Message) → is_abort m ≡ false → MayLackRoom m × ((n : ℕ) → falling_by m n ≡ falling n)
@@ -58,6 +61,10 @@ fell s new m effects f up other (inl found) says leaves = FaultsBy (fault_number
 fell s new m effects f up other (inr lacks) says leaves =
     LacksRoom up lacks.1 (record { effects_are = says ∙ ap (λ (x : Fault). falling (fault_number x)) lacks.0; new_is = leaves ∙ ap (λ (x : Fault). fallen s (fault_number x)) lacks.0 })
 
--- The message is taken, from a step that just began, to its end.
-pub handles : (s : State) (m : Message) (d taken : Progress) (effects : Effects) (new : State) → d ≡ begin s → Takes d m taken → Ends taken effects new → Handles s m effects new
-handles s m d taken effects new began takes ends = record { taken = taken; takes = subst (λ (x : Progress). Takes x m taken) began takes; ends = ends }
+-- The message is taken, from a step that just began, and what arose is settled.
+pub settled : (s : State) (m : Message) (d taken now : Progress) → d ≡ begin s → Takes d m taken → Drains now taken → WasTaken s m now
+settled s m d taken now began takes drains = (taken, subst (λ (x : Progress). Takes x m taken) began takes, drains)
+
+-- The step ends then, within the limits.
+pub ended : (s : State) (m : Message) (now : Progress) (effects : Effects) (new : State) → s.down ≡ None → fault_of s m ≡ None → WasTaken s m now → ((taken : Progress) → Drains now taken → Ends taken effects new) → IsWithin new → Receives s m effects new
+ended s m now effects new up none (taken, takes, drains) ends within = IsHandled up none (record { taken = taken; takes = takes; ends = ends taken drains }) within

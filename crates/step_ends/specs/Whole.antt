@@ -4,9 +4,13 @@ use Rattle.vat_machine.specs.declared.command.Command.{Command}
 use Rattle.vat_machine.specs.declared.command.Granted.{Granted}
 use Rattle.vat_machine.specs.declared.command.Refusal.{Refusal}
 use Rattle.vat_machine.specs.declared.command.Refusal.TheVariants as refusal
+use Rattle.rpc_msg.specs.declared.message.Message.{Message}
 use Rattle.vat_machine.specs.declared.command.Effects.{Effects}
 use Rattle.vat_machine.specs.State.{State, start}
-use Rattle.vat_machine.specs.Progress.{quiet}
+use Rattle.vat_machine.specs.Progress.{Progress, begin, quiet}
+use Rattle.vat_machine.specs.Commands.{Acts}
+use Rattle.vat_machine.specs.Messages.{Takes}
+use Rattle.vat_machine.specs.Settling.{Drains}
 use Rattle.vat_machine.specs.Steps.{Obeys}
 use Rattle.vat_store.specs.Holding.{state_of, IsSound}
 use Rattle.step_base.specs.InProgress.{IsIdle}
@@ -41,3 +45,11 @@ said effects_by (Err e) = quiet
 -- A command that is not refused is done, or is refused for want of memory, and does nothing then.
 abbrev pub Tries : {A E : Type 0} → Machine → Command → (A → Granted) → (A → Effects) → Result A E → Machine → Type 0
 Tries old c granted_by effects_by result new = Obeys (state_of old.step.store) c (given granted_by result) (said effects_by result) (state_of new.step.store)
+
+-- The first act of a command is done, and what arose is settled.
+abbrev pub WasDone : State → Command → Granted → Progress → Type 0
+WasDone s c g now = (acted : Progress) × Acts (begin s) c g acted × Drains now acted
+
+-- A message is taken, and what arose is settled.
+abbrev pub WasTaken : State → Message → Progress → Type 0
+WasTaken s m now = (taken : Progress) × Takes (begin s) m taken × Drains now taken

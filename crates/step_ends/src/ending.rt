@@ -1,27 +1,28 @@
-ghost use Rattle.std.specs.Prelude.{◌≡◌, [], IfOk, OnOk};
-ghost use Rattle.vat_machine.specs.Steps.{Ends};
+ghost use Rattle.std.specs.Prelude.{◌≡◌, [], OnOk};
+ghost use Rattle.vat_machine.specs.Settling.{Drains};
 ghost use Rattle.vat_store.specs.Holding.{state_of};
-ghost use Rattle.step_base.specs.InProgress.{progress_of, IsReady, IsIdle};
+ghost use Rattle.step_base.specs.InProgress.{progress_of, IsReady};
+ghost use Rattle.step_sweeps.specs.Over.{AreOver};
 
 use rpc_msg::Memory;
 use std::alloc::Global;
 use step_base::Step;
 use step_messages::settles::drain;
-use step_sweeps::{Thought, sweep};
-use vat_machine::Effects;
+use step_sweeps::{Thought, find_over};
 
-/// Ends a step after its first act, and hands out what it says: settles the outcomes that arose, and those that arise
-/// thereby behind them; finishes the questions that are over; and lets go what no place names. No step is in progress then.
-/// `Err` as `drain` says, and where memory was refused to find which questions are over; the step is only to be dropped
-/// then. No call may be taken out to be routed.
-pub fn end_step(step: &mut Step, alloc: Global, thought: &mut Thought) -> Result<Effects, Memory>
+/// Settles the outcomes that arose in the first act of a step, and those that arise thereby behind them, and finds which
+/// questions are over then: `end_settled` ends the step with these. `Err` as `drain` says, and where memory was refused to
+/// find which questions are over; the step is only to be dropped then. No call may be taken out to be routed.
+pub fn settle_step(step: &mut Step, alloc: Global, thought: &mut Thought) -> Result<(), Memory>
     requires ready { IsReady step.old }
     requires none_taken { step.old.store.waits.taken ≡ [] }
-    ensures ends { IfOk result (λ effects. Ends (progress_of step.old) effects (state_of step.new.store)) }
+    ensures drained { OnOk result (Drains (progress_of step.new) (progress_of step.old)) }
+    ensures over { OnOk result (AreOver (state_of step.new.store) thought.new.over.items) }
+    ensures settled { OnOk result (step.new.arisen.0 ≡ []) }
     ensures taken { OnOk result (step.new.store.waits.taken ≡ []) }
-    ensures idle { OnOk result (IsIdle step.new) }
+    ensures ready { OnOk result (IsReady step.new) }
 {
     drain(step, alloc)?;
-    let effects = sweep(step, thought)?;
-    Ok(effects)
+    find_over(&step.store, thought)?;
+    Ok(())
 }

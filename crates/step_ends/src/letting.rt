@@ -5,14 +5,15 @@ ghost use Rattle.vat_machine.specs.OwnCalls.{CallsHaveTheirOwn};
 ghost use Rattle.vat_machine.specs.Refusals.{refused};
 ghost use Rattle.vat_machine.specs.Steps.{Does};
 ghost use Rattle.vat_store.specs.Holding.{state_of};
-ghost use Rattle.step_base.specs.InProgress.{IsIdle};
-ghost use Rattle.step_ends.specs.Whole.{IsResting, Tries};
+ghost use Rattle.step_base.specs.InProgress.{progress_of, IsIdle, IsReady};
+ghost use Rattle.step_sweeps.specs.Over.{AreOver};
+ghost use Rattle.step_ends.specs.Whole.{IsResting, Tries, WasDone};
 
 use crate::machine::Machine;
 use rpc_msg::{CallId, Memory, RefId};
 use step_base::{Step, begin};
 use step_commands::finish_call;
-use step_sweeps::{Thought, sweep};
+use step_sweeps::{Thought, end_settled, find_over, sweep};
 use store_names::{add_call, put_back_ref};
 use vat_machine::Effects;
 
@@ -54,26 +55,29 @@ pub fn finish(machine: &mut Machine, id: CallId) -> Result<Effects, Memory>
     ensures obeys { Tries machine.old (command.Finish id) (λ e. granted.Done) (λ e. e) result machine.new }
     ensures resting { IsResting machine.new }
 {
-    let effects = finish_whole(&mut machine.step, &mut machine.thought, id)?;
-    Ok(effects)
+    finish_whole(&mut machine.step, &mut machine.thought, id)?;
+    Ok(end_settled(&mut machine.step, machine.thought.over.as_slice()))
 }
 
 // The step of it.
-fn finish_whole(step: &mut Step, thought: &mut Thought, id: CallId) -> Result<Effects, Memory>
+fn finish_whole(step: &mut Step, thought: &mut Thought, id: CallId) -> Result<(), Memory>
     requires idle { IsIdle step.old }
     requires none_taken { step.old.store.waits.taken ≡ [] }
     requires own { CallsHaveTheirOwn (state_of step.old.store) }
     requires allowed { refused (state_of step.old.store) (command.Finish id) ≡ None }
-    ensures does { IfOk result (λ effects. Does (state_of step.old.store) (command.Finish id) granted.Done effects (state_of step.new.store)) }
+    ensures done { OnOk result (WasDone (state_of step.old.store) (command.Finish id) granted.Done (progress_of step.new)) }
+    ensures over { OnOk result (AreOver (state_of step.new.store) thought.new.over.items) }
+    ensures settled { OnOk result (step.new.arisen.0 ≡ []) }
+    ensures ready { OnOk result (IsReady step.new) }
     ensures same { OnErr result (state_of step.new.store ≡ state_of step.old.store) }
     ensures taken { step.new.store.waits.taken ≡ [] }
-    ensures idle { IsIdle step.new }
+    ensures idle { OnErr result (IsIdle step.new) }
 {
     begin(step, 2)?;
     let from = finish_call(step, id);
-    let Ok(effects) = sweep(step, thought) else {
+    let Ok(()) = find_over(&step.store, thought) else {
         add_call(&mut step.store, id, from);
         return Err(Memory);
     };
-    Ok(effects)
+    Ok(())
 }

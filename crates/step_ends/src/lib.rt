@@ -15,7 +15,7 @@ mod undoing;
 
 pub use adding::{clone_ref, field, host};
 pub use beginning::{begin_quietly, end_silently};
-pub use ending::end_step;
+pub use ending::settle_step;
 pub use falling::{fall_as, fall_silently_as, shut};
 pub use letting::{drop_ref, finish};
 pub use machine::{Machine, Named};

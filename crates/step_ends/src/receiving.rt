@@ -1,21 +1,22 @@
-ghost use Rattle.std.specs.Prelude.{◌≡◌, None, false, [], IfOk, OnOk, IfErr};
+ghost use Rattle.std.specs.Prelude.{◌≡◌, None, false, [], OnOk, IfErr};
 ghost use Rattle.vat_machine.specs.Faults.{fault_of};
 ghost use Rattle.vat_machine.specs.Progress.{quiet};
-ghost use Rattle.vat_machine.specs.Steps.{Handles, Receives};
+ghost use Rattle.vat_machine.specs.Steps.{Receives};
 ghost use Rattle.vat_store.specs.Holding.{state_of};
-ghost use Rattle.step_base.specs.InProgress.{IsIdle};
+ghost use Rattle.step_base.specs.InProgress.{progress_of, IsIdle, IsReady};
+ghost use Rattle.step_sweeps.specs.Over.{AreOver};
 ghost use Rattle.step_messages.specs.Stopping.{StopsBy};
 ghost use Rattle.step_ends.specs.Aborts.{is_abort};
-ghost use Rattle.step_ends.specs.Whole.{IsResting};
+ghost use Rattle.step_ends.specs.Whole.{IsResting, WasTaken};
 
-use crate::ending::end_step;
+use crate::ending::settle_step;
 use crate::falling::{fall_as, fall_silently_as, named_of};
 use crate::machine::Machine;
 use rpc_msg::{Items, Message, PlainMessage};
 use std::alloc::Global;
 use step_base::{Step, begin};
 use step_messages::take_message;
-use step_sweeps::Thought;
+use step_sweeps::{Thought, end_settled};
 use vat_machine::{Effects, Fault};
 
 /// Takes a message of the other vat, and says what follows. A vat that is down does nothing. A message that is a fault takes
@@ -34,7 +35,7 @@ pub fn receive(machine: &mut Machine, message: Message) -> Effects
     }
     let step = &mut machine.step;
     match receive_whole(step, &mut machine.thought, machine.alloc, message) {
-        Ok(effects) => effects,
+        Ok(()) => end_settled(&mut machine.step, machine.thought.over.as_slice()),
         Err(fault) => fall_as(machine, named, fault.code()),
     }
 }
@@ -65,22 +66,24 @@ fn receive_whole(
     thought: &mut Thought,
     alloc: Global,
     message: Message,
-) -> Result<Effects, Fault>
+) -> Result<(), Fault>
     requires idle { IsIdle step.old }
     requires none_taken { step.old.store.waits.taken ≡ [] }
     requires no_abort { is_abort message ≡ false }
     ensures none { OnOk result (fault_of (state_of step.old.store) message ≡ None) }
-    ensures handles { IfOk result (λ effects. Handles (state_of step.old.store) message effects (state_of step.new.store)) }
+    ensures done { OnOk result (WasTaken (state_of step.old.store) message (progress_of step.new)) }
     ensures fault { IfErr result (λ f. StopsBy (state_of step.old.store) message f) }
+    ensures over { OnOk result (AreOver (state_of step.new.store) thought.new.over.items) }
+    ensures settled { OnOk result (step.new.arisen.0 ≡ []) }
     ensures taken { OnOk result (step.new.store.waits.taken ≡ []) }
-    ensures idle { OnOk result (IsIdle step.new) }
+    ensures ready { OnOk result (IsReady step.new) }
 {
     let Ok(()) = begin(step, 1) else {
         return Err(Fault::WantOfRoom);
     };
     take_message(step, alloc, message)?;
-    let Ok(effects) = end_step(step, alloc, thought) else {
+    let Ok(()) = settle_step(step, alloc, thought) else {
         return Err(Fault::WantOfRoom);
     };
-    Ok(effects)
+    Ok(())
 }

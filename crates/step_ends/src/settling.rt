@@ -1,20 +1,21 @@
-ghost use Rattle.std.specs.Prelude.{◌≡◌, None, Ok, [], IfOk, OnOk};
+ghost use Rattle.std.specs.Prelude.{◌≡◌, None, Ok, [], OnOk};
 ghost use Rattle.vat_machine.specs.declared.command.Command.TheVariants as command;
 ghost use Rattle.vat_machine.specs.declared.command.Granted.TheVariants as granted;
 ghost use Rattle.vat_machine.specs.Refusals.{refused};
-ghost use Rattle.vat_machine.specs.Steps.{Does, Obeys};
+ghost use Rattle.vat_machine.specs.Steps.{Obeys};
 ghost use Rattle.vat_store.specs.Holding.{state_of};
-ghost use Rattle.step_base.specs.InProgress.{IsIdle};
-ghost use Rattle.step_ends.specs.Whole.{IsResting};
+ghost use Rattle.step_base.specs.InProgress.{progress_of, IsIdle, IsReady};
+ghost use Rattle.step_sweeps.specs.Over.{AreOver};
+ghost use Rattle.step_ends.specs.Whole.{IsResting, WasDone};
 
-use crate::ending::end_step;
+use crate::ending::settle_step;
 use crate::falling::{WANT_OF_ROOM, fall_as, named_of};
 use crate::machine::Machine;
 use rpc_msg::{Exception, Items, Memory, Payload, PromiseId, RefId, TaskId};
 use std::alloc::Global;
 use step_base::{Step, begin};
 use step_messages::settles;
-use step_sweeps::Thought;
+use step_sweeps::{Thought, end_settled};
 use vat_machine::Effects;
 
 /// Settles a promise to what a reference leads to, where that is not refused. Where memory is refused, or a limit met, the
@@ -34,10 +35,10 @@ pub fn resolve(machine: &mut Machine, promise: PromiseId, reference: RefId) -> E
         promise,
         reference,
     );
-    let Ok(effects) = ended else {
+    let Ok(()) = ended else {
         return fall_as(machine, named, WANT_OF_ROOM);
     };
-    effects
+    end_settled(&mut machine.step, machine.thought.over.as_slice())
 }
 
 // The step of it. After an `Err` the vat goes down.
@@ -47,17 +48,19 @@ fn resolve_whole(
     alloc: Global,
     promise: PromiseId,
     reference: RefId,
-) -> Result<Effects, Memory>
+) -> Result<(), Memory>
     requires idle { IsIdle step.old }
     requires none_taken { step.old.store.waits.taken ≡ [] }
-    ensures does { IfOk result (λ effects. Does (state_of step.old.store) (command.Resolve promise reference) granted.Done effects (state_of step.new.store)) }
+    ensures done { OnOk result (WasDone (state_of step.old.store) (command.Resolve promise reference) granted.Done (progress_of step.new)) }
+    ensures over { OnOk result (AreOver (state_of step.new.store) thought.new.over.items) }
+    ensures settled { OnOk result (step.new.arisen.0 ≡ []) }
     ensures taken { OnOk result (step.new.store.waits.taken ≡ []) }
-    ensures idle { OnOk result (IsIdle step.new) }
+    ensures ready { OnOk result (IsReady step.new) }
 {
     begin(step, 1)?;
     settles::resolve(step, alloc, promise, reference)?;
-    let effects = end_step(step, alloc, thought)?;
-    Ok(effects)
+    settle_step(step, alloc, thought)?;
+    Ok(())
 }
 
 /// Breaks a promise, where that is not refused; the vat goes down as `resolve` says.
@@ -76,10 +79,10 @@ pub fn reject(machine: &mut Machine, promise: PromiseId, exception: Exception) -
         promise,
         exception,
     );
-    let Ok(effects) = ended else {
+    let Ok(()) = ended else {
         return fall_as(machine, named, WANT_OF_ROOM);
     };
-    effects
+    end_settled(&mut machine.step, machine.thought.over.as_slice())
 }
 
 // The step of it. After an `Err` the vat goes down.
@@ -89,17 +92,19 @@ fn reject_whole(
     alloc: Global,
     promise: PromiseId,
     exception: Exception,
-) -> Result<Effects, Memory>
+) -> Result<(), Memory>
     requires idle { IsIdle step.old }
     requires none_taken { step.old.store.waits.taken ≡ [] }
-    ensures does { IfOk result (λ effects. Does (state_of step.old.store) (command.Reject promise exception) granted.Done effects (state_of step.new.store)) }
+    ensures done { OnOk result (WasDone (state_of step.old.store) (command.Reject promise exception) granted.Done (progress_of step.new)) }
+    ensures over { OnOk result (AreOver (state_of step.new.store) thought.new.over.items) }
+    ensures settled { OnOk result (step.new.arisen.0 ≡ []) }
     ensures taken { OnOk result (step.new.store.waits.taken ≡ []) }
-    ensures idle { OnOk result (IsIdle step.new) }
+    ensures ready { OnOk result (IsReady step.new) }
 {
     begin(step, 1)?;
     settles::reject(step, alloc, promise, exception)?;
-    let effects = end_step(step, alloc, thought)?;
-    Ok(effects)
+    settle_step(step, alloc, thought)?;
+    Ok(())
 }
 
 /// Gives a task its results, with the heads of these references, where that is not refused; the vat goes down as `resolve` says.
@@ -119,10 +124,10 @@ pub fn answer(machine: &mut Machine, task: TaskId, payload: Payload, refs: Items
         payload,
         refs,
     );
-    let Ok(effects) = ended else {
+    let Ok(()) = ended else {
         return fall_as(machine, named, WANT_OF_ROOM);
     };
-    effects
+    end_settled(&mut machine.step, machine.thought.over.as_slice())
 }
 
 // The step of it. After an `Err` the vat goes down.
@@ -133,17 +138,19 @@ fn answer_whole(
     task: TaskId,
     payload: Payload,
     refs: Items<RefId>,
-) -> Result<Effects, Memory>
+) -> Result<(), Memory>
     requires idle { IsIdle step.old }
     requires none_taken { step.old.store.waits.taken ≡ [] }
-    ensures does { IfOk result (λ effects. Does (state_of step.old.store) (command.Answer task payload refs) granted.Done effects (state_of step.new.store)) }
+    ensures done { OnOk result (WasDone (state_of step.old.store) (command.Answer task payload refs) granted.Done (progress_of step.new)) }
+    ensures over { OnOk result (AreOver (state_of step.new.store) thought.new.over.items) }
+    ensures settled { OnOk result (step.new.arisen.0 ≡ []) }
     ensures taken { OnOk result (step.new.store.waits.taken ≡ []) }
-    ensures idle { OnOk result (IsIdle step.new) }
+    ensures ready { OnOk result (IsReady step.new) }
 {
     begin(step, 1)?;
     settles::answer(step, alloc, task, payload, refs)?;
-    let effects = end_step(step, alloc, thought)?;
-    Ok(effects)
+    settle_step(step, alloc, thought)?;
+    Ok(())
 }
 
 /// Gives a task an exception, where that is not refused; the vat goes down as `resolve` says.
@@ -156,10 +163,10 @@ pub fn fail(machine: &mut Machine, task: TaskId, exception: Exception) -> Effect
     let named = named_of(&machine.step.store);
     let step = &mut machine.step;
     let ended = fail_whole(step, &mut machine.thought, machine.alloc, task, exception);
-    let Ok(effects) = ended else {
+    let Ok(()) = ended else {
         return fall_as(machine, named, WANT_OF_ROOM);
     };
-    effects
+    end_settled(&mut machine.step, machine.thought.over.as_slice())
 }
 
 // The step of it. After an `Err` the vat goes down.
@@ -169,15 +176,17 @@ fn fail_whole(
     alloc: Global,
     task: TaskId,
     exception: Exception,
-) -> Result<Effects, Memory>
+) -> Result<(), Memory>
     requires idle { IsIdle step.old }
     requires none_taken { step.old.store.waits.taken ≡ [] }
-    ensures does { IfOk result (λ effects. Does (state_of step.old.store) (command.Fail task exception) granted.Done effects (state_of step.new.store)) }
+    ensures done { OnOk result (WasDone (state_of step.old.store) (command.Fail task exception) granted.Done (progress_of step.new)) }
+    ensures over { OnOk result (AreOver (state_of step.new.store) thought.new.over.items) }
+    ensures settled { OnOk result (step.new.arisen.0 ≡ []) }
     ensures taken { OnOk result (step.new.store.waits.taken ≡ []) }
-    ensures idle { OnOk result (IsIdle step.new) }
+    ensures ready { OnOk result (IsReady step.new) }
 {
     begin(step, 1)?;
     settles::fail(step, alloc, task, exception)?;
-    let effects = end_step(step, alloc, thought)?;
-    Ok(effects)
+    settle_step(step, alloc, thought)?;
+    Ok(())
 }

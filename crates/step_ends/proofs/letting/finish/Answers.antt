@@ -1,9 +1,11 @@
 use Rattle.vat_machine.specs.declared.command.Command.TheVariants as command
 use Rattle.vat_machine.specs.declared.command.Granted.TheVariants as granted
 use Rattle.vat_store.specs.Holding.{state_of}
-use Rattle.step_ends.proofs.Answered.{done}
+use Rattle.step_base.specs.InProgress.{progress_of}
+use Rattle.step_ends.proofs.Answered.{ended}
 use Rattle.step_ends.proofs.letting.finish.Goals as goal
 
 pub returns-clause-obeys : goal.returns-clause-obeys
 returns-clause-obeys c =
-    done (state_of c.args.machine.now.step.store) (command.Finish c.args.id) granted.Done c.in_ok-effects.effects (state_of c.finish_whole.new.step.store) c.requires.allowed c.in_ok-effects.ensures.does c.finish_whole.ensures.idle.sound.within
+    ended (state_of c.args.machine.now.step.store) (command.Finish c.args.id) granted.Done (progress_of c.finish_whole.new.step) c.end_settled.result (state_of c.end_settled.new.step.store) c.requires.allowed c.in_ok-finish_whole.ensures.done
+    c.end_settled.ensures.ends c.end_settled.ensures.idle.sound.within

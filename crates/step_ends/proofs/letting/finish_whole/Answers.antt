@@ -6,9 +6,8 @@ use Rattle.vat_machine.specs.declared.command.Granted.TheVariants as granted
 use Rattle.vat_machine.specs.Progress.{Progress}
 use Rattle.vat_machine.specs.Settling.{NoneLeft}
 use Rattle.vat_store.specs.Holding.{state_of}
-use Rattle.step_base.specs.declared.step.Step.{Step}
 use Rattle.step_base.specs.InProgress.{progress_of}
-use Rattle.step_ends.proofs.Answered.{does}
+use Rattle.step_ends.proofs.Answered.{settled}
 use Rattle.step_ends.proofs.Calm.{finished, call_back}
 use Rattle.step_ends.proofs.letting.finish_whole.Goals as goal
 
@@ -16,17 +15,18 @@ pub add_call-requires-clause-free : goal.add_call-requires-clause-free
 add_call-requires-clause-free c =
     let s = state_of c.args.step.now.store in
     let calm = finished s c.args.id.0 (map.get (state_of c.begin.new.step.store).calls c.args.id.0) granted.Done (progress_of c.begin.new.step) (progress_of c.finish_call-from.new.step) c.in_ok-begin.ensures.begun c.finish_call-from.ensures.acts in
-    ap (λ (x : Step). map.get (state_of x.store).calls c.args.id.0) c.in_default.ensures.same ∙ ap (λ (p : Progress). map.get p.state.calls c.args.id.0) calm ∙ get-remove_same s.calls c.args.id.0
+    ap (λ (p : Progress). map.get p.state.calls c.args.id.0) calm ∙ get-remove_same s.calls c.args.id.0
 
 pub returns-in_default-clause-same : goal.returns-in_default-clause-same
 returns-in_default-clause-same c =
     let s = state_of c.args.step.now.store in
     let calm = finished s c.args.id.0 (map.get (state_of c.begin.new.step.store).calls c.args.id.0) granted.Done (progress_of c.begin.new.step) (progress_of c.finish_call-from.new.step) c.in_ok-begin.ensures.begun c.finish_call-from.ensures.acts in
     let was = sym (ap (λ (p : Progress). map.get p.state.calls c.args.id.0) c.in_ok-begin.ensures.begun) ∙ c.finish_call-from.ensures.was in
-    call_back s (state_of c.sweep.new.step.store) (state_of c.add_call.new.store) c.args.id.0 c.finish_call-from.result was
-    (ap (λ (x : Step). state_of x.store) c.in_default.ensures.same ∙ ap (λ (p : Progress). p.state) calm) c.add_call.ensures.state
+    call_back s (state_of c.finish_call-from.new.step.store) (state_of c.add_call.new.store) c.args.id.0 c.finish_call-from.result was
+    (ap (λ (p : Progress). p.state) calm) c.add_call.ensures.state
 
-pub returns-clause-does : goal.returns-clause-does
-returns-clause-does c =
-    does (state_of c.args.step.now.store) (command.Finish c.args.id) granted.Done (progress_of c.begin.new.step) (progress_of c.finish_call-from.new.step) c.in-Ok.effects (state_of c.sweep.new.step.store)
-    c.in_ok-begin.ensures.begun c.finish_call-from.ensures.acts (c.in-Ok.ensures.ends (progress_of c.finish_call-from.new.step) (NoneLeft (ap (λ (p : Progress). p.arisen) (finished (state_of c.args.step.now.store) c.args.id.0 (map.get (state_of c.begin.new.step.store).calls c.args.id.0) granted.Done (progress_of c.begin.new.step) (progress_of c.finish_call-from.new.step) c.in_ok-begin.ensures.begun c.finish_call-from.ensures.acts))))
+pub returns-clause-done : goal.returns-clause-done
+returns-clause-done c =
+    let s = state_of c.args.step.now.store in
+    let calm = finished s c.args.id.0 (map.get (state_of c.begin.new.step.store).calls c.args.id.0) granted.Done (progress_of c.begin.new.step) (progress_of c.finish_call-from.new.step) c.in_ok-begin.ensures.begun c.finish_call-from.ensures.acts in
+    settled s (command.Finish c.args.id) granted.Done (progress_of c.begin.new.step) (progress_of c.finish_call-from.new.step) (progress_of c.finish_call-from.new.step) c.in_ok-begin.ensures.begun c.finish_call-from.ensures.acts (NoneLeft (ap (λ (p : Progress). p.arisen) calm))

@@ -1,7 +1,8 @@
 use Rattle.std.proofs.Common.{ℕ, sym, ap, ◌∙◌}
 use Rattle.vat_machine.specs.Down.{silent, falling, fallen}
 use Rattle.vat_store.specs.Holding.{state_of}
-use Rattle.step_ends.proofs.Received.{aborted, fell}
+use Rattle.step_base.specs.InProgress.{progress_of}
+use Rattle.step_ends.proofs.Received.{aborted, ended, fell}
 use Rattle.step_ends.proofs.receiving.receive.Goals as goal
 
 pub returns-then-is_abort-clause-receives : goal.returns-then-is_abort-clause-receives
@@ -17,3 +18,8 @@ returns-in-Err-clause-receives c =
     fell s (state_of c.fall_as.new.machine.step.store) c.args.message c.fall_as.result c.in-Err.fault c.in-None.is (sym c.is_abort.ensures ∙ c.if-is_abort.false) c.in-Err.ensures.fault
     (c.fall_as.ensures.effects ∙ ap (λ (n : ℕ). falling n) c.code-in-Err.ensures)
     (c.fall_as.ensures.state ∙ c.named_of-named.ensures c.code-in-Err.result ∙ ap (λ (n : ℕ). fallen s n) c.code-in-Err.ensures)
+
+pub returns-in-Ok-clause-receives : goal.returns-in-Ok-clause-receives
+returns-in-Ok-clause-receives c =
+    ended (state_of c.args.machine.now.step.store) c.args.message (progress_of c.receive_whole.new.step) c.end_settled.result (state_of c.end_settled.new.step.store) c.in-None.is c.in-Ok.ensures.none c.in-Ok.ensures.done
+    c.end_settled.ensures.ends c.end_settled.ensures.idle.sound.within

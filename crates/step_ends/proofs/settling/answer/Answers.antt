@@ -2,7 +2,8 @@ use Rattle.std.proofs.Common.{◌∙◌}
 use Rattle.vat_machine.specs.declared.command.Command.TheVariants as command
 use Rattle.vat_machine.specs.declared.command.Granted.TheVariants as granted
 use Rattle.vat_store.specs.Holding.{state_of}
-use Rattle.step_ends.proofs.Answered.{done, fell}
+use Rattle.step_base.specs.InProgress.{progress_of}
+use Rattle.step_ends.proofs.Answered.{ended, fell}
 use Rattle.step_ends.proofs.settling.answer.Goals as goal
 
 pub returns-in_default-clause-obeys : goal.returns-in_default-clause-obeys
@@ -12,5 +13,5 @@ returns-in_default-clause-obeys c =
 
 pub returns-clause-obeys : goal.returns-clause-obeys
 returns-clause-obeys c =
-    done (state_of c.args.machine.now.step.store) (command.Answer c.args.task c.args.payload c.args.refs) granted.Done c.in-Ok.effects (state_of c.answer_whole-ended.new.step.store) c.requires.allowed c.in-Ok.ensures.does
-    c.in-Ok.ensures.idle.sound.within
+    ended (state_of c.args.machine.now.step.store) (command.Answer c.args.task c.args.payload c.args.refs) granted.Done (progress_of c.answer_whole-ended.new.step) c.end_settled.result (state_of c.end_settled.new.step.store) c.requires.allowed c.in-Ok.ensures.done
+    c.end_settled.ensures.ends c.end_settled.ensures.idle.sound.within
