@@ -1,8 +1,6 @@
 -- A reference that was made.
-use Rattle.std.proofs.Common.{◌≡◌, ℕ, [], ◌∷◌, Option, None, Some, List, ap, ◌∙◌, arith}
-use Rattle.std.specs.FinMap as map
+use Rattle.std.proofs.Common.{◌≡◌, [], ◌∷◌, Option, None, Some, List}
 use Rattle.rpc_msg.specs.Op.{Op}
-use Rattle.rpc_msg.specs.declared.ids.RefId.{RefId}
 use Rattle.vat_machine.specs.declared.node.Node.{Node}
 use Rattle.vat_machine.specs.declared.command.Granted.{Granted}
 use Rattle.vat_machine.specs.declared.command.Granted.TheVariants as granted

@@ -1,11 +1,9 @@
 use Rattle.std.proofs.Common.{refl}
 use Rattle.std.specs.FinMap as map
-use Rattle.vat_machine.specs.declared.node.Node.TheVariants as node
 use Rattle.vat_machine.specs.declared.command.Command.TheVariants as command
 use Rattle.vat_machine.specs.declared.command.Granted.TheVariants as granted
 use Rattle.vat_store.specs.Holding.{state_of}
-use Rattle.step_base.specs.InProgress.{progress_of}
-use Rattle.step_ends.proofs.Made.{hosted, cloned, named}
+use Rattle.step_ends.proofs.Made.{cloned}
 use Rattle.step_ends.proofs.Quietly.{named_quietly}
 use Rattle.step_ends.proofs.adding.clone_ref.Goals as goal
 
