@@ -34,10 +34,11 @@ pub fn receive(machine: &mut Machine, message: Message) -> Effects
         return fall_silently_as(machine, named, Fault::PeerAbort.code());
     }
     let step = &mut machine.step;
-    match receive_whole(step, &mut machine.thought, machine.alloc, message) {
-        Ok(()) => end_settled(&mut machine.step, machine.thought.over.as_slice()),
-        Err(fault) => fall_as(machine, named, fault.code()),
-    }
+    let received = receive_whole(step, &mut machine.thought, machine.alloc, message);
+    let Err(fault) = received else {
+        return end_settled(&mut machine.step, machine.thought.over.as_slice());
+    };
+    fall_as(machine, named, fault.code())
 }
 
 fn nothing(alloc: Global) -> Effects

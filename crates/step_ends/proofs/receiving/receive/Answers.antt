@@ -12,14 +12,14 @@ returns-then-is_abort-clause-receives c =
     (c.fall_silently_as.ensures.effects ∙ ap (λ (n : ℕ). silent n) c.code.ensures)
     (c.fall_silently_as.ensures.state ∙ c.named_of-named.ensures c.code.result ∙ ap (λ (n : ℕ). fallen s n) c.code.ensures)
 
-pub returns-in-Err-clause-receives : goal.returns-in-Err-clause-receives
-returns-in-Err-clause-receives c =
+pub returns-clause-receives : goal.returns-clause-receives
+returns-clause-receives c =
     let s = state_of c.args.machine.now.step.store in
     fell s (state_of c.fall_as.new.machine.step.store) c.args.message c.fall_as.result c.in-Err.fault c.in-None.is (sym c.is_abort.ensures ∙ c.if-is_abort.false) c.in-Err.ensures.fault
-    (c.fall_as.ensures.effects ∙ ap (λ (n : ℕ). falling n) c.code-in-Err.ensures)
-    (c.fall_as.ensures.state ∙ c.named_of-named.ensures c.code-in-Err.result ∙ ap (λ (n : ℕ). fallen s n) c.code-in-Err.ensures)
+    (c.fall_as.ensures.effects ∙ ap (λ (n : ℕ). falling n) c.code-2.ensures)
+    (c.fall_as.ensures.state ∙ c.named_of-named.ensures c.code-2.result ∙ ap (λ (n : ℕ). fallen s n) c.code-2.ensures)
 
-pub returns-in-Ok-clause-receives : goal.returns-in-Ok-clause-receives
-returns-in-Ok-clause-receives c =
-    ended (state_of c.args.machine.now.step.store) c.args.message (progress_of c.receive_whole.new.step) c.end_settled.result (state_of c.end_settled.new.step.store) c.in-None.is c.in-Ok.ensures.none c.in-Ok.ensures.done
+pub returns-in_default-received-clause-receives : goal.returns-in_default-received-clause-receives
+returns-in_default-received-clause-receives c =
+    ended (state_of c.args.machine.now.step.store) c.args.message (progress_of c.receive_whole-received.new.step) c.end_settled.result (state_of c.end_settled.new.step.store) c.in-None.is c.in_default-received.ensures.none c.in_default-received.ensures.done
     c.end_settled.ensures.ends c.end_settled.ensures.idle.sound.within
