@@ -1,7 +1,7 @@
 ghost use Rattle.std.specs.Prelude.{◌≡◌, ◌+◌, ◌≤◌, ◌||◌, not, [], false, length, IsOk, OnOk};
 ghost use Rattle.vat_machine.specs.Fullness.{is_spent, lacks_room_at};
 ghost use Rattle.vat_machine.specs.Nodes.{settle};
-ghost use Rattle.vat_machine.specs.Routing.{Routes, RoutesAll, RoutesHeld};
+ghost use Rattle.vat_machine.specs.Routing.{deliver, Relays, Routes, RoutesAll, RoutesHeld};
 ghost use Rattle.vat_waits.specs.Waiting.{calls_of};
 ghost use Rattle.vat_store.specs.Holding.{state_of};
 ghost use Rattle.vat_store.specs.Noted.{noted_of};
@@ -10,11 +10,11 @@ ghost use Rattle.step_routes.specs.Fitting.{IsOpenThere};
 ghost use Rattle.step_routes.specs.Prepared.{IsPrepared};
 
 use crate::asking::relay_kept;
-use crate::broken::{end_broken_kept, exception_in};
+use crate::broken::{end_broken_kept, exception_in, exception_of};
 use crate::deliver::deliver_kept;
 use crate::lists::Lists;
 use crate::waiting::{wait_for_field, wait_for_promise};
-use rpc_msg::{Memory, Target};
+use rpc_msg::{Memory, ObjectId, Target};
 use std::alloc::Global;
 use step_base::Step;
 use vat_machine::{HeldCall, Node, WaitingCall};
@@ -84,18 +84,90 @@ pub fn route_kept(
     }
 }
 
-/// Routes a call to where the node settles, as `route_kept` does, and makes the room for it. `Err` for want of memory, or
-/// where a limit is passed; the step is only to be dropped then.
+/// Routes a call to where the node settles, as `route_kept` does, and makes the room for it: of memory it takes what the
+/// call wants there. `Err` for want of memory, or where a limit is passed; the step is only to be dropped then.
 pub fn route(step: &mut Step, alloc: Global, call: WaitingCall, node: Node) -> Result<(), Memory>
     requires { IsReady step.old }
     ensures routed { OnOk result (Routes (progress_of step.old) call node (progress_of step.new)) }
     ensures taken { OnOk result (step.new.store.waits.taken ≡ step.old.store.waits.taken) }
     ensures ready { OnOk result (IsReady step.new) }
 {
+    step_base::reserve(step, call.request.caps.len() + 2)?;
+    route_within(step, alloc, call, node)?;
+    Ok(())
+}
+
+// The same, within room that was made.
+#[inline(always)]
+fn route_within(step: &mut Step, alloc: Global, call: WaitingCall, node: Node) -> Result<(), Memory>
+    requires ready { IsReady step.old }
+    requires slack { length call.request.caps + 2 ≤ step.old.store.slack }
+    ensures routed { OnOk result (Routes (progress_of step.old) call node (progress_of step.new)) }
+    ensures taken { OnOk result (step.new.store.waits.taken ≡ step.old.store.waits.taken) }
+    ensures ready { OnOk result (IsReady step.new) }
+{
+    let at = vat_store::settle(&step.store, node);
+    match at {
+        Node::Object(object) => deliver_if_numbered(step, alloc, call, object),
+        Node::Promise(key) => {
+            let Ok(()) = wait_for_promise(step, call, key) else {
+                return Err(Memory);
+            };
+            Ok(())
+        }
+        Node::Field(key, path) => {
+            let Ok(()) = wait_for_field(step, call, key, path) else {
+                return Err(Memory);
+            };
+            Ok(())
+        }
+        Node::Import(id) => relay(step, alloc, call, Target::ImportedCap(id)),
+        Node::Pipe(question, path) => {
+            relay(step, alloc, call, Target::PromisedAnswer(question, path))
+        }
+        Node::Broken(reason) => {
+            let exception = exception_of(reason, alloc)?;
+            end_broken_kept(step, call, exception);
+            Ok(())
+        }
+    }
+}
+
+// A call reaches an object, where there are numbers left.
+#[inline(always)]
+fn deliver_if_numbered(
+    step: &mut Step,
+    alloc: Global,
+    call: WaitingCall,
+    object: ObjectId,
+) -> Result<(), Memory>
+    requires ready { IsReady step.old }
+    requires slack { length call.request.caps + 2 ≤ step.old.store.slack }
+    ensures delivered { OnOk result (progress_of step.new ≡ deliver (progress_of step.old) call object) }
+    ensures taken { OnOk result (step.new.store.waits.taken ≡ step.old.store.waits.taken) }
+    ensures ready { OnOk result (IsReady step.new) }
+{
     let count = call.request.caps.len();
-    let lists = Lists::new(alloc, count)?;
-    step_base::reserve(step, count + 2)?;
-    let Ok(()) = route_kept(step, lists, call, node) else {
+    if !has_numbers(&step.store, count) {
+        return Err(Memory);
+    }
+    let refs = Vec::with_capacity(alloc, count)?;
+    deliver_kept(step, call, object, refs);
+    Ok(())
+}
+
+// A call goes on to a wire, with lists of its own.
+fn relay(step: &mut Step, alloc: Global, call: WaitingCall, target: Target) -> Result<(), Memory>
+    requires ready { IsReady step.old }
+    requires slack { length call.request.caps + 2 ≤ step.old.store.slack }
+    ensures relayed { OnOk result (Relays (progress_of step.old) call target (progress_of step.new)) }
+    ensures taken { OnOk result (step.new.store.waits.taken ≡ step.old.store.waits.taken) }
+    ensures ready { OnOk result (IsReady step.new) }
+{
+    let count = call.request.caps.len();
+    let said = Vec::with_capacity(alloc, count)?;
+    let given = Vec::with_capacity(alloc, count)?;
+    let Ok(()) = relay_kept(step, call, target, said, given) else {
         return Err(Memory);
     };
     Ok(())
