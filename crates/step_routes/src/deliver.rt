@@ -11,6 +11,7 @@ use vat_machine::{Request, WaitingCall};
 
 /// A call reaches an object: a new task for the application, with a new reference for each capability, whose numbers go
 /// into the list, which is empty and has room for them. Takes no memory, but one of the slack for each capability, and two.
+#[inline(always)]
 pub fn deliver_kept(step: &mut Step, call: WaitingCall, object: ObjectId, refs: Vec<RefId>)
     requires ready { IsReady step.old }
     requires slack { length call.request.caps + 2 ≤ step.old.store.slack }

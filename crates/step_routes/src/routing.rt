@@ -1,7 +1,7 @@
 ghost use Rattle.std.specs.Prelude.{◌≡◌, ◌+◌, ◌≤◌, ◌||◌, not, [], false, length, IsOk, OnOk};
 ghost use Rattle.vat_machine.specs.Fullness.{is_spent, lacks_room_at};
 ghost use Rattle.vat_machine.specs.Nodes.{settle};
-ghost use Rattle.vat_machine.specs.Routing.{deliver, Relays, Routes, RoutesAll, RoutesHeld};
+ghost use Rattle.vat_machine.specs.Routing.{deliver, Relays, RoutedTo, Routes, RoutesAll, RoutesHeld};
 ghost use Rattle.vat_waits.specs.Waiting.{calls_of};
 ghost use Rattle.vat_store.specs.Holding.{state_of};
 ghost use Rattle.vat_store.specs.Noted.{noted_of};
@@ -107,8 +107,23 @@ fn route_within(step: &mut Step, alloc: Global, call: WaitingCall, node: Node) -
     ensures ready { OnOk result (IsReady step.new) }
 {
     let at = vat_store::settle(&step.store, node);
+    let Node::Object(object) = at else {
+        return route_on(step, alloc, call, at);
+    };
+    deliver_if_numbered(step, alloc, call, object)
+}
+
+// Routes a call to a node that leads no further, and is no object.
+fn route_on(step: &mut Step, alloc: Global, call: WaitingCall, at: Node) -> Result<(), Memory>
+    requires ready { IsReady step.old }
+    requires slack { length call.request.caps + 2 ≤ step.old.store.slack }
+    ensures routed { OnOk result (RoutedTo (progress_of step.old) call at (progress_of step.new)) }
+    ensures taken { OnOk result (step.new.store.waits.taken ≡ step.old.store.waits.taken) }
+    ensures ready { OnOk result (IsReady step.new) }
+{
     match at {
-        Node::Object(object) => deliver_if_numbered(step, alloc, call, object),
+        // What reaches an object is delivered before it comes here.
+        Node::Object(_) => Err(Memory),
         Node::Promise(key) => {
             let Ok(()) = wait_for_promise(step, call, key) else {
                 return Err(Memory);
