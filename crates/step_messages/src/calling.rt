@@ -12,7 +12,7 @@ ghost use Rattle.step_messages.specs.Stopping.{Stops};
 use crate::opening::open_with;
 use crate::reading::{read_all, taken_of};
 use crate::taking::take_descriptors;
-use rpc_msg::{Call, ExportId, Items};
+use rpc_msg::{Call, ExportId, Items, QuestionId};
 use std::alloc::Global;
 use step_base::Step;
 use step_checks::{fault_before_call, fault_behind_call, faults_in_parts, target_node};
@@ -44,22 +44,21 @@ fn request_of(call: Call, caps: Items<Node>) -> Request
 fn open_for(
     step: &mut Step,
     alloc: Global,
-    call: Call,
-    caps: Items<Node>,
+    question: QuestionId,
     taken: Items<ExportId>,
+    request: Request,
     target: Node,
 ) -> Result<(), Fault>
     requires ready { IsReady step.old }
-    requires new { map.get (state_of step.old.store).answers call.question.0 ≡ None }
-    ensures opens { OnOk result (OpensFor (progress_of step.old) call.question.0 taken (with_caps call caps) target (progress_of step.new)) }
+    requires new { map.get (state_of step.old.store).answers question.0 ≡ None }
+    ensures opens { OnOk result (OpensFor (progress_of step.old) question.0 taken request target (progress_of step.new)) }
     ensures fault { IfErr result (λ f. f ≡ fault.WantOfRoom) }
     ensures taken { OnOk result (step.new.store.waits.taken ≡ step.old.store.waits.taken) }
     ensures ready { OnOk result (IsReady step.new) }
 {
-    let Ok(outcome) = open_with(step, call.question, taken) else {
+    let Ok(outcome) = open_with(step, question, taken) else {
         return Err(Fault::WantOfRoom);
     };
-    let request = request_of(call, caps);
     match route(step, alloc, WaitingCall { request, outcome }, target) {
         Ok(()) => Ok(()),
         Err(_) => Err(Fault::WantOfRoom),
@@ -88,7 +87,11 @@ pub fn take_call(step: &mut Step, alloc: Global, call: Call) -> Result<(), Fault
     };
     take_descriptors(step, call.descriptors.as_slice())?;
     match fault_behind_call(&step.store, call.target) {
-        Ok(()) => open_for(step, alloc, call, caps, taken, target),
+        Ok(()) => {
+            let question = call.question;
+            let request = request_of(call, caps);
+            open_for(step, alloc, question, taken, request, target)
+        }
         Err(fault) => Err(fault),
     }
 }
