@@ -2,15 +2,11 @@
 use Rattle.std.proofs.Common.{◌≡◌, ℕ, List, [], ◌∷◌, ◌++◌, Option, refl, ap}
 use Rattle.finite_maps.specs.Tally.{Map}
 use Rattle.rpc_msg.specs.declared.parts.Descriptor.{Descriptor}
-use Rattle.rpc_msg.specs.declared.parts.Descriptor.TheVariants as descriptor
-use Rattle.rpc_msg.specs.Messages.{given}
 use Rattle.vat_machine.specs.declared.entries.Export.{Export}
 use Rattle.vat_machine.specs.State.{State}
-use Rattle.vat_machine.specs.Progress.{export_ids}
 use Rattle.vat_machine.specs.Flags.{lower_each}
 use Rattle.vat_machine.specs.Descriptors.{read, read_all, read_beside, take_each}
 use Rattle.step_checks.specs.Parts.{fault_in_turn, flag_in_turn}
-use Rattle.step_routes.proofs.Describing.{given_more}
 
 -- ---- Reading
 

@@ -1,9 +1,8 @@
 -- A Call is taken: what its checks find, and what opens for it.
-use Rattle.std.proofs.Common.{◌≡◌, inl, inr, ℕ, List, [], ◌∷◌, not, nat_eq, length, Option, None, Some, is_some, refl, sym, ap, subst, ◌∙◌}
+use Rattle.std.proofs.Common.{◌≡◌, inl, inr, ℕ, List, not, nat_eq, length, Option, None, Some, is_some, refl, sym, ap, subst, ◌∙◌}
 use Rattle.std.specs.FinMap as map
 use Rattle.rpc_msg.specs.declared.ids.ExportId.{ExportId}
 use Rattle.rpc_msg.specs.declared.parts.Descriptor.{Descriptor}
-use Rattle.rpc_msg.specs.declared.parts.Descriptor.TheVariants as descriptor
 use Rattle.rpc_msg.specs.declared.message.Call.{Call}
 use Rattle.rpc_msg.specs.declared.message.PlainMessage.TheVariants as plain
 use Rattle.rpc_msg.specs.declared.message.Message.TheVariants as message
@@ -16,14 +15,14 @@ use Rattle.vat_machine.specs.declared.fault.Fault.{Fault}
 use Rattle.vat_machine.specs.Numbers.{fault_number, question_in_use, bad_payload}
 use Rattle.vat_machine.specs.Payloads.{caps_in}
 use Rattle.vat_machine.specs.Progress.{Progress, with_state, export_ids}
-use Rattle.vat_machine.specs.Descriptors.{read_all, take_one, take_each, take_at, take_all, taken_of}
+use Rattle.vat_machine.specs.Descriptors.{read_all, take_at, take_all, taken_of}
 use Rattle.vat_machine.specs.Faults.{target_fault, descriptors_fault, held_fault, plain_fault, target_node}
 use Rattle.vat_machine.specs.Messages.{received_request, TakesCall}
 use Rattle.step_checks.specs.Parts.{before_call}
 use Rattle.step_checks.specs.Laws.{TakingChangesNone}
 use Rattle.step_messages.specs.Parts.{OpensFor, with_caps}
 use Rattle.step_messages.specs.Stopping.{Stops}
-use Rattle.laws_acts.proofs.Alone.{one_alone, each_alone, all_alone}
+use Rattle.laws_acts.proofs.Alone.{each_alone, all_alone}
 
 -- ---- Descriptors that are taken change imports alone
 

@@ -27,7 +27,7 @@ fn take_back(step: &mut Step, id: ExportId) -> Result<(), Fault>
     let Some(_) = step.store.exports.get(id) else {
         return Err(Fault::UnknownExport);
     };
-    obey_flag(step, true, std::slice::from_ref(&id))
+    obey_flag(step, std::slice::from_ref(&id))
 }
 
 fn take_back_cap(step: &mut Step, said: Descriptor) -> Result<(), Fault>

@@ -28,6 +28,9 @@ fn obey_for_answer(step: &mut Step, alloc: Global, id: QuestionId, flag: bool) -
     ensures taken { OnOk result (step.new.store.waits.taken ≡ step.old.store.waits.taken) }
     ensures ready { OnOk result (IsReady step.new) }
 {
+    if !flag {
+        return Ok(());
+    }
     let Some(answer) = step.store.answers.get(id.0) else {
         return Ok(());
     };
@@ -37,7 +40,7 @@ fn obey_for_answer(step: &mut Step, alloc: Global, id: QuestionId, flag: bool) -
     let Ok(ids) = ids.copy(alloc) else {
         return Err(Fault::WantOfRoom);
     };
-    obey_flag(step, flag, ids.as_slice())
+    obey_flag(step, ids.as_slice())
 }
 
 /// Takes a Finish: its flag is obeyed, and its answer goes if the Return was sent. `Err` with the fault that it is, or for

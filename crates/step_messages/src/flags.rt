@@ -30,20 +30,17 @@ fn give_each(step: &mut Step, ids: &[ExportId]) -> Result<(), Fault>
     Ok(())
 }
 
-/// Obeys a release flag: where it is true, one is taken off the count of each of these exports. Takes no memory. `Err` where
-/// that takes off more than there is; the step is only to be dropped then.
-pub fn obey_flag(step: &mut Step, flag: bool, ids: &[ExportId]) -> Result<(), Fault>
+/// Obeys a true release flag: one is taken off the count of each of these exports. Takes no memory. `Err` where that takes
+/// off more than there is; the step is only to be dropped then.
+pub fn obey_flag(step: &mut Step, ids: &[ExportId]) -> Result<(), Fault>
     requires ready { IsReady step.old }
-    ensures none { OnOk result (flag_fault (state_of step.old.store) flag (numbers ids.now) ≡ None) }
-    ensures fault { IfErr result (λ f. flag_fault (state_of step.old.store) flag (numbers ids.now) ≡ Some (fault_number f)) }
-    ensures state { OnOk result (progress_of step.new ≡ with_state (progress_of step.old) (obey (state_of step.old.store) flag (numbers ids.now))) }
+    ensures none { OnOk result (flag_fault (state_of step.old.store) true (numbers ids.now) ≡ None) }
+    ensures fault { IfErr result (λ f. flag_fault (state_of step.old.store) true (numbers ids.now) ≡ Some (fault_number f)) }
+    ensures state { OnOk result (progress_of step.new ≡ with_state (progress_of step.old) (obey (state_of step.old.store) true (numbers ids.now))) }
     ensures left { OnOk result (step.new.store.slack ≡ step.old.store.slack) }
     ensures waits { OnOk result (step.new.store.waits ≡ step.old.store.waits) }
     ensures ready { OnOk result (IsReady step.new) }
 {
-    if !flag {
-        return Ok(());
-    }
     flags_in_turn();
     give_each(step, ids)
 }

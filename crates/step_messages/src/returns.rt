@@ -42,13 +42,16 @@ fn obey_for_question(
     ensures taken { OnOk result (step.new.store.waits.taken ≡ step.old.store.waits.taken) }
     ensures ready { OnOk result (IsReady step.new) }
 {
+    if !flag {
+        return Ok(());
+    }
     let Some(question) = step.store.questions.get(id) else {
         return Ok(());
     };
     let Ok(ids) = question.given.copy(alloc) else {
         return Err(Fault::WantOfRoom);
     };
-    obey_flag(step, flag, ids.as_slice())
+    obey_flag(step, ids.as_slice())
 }
 
 fn exception_of(alloc: Global, kind: ExceptionKind, text: &str) -> Result<Exception, Fault>
