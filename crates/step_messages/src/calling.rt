@@ -41,6 +41,7 @@ fn request_of(call: Call, caps: Items<Node>) -> Request
 }
 
 // The answer opens, and the call is routed.
+#[inline(always)]
 fn open_for(
     step: &mut Step,
     alloc: Global,

@@ -120,6 +120,7 @@ fn come_to(step: &mut Step, alloc: Global, id: QuestionId, said: Returned) -> Re
 /// What was said comes back for a question. Where its Finish was sent, the question goes, and nothing more comes of it; else
 /// the question keeps it, and who asked is told. Makes the room for it. `Err` for want of memory, or where there is no such
 /// question; the step is only to be dropped then.
+#[inline(always)]
 pub(crate) fn come_back(
     step: &mut Step,
     alloc: Global,

@@ -23,6 +23,7 @@ use step_checks::is_foreign;
 use vat_machine::Fault;
 
 // Sends a message back as not understood.
+#[inline(always)]
 fn send_back(step: &mut Step, message: PlainMessage) -> Result<(), Fault>
     requires { IsReady step.old }
     ensures said { OnOk result (progress_of step.new ≡ echo (progress_of step.old) message) }
