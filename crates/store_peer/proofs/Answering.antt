@@ -2,7 +2,7 @@
 use Rattle.std.proofs.Common.{◌≡◌, ◌⊎◌, inl, inr, ℕ, ◌+◌, ◌-◌, ◌≤◌, ◌<◌, Bool, true, false, nat_eq, List, [], ◌∷◌, ◌++◌, length, Option, None, Some, refl, sym, ap, subst, ◌∙◌, arith}
 use Rattle.std.specs.FinMap as map
 use Rattle.finite_maps.specs.Tally.{Map}
-use Rattle.finite_maps.proofs.Gets.{each_inserted, each_removed, remove_absent}
+use Rattle.finite_maps.proofs.Gets.{each_inserted, each_removed, insert_same, remove_absent}
 use Rattle.finite_maps.proofs.Lens.{len_new, len_same, len_fewer}
 use Rattle.finite_maps.proofs.Tested.{equal, apart}
 use Rattle.rpc_msg.specs.declared.ids.ExportId.{ExportId}
@@ -151,6 +151,14 @@ state_returned s q found old ids seen there open_still =
     ap (λ (is : List ExportId). record s { answers = map.insert s.answers q (record old { returned = Some is }) }) (sym (ids_back ids))
     ∙ ap (λ (b : Bool). record s { answers = returned_map s.answers q old b (numbers ids) }) (sym not_finished)
     ∙ ap (return_answer s q (numbers ids)) there
+
+-- An answer that is put back where it stands.
+pub same_answer : (t : Table AnswerEntry) (q : ℕ) (a : AnswerEntry) → Some a ≡ map.get t.entries q → with_entry t q a ≡ t
+same_answer t q a there = ap (λ (m : Map AnswerEntry). record t { entries = m }) (insert_same t.entries q a (sym there))
+
+-- One whose Finish came goes.
+pub state_finished : (s : State) (q : ℕ) (a : AnswerEntry) (ids : List ℕ) → Some a ≡ map.get s.answers q → a.finished ≡ true → record s { answers = map.remove s.answers q } ≡ return_answer s q ids (map.get s.answers q)
+state_finished s q a ids there is = ap (λ (b : Bool). record s { answers = returned_map s.answers q a b ids }) (sym is) ∙ ap (return_answer s q ids) there
 
 -- ---- An answer goes
 

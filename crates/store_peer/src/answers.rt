@@ -60,7 +60,7 @@ pub fn set_answer_returned(store: &mut Store, q: QuestionId, ids: Items<ExportId
     ensures waits { store.new.waits ≡ store.old.waits }
     ensures sound { IsSound store.new }
 {
-    let Some(answer) = store.answers.get(q.0) else {
+    let Some(answer) = store.answers.get_mut(q.0) else {
         store.slack -= 1;
         return;
     };
@@ -69,9 +69,6 @@ pub fn set_answer_returned(store: &mut Store, q: QuestionId, ids: Items<ExportId
         return;
     }
     unname_answer(&mut store.names, answer);
-    let Some(answer) = store.answers.get_mut(q.0) else {
-        unreachable!()
-    };
     answer.returned = Some(ids);
     store.slack -= 1;
 }
