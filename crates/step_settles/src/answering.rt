@@ -52,6 +52,7 @@ pub fn fail(
 }
 
 // The task ends, and its call has that outcome.
+#[inline(always)]
 fn end_with(step: &mut Step, alloc: Global, task: TaskId, value: Value) -> Result<(), Memory>
     requires ready { IsReady step.old }
     requires none_taken { step.old.store.waits.taken ≡ [] }
