@@ -113,7 +113,7 @@ fn route_within(step: &mut Step, alloc: Global, call: WaitingCall, node: Node) -
     deliver_if_numbered(step, alloc, call, object)
 }
 
-// Routes a call to a node that leads no further, and is no object.
+// Routes a call to a node that leads no further: seldom an object, which `route_within` looks for first.
 fn route_on(step: &mut Step, alloc: Global, call: WaitingCall, at: Node) -> Result<(), Memory>
     requires ready { IsReady step.old }
     requires slack { length call.request.caps + 2 ≤ step.old.store.slack }
@@ -122,8 +122,7 @@ fn route_on(step: &mut Step, alloc: Global, call: WaitingCall, at: Node) -> Resu
     ensures ready { OnOk result (IsReady step.new) }
 {
     match at {
-        // What reaches an object is delivered before it comes here.
-        Node::Object(_) => Err(Memory),
+        Node::Object(object) => deliver_if_numbered(step, alloc, call, object),
         Node::Promise(key) => {
             let Ok(()) = wait_for_promise(step, call, key) else {
                 return Err(Memory);
