@@ -1,8 +1,41 @@
-use Rattle.std.proofs.Common.{Bool, ℕ, List, map, sym, ap, ◌∙◌}
-use Rattle.wire_trees.specs.Trees.{struct, list, packed, pointers, structs}
-use Rattle.wire_trees.specs.Views.{bit, view, held, items_view, trees_view, structs_view}
-use Rattle.wire_trees.proofs.Viewed.{view_struct, view_list, view_bits, view_bytes, view_twos, view_fours, view_eights, view_pointers, view_structs}
+use Rattle.std.proofs.Common.{◌≡◌, Bool, ℕ, ◌+◌, ◌<◌, ◌≤◌, List, [], ◌∷◌, ◌++◌, length, map, take, get_or, sym, ap, ◌∙◌}
+use Rattle.std.proofs.lemmas.List.{map_push, take_all, take_more}
+use Rattle.wire_trees.specs.declared.tree.Fields.{Fields}
+use Rattle.wire_trees.specs.Trees.{Trees, struct, list, packed, pointers, structs}
+use Rattle.wire_trees.specs.Views.{bit, view, held, items_view, fields_view, trees_of, structs_of, trees_view, structs_view}
+use Rattle.wire_trees.proofs.Viewed.{view_fields, view_struct, view_list, view_bits, view_bytes, view_twos, view_fours, view_eights, view_pointers, view_structs}
 use Rattle.wire_trees.proofs.copy.+copy.Goals as goal
+
+-- one more copy that says what it is a copy of, and the copies of all
+copied_more : {X Y : Type 0} (f : X → Y) (more done xs : List X) (i : ℕ) (x y : X) → more ≡ done ++ y ∷ [] → i < length xs → x ≡ get_or xs i x → f y ≡ f x
+    → map f done ≡ map f (take i xs) → map f more ≡ map f (take (i + 1) xs)
+copied_more f more done xs i x y is_more lt is_x same so_far =
+    ap (map f) is_more ∙ map_push f done y ∙ ap (λ l. l ++ f y ∷ []) so_far ∙ ap (λ z. map f (take i xs) ++ z ∷ []) (same ∙ ap f is_x)
+    ∙ sym (ap (map f) (take_more xs i x lt) ∙ map_push f (take i xs) (get_or xs i x))
+
+copied_all : {X Y : Type 0} (f : X → Y) (done xs : List X) (i : ℕ) → length xs ≤ i → map f done ≡ map f (take i xs) → map f done ≡ map f xs
+copied_all f done xs i le so_far = so_far ∙ ap (map f) (take_all i xs le)
+
+fields_same : (x y : Fields) → y.words.items ≡ x.words.items → trees_view y.pointers.trees.items ≡ trees_view x.pointers.trees.items → fields_view y ≡ fields_view x
+fields_same x y words trees =
+    view_fields y ∙ ap (λ (ws : List ℕ). (ws, trees_view y.pointers.trees.items)) words ∙ ap (λ (ts : Trees). (x.words.items, ts)) trees ∙ sym (view_fields x)
+
+pub copy_pointers-loop-tree-preserved : goal.copy_pointers-loop-tree-preserved
+copy_pointers-loop-tree-preserved t c =
+    copied_more view c.push.new.self.items c.loop-tree.copies.items c.args.trees.now c.loop-tree.tree-index c.tree-item.result _ c.in_ok-push.ensures.items c.loop-tree-test.true c.tree-item.is c.in_ok-copy_tree.ensures c.loop-tree.invariant
+
+pub copy_pointers-returns : goal.copy_pointers-returns
+copy_pointers-returns t c =
+    ap trees_of (copied_all view c.loop-tree.copies.items c.args.trees.now c.loop-tree.tree-index c.loop-tree-test.false c.loop-tree.invariant)
+
+pub copy_structs-loop-item-preserved : goal.copy_structs-loop-item-preserved
+copy_structs-loop-item-preserved t c =
+    let same = fields_same c.item-item.result (record { words = c.in_ok-words.words; pointers = c.in_ok-pointers.pointers }) (c.in_ok-words.ensures.items ∙ c.as_slice.ensures.value) (c.in_ok-pointers.ensures ∙ ap trees_view c.as_slice-in-loop-item.ensures) in
+    copied_more fields_view c.push.new.self.items c.loop-item.copies.items c.args.items.now c.loop-item.item-index c.item-item.result _ c.in_ok-push.ensures.items c.loop-item-test.true c.item-item.is same c.loop-item.invariant
+
+pub copy_structs-returns : goal.copy_structs-returns
+copy_structs-returns t c =
+    ap structs_of (copied_all fields_view c.loop-item.copies.items c.args.items.now c.loop-item.item-index c.loop-item-test.false c.loop-item.invariant)
 
 pub copy_items-returns-in-Void : goal.copy_items-returns-in-Void
 copy_items-returns-in-Void t c = sym (ap items_view c.in-Void.is)
