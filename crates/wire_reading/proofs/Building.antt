@@ -1,9 +1,15 @@
 -- One more element, one more tree.
-use Rattle.std.proofs.Common.{◌≡◌, ℕ, zero, suc, ◌+◌, ◌-◌, ◌*◌, ◌/◌, ◌%◌, ◌^◌, ◌<◌, ◌≤◌, List, [], ◌∷◌, ◌++◌, get_or, refl, sym, ap, ◌∙◌, append_assoc, arith, length}
-use Rattle.std.proofs.lemmas.List.{append-nil}
+use Rattle.std.proofs.Common.{◌≡◌, ℕ, zero, suc, ◌+◌, ◌-◌, ◌*◌, ◌/◌, ◌%◌, ◌^◌, ◌<◌, ◌≤◌, List, [], ◌∷◌, ◌++◌, get_or, take, drop, refl, sym, ap, ◌∙◌, append_assoc, arith, length}
+use Rattle.std.proofs.lemmas.List.{append-nil, length-drop, get_or-drop, take_more}
 use Rattle.std.proofs.Math.Nat.{mul-le-mul_right, mod-one}
 use Rattle.std.specs.Prelude.{replicate}
 use Rattle.wire_reading.specs.Reading.{element, elements}
+
+pub words_more : (ws front : List ℕ) (start k x : ℕ) → front ≡ take k (drop start ws) → start + k < length ws → x ≡ get_or ws (start + k) 0 → front ++ x ∷ [] ≡ take (k + 1) (drop start ws)
+words_more ws front start k x so_far lt is_x =
+    let left = length-drop start ws in
+    ap (λ (l : List ℕ). l ++ x ∷ []) so_far ∙ ap (λ (y : ℕ). take k (drop start ws) ++ y ∷ []) (is_x ∙ sym (get_or-drop start ws k 0))
+    ∙ sym (take_more (drop start ws) k 0 (omega (arith, left)))
 
 pub elements_more : (ws front : List ℕ) (bits k n x : ℕ) (total : List ℕ) → k < n → x ≡ element ws bits k → front ++ elements ws bits k (n - k) ≡ total
     → (front ++ x ∷ []) ++ elements ws bits (k + 1) (n - (k + 1)) ≡ total

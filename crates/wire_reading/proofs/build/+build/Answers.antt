@@ -122,3 +122,56 @@ build_structs-loop-preserved t c =
 pub build_structs-returns : goal.build_structs-returns
 build_structs-returns t c =
     structs_over c.args.message.now (reading c.args.message.now c.args.caps c.args.levels) c.args.segment c.args.row.data_words c.args.row.pointer_words c.loop.at c.args.row.count c.loop.counter c.loop.visited (structs_view c.loop.items.items) _ c.loop.invariant.same c.loop-test.false
+
+pub build_content-words_at-requires-clause-inside : goal.build_content-words_at-requires-clause-inside
+build_content-words_at-requires-clause-inside t c =
+    let all = rw c.in-Struct.is at c.requires.inside in
+    omega (arith, all)
+
+pub build_content-words_at-requires-clause-small : goal.build_content-words_at-requires-clause-small
+build_content-words_at-requires-clause-small t c =
+    let all = rw c.in-Struct.is at c.requires.small in
+    omega (arith, all)
+
+pub build_content-overflow_add-first : goal.build_content-overflow_add-first
+build_content-overflow_add-first t c =
+    let all = rw c.in-Struct.is at c.requires.small in
+    omega (arith, all)
+
+pub build_content-packed_items-requires-clause-inside : goal.build_content-packed_items-requires-clause-inside
+build_content-packed_items-requires-clause-inside t c =
+    let all = rw c.in-Packed.is at c.requires.inside in
+    omega (arith, all)
+
+pub build_content-packed_items-requires-clause-small : goal.build_content-packed_items-requires-clause-small
+build_content-packed_items-requires-clause-small t c =
+    let all = rw c.in-Packed.is at c.requires.small in
+    omega (arith, all)
+
+pub build_structs-words_at-requires-clause-inside : goal.build_structs-words_at-requires-clause-inside
+build_structs-words_at-requires-clause-inside t c =
+    let room : (c.loop.counter + 1) * (c.args.row.data_words + c.args.row.pointer_words) ≤ c.args.row.count * (c.args.row.data_words + c.args.row.pointer_words) = mul-le-mul_right (c.args.row.data_words + c.args.row.pointer_words) (omega arith) in
+    let place = c.loop.invariant.place in
+    let all = c.requires.inside in
+    omega (arith, room, place, all)
+
+pub build_structs-words_at-requires-clause-small : goal.build_structs-words_at-requires-clause-small
+build_structs-words_at-requires-clause-small t c =
+    let room : (c.loop.counter + 1) * (c.args.row.data_words + c.args.row.pointer_words) ≤ c.args.row.count * (c.args.row.data_words + c.args.row.pointer_words) = mul-le-mul_right (c.args.row.data_words + c.args.row.pointer_words) (omega arith) in
+    let place = c.loop.invariant.place in
+    let all = c.requires.small in
+    omega (arith, room, place, all)
+
+pub build_structs-overflow_add-first : goal.build_structs-overflow_add-first
+build_structs-overflow_add-first t c =
+    let room : (c.loop.counter + 1) * (c.args.row.data_words + c.args.row.pointer_words) ≤ c.args.row.count * (c.args.row.data_words + c.args.row.pointer_words) = mul-le-mul_right (c.args.row.data_words + c.args.row.pointer_words) (omega arith) in
+    let place = c.loop.invariant.place in
+    let all = c.requires.small in
+    omega (arith, room, place, all)
+
+pub build_structs-overflow_add-at : goal.build_structs-overflow_add-at
+build_structs-overflow_add-at t c =
+    let room : (c.loop.counter + 1) * (c.args.row.data_words + c.args.row.pointer_words) ≤ c.args.row.count * (c.args.row.data_words + c.args.row.pointer_words) = mul-le-mul_right (c.args.row.data_words + c.args.row.pointer_words) (omega arith) in
+    let place = c.loop.invariant.place in
+    let all = c.requires.small in
+    omega (arith, room, place, all)

@@ -1,7 +1,7 @@
-use Rattle.std.proofs.Common.{drop, map, ◌∙◌}
+use Rattle.std.proofs.Common.{drop, map, ◌∙◌, arith}
 use Rattle.std.proofs.lemmas.List.{map_push}
 use Rattle.wire_reading.specs.Segments.{segment_of}
-use Rattle.wire_reading.proofs.Building.{elements_more, elements_done}
+use Rattle.wire_reading.proofs.Building.{elements_more, elements_done, element_inside}
 use Rattle.wire_reading.proofs.build.elements_at.Goals as goal
 
 pub loop-k-preserved : goal.loop-k-preserved
@@ -10,3 +10,15 @@ loop-k-preserved g c =
 
 pub returns : goal.returns
 returns g c = elements_done (drop c.args.start (segment_of c.args.message.now c.args.segment)) (map g.E.Element.said c.loop-k.values.items) g.E.Element.BITS c.loop-k.k c.args.count _ c.loop-k-test.false c.loop-k.invariant
+
+pub element_at-number-requires-clause-inside : goal.element_at-number-requires-clause-inside
+element_at-number-requires-clause-inside g c =
+    let before = element_inside g.E.Element.BITS c.loop-k.k c.args.count c.requires.some c.loop-k-test.true in
+    let inside = c.requires.inside in
+    rw c.BITS.ensures (omega (arith, before, inside))
+
+pub element_at-number-requires-clause-small : goal.element_at-number-requires-clause-small
+element_at-number-requires-clause-small g c =
+    let before = element_inside g.E.Element.BITS c.loop-k.k c.args.count c.requires.some c.loop-k-test.true in
+    let small = c.requires.small in
+    rw c.BITS.ensures (omega (arith, before, small))
