@@ -56,6 +56,10 @@ regroup : (front : Trees) (t : Tree) (read : Reading Trees) → with_trees front
 regroup front t (Ok x) = ap (λ (ts : Trees). read_as ts x.1) (sym (join_one front x.0 t))
 regroup front t (Err e) = refl
 
+pub with_no_trees : (read : Reading Trees) → with_trees tree.no_trees read ≡ read
+with_no_trees (Ok x) = refl
+with_no_trees (Err e) = refl
+
 pub pointers_go_on : (read : ℕ → ℕ → ℕ → Reading Tree) (s i n k v : ℕ) (front : Trees) (t : Tree) (after : ℕ) (total : Reading Trees) → k < n → read s (i + k) v ≡ Ok (t, after)
     → with_trees front (pointers_at read s (i + k) (n - k) v) ≡ total
     → with_trees (join front (tree.tree t tree.no_trees)) (pointers_at read s (i + (k + 1)) (n - (k + 1)) after) ≡ total
@@ -98,6 +102,10 @@ joined_none (tree.struct_of xs qs ts) = ap (λ (x : Structs). tree.struct_of xs 
 regroup_structs : (front : Structs) (ws : List ℕ) (ps : Trees) (read : Reading Structs) → with_structs front (read >>= λ x. Ok (tree.struct_of ws ps x.0, x.1)) ≡ with_structs (join_structs front (tree.struct_of ws ps tree.no_structs)) read
 regroup_structs front ws ps (Ok x) = ap (λ (ts : Structs). read_as ts x.1) (sym (joined_one front x.0 ws ps))
 regroup_structs front ws ps (Err e) = refl
+
+pub with_no_structs : (read : Reading Structs) → with_structs tree.no_structs read ≡ read
+with_no_structs (Ok x) = refl
+with_no_structs (Err e) = refl
 
 module _ (m : List (List ℕ)) (read : ℕ → ℕ → ℕ → Reading Tree) (s d p at n k v : ℕ) (front : Structs) (total : Reading Structs) (so_far : with_structs front (structs_at m read s d p at (n - k) v) ≡ total) where
   pub structs_go_on : (next : ℕ) (ps : Trees) (after : ℕ) → k < n → next ≡ at + (d + p) → pointers_at read s (at + d) p v ≡ Ok (ps, after)

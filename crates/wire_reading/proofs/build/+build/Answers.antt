@@ -1,10 +1,10 @@
-use Rattle.std.proofs.Common.{◌≡◌, ◌+◌, ◌-◌, ◌*◌, ◌≤◌, Ok, sym, subst, ◌∙◌, arith, rules}
+use Rattle.std.proofs.Common.{◌≡◌, ℕ, ◌+◌, ◌-◌, ◌*◌, ◌≤◌, [], Ok, sym, ap, subst, ◌∙◌, arith, rules}
 use Rattle.std.specs.Prelude.{IfOk, IsOk}
 use Rattle.std.proofs.Math.Nat.{mul-le-mul_right}
 use Rattle.wire_trees.specs.Trees.{Tree}
-use Rattle.wire_reading.specs.Reading.{Reading, reading}
+use Rattle.wire_reading.specs.Reading.{Reading, pointers_at, structs_at, reading}
 use Rattle.wire_trees.specs.Views.{held, view, trees_view, structs_view}
-use Rattle.wire_reading.proofs.Joining.{pointers_go_on, pointers_over, next_reads, structs_go_on, structs_over, next_struct_reads, trees_view_push, structs_view_push, struct_reads, pointers_read_ok, structs_read_ok, struct_is, packed_is, pointers_is, structs_is, reads_followed, reading_null, reading_capability, not_too_deep, deep_laid, deep_visited, deep_content}
+use Rattle.wire_reading.proofs.Joining.{with_no_trees, with_no_structs, pointers_go_on, pointers_over, next_reads, structs_go_on, structs_over, next_struct_reads, trees_view_push, structs_view_push, struct_reads, pointers_read_ok, structs_read_ok, struct_is, packed_is, pointers_is, structs_is, reads_followed, reading_null, reading_capability, not_too_deep, deep_laid, deep_visited, deep_content}
 use Rattle.wire_reading.proofs.Depths.{pointers_shallow, reading_shallow}
 use Rattle.wire_reading.proofs.build.+build.Goals as goal
 
@@ -175,3 +175,23 @@ build_structs-overflow_add-at t c =
     let place = c.loop.invariant.place in
     let all = c.requires.small in
     omega (arith, room, place, all)
+
+pub build_pointers-loop-k-init : goal.build_pointers-loop-k-init
+build_pointers-loop-k-init t c =
+    let read = reading c.args.message.now c.args.caps c.args.levels in
+    let none : c.new-trees.result.items ≡ [] = cc in
+    let first : c.args.start + 0 ≡ c.args.start = omega arith in
+    let all : c.args.count - 0 ≡ c.args.count = omega arith in
+    rw none (with_no_trees (pointers_at read c.args.segment (c.args.start + 0) (c.args.count - 0) c.args.visited)
+    ∙ ap (λ (i : ℕ). pointers_at read c.args.segment i (c.args.count - 0) c.args.visited) first ∙ ap (λ (n : ℕ). pointers_at read c.args.segment c.args.start n c.args.visited) all)
+
+pub build_structs-loop-init : goal.build_structs-loop-init
+build_structs-loop-init t c =
+    let read = reading c.args.message.now c.args.caps c.args.levels in
+    let none : c.new-items.result.items ≡ [] = cc in
+    let all : c.args.row.count - 0 ≡ c.args.row.count = omega arith in
+    record {
+      place = omega arith;
+      same = rw none (with_no_structs (structs_at c.args.message.now read c.args.segment c.args.row.data_words c.args.row.pointer_words c.args.row.start (c.args.row.count - 0) c.args.visited)
+          ∙ ap (λ (n : ℕ). structs_at c.args.message.now read c.args.segment c.args.row.data_words c.args.row.pointer_words c.args.row.start n c.args.visited) all);
+    }

@@ -1,4 +1,5 @@
-use Rattle.std.proofs.Common.{◌≡◌, ◌+◌, ◌-◌, Ok, sym, ◌∙◌, arith}
+use Rattle.std.proofs.Common.{◌≡◌, ◌+◌, ◌-◌, ◌*◌, ◌≤◌, Ok, sym, ◌∙◌, arith, rules}
+use Rattle.std.proofs.Math.Nat.{mul-le-mul_right}
 use Rattle.std.proofs.lemmas.Result.{err_from_is_err_and}
 use Rattle.wire_reading.specs.Reading.{reading, pointers_at, visited_of}
 use Rattle.wire_reading.proofs.Steps.{pointers_more, pointers_stop, pointers_done, structs_more, structs_stop, structs_done, reading_stop, reading_null, reading_plain, reading_too_deep, reading_unlaid, reading_heavy, reading_content, content_of-Struct, content_of-Packed, content_of-Pointers, content_of-Structs, content_of-Structs_skipped}
@@ -92,3 +93,29 @@ walk_content-returns-then-pointer_words-eq0 t c =
 pub walk_content-returns-else-pointer_words-eq0 : goal.walk_content-returns-else-pointer_words-eq0
 walk_content-returns-else-pointer_words-eq0 t c =
     rw c.in-Structs.is (c.walk_structs.ensures ∙ content_of-Structs c.args.message.now (reading c.args.message.now c.args.caps c.args.levels) c.args.segment c.args.visited c.in-Structs.start c.in-Structs.count c.in-Structs.data_words c.in-Structs.pointer_words c.in-Structs.words)
+
+pub walk_structs-walk_pointers-requires : goal.walk_structs-walk_pointers-requires
+walk_structs-walk_pointers-requires t c =
+    let room : (c.loop.counter + 1) * (c.args.row.data_words + c.args.row.pointer_words) ≤ c.args.row.count * (c.args.row.data_words + c.args.row.pointer_words) = mul-le-mul_right (c.args.row.data_words + c.args.row.pointer_words) (omega arith) in
+    let place = c.loop.invariant.place in
+    let inside = c.requires.inside in
+    let small = c.requires.small in
+    (search rules, (omega (arith, room, place, inside), omega (arith, room, place, small)))
+
+pub walk_content-walk_pointers-requires : goal.walk_content-walk_pointers-requires
+walk_content-walk_pointers-requires t c =
+    let inside = rw c.in-Struct.is at c.requires.inside in
+    let small = rw c.in-Struct.is at c.requires.small in
+    (search rules, (omega (arith, inside), omega (arith, small)))
+
+pub walk_content-walk_pointers-requires-in-Pointers : goal.walk_content-walk_pointers-requires-in-Pointers
+walk_content-walk_pointers-requires-in-Pointers t c =
+    let inside = rw c.in-Pointers.is at c.requires.inside in
+    let small = rw c.in-Pointers.is at c.requires.small in
+    (search rules, (inside, small))
+
+pub walk_content-walk_structs-requires : goal.walk_content-walk_structs-requires
+walk_content-walk_structs-requires t c =
+    let inside = rw c.in-Structs.is at c.requires.inside in
+    let small = rw c.in-Structs.is at c.requires.small in
+    (search rules, (inside, small))
