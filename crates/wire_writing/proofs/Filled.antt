@@ -156,6 +156,15 @@ zeros_fit zero i = omega arith
 zeros_fit (suc n) zero = omega arith
 zeros_fit (suc n) (suc i) = zeros_fit n i
 
+pub length-put : (ws done ds : List ℕ) (at : ℕ) → done ≡ take at ws ++ (ds ++ drop (at + length ds) ws) → at + length ds ≤ length ws → length done ≡ length ws
+length-put ws done ds at is le =
+    let a = length-append (take at ws) (ds ++ drop (at + length ds) ws) in
+    let b = length-append ds (drop (at + length ds) ws) in
+    let d = length-drop (at + length ds) ws in
+    let e = length-take-le at ws (omega arith) in
+    let f = ap length is in
+    omega (arith, a, b, d, e, f)
+
 pub length-filled : (ws P Q : List ℕ) (at : ℕ) → at + length P ≤ length ws → length (filled ws at (P, Q)) ≡ length ws + length Q
 length-filled ws P Q at le =
     let a = length-append (take at ws) (P ++ (drop (at + length P) ws ++ Q)) in

@@ -1,22 +1,25 @@
-use Rattle.std.proofs.Common.{◌≡◌, ℕ, ◌+◌, ◌-◌, ◌*◌, ◌^◌, ◌<◌, ◌≤◌, ◌++◌, Bool, true, List, map, suc, ltb, length, set, refl, sym, ap, subst, ◌∙◌, arith, rules}
+use Rattle.std.proofs.Common.{◌≡◌, ℕ, ◌+◌, ◌-◌, ◌*◌, ◌^◌, ◌<◌, ◌≤◌, ◌++◌, Bool, true, List, [], map, drop, suc, ltb, length, set, refl, sym, ap, subst, ◌∙◌, arith, rules}
 use Rattle.std.specs.Prelude.{replicate}
-use Rattle.std.proofs.lemmas.List.{length-set, length-map, length-replicate, length-append, map-id}
+use Rattle.std.proofs.lemmas.List.{length-set, length-map, length-replicate, length-append, length_push, drop_all, append-nil, map-id}
 use Rattle.std.proofs.lemmas.Bool.{not-false, or_parts, ltb-false}
 use Rattle.wire_trees.specs.declared.width.Width.TheVariants as width
 use Rattle.wire_trees.specs.declared.tree.Items.{the_lemmas}
+use Rattle.wire_trees.specs.declared.tree.Fields.{Fields}
+use Rattle.wire_trees.specs.declared.tree.Tree as program
 use Rattle.wire_trees.specs.Trees as tree
 use Rattle.wire_trees.specs.Trees.{Tree, Elements, trees_count, structs_count}
 use Rattle.wire_trees.specs.Views.{bit, view, items_view, trees_view, structs_view}
-use Rattle.wire_writing.specs.Placing.{placed, placed_all}
-use Rattle.wire_writing.specs.Fitting.{FitsList}
+use Rattle.wire_writing.specs.Placing.{packed_words, placed, placed_all, placed_structs}
+use Rattle.wire_writing.specs.Fitting.{Fits, FitsAll, FitsList, FitsStructs}
+use Rattle.wire_trees.specs.Widths.{packed_size}
 use Rattle.wire_trees.specs.Writable.{parts, parts_of_all, parts_of_structs, are_even}
-use Rattle.wire_writing.specs.Laying.{HaveSizes}
+use Rattle.wire_writing.specs.Laying.{HaveSizes, filled}
 use Rattle.wire_writing.proofs.Lengths.{length-placed_all}
 use Rattle.wire_trees.proofs.Counts.{trees_counted, structs_counted}
-use Rattle.wire_writing.proofs.Filled.{zeros_fit, length-filled}
+use Rattle.wire_writing.proofs.Filled.{zeros_fit, filled_none, length-filled, length-put}
 use Rattle.wire_writing.proofs.Laid.{on_ok, on_result, fields_placed, pointers_placed, list_placed, struct_placed, few_structs}
 use Rattle.wire_writing.proofs.Sized.{taken, taken_by, taken_by_all, trees_sizes, trees_taken, trees_fit, trees_placed, structs_sizes, structs_taken, structs_fit, structs_even, structs_placed}
-use Rattle.wire_trees.proofs.Viewed.{view_struct, view_void, view_bits, view_bytes, view_twos, view_fours, view_eights, view_pointers, view_structs}
+use Rattle.wire_trees.proofs.Viewed.{view_null, view_capability, view_struct, view_list, view_void, view_bits, view_bytes, view_twos, view_fours, view_eights, view_pointers, view_structs}
 use Rattle.wire_writing.proofs.place.+place.Goals as goal
 
 pub place_fields-returns-clause-placed : goal.place_fields-returns-clause-placed
@@ -384,3 +387,94 @@ pub place_items-returns-in-Eights-clause-fits : goal.place_items-returns-in-Eigh
 place_items-returns-in-Eights-clause-fits t c =
     let e = ap items_view c.in-Eights.is ∙ view_eights c.in-Eights.eights ∙ ap (tree.packed 64) (sym c.as_slice-in-Eights.ensures.value) in
     on_result c.place_eights.result (subst FitsList (sym e) ((width.EightBytes, refl), c.place_eights.ensures.fit))
+
+pub place_items-returns-in-Void-clause-placed : goal.place_items-returns-in-Void-clause-placed
+place_items-returns-in-Void-clause-placed t c =
+    let e = ap items_view c.in-Void.is ∙ view_void c.in-Void.count in
+    let zeros = replicate {A = ℕ} c.in-Void.count 0 in
+    let none : packed_size 0 (length zeros) ≡ 0 = omega arith in
+    rw e (sym (ap (λ (k : ℕ). c.args.words.now.items ++ packed_words 0 k zeros) none ∙ append-nil c.args.words.now.items))
+
+pub place_tree-returns-in-Null-clause-word : goal.place_tree-returns-in-Null-clause-word
+place_tree-returns-in-Null-clause-word t c =
+    sym (ap (λ (u : Tree). (placed u c.args.at (length c.args.words.now.items)).0) (ap view c.in-Null.is ∙ view_null))
+
+pub place_tree-returns-in-Null-clause-placed : goal.place_tree-returns-in-Null-clause-placed
+place_tree-returns-in-Null-clause-placed t c =
+    sym (ap (λ (u : Tree). c.args.words.now.items ++ (placed u c.args.at (length c.args.words.now.items)).1) (ap view c.in-Null.is ∙ view_null) ∙ append-nil c.args.words.now.items)
+
+pub place_tree-returns-in-Cap-clause-word : goal.place_tree-returns-in-Cap-clause-word
+place_tree-returns-in-Cap-clause-word t c =
+    c.word_of_capability.ensures ∙ sym (ap (λ (u : Tree). (placed u c.args.at (length c.args.words.now.items)).0) (ap view c.in-Cap.is ∙ view_capability c.in-Cap.index))
+
+pub place_tree-returns-in-Cap-clause-placed : goal.place_tree-returns-in-Cap-clause-placed
+place_tree-returns-in-Cap-clause-placed t c =
+    sym (ap (λ (u : Tree). c.args.words.now.items ++ (placed u c.args.at (length c.args.words.now.items)).1) (ap view c.in-Cap.is ∙ view_capability c.in-Cap.index) ∙ append-nil c.args.words.now.items)
+
+pub place_tree-returns-in-List-clause-word : goal.place_tree-returns-in-List-clause-word
+place_tree-returns-in-List-clause-word t c =
+    let e = ap view c.in-List.is ∙ view_list c.in-List.items in
+    rw e c.place_items.ensures.word
+
+pub place_tree-returns-in-List-clause-placed : goal.place_tree-returns-in-List-clause-placed
+place_tree-returns-in-List-clause-placed t c =
+    let e = ap view c.in-List.is ∙ view_list c.in-List.items in
+    rw e c.place_items.ensures.placed
+
+pub place_tree-returns-in-List-clause-fits : goal.place_tree-returns-in-List-clause-fits
+place_tree-returns-in-List-clause-fits t c =
+    let e = ap view c.in-List.is ∙ view_list c.in-List.items in
+    rw e c.place_items.ensures.fits
+
+pub place_trees-returns-clause-placed : goal.place_trees-returns-clause-placed
+place_trees-returns-clause-placed t c =
+    let inv = c.loop-tree.invariant in
+    let ws = c.loop-tree.words.items in
+    sym (filled_none ws c.loop-tree.slot (omega (arith, inv.inside)))
+    ∙ sym (ap (λ (us : List program.Tree). filled ws c.loop-tree.slot (placed_all (trees_view us) c.loop-tree.slot (length ws))) (drop_all c.loop-tree.tree-index c.args.trees.now c.loop-tree-test.false))
+    ∙ inv.same
+
+pub place_structs-returns-clause-placed : goal.place_structs-returns-clause-placed
+place_structs-returns-clause-placed t c =
+    let inv = c.loop-item.invariant in
+    let ws = c.loop-item.words.items in
+    sym (filled_none ws c.loop-item.slot (omega (arith, inv.inside)))
+    ∙ sym (ap (λ (us : List Fields). filled ws c.loop-item.slot (placed_structs (structs_view us) c.loop-item.slot (length ws))) (drop_all c.loop-item.item-index c.args.items.now c.loop-item-test.false))
+    ∙ inv.same
+
+pub place_trees-index_mut-requires : goal.place_trees-index_mut-requires
+place_trees-index_mut-requires t c =
+    let size = ap length c.in_ok-word.ensures.placed ∙ length-append c.loop-tree.words.items (placed (view c.tree-item.result) c.loop-tree.slot (length c.loop-tree.words.items)).1 in
+    let inside = c.loop-tree.invariant.inside in
+    omega (arith, size, inside)
+
+pub place_tree-place_items-requires : goal.place_tree-place_items-requires
+place_tree-place_items-requires t c =
+    let e = ap view c.in-List.is ∙ view_list c.in-List.items in
+    let sizes = subst (λ (u : Tree). HaveSizes (parts u 0)) e c.requires.sizes in
+    let room = subst (λ (u : Tree). length c.args.words.now.items + taken (parts u 0) ≤ 65536) e c.requires.room in
+    (search (rules, the_lemmas), (c.requires.ahead, (sizes, room)))
+
+pub place_fields-place_trees-requires : goal.place_fields-place_trees-requires
+place_fields-place_trees-requires t c =
+    let inside = c.requires.inside in
+    let size = length-put c.args.words.now.items c.put.new.words.items c.args.section.now c.args.at c.put.ensures (omega (arith, inside)) in
+    (search (rules, the_lemmas), (rw size inside, (c.requires.sizes, rw size c.requires.room)))
+
+pub place_pointers-place_trees-requires : goal.place_pointers-place_trees-requires
+place_pointers-place_trees-requires t c =
+    let size = ap length c.in_ok-push_zeros.ensures ∙ length-append c.args.words.now.items (replicate {A = ℕ} (length c.args.trees.now) 0) in
+    let count = length-replicate {A = ℕ} (length c.args.trees.now) 0 in
+    let room = c.requires.room in
+    (search (rules, the_lemmas), (omega (arith, size, count), (c.requires.sizes, omega (arith, size, count, room))))
+
+pub place_list-place_structs-requires : goal.place_list-place_structs-requires
+place_list-place_structs-requires t c =
+    let count = length c.args.items.now * (c.from.result + c.from-2.result) in
+    let step : c.from.result + c.from-2.result ≡ c.args.data_words + c.args.pointer_words = omega arith in
+    let same = ap (λ (k : ℕ). length c.args.items.now * k) step in
+    let tag = ap length c.in_ok-push.ensures.items ∙ length_push c.args.words.now.items c.word_of_struct-tag.result in
+    let size = ap length c.in_ok-push_zeros.ensures ∙ length-append c.push.new.self.items (replicate {A = ℕ} count 0) in
+    let zeros = length-replicate {A = ℕ} count 0 in
+    let room = c.requires.room in
+    (search (rules, the_lemmas), (c.requires.even, (omega (arith, same, tag, size, zeros), (c.requires.sizes, omega (arith, same, tag, size, zeros, room)))))
