@@ -1,7 +1,8 @@
-use Rattle.std.proofs.Common.{◌≡◌, ℕ, ◌*◌, ◌/◌, length, map, take, drop, min, sym, ap, subst, ◌∙◌, arith}
-use Rattle.std.proofs.lemmas.List.{length-map, take-map, drop-map}
+use Rattle.std.proofs.Common.{◌≡◌, ℕ, ◌*◌, ◌/◌, ◌≤◌, length, map, take, drop, min, sym, ap, subst, ◌∙◌, arith}
+use Rattle.std.proofs.lemmas.List.{length-map, length-take, take-map, drop-map}
+use Rattle.std.proofs.Math.Nat.{mul-le-mul_right}
 use Rattle.wire_trees.specs.Widths.{AreOf, packed_size}
-use Rattle.wire_writing.proofs.Filled.{are_take, are_drop, packed_more}
+use Rattle.wire_writing.proofs.Filled.{are_take, are_drop, packed_more, packed_done}
 use Rattle.wire_writing.proofs.place.push_packed.Goals as goal
 
 pub joined_word-requires-clause-fit : goal.joined_word-requires-clause-fit
@@ -26,3 +27,20 @@ loop-preserved g c =
       same = rw (c.in_ok-push.ensures.items, c.joined_word.ensures)
           (packed_more bits (64 / c.from-per.result) (packed_size bits (length c.args.elements.now)) c.loop.counter c.min.result c.loop.words.items rest (said c.split_at.result.0.now) (said c.split_at.result.1.now) _ fills (omega (arith, product)) at_min front back c.loop.invariant.same);
     }
+
+pub joined_word-requires-clause-few : goal.joined_word-requires-clause-few
+joined_word-requires-clause-few g c =
+    let bits = g.E.Element.BITS in
+    let fills : 64 / c.from-per.result ≡ 64 / bits = ap (λ (b : ℕ). 64 / b) (c.from-per.ensures ∙ c.BITS.ensures) in
+    let front = ap length c.split_at.ensures.front ∙ length-take c.min.result c.loop.rest.now in
+    let most = c.min.ensures in
+    let few : length c.split_at.result.0.now ≤ 64 / bits = omega (arith, fills, front, most) in
+    let whole = c.requires.whole in
+    let room = mul-le-mul_right bits few in
+    omega (arith, room, whole)
+
+pub returns-clause-items : goal.returns-clause-items
+returns-clause-items g c =
+    let bits = g.E.Element.BITS in
+    let product : length c.args.elements.now * c.from.result ≡ length c.args.elements.now * bits = ap (λ (b : ℕ). length c.args.elements.now * b) (c.from.ensures ∙ c.BITS-2.ensures) in
+    packed_done bits (packed_size bits (length c.args.elements.now)) c.loop.counter c.loop.words.items (map g.E.Element.said c.loop.rest.now) _ (omega (arith, product)) c.loop.invariant.same
