@@ -1,4 +1,4 @@
-use Rattle.std.proofs.Common.{◌≡◌, ℕ, ◌+◌, ◌-◌, ◌*◌, ◌^◌, ◌<◌, ◌≤◌, ◌++◌, Bool, true, List, [], map, drop, suc, ltb, length, set, refl, sym, ap, subst, ◌∙◌, arith, rules}
+use Rattle.std.proofs.Common.{◌≡◌, ℕ, ◌+◌, ◌-◌, ◌*◌, ◌^◌, ◌<◌, ◌≤◌, ◌++◌, Bool, true, List, map, suc, ltb, length, set, refl, sym, ap, subst, ◌∙◌, arith, rules}
 use Rattle.std.specs.Prelude.{replicate}
 use Rattle.std.proofs.lemmas.List.{length-set, length-map, length-replicate, length-append, length_push, drop_all, append-nil, map-id}
 use Rattle.std.proofs.lemmas.Bool.{not-false, or_parts, ltb-false}
@@ -10,7 +10,7 @@ use Rattle.wire_trees.specs.Trees as tree
 use Rattle.wire_trees.specs.Trees.{Tree, Elements, trees_count, structs_count}
 use Rattle.wire_trees.specs.Views.{bit, view, items_view, trees_view, structs_view}
 use Rattle.wire_writing.specs.Placing.{packed_words, placed, placed_all, placed_structs}
-use Rattle.wire_writing.specs.Fitting.{Fits, FitsAll, FitsList, FitsStructs}
+use Rattle.wire_writing.specs.Fitting.{FitsList}
 use Rattle.wire_trees.specs.Widths.{packed_size}
 use Rattle.wire_trees.specs.Writable.{parts, parts_of_all, parts_of_structs, are_even}
 use Rattle.wire_writing.specs.Laying.{HaveSizes, filled}

@@ -1,4 +1,5 @@
-use Rattle.std.proofs.Common.{length, arith}
+use Rattle.std.proofs.Common.{◌≡◌, length, refl, ◌∙◌, arith}
+use Rattle.std.proofs.lemmas.List.{length-map}
 use Rattle.wire_writing.proofs.Laid.{few_elements, small_number}
 use Rattle.wire_writing.proofs.place.place_packed.Goals as goal
 
@@ -7,3 +8,13 @@ word_of_list-requires-clause-size g c = let h = small_number g.E.Element.BITS in
 
 pub word_of_list-requires-clause-count : goal.word_of_list-requires-clause-count
 word_of_list-requires-clause-count g c = let h = few_elements g.E.Element.BITS (length c.args.elements.now) c.requires.some (omega arith) in omega (arith, h)
+
+pub returns-clause-word : goal.returns-clause-word
+returns-clause-word g c =
+    let count = length-map c.args.elements.now g.E.Element.said in
+    let is_next : c.len-next.result ≡ length c.args.words.now.items = omega arith in
+    c.word_of_list.ensures ∙ rw (c.distance.ensures, is_next, c.requires.size, count) refl
+
+pub returns-clause-placed : goal.returns-clause-placed
+returns-clause-placed g c =
+    rw (length-map c.args.elements.now g.E.Element.said) c.in_ok-push_packed.ensures.items
