@@ -2,3 +2,4 @@ pub mod Parts
 pub mod Messages
 pub mod Values
 pub mod Fits
+pub mod Members

@@ -5,6 +5,7 @@ mod line;
 mod version;
 mod write_entries;
 mod write_lists;
+mod write_members;
 mod write_messages;
 mod write_parts;
 

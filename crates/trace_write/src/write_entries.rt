@@ -6,20 +6,27 @@ ghost use Rattle.trace_write.specs.Fits.{FitsOrigin, FitsMade, FitsDelivery, Fit
 
 use crate::version::TraceVersion;
 use crate::write_lists::write_list;
+use crate::write_members::{Leaf, add_member, write_flat, write_leaves};
 use crate::write_messages::write_message;
 use crate::write_parts::{
     name_of_advanced, name_of_vat, write_counts, write_exception, write_origin, write_outcome,
     write_payload, write_stamp,
 };
 use rpc_msg::{CallId, Exception, Message, PromiseId, RefId, TaskId, Vat};
-use serde_json::{Value, json};
+use serde_json::{Value, json, put};
 use std::alloc::{AllocError, Global};
 use vat_journal::{Advanced, Counts, Delivery, Ended, JournalEntry, MadeCall, Origin, Outcome};
 
 fn write_head(alloc: Global, version: TraceVersion) -> Result<Value, AllocError>
     ensures { IfOk result (λ v. view v ≡ head_data version) }
 {
-    json!(in alloc; {"k": "head", "version": version.number()})
+    write_flat(
+        alloc,
+        &[
+            ("k", Leaf::Text("head")),
+            ("version", Leaf::Number(version.number())),
+        ],
+    )
 }
 
 fn write_born(
@@ -31,19 +38,29 @@ fn write_born(
     ensures is { IfOk result (λ v. view v ≡ born_data vat reference origin.now) }
     ensures fits { OnOk result (FitsOrigin origin.now) }
 {
-    let origin = write_origin(alloc, origin)?;
-    json!(in alloc; {
-        "k": "born",
-        "origin": origin,
-        "ref": reference.0,
-        "vat": name_of_vat(vat)
-    })
+    let mut object = write_leaves(
+        alloc,
+        &[
+            ("k", Leaf::Text("born")),
+            ("ref", Leaf::Number(reference.0)),
+            ("vat", Leaf::Text(name_of_vat(vat))),
+        ],
+    )?;
+    put(&mut object, alloc, "origin", write_origin(alloc, origin)?)?;
+    Ok(Value::Object(object))
 }
 
 fn write_asked(alloc: Global, vat: Vat, call: CallId) -> Result<Value, AllocError>
     ensures { IfOk result (λ v. view v ≡ asked_data vat call) }
 {
-    json!(in alloc; {"call": call.0, "k": "asked", "vat": name_of_vat(vat)})
+    write_flat(
+        alloc,
+        &[
+            ("call", Leaf::Number(call.0)),
+            ("k", Leaf::Text("asked")),
+            ("vat", Leaf::Text(name_of_vat(vat))),
+        ],
+    )
 }
 
 fn write_made(alloc: Global, vat: Vat, made: &MadeCall) -> Result<Value, AllocError>
@@ -95,30 +112,49 @@ fn write_answered(
     ensures is { IfOk result (λ v. view v ≡ answered_by in_base64 vat task outcome.now refs.now) }
     ensures fits { OnOk result (FitsOutcome outcome.now) }
 {
-    let outcome = write_outcome(alloc, outcome)?;
-    let refs = write_list(alloc, refs)?;
-    json!(in alloc; {
-        "k": "answered",
-        "outcome": outcome,
-        "refs": refs,
-        "task": task.0,
-        "vat": name_of_vat(vat)
-    })
+    let mut object = write_leaves(
+        alloc,
+        &[
+            ("k", Leaf::Text("answered")),
+            ("task", Leaf::Number(task.0)),
+            ("vat", Leaf::Text(name_of_vat(vat))),
+        ],
+    )?;
+    put(
+        &mut object,
+        alloc,
+        "outcome",
+        write_outcome(alloc, outcome)?,
+    )?;
+    put(&mut object, alloc, "refs", write_list(alloc, refs)?)?;
+    Ok(Value::Object(object))
 }
 
 fn write_ended(alloc: Global, vat: Vat, ended: &Ended) -> Result<Value, AllocError>
     ensures is { IfOk result (λ v. view v ≡ ended_by in_base64 vat ended.now) }
     ensures fits { OnOk result (FitsOutcome ended.now.outcome) }
 {
-    let outcome = write_outcome(alloc, &ended.outcome)?;
-    let refs = write_list(alloc, ended.refs.as_slice())?;
-    json!(in alloc; {
-        "call": ended.call.0,
-        "k": "ended",
-        "outcome": outcome,
-        "refs": refs,
-        "vat": name_of_vat(vat)
-    })
+    let mut object = write_leaves(
+        alloc,
+        &[
+            ("call", Leaf::Number(ended.call.0)),
+            ("k", Leaf::Text("ended")),
+            ("vat", Leaf::Text(name_of_vat(vat))),
+        ],
+    )?;
+    put(
+        &mut object,
+        alloc,
+        "outcome",
+        write_outcome(alloc, &ended.outcome)?,
+    )?;
+    put(
+        &mut object,
+        alloc,
+        "refs",
+        write_list(alloc, ended.refs.as_slice())?,
+    )?;
+    Ok(Value::Object(object))
 }
 
 fn write_resolved(
@@ -129,12 +165,15 @@ fn write_resolved(
 ) -> Result<Value, AllocError>
     ensures { IfOk result (λ v. view v ≡ resolved_promise_data vat promise reference) }
 {
-    json!(in alloc; {
-        "k": "resolved",
-        "promise": promise.0,
-        "ref": reference.0,
-        "vat": name_of_vat(vat)
-    })
+    write_flat(
+        alloc,
+        &[
+            ("k", Leaf::Text("resolved")),
+            ("promise", Leaf::Number(promise.0)),
+            ("ref", Leaf::Number(reference.0)),
+            ("vat", Leaf::Text(name_of_vat(vat))),
+        ],
+    )
 }
 
 fn write_rejected(
@@ -145,25 +184,42 @@ fn write_rejected(
 ) -> Result<Value, AllocError>
     ensures { IfOk result (λ v. view v ≡ rejected_data vat promise exception.now) }
 {
+    let members = write_leaves(
+        alloc,
+        &[
+            ("k", Leaf::Text("rejected")),
+            ("promise", Leaf::Number(promise.0)),
+            ("vat", Leaf::Text(name_of_vat(vat))),
+        ],
+    )?;
     let exception = write_exception(alloc, exception)?;
-    json!(in alloc; {
-        "exception": exception,
-        "k": "rejected",
-        "promise": promise.0,
-        "vat": name_of_vat(vat)
-    })
+    add_member(members, alloc, "exception", exception)
 }
 
 fn write_dropped(alloc: Global, vat: Vat, reference: RefId) -> Result<Value, AllocError>
     ensures { IfOk result (λ v. view v ≡ dropped_data vat reference) }
 {
-    json!(in alloc; {"k": "dropped", "ref": reference.0, "vat": name_of_vat(vat)})
+    write_flat(
+        alloc,
+        &[
+            ("k", Leaf::Text("dropped")),
+            ("ref", Leaf::Number(reference.0)),
+            ("vat", Leaf::Text(name_of_vat(vat))),
+        ],
+    )
 }
 
 fn write_finished(alloc: Global, vat: Vat, call: CallId) -> Result<Value, AllocError>
     ensures { IfOk result (λ v. view v ≡ finished_data vat call) }
 {
-    json!(in alloc; {"call": call.0, "k": "finished", "vat": name_of_vat(vat)})
+    write_flat(
+        alloc,
+        &[
+            ("call", Leaf::Number(call.0)),
+            ("k", Leaf::Text("finished")),
+            ("vat", Leaf::Text(name_of_vat(vat))),
+        ],
+    )
 }
 
 fn write_advanced(
@@ -174,19 +230,29 @@ fn write_advanced(
 ) -> Result<Value, AllocError>
     ensures { IfOk result (λ v. view v ≡ advanced_data vat reference advanced) }
 {
-    json!(in alloc; {
-        "answer": name_of_advanced(advanced),
-        "k": "advanced",
-        "ref": reference.0,
-        "vat": name_of_vat(vat)
-    })
+    write_flat(
+        alloc,
+        &[
+            ("answer", Leaf::Text(name_of_advanced(advanced))),
+            ("k", Leaf::Text("advanced")),
+            ("ref", Leaf::Number(reference.0)),
+            ("vat", Leaf::Text(name_of_vat(vat))),
+        ],
+    )
 }
 
 fn write_refused(alloc: Global, vat: Vat, code: u16) -> Result<Value, AllocError>
     ensures is { IfOk result (λ v. view v ≡ refused_data vat code) }
     ensures fits { OnOk result (FitsU16 code) }
 {
-    json!(in alloc; {"code": code, "k": "refused", "vat": name_of_vat(vat)})
+    write_flat(
+        alloc,
+        &[
+            ("code", Leaf::Number(u64::from(code))),
+            ("k", Leaf::Text("refused")),
+            ("vat", Leaf::Text(name_of_vat(vat))),
+        ],
+    )
 }
 
 fn write_sent(
@@ -198,30 +264,49 @@ fn write_sent(
     ensures is { IfOk result (λ v. view v ≡ sent_by version in_base64 vat message.now) }
     ensures fits { OnOk result (FitsMessage TraceVersion.Two message.now) }
 {
+    let leaves = &[
+        ("k", Leaf::Text("sent")),
+        ("vat", Leaf::Text(name_of_vat(vat))),
+    ];
+    let members = write_leaves(alloc, leaves)?;
     let message = write_message(alloc, message, version)?;
-    json!(in alloc; {"k": "sent", "message": message, "vat": name_of_vat(vat)})
+    add_member(members, alloc, "message", message)
 }
 
 fn write_got(alloc: Global, vat: Vat) -> Result<Value, AllocError>
     ensures { IfOk result (λ v. view v ≡ got_data vat) }
 {
-    json!(in alloc; {"k": "got", "vat": name_of_vat(vat)})
+    write_flat(
+        alloc,
+        &[
+            ("k", Leaf::Text("got")),
+            ("vat", Leaf::Text(name_of_vat(vat))),
+        ],
+    )
 }
 
 fn write_down(alloc: Global, vat: Vat, fault: u16) -> Result<Value, AllocError>
     ensures is { IfOk result (λ v. view v ≡ down_data vat fault) }
     ensures fits { OnOk result (FitsU16 fault) }
 {
-    json!(in alloc; {"fault": fault, "k": "down", "vat": name_of_vat(vat)})
+    write_flat(
+        alloc,
+        &[
+            ("fault", Leaf::Number(u64::from(fault))),
+            ("k", Leaf::Text("down")),
+            ("vat", Leaf::Text(name_of_vat(vat))),
+        ],
+    )
 }
 
 fn write_tables(alloc: Global, a: &Counts, b: &Counts) -> Result<Value, AllocError>
     ensures is { IfOk result (λ v. view v ≡ tables_data a.now b.now) }
     ensures fits { OnOk result (FitsCounts a.now × FitsCounts b.now) }
 {
-    let a = write_counts(alloc, a)?;
+    let mut members = write_leaves(alloc, &[("k", Leaf::Text("tables"))])?;
+    put(&mut members, alloc, "a", write_counts(alloc, a)?)?;
     let b = write_counts(alloc, b)?;
-    json!(in alloc; {"a": a, "b": b, "k": "tables"})
+    add_member(members, alloc, "b", b)
 }
 
 pub(crate) fn write_entry(

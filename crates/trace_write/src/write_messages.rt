@@ -6,6 +6,7 @@ ghost use Rattle.trace_write.specs.Fits.{FitsCall, FitsBody, FitsReturn, FitsFin
 
 use crate::version::TraceVersion;
 use crate::write_lists::{Part, write_list};
+use crate::write_members::{Leaf, add_member, write_leaves};
 use crate::write_parts::{
     write_exception, write_number, write_only, write_payload, write_stamp, write_target,
 };
@@ -13,7 +14,7 @@ use rpc_msg::{
     Call, Disembargo, DisembargoContext, Finish, Message, PlainMessage, Release, Resolve,
     ResolvedTo, Return, ReturnBody,
 };
-use serde_json::{Value, json};
+use serde_json::{Map, Value, json, put};
 use std::alloc::{AllocError, Global};
 
 fn write_call(alloc: Global, call: &Call) -> Result<Value, AllocError>
@@ -73,11 +74,12 @@ fn write_finish(alloc: Global, finish: &Finish, version: TraceVersion) -> Result
     ensures is { IfOk result (λ v. view v ≡ finish_data version finish.now) }
     ensures fits { OnOk result (FitsFinish TraceVersion.Two finish.now) }
 {
-    let question = finish.question.0;
-    let flag = finish.release_result_caps;
+    let question = Leaf::Number(u64::from(finish.question.0));
+    let members = write_leaves(alloc, &[("question", question)])?;
+    let flag = Value::Bool(finish.release_result_caps);
     match version {
-        TraceVersion::One => json!(in alloc; {"question": question, "release": flag}),
-        TraceVersion::Two => json!(in alloc; {"question": question, "releaseResultCaps": flag}),
+        TraceVersion::One => add_member(members, alloc, "release", flag),
+        TraceVersion::Two => add_member(members, alloc, "releaseResultCaps", flag),
     }
 }
 
@@ -126,9 +128,15 @@ fn write_disembargo(alloc: Global, disembargo: &Disembargo) -> Result<Value, All
     ensures is { IfOk result (λ v. view v ≡ disembargo_data disembargo.now) }
     ensures fits { OnOk result (FitsDisembargo disembargo.now) }
 {
-    let context = write_context(alloc, &disembargo.context)?;
+    let mut members = Map::new(alloc);
+    put(
+        &mut members,
+        alloc,
+        "context",
+        write_context(alloc, &disembargo.context)?,
+    )?;
     let target = write_target(alloc, &disembargo.target)?;
-    json!(in alloc; {"context": context, "target": target})
+    add_member(members, alloc, "target", target)
 }
 
 fn write_plain(

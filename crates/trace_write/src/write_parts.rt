@@ -4,6 +4,7 @@ ghost use Rattle.trace_write.specs.Parts.{nat, only, vat_name, kind_name, advanc
 ghost use Rattle.trace_write.specs.Fits.{FitsU32, FitsAll, FitsOp, FitsTarget, FitsPayload, FitsOutcome, FitsOrigin, FitsCounts};
 
 use crate::write_lists::write_list;
+use crate::write_members::{Leaf, add_member, write_flat, write_leaves};
 use base64::engine::general_purpose::STANDARD;
 use rpc_msg::{Exception, ExceptionKind, Op, Payload, QuestionId, Stamp, Target, Vat};
 use serde_json::{Map, Value, json, put};
@@ -66,8 +67,9 @@ pub(crate) fn write_answer_place(
     ensures is { IfOk result (λ v. view v ≡ answer_data question path.now) }
     ensures fits { OnOk result (FitsU32 question.0 × FitsAll FitsOp path.now) }
 {
+    let members = write_leaves(alloc, &[("question", Leaf::Number(u64::from(question.0)))])?;
     let path = write_list(alloc, path)?;
-    json!(in alloc; {"path": path, "question": question.0})
+    add_member(members, alloc, "path", path)
 }
 
 pub(crate) fn write_target(alloc: Global, target: &Target) -> Result<Value, AllocError>
@@ -86,11 +88,14 @@ pub(crate) fn write_target(alloc: Global, target: &Target) -> Result<Value, Allo
 pub(crate) fn write_stamp(alloc: Global, stamp: &Stamp) -> Result<Value, AllocError>
     ensures { IfOk result (λ v. view v ≡ stamp_data stamp.now) }
 {
-    json!(in alloc; {
-        "index": stamp.index,
-        "ref": stamp.reference.0,
-        "vat": name_of_vat(stamp.vat)
-    })
+    write_flat(
+        alloc,
+        &[
+            ("index", Leaf::Number(stamp.index)),
+            ("ref", Leaf::Number(stamp.reference.0)),
+            ("vat", Leaf::Text(name_of_vat(stamp.vat))),
+        ],
+    )
 }
 
 pub(crate) fn write_payload(alloc: Global, payload: &Payload) -> Result<Value, AllocError>
@@ -105,7 +110,13 @@ pub(crate) fn write_payload(alloc: Global, payload: &Payload) -> Result<Value, A
 pub(crate) fn write_exception(alloc: Global, exception: &Exception) -> Result<Value, AllocError>
     ensures { IfOk result (λ v. view v ≡ exception_data exception.now) }
 {
-    json!(in alloc; {"kind": name_of_kind(exception.kind), "reason": exception.reason.as_str()})
+    write_flat(
+        alloc,
+        &[
+            ("kind", Leaf::Text(name_of_kind(exception.kind))),
+            ("reason", Leaf::Text(exception.reason.as_str())),
+        ],
+    )
 }
 
 pub(crate) fn write_outcome(alloc: Global, outcome: &Outcome) -> Result<Value, AllocError>
@@ -144,7 +155,13 @@ pub(crate) fn write_counts(alloc: Global, counts: &Counts) -> Result<Value, Allo
     ensures is { IfOk result (λ v. view v ≡ counts_data counts.now) }
     ensures fits { OnOk result (FitsCounts counts.now) }
 {
-    let exports = write_list(alloc, counts.exports.as_slice())?;
+    let mut members = Map::new(alloc);
+    put(
+        &mut members,
+        alloc,
+        "exports",
+        write_list(alloc, counts.exports.as_slice())?,
+    )?;
     let imports = write_list(alloc, counts.imports.as_slice())?;
-    json!(in alloc; {"exports": exports, "imports": imports})
+    add_member(members, alloc, "imports", imports)
 }
