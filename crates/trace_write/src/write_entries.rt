@@ -13,7 +13,7 @@ use crate::write_parts::{
     write_payload, write_stamp,
 };
 use rpc_msg::{CallId, Exception, Message, PromiseId, RefId, TaskId, Vat};
-use serde_json::{Value, json, put};
+use serde_json::{Value, put};
 use std::alloc::{AllocError, Global};
 use vat_journal::{Advanced, Counts, Delivery, Ended, JournalEntry, MadeCall, Origin, Outcome};
 
@@ -67,39 +67,69 @@ fn write_made(alloc: Global, vat: Vat, made: &MadeCall) -> Result<Value, AllocEr
     ensures is { IfOk result (λ v. view v ≡ made_by in_base64 vat made.now) }
     ensures fits { OnOk result (FitsMade made.now) }
 {
-    let payload = write_payload(alloc, &made.payload)?;
-    let refs = write_list(alloc, made.refs.as_slice())?;
-    json!(in alloc; {
-        "call": made.call.0,
-        "index": made.index,
-        "interface": made.interface,
-        "k": "made",
-        "method": made.method,
-        "payload": payload,
-        "ref": made.reference.0,
-        "refs": refs,
-        "vat": name_of_vat(vat)
-    })
+    let method = made.method;
+    let mut object = write_leaves(
+        alloc,
+        &[
+            ("call", Leaf::Number(made.call.0)),
+            ("index", Leaf::Number(made.index)),
+            ("interface", Leaf::Number(made.interface)),
+            ("k", Leaf::Text("made")),
+            ("method", Leaf::Number(u64::from(method))),
+            ("ref", Leaf::Number(made.reference.0)),
+            ("vat", Leaf::Text(name_of_vat(vat))),
+        ],
+    )?;
+    put(
+        &mut object,
+        alloc,
+        "payload",
+        write_payload(alloc, &made.payload)?,
+    )?;
+    put(
+        &mut object,
+        alloc,
+        "refs",
+        write_list(alloc, made.refs.as_slice())?,
+    )?;
+    Ok(Value::Object(object))
 }
 
 fn write_delivered(alloc: Global, vat: Vat, delivery: &Delivery) -> Result<Value, AllocError>
     ensures is { IfOk result (λ v. view v ≡ delivered_by in_base64 vat delivery.now) }
     ensures fits { OnOk result (FitsDelivery delivery.now) }
 {
-    let payload = write_payload(alloc, &delivery.payload)?;
-    let refs = write_list(alloc, delivery.refs.as_slice())?;
-    let stamp = write_stamp(alloc, &delivery.stamp)?;
-    json!(in alloc; {
-        "interface": delivery.interface,
-        "k": "delivered",
-        "method": delivery.method,
-        "object": delivery.object.0,
-        "payload": payload,
-        "refs": refs,
-        "stamp": stamp,
-        "task": delivery.task.0,
-        "vat": name_of_vat(vat)
-    })
+    let method = delivery.method;
+    let mut object = write_leaves(
+        alloc,
+        &[
+            ("interface", Leaf::Number(delivery.interface)),
+            ("k", Leaf::Text("delivered")),
+            ("method", Leaf::Number(u64::from(method))),
+            ("object", Leaf::Number(delivery.object.0)),
+            ("task", Leaf::Number(delivery.task.0)),
+            ("vat", Leaf::Text(name_of_vat(vat))),
+        ],
+    )?;
+    put(
+        &mut object,
+        alloc,
+        "payload",
+        write_payload(alloc, &delivery.payload)?,
+    )?;
+    put(
+        &mut object,
+        alloc,
+        "refs",
+        write_list(alloc, delivery.refs.as_slice())?,
+    )?;
+    put(
+        &mut object,
+        alloc,
+        "stamp",
+        write_stamp(alloc, &delivery.stamp)?,
+    )?;
+    Ok(Value::Object(object))
 }
 
 fn write_answered(

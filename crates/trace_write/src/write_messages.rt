@@ -6,7 +6,7 @@ ghost use Rattle.trace_write.specs.Fits.{FitsCall, FitsBody, FitsReturn, FitsFin
 
 use crate::version::TraceVersion;
 use crate::write_lists::{Part, write_list};
-use crate::write_members::{Leaf, add_member, write_leaves};
+use crate::write_members::{Leaf, add_member, write_flat, write_leaves};
 use crate::write_parts::{
     write_exception, write_number, write_only, write_payload, write_stamp, write_target,
 };
@@ -21,19 +21,41 @@ fn write_call(alloc: Global, call: &Call) -> Result<Value, AllocError>
     ensures is { IfOk result (λ v. view v ≡ call_by in_base64 call.now) }
     ensures fits { OnOk result (FitsCall call.now) }
 {
-    let caps = write_list(alloc, call.descriptors.as_slice())?;
-    let payload = write_payload(alloc, &call.payload)?;
-    let stamp = write_stamp(alloc, &call.stamp)?;
-    let target = write_target(alloc, &call.target)?;
-    json!(in alloc; {
-        "caps": caps,
-        "interface": call.interface,
-        "method": call.method,
-        "payload": payload,
-        "question": call.question.0,
-        "stamp": stamp,
-        "target": target
-    })
+    let method = call.method;
+    let question = call.question.0;
+    let mut object = write_leaves(
+        alloc,
+        &[
+            ("interface", Leaf::Number(call.interface)),
+            ("method", Leaf::Number(u64::from(method))),
+            ("question", Leaf::Number(u64::from(question))),
+        ],
+    )?;
+    put(
+        &mut object,
+        alloc,
+        "caps",
+        write_list(alloc, call.descriptors.as_slice())?,
+    )?;
+    put(
+        &mut object,
+        alloc,
+        "payload",
+        write_payload(alloc, &call.payload)?,
+    )?;
+    put(
+        &mut object,
+        alloc,
+        "stamp",
+        write_stamp(alloc, &call.stamp)?,
+    )?;
+    put(
+        &mut object,
+        alloc,
+        "target",
+        write_target(alloc, &call.target)?,
+    )?;
+    Ok(Value::Object(object))
 }
 
 fn write_body(alloc: Global, body: &ReturnBody) -> Result<Value, AllocError>
@@ -60,13 +82,12 @@ fn write_return(alloc: Global, said: &Return, version: TraceVersion) -> Result<V
     ensures fits { OnOk result (FitsReturn TraceVersion.Two said.now) }
 {
     let answer = said.answer.0;
-    let flag = said.release_param_caps;
-    let body = write_body(alloc, &said.body)?;
+    let mut members = write_leaves(alloc, &[("answer", Leaf::Number(u64::from(answer)))])?;
+    put(&mut members, alloc, "body", write_body(alloc, &said.body)?)?;
+    let flag = Value::Bool(said.release_param_caps);
     match version {
-        TraceVersion::One => json!(in alloc; {"answer": answer, "body": body, "release": flag}),
-        TraceVersion::Two => {
-            json!(in alloc; {"answer": answer, "body": body, "releaseParamCaps": flag})
-        }
+        TraceVersion::One => add_member(members, alloc, "release", flag),
+        TraceVersion::Two => add_member(members, alloc, "releaseParamCaps", flag),
     }
 }
 
@@ -103,15 +124,25 @@ fn write_resolve(alloc: Global, resolve: &Resolve) -> Result<Value, AllocError>
     ensures is { IfOk result (λ v. view v ≡ resolve_data resolve.now) }
     ensures fits { OnOk result (FitsResolve resolve.now) }
 {
+    let promise = resolve.promise.0;
+    let members = write_leaves(alloc, &[("promise", Leaf::Number(u64::from(promise)))])?;
     let to = write_resolved(alloc, &resolve.to)?;
-    json!(in alloc; {"promise": resolve.promise.0, "to": to})
+    add_member(members, alloc, "to", to)
 }
 
 fn write_release(alloc: Global, release: &Release) -> Result<Value, AllocError>
     ensures is { IfOk result (λ v. view v ≡ release_data release.now) }
     ensures fits { OnOk result (FitsRelease release.now) }
 {
-    json!(in alloc; {"count": release.count, "id": release.export.0})
+    let count = release.count;
+    let export = release.export.0;
+    write_flat(
+        alloc,
+        &[
+            ("count", Leaf::Number(u64::from(count))),
+            ("id", Leaf::Number(u64::from(export))),
+        ],
+    )
 }
 
 fn write_context(alloc: Global, context: &DisembargoContext) -> Result<Value, AllocError>
