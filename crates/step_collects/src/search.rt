@@ -10,6 +10,7 @@ use vat_store::Store;
 
 /// Finds a settled promise that no place names, if there is one; it stays noted. Noted promises that need not go are noted
 /// no more. Takes no memory, as do the next two. No call may be taken out to be routed.
+#[inline(always)]
 pub fn next_loose_promise(store: &mut Store) -> Option<u64>
     requires sound { IsSound store.old }
     requires none_taken { store.old.waits.taken ≡ [] }
@@ -52,6 +53,7 @@ pub fn next_loose_outcome(store: &mut Store) -> Option<u64>
 }
 
 /// Finds an import that no place names.
+#[inline(always)]
 pub fn next_loose_import(store: &mut Store) -> Option<ExportId>
     requires sound { IsSound store.old }
     requires none_taken { store.old.waits.taken ≡ [] }
