@@ -11,7 +11,7 @@ use Rattle.vat_machine.specs.Progress.{Progress, send, export_id}
 use Rattle.vat_machine.specs.Sweeping.{release_each}
 use Rattle.vat_outbox.specs.Rising.{AllBelow}
 use Rattle.vat_outbox.specs.Outgoing.{Outgoing, finish_message, release_message, finish_messages, release_messages, with_finishes, finishing, effects_of, AreReleasesOf}
-use Rattle.vat_outbox.proofs.Search.{put_last}
+use Rattle.vat_outbox.proofs.Search.{put_last, none_left}
 
 finish_more : (xs : List (ℕ × Bool)) (i : ℕ) (d : ℕ × Bool) → i < length xs → finish_messages (take (suc i) xs) ≡ finish_messages (take i xs) ++ finish_message (get_or xs i d) ∷ []
 finish_more [] i d lt = absurd (omega (arith, lt))
@@ -70,3 +70,12 @@ releases_said o d effects released =
     ∙ ap (λ (m : Map ℕ). record (d.effects) { sends = d.effects.sends ++ release_messages (map.entries m) }) released
     ∙ ap (λ (e : Effects). record e { sends = e.sends ++ release_messages (map.entries o.releases) }) effects
     ∙ ap (λ (ms : List Message). record (o.said) { sends = ms }) (append_assoc o.said.sends (finish_messages (map.entries o.finishes)) (release_messages (map.entries o.releases)))
+
+-- Where there is nothing more to say, all is said.
+pub all_said : (o : Outgoing) → o.finishes ≡ map.empty → o.releases ≡ map.empty → o ≡ record o { said = effects_of o; finishes = map.empty; releases = map.empty }
+all_said o finishes releases =
+    ap (λ (ms : List Message). record o { said = record (o.said) { sends = ms } }) (sym (append-nil o.said.sends))
+    ∙ ap (λ (es : List (ℕ × Bool)). record o { said = record (o.said) { sends = o.said.sends ++ (finish_messages es ++ []) } }) (sym (none_left o.finishes finishes))
+    ∙ ap (λ (es : List (ℕ × ℕ)). record o { said = record (o.said) { sends = o.said.sends ++ (finish_messages (map.entries o.finishes) ++ release_messages es) } }) (sym (none_left o.releases releases))
+    ∙ ap (λ (m : Map Bool). record o { said = effects_of o; finishes = m }) finishes
+    ∙ ap (λ (m : Map ℕ). record o { said = effects_of o; finishes = map.empty; releases = m }) releases

@@ -139,6 +139,13 @@ module _ {X : Type 0} where
   pub len_none : (m : Map X) → m ≡ map.empty → map.len m ≡ 0
   len_none m is = ap map.len is ∙ map.len-empty nat_cmp X
 
+  pub none_left : (m : Map X) → m ≡ map.empty → map.entries m ≡ []
+  none_left m is = ap map.entries (is ∙ sym none_is) ∙ entries-from_sorted nat_cmp [] tt
+
+  pub none_when : (es : List (ℕ × X)) (n : ℕ) (seen : Map X × ℕ) → (map.from_sorted es, n) ≡ seen → length es ≡ 0 → seen.0 ≡ map.empty
+  none_when [] n seen is no_len = sym (ap (λ (p : Map X × ℕ). p.0) is) ∙ none_is
+  none_when (e ∷ es) n seen is no_len = absurd (omega (arith, no_len))
+
   -- One entry more at most.
   pub len_put : (m n : Map X) (k : ℕ) (v : X) → n ≡ map.insert m k v → map.len n ≤ map.len m + 1
   len_put m n k v is = rw (is, map.len-insert nat_cmp_total m k v) (one_at_most (map.contains_key m k) (map.len m))

@@ -1,4 +1,4 @@
-ghost use Rattle.std.specs.Prelude.{◌≡◌, ◌+◌, ◌≤◌, ◌<◌, ◌↔◌, cond, false, IsOk, IfOk, IfErr, IfSome, IsTrue, OnOk, OnErr};
+ghost use Rattle.std.specs.Prelude.{◌≡◌, ◌+◌, ◌≤◌, ◌<◌, ◌↔◌, None, cond, false, IsOk, IfOk, IfErr, IfSome, IsTrue, OnOk, OnErr};
 ghost use Rattle.std.specs.FinMap as map;
 ghost use Rattle.rpc_msg.specs.declared.message.Message.TheVariants.{Plain, Unimplemented};
 
@@ -310,38 +310,63 @@ impl Outbox {
     /// of their own, and the room stays; or else in that of the outbox, and then there is none left.
     pub fn take(&mut self) -> Effects
         ensures effects { result ≡ effects_of self.old }
+        ensures up { result.down ≡ None }
         ensures releases { AreReleasesOf result self.old }
         ensures left { self.new ≡ record (emptied self.old) { room = self.new.room; finish_room = self.new.finish_room; release_room = self.new.release_room } }
     {
+        self.say_ends();
+        self.take_said()
+    }
+
+    // The Finishes and the Releases, each by rising id, are said as messages.
+    fn say_ends(&mut self)
+        ensures { self.new ≡ record self.old { said = effects_of self.old; finishes = map.empty; releases = map.empty } }
+    {
+        if self.finishes.is_empty() && self.releases.is_empty() {
+            return;
+        }
         push_finishes(&mut self.sends, self.finishes.entries());
         push_releases(&mut self.sends, self.releases.entries());
         self.finishes.clear();
         self.releases.clear();
-        let messages = self.sends.capacity();
-        let deliveries = self.deliveries.capacity();
-        let answers = self.answers.capacity();
+    }
+
+    // What was said, where no Finish and no Release is left to say.
+    fn take_said(&mut self) -> Effects
+        requires finishes { self.old.finishes ≡ map.empty }
+        requires releases { self.old.releases ≡ map.empty }
+        ensures effects { result ≡ self.old.said }
+        ensures up { result.down ≡ None }
+        ensures left { self.new ≡ record (emptied self.old) { room = self.new.room; finish_room = self.new.finish_room; release_room = self.new.release_room } }
+    {
+        let mut kept = true;
         let effects = Effects {
-            sends: Items::from_vec(hand_out(&mut self.sends, &mut self.spare_sends, self.alloc)),
+            sends: Items::from_vec(hand_out(
+                &mut self.sends,
+                &mut self.spare_sends,
+                self.alloc,
+                &mut kept,
+            )),
             deliveries: Items::from_vec(hand_out(
                 &mut self.deliveries,
                 &mut self.spare_deliveries,
                 self.alloc,
+                &mut kept,
             )),
             answers: Items::from_vec(hand_out(
                 &mut self.answers,
                 &mut self.spare_answers,
                 self.alloc,
+                &mut kept,
             )),
             down: None,
         };
-        if self.sends.capacity() < messages
-            || self.deliveries.capacity() < deliveries
-            || self.answers.capacity() < answers
-        {
-            self.room = 0;
-            self.finish_room = 0;
-            self.release_room = 0;
+        if kept {
+            return effects;
         }
+        self.room = 0;
+        self.finish_room = 0;
+        self.release_room = 0;
         effects
     }
 

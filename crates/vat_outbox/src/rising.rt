@@ -1,4 +1,4 @@
-ghost use Rattle.std.specs.Prelude.{◌≡◌, ◌+◌, ◌≤◌, ◌<◌, length, IsOk, IfOk, IfErr, OnOk, OnErr};
+ghost use Rattle.std.specs.Prelude.{◌≡◌, ◌+◌, ◌≤◌, ◌<◌, length, IsOk, IfOk, IfErr, IsTrue, OnOk, OnErr};
 ghost use Rattle.std.specs.FinMap as map;
 ghost use Rattle.vat_outbox.specs.Rising.{IsAt, IsGapFor};
 
@@ -48,6 +48,13 @@ impl<Entry> Rising<Entry> {
         ensures { result ≡ map.len self.now.0 }
     {
         self.entries.len()
+    }
+
+    /// Whether there are none.
+    pub(crate) fn is_empty(&self) -> bool
+        ensures { IsTrue result → self.now.0 ≡ map.empty }
+    {
+        self.entries.is_empty()
     }
 
     /// The entries, by rising id.

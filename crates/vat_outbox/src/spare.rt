@@ -46,9 +46,16 @@ impl<Item: Drop> Spare<Item> {
 
     /// Takes the memory of a list that came back, where it is more, and not much.
     pub(crate) fn reuse(&mut self, list: Vec<Item>) {
-        if list.capacity() <= self.list.capacity() || KEPT < list.capacity() {
-            return let_go(list);
+        if list.capacity() == 0 {
+            return mem::forget(list);
         }
+        if list.capacity() <= self.list.capacity() || KEPT < list.capacity() {
+            return mem::drop(list);
+        }
+        self.keep(list);
+    }
+
+    fn keep(&mut self, list: Vec<Item>) {
         let before = mem::replace(
             self,
             Spare {
