@@ -60,10 +60,7 @@ impl Arisen {
         ensures outcomes { self.new.0 ≡ self.old.0 ++ (key, value) ∷ [] }
         ensures room { self.old.1 ≤ self.new.1 + 1 }
     {
-        match self.outcomes.push_back((key, value)) {
-            Ok(()) => return,
-            Err(_) => unreachable!(),
-        }
+        self.outcomes.push_back_reserved((key, value));
     }
 
     /// Takes out the one in front, if there is one.
