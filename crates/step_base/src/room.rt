@@ -6,6 +6,10 @@ ghost use Rattle.step_base.specs.InProgress.{progress_of, IsIdle, IsReady};
 
 use crate::step::Step;
 use rpc_msg::Memory;
+use vat_store::Store;
+
+// What is reserved beyond what is asked, so that room is seldom made.
+const SPARE: usize = 16;
 
 /// Begins a step, with room for so many entries of every kind, names, messages, deliveries, ends and outcomes, and for the
 /// Finish of each question and the Release of each import. `Err` where a growth was refused; no step is begun then, and at
@@ -18,7 +22,7 @@ pub fn begin(step: &mut Step, more: usize) -> Result<(), Memory>
     ensures ok { OnOk result (more ≤ step.new.store.slack) }
     ensures idle { OnErr result (IsIdle step.new) }
 {
-    vat_store::reserve(&mut step.store, more)?;
+    reserve_store(&mut step.store, more)?;
     if has_room(step, step.store.slack) {
         return Ok(());
     }
@@ -38,12 +42,30 @@ pub fn reserve(step: &mut Step, more: usize) -> Result<(), Memory>
     if more <= step.store.slack {
         return Ok(());
     }
-    let made = vat_store::reserve(&mut step.store, more);
+    let made = reserve_store(&mut step.store, more);
     let room = step.store.slack;
     step.store.slack = 0;
     made?;
     make_room(step, room)?;
     step.store.slack = room;
+    Ok(())
+}
+
+// Makes room for so many more entries and names, and for more than that where there is not enough.
+#[inline(always)]
+fn reserve_store(store: &mut Store, more: usize) -> Result<(), Memory>
+    requires { IsSound store.old }
+    ensures same { IsSameButRoom store.old store.new }
+    ensures sound { IsSound store.new }
+    ensures ok { OnOk result (more ≤ store.new.slack) }
+{
+    if more <= store.slack {
+        return Ok(());
+    }
+    let Some(wanted) = more.checked_add(SPARE) else {
+        return Err(Memory);
+    };
+    vat_store::reserve(store, wanted)?;
     Ok(())
 }
 
