@@ -19,7 +19,9 @@ use Rattle.vat_machine.specs.State.{State}
 use Rattle.vat_machine.specs.Lists.{how_many}
 use Rattle.vat_machine.specs.Nodes.{is_promise, is_field, is_import, is_pipe}
 use Rattle.vat_machine.specs.Places.{places}
+use Rattle.vat_machine.specs.declared.command.Effects.{Effects}
 use Rattle.vat_machine.specs.Progress.{Progress, begin}
+use Rattle.vat_machine.specs.Steps.{staying_up}
 use Rattle.vat_machine.specs.Collecting.{IsTight}
 use Rattle.vat_machine.specs.Sweeping.{IsToFinish, IsOver, Withers, Over}
 use Rattle.laws_acts.proofs.Parts.{how_many_append}
@@ -241,3 +243,7 @@ pub is_over : (s : State) (x : Thought) (qs : List QuestionId) → IsThought s x
 is_over s x qs h moved sorted =
     over_by s (left s (gone_of x)) (gone_of x) h.went (reverse x.over.items) qs h.is_left h.covers
     (λ k. many_moved (is_id k) x.over.items qs moved ∙ sym (many_moved (is_id k) x.over.items (reverse x.over.items) (IsPermutation-reverse x.over.items))) sorted
+
+-- A step that does not take the vat down stays up.
+pub stays : (e : Effects) → e.down ≡ None → e ≡ staying_up e
+stays e up = ap (λ (d : Option ℕ). record e { down = d }) up

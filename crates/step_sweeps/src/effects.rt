@@ -27,9 +27,7 @@ pub fn hand_out(step: &mut Step) -> Effects
     ensures store { step.new.store ≡ step.old.store }
     ensures idle { IsIdle step.new }
 {
-    let mut effects = step.outbox.take();
-    effects.down = None;
-    effects
+    step.outbox.take()
 }
 
 /// Ends a step whose outcomes are settled and in which these questions are over, and hands out what it says. No step is in
