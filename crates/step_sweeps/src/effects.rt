@@ -3,12 +3,11 @@ ghost use Rattle.std.specs.FinMap as map;
 ghost use Rattle.vat_machine.specs.Collecting.{IsTight};
 ghost use Rattle.vat_machine.specs.Progress.{Progress};
 ghost use Rattle.vat_machine.specs.Settling.{Drains};
-ghost use Rattle.vat_machine.specs.Steps.{staying_up, Ends};
+ghost use Rattle.vat_machine.specs.Steps.{Ends};
 ghost use Rattle.vat_machine.specs.Sweeping.{IsToFinish};
 ghost use Rattle.vat_store.specs.Holding.{state_of};
 ghost use Rattle.vat_store.specs.Noted.{noted_of, nothing_noted};
-ghost use Rattle.step_base.specs.InProgress.{progress_of, IsReady, IsEnding, IsIdle};
-ghost use Rattle.step_sweeps.specs.Ending.{swept_of};
+ghost use Rattle.step_base.specs.InProgress.{progress_of, IsReady, IsIdle};
 ghost use Rattle.step_sweeps.specs.Over.{AreOver};
 
 use crate::over::find_over;
@@ -17,18 +16,6 @@ use crate::thought::Thought;
 use rpc_msg::{Memory, QuestionId};
 use step_base::Step;
 use vat_machine::Effects;
-
-/// Hands out what a step says, at its end: its messages, then its Finishes and its Releases, each by rising id. No step is
-/// in progress then, and what is held stays. Takes no memory.
-pub fn hand_out(step: &mut Step) -> Effects
-    requires ending { IsEnding step.old }
-    requires settled { step.old.arisen.0 ≡ [] }
-    ensures effects { result ≡ staying_up (swept_of step.old).effects }
-    ensures store { step.new.store ≡ step.old.store }
-    ensures idle { IsIdle step.new }
-{
-    step.outbox.take()
-}
 
 /// Ends a step whose outcomes are settled and in which these questions are over, and hands out what it says. No step is in
 /// progress then. Takes no memory. No call may be taken out to be routed.
@@ -42,7 +29,7 @@ pub fn end_settled(step: &mut Step, over: &[QuestionId]) -> Effects
     ensures idle { IsIdle step.new }
 {
     sweep_over(step, over);
-    hand_out(step)
+    step.outbox.take()
 }
 
 /// Ends a step whose outcomes are settled, and hands out what it says: finds which questions are over, and finishes these.

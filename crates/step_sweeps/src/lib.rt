@@ -15,7 +15,7 @@ mod tallies;
 mod tally;
 mod thought;
 
-pub use effects::{end_settled, hand_out, sweep};
+pub use effects::{end_settled, sweep};
 pub use over::find_over;
 pub use resting::rest;
 pub use sweeping::sweep_over;

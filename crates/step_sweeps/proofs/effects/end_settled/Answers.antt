@@ -1,7 +1,8 @@
-use Rattle.std.proofs.Common.{sym, ap, ◌∙◌}
-use Rattle.vat_store.specs.declared.store.Store.{Store}
-use Rattle.vat_store.specs.Holding.{state_of}
-use Rattle.step_sweeps.specs.Ending.{swept_of}
+use Rattle.std.proofs.Common.{refl, sym, ap, ◌∙◌}
+use Rattle.vat_machine.specs.declared.command.Effects.{Effects}
+use Rattle.vat_machine.specs.Steps.{staying_up}
+use Rattle.step_sweeps.specs.Ending.{finishing_of, swept_of}
+use Rattle.step_sweeps.proofs.Ending.{stays}
 use Rattle.step_base.specs.InProgress.{progress_of}
 use Rattle.step_sweeps.proofs.effects.end_settled.Goals as goal
 
@@ -11,6 +12,6 @@ returns-clause-ends c = λ acted drains. record {
   swept = swept_of c.sweep_over.new.step;
   drains = drains;
   sweeps = c.sweep_over.ensures.swept;
-  effects_are = c.hand_out.ensures.effects;
-  new_is = ap (λ (s : Store). state_of s) c.hand_out.ensures.store ∙ sym c.sweep_over.ensures.state;
+  effects_are = stays c.take.result c.take.ensures.up ∙ sym (ap (λ (e : Effects). staying_up e) (c.take.ensures.releases (finishing_of c.sweep_over.new.step) refl refl));
+  new_is = sym c.sweep_over.ensures.state;
 }
