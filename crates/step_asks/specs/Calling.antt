@@ -1,5 +1,5 @@
 -- What a call takes that is made by an application, and when it ends at once.
-use Rattle.std.specs.Prelude.{◌≡◌, ◌≤◌, Option, None, Some, [], length, vec_capacity}
+use Rattle.std.specs.Prelude.{◌≡◌, ◌≤◌, Option, None, Some, IsSome, [], length, vec_capacity, string_capacity}
 use Rattle.std.specs.FinMap as map
 use Rattle.rpc_msg.specs.declared.exception.Exception.{Exception}
 use Rattle.rpc_msg.specs.declared.ids.CallId.{CallId}
@@ -17,7 +17,7 @@ use Rattle.vat_machine.specs.Nodes.{settle}
 use Rattle.vat_machine.specs.Progress.{Progress, begin}
 use Rattle.vat_machine.specs.Commands.{Acts}
 use Rattle.vat_machine.specs.Settling.{Drains}
-use Rattle.step_routes.specs.Prepared.{IsPrepared}
+use Rattle.step_routes.specs.Prepared.{reason_limit, IsPrepared}
 use Rattle.step_calls.specs.AtOnce.{EndsAtOnce}
 use Rattle.step_asks.specs.declared.calling.Provided.{Provided}
 
@@ -44,9 +44,10 @@ abbrev pub told_of : Option Reason → Option Exception
 told_of None = None
 told_of (Some reason) = Some (failed (reason_text reason))
 
--- The lists have room, and what the application is told at once is there.
+-- The lists have room, a call that ends at once has room for why, and what the application is told at once is there.
 pub record IsProvided (s : State) (c : CallCommand) (x : Provided) : Type 0 where
   pub prepared : IsPrepared (length c.refs) x.lists
+  pub text_room : IsSome (broken_at s (map.get s.refs c.reference.0)) → reason_limit ≤ string_capacity x.lists.text
   pub no_nodes : x.nodes.items ≡ []
   pub room : length c.refs ≤ vec_capacity x.nodes
   pub told : x.told ≡ told_of (broken_at s (map.get s.refs c.reference.0))

@@ -67,9 +67,9 @@ fn provide(store: &Store, alloc: Global, call: &CallCommand) -> Result<Provided,
     ensures { IfOk result (λ x. IsProvided (state_of store.now) call.now x) }
 {
     let count = call.refs.len();
-    let lists = Lists::new(alloc, count)?;
-    let nodes = Vec::with_capacity(alloc, count)?;
     let told = told_at(store, alloc, call.reference)?;
+    let lists = Lists::new(alloc, count, told.is_some())?;
+    let nodes = Vec::with_capacity(alloc, count)?;
     Ok(Provided { lists, nodes, told })
 }
 

@@ -1,7 +1,6 @@
 -- A call is made through a reference that is there.
-use Rattle.std.proofs.Common.{◌≡◌, ℕ, suc, ◌+◌, List, [], ◌∷◌, length, Option, None, Some, sym, ap, subst, ◌∙◌, arith}
+use Rattle.std.proofs.Common.{◌≡◌, ℕ, ◌+◌, length, Option, None, Some, sym, ap, subst, ◌∙◌, arith}
 use Rattle.std.specs.FinMap as map
-use Rattle.rpc_msg.specs.declared.ids.RefId.{RefId}
 use Rattle.rpc_msg.specs.declared.ids.CallId.{CallId}
 use Rattle.vat_machine.specs.declared.calls.Request.{Request}
 use Rattle.vat_machine.specs.declared.command.CallCommand.{CallCommand}
@@ -10,7 +9,7 @@ use Rattle.vat_machine.specs.declared.entries.Reference.{Reference}
 use Rattle.vat_machine.specs.Lists.{updated}
 use Rattle.vat_machine.specs.State.{State}
 use Rattle.vat_machine.specs.Progress.{Progress, with_state}
-use Rattle.vat_machine.specs.Commands.{heads, request, counted, CallsThrough, MakesCall}
+use Rattle.vat_machine.specs.Commands.{request, counted, CallsThrough, MakesCall}
 use Rattle.store_names.specs.Changes.{counted_once}
 use Rattle.step_base.specs.declared.step.Step.{Step}
 use Rattle.step_base.specs.InProgress.{progress_of, IsReady}

@@ -35,7 +35,7 @@ use Rattle.step_calls.specs.Ways.{numbered, GoesThrough, GoesBy, GoesSomewhere}
 -- Calls go the same ways in t as in s, and have the same room.
 record IsAsRoomy (s t : State) : Type 0 where
   settled : (n : Node) → settle t n ≡ settle s n
-  open_still : (n : Node) → IsOpenThere s n → IsOpenThere t n
+  open_still : (room : ℕ) (n : Node) → IsOpenThere room s n → IsOpenThere room t n
   held : held t ≡ held s
   tasks : t.next_task ≡ s.next_task
   refs : t.next_ref ≡ s.next_ref
@@ -64,15 +64,15 @@ module _ (s t : State) (h : IsAsRoomy s t) where
   room_same caps (node.Pipe q path) = over_same caps
   room_same caps (node.Broken reason) = refl
 
-  open_there : (n : Node) → IsOpenThere s (settle s n) → IsOpenThere t (settle t n)
-  open_there n there = subst (IsOpenThere t) (sym (h.settled n)) (h.open_still (settle s n) there)
+  open_there : (room : ℕ) (n : Node) → IsOpenThere room s (settle s n) → IsOpenThere room t (settle t n)
+  open_there room n there = subst (IsOpenThere room t) (sym (h.settled n)) (h.open_still room (settle s n) there)
 
   room_there : (caps : List Node) (n : Node) → lacks_room_at t caps (settle t n) ≡ lacks_room_at s caps (settle s n)
   room_there caps n = ap (lacks_room_at t caps) (h.settled n) ∙ room_same caps (settle s n)
 
-  goes_through : (head : Node) (e : Option EmbargoId) → GoesThrough s head e → GoesThrough t head e
-  goes_through head None there = open_there head there
-  goes_through head (Some e) there = subst (λ (m : Map _). IsSome (map.get m e.0)) (sym h.embargoes) there
+  goes_through : (room : ℕ) (head : Node) (e : Option EmbargoId) → GoesThrough room s head e → GoesThrough room t head e
+  goes_through room head None there = open_there room head there
+  goes_through room head (Some e) there = subst (λ (m : Map _). IsSome (map.get m e.0)) (sym h.embargoes) there
 
   room_through : (caps : List Node) (head : Node) (e : Option EmbargoId) → lacks_room_through t caps head e ≡ lacks_room_through s caps head e
   room_through caps head None = room_there caps head
@@ -106,15 +106,15 @@ module _ (s : State) (c o : ℕ) (free : map.get s.outcomes o ≡ None) where
   held_same : held then ≡ held s
   held_same = let e = tally-new held_for_outcome s.outcomes o (its c) free in omega (arith, e)
 
-  open_then : (n : Node) → IsOpenThere s n → IsOpenThere then n
-  open_then (node.Object x) h = tt
-  open_then (node.Promise p) h = h
-  open_then (node.Field q path) h =
+  open_then : (room : ℕ) (n : Node) → IsOpenThere room s n → IsOpenThere room then n
+  open_then room (node.Object x) h = tt
+  open_then room (node.Promise p) h = h
+  open_then room (node.Field q path) h =
       at_each (λ q. IsSome (map.get s.outcomes q) → IsSome (map.get (map.insert s.outcomes o (its c)) q)) o
       (λ some. subst IsSome (sym (get-insert_same s.outcomes o (its c))) refl) (λ q apart some. subst IsSome (sym (get-insert_other s.outcomes o (its c) q apart)) some) q h
-  open_then (node.Import e) h = tt
-  open_then (node.Pipe q path) h = tt
-  open_then (node.Broken reason) h = tt
+  open_then room (node.Import e) h = tt
+  open_then room (node.Pipe q path) h = tt
+  open_then room (node.Broken reason) h = h
 
   roomy_then : IsAsRoomy s then
   roomy_then = record { settled = settles_alike s then link_same links_same; open_still = open_then; held = held_same; tasks = refl; refs = refl; questions = refl; exports = refl; embargoes = refl }
@@ -123,7 +123,7 @@ module _ (x mid : Step) (c o : ℕ) (free : map.get (state_of x.store).outcomes 
   roomy_kept : IsAsRoomy (state_of x.store) (state_of mid.store)
   roomy_kept = subst (λ (p : Progress). IsAsRoomy (state_of x.store) p.state) (sym is) (roomy_then (state_of x.store) c o free)
 
-  pub open_kept : (n : Node) → IsOpenThere (state_of x.store) (settle (state_of x.store) n) → IsOpenThere (state_of mid.store) (settle (state_of mid.store) n)
+  pub open_kept : (room : ℕ) (n : Node) → IsOpenThere room (state_of x.store) (settle (state_of x.store) n) → IsOpenThere room (state_of mid.store) (settle (state_of mid.store) n)
   open_kept = open_there (state_of x.store) (state_of mid.store) roomy_kept
 
   pub room_kept : (caps : List Node) (n : Node) → lacks_room_at (state_of x.store) caps (settle (state_of x.store) n) ≡ false → lacks_room_at (state_of mid.store) caps (settle (state_of mid.store) n) ≡ false
@@ -151,13 +151,13 @@ module _ (s : State) (r : ℕ) where
   link_counted (node.Pipe q path) = refl
   link_counted (node.Broken reason) = refl
 
-  open_counted : (n : Node) → IsOpenThere s n → IsOpenThere counted n
-  open_counted (node.Object x) h = h
-  open_counted (node.Promise p) h = h
-  open_counted (node.Field q path) h = h
-  open_counted (node.Import e) h = h
-  open_counted (node.Pipe q path) h = h
-  open_counted (node.Broken reason) h = h
+  open_counted : (room : ℕ) (n : Node) → IsOpenThere room s n → IsOpenThere room counted n
+  open_counted room (node.Object x) h = h
+  open_counted room (node.Promise p) h = h
+  open_counted room (node.Field q path) h = h
+  open_counted room (node.Import e) h = h
+  open_counted room (node.Pipe q path) h = h
+  open_counted room (node.Broken reason) h = h
 
   roomy_counted : IsAsRoomy s counted
   roomy_counted = record { settled = settles_alike s counted link_counted refl; open_still = open_counted; held = refl; tasks = refl; refs = refl; questions = refl; exports = refl; embargoes = refl }
@@ -171,8 +171,8 @@ module _ (x mid : Step) (r : ℕ) (is : progress_of mid ≡ numbered (progress_o
   roomy_numbered : IsAsRoomy (state_of x.store) (state_of mid.store)
   roomy_numbered = subst (λ (p : Progress). IsAsRoomy (state_of x.store) p.state) (sym is) (roomy_counted (state_of x.store) r)
 
-  pub goes_numbered : GoesSomewhere (state_of x.store) r → GoesThrough (state_of mid.store) y.head y.embargo
-  goes_numbered h = goes_through (state_of x.store) (state_of mid.store) roomy_numbered y.head y.embargo (subst (GoesBy (state_of x.store)) there h)
+  pub goes_numbered : (room : ℕ) → GoesSomewhere room (state_of x.store) r → GoesThrough room (state_of mid.store) y.head y.embargo
+  goes_numbered room h = goes_through (state_of x.store) (state_of mid.store) roomy_numbered room y.head y.embargo (subst (GoesBy room (state_of x.store)) there h)
 
   pub room_numbered : (caps : List Node) → call_lacks_room (state_of x.store) caps (map.get (state_of x.store).refs r) ≡ false → lacks_room_through (state_of mid.store) caps y.head y.embargo ≡ false
   room_numbered caps h =

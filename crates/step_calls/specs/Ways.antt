@@ -25,15 +25,15 @@ numbered d r =
     with_state d (record (d.state) { refs = update d.state.refs r counted_once; next_call = d.state.next_call + 1 })
 
 -- A call with that head and embargo finds where it goes: the embargo is there; or without one, where the head settles a
--- call that has to wait can.
-abbrev pub GoesThrough : State → Node → Option EmbargoId → Type 0
-GoesThrough s head None = IsOpenThere s (settle s head)
-GoesThrough s head (Some e) = IsSome (map.get s.embargoes e.0)
+-- call that has to wait can, and a text with that room holds the reason where it is broken.
+abbrev pub GoesThrough : ℕ → State → Node → Option EmbargoId → Type 0
+GoesThrough room s head None = IsOpenThere room s (settle s head)
+GoesThrough room s head (Some e) = IsSome (map.get s.embargoes e.0)
 
-abbrev pub GoesBy : State → Option Reference → Type 0
-GoesBy s None = ⊥
-GoesBy s (Some x) = GoesThrough s x.head x.embargo
+abbrev pub GoesBy : ℕ → State → Option Reference → Type 0
+GoesBy room s None = ⊥
+GoesBy room s (Some x) = GoesThrough room s x.head x.embargo
 
 -- The reference is there, and a call through it finds where it goes.
-abbrev pub GoesSomewhere : State → ℕ → Type 0
-GoesSomewhere s r = GoesBy s (map.get s.refs r)
+abbrev pub GoesSomewhere : ℕ → State → ℕ → Type 0
+GoesSomewhere room s r = GoesBy room s (map.get s.refs r)

@@ -1,4 +1,4 @@
-ghost use Rattle.std.specs.Prelude.{◌≡◌, ◌+◌, ◌<◌, ◌≤◌, None, [], false, length, vec_capacity, IsOk, IfOk, OnOk};
+ghost use Rattle.std.specs.Prelude.{◌≡◌, ◌+◌, ◌<◌, ◌≤◌, None, [], false, length, vec_capacity, string_capacity, IsOk, IfOk, OnOk};
 ghost use Rattle.std.specs.FinMap as map;
 ghost use Rattle.vat_machine.specs.declared.command.Command.TheVariants as command;
 ghost use Rattle.vat_machine.specs.declared.command.Granted.TheVariants as granted;
@@ -68,7 +68,7 @@ fn call_by(
     requires counted { id.0 < step.old.store.next_call }
     requires prepared { IsPrepared (length request.caps) lists }
     ensures called { OnOk result (CallsBy (progress_of step.old) id.0 request head (settle (state_of step.old.store) head) (progress_of step.new)) }
-    ensures fits { step.old.store.waits.taken ≡ [] → IsOpenThere (state_of step.old.store) (settle (state_of step.old.store) head) → lacks_room_at (state_of step.old.store) request.caps (settle (state_of step.old.store) head) ≡ false → IsOk result }
+    ensures fits { step.old.store.waits.taken ≡ [] → IsOpenThere (string_capacity lists.text) (state_of step.old.store) (settle (state_of step.old.store) head) → lacks_room_at (state_of step.old.store) request.caps (settle (state_of step.old.store) head) ≡ false → IsOk result }
     ensures left { OnOk result (step.old.store.slack ≤ step.new.store.slack + (length request.caps + 4)) }
     ensures taken { OnOk result (step.new.store.waits.taken ≡ step.old.store.waits.taken) }
     ensures noted { OnOk result (noted_of step.new.store.names ≡ noted_of step.old.store.names) }
@@ -97,7 +97,7 @@ fn call_through(
     requires counted { id.0 < step.old.store.next_call }
     requires prepared { IsPrepared (length request.caps) lists }
     ensures called { OnOk result (CallsThrough (progress_of step.old) id.0 request head embargo (progress_of step.new)) }
-    ensures fits { step.old.store.waits.taken ≡ [] → GoesThrough (state_of step.old.store) head embargo → lacks_room_through (state_of step.old.store) request.caps head embargo ≡ false → IsOk result }
+    ensures fits { step.old.store.waits.taken ≡ [] → GoesThrough (string_capacity lists.text) (state_of step.old.store) head embargo → lacks_room_through (state_of step.old.store) request.caps head embargo ≡ false → IsOk result }
     ensures left { OnOk result (step.old.store.slack ≤ step.new.store.slack + (length request.caps + 4)) }
     ensures taken { OnOk result (step.new.store.waits.taken ≡ step.old.store.waits.taken) }
     ensures noted { OnOk result (noted_of step.new.store.names ≡ noted_of step.old.store.names) }
@@ -129,7 +129,7 @@ pub fn call_kept(
     requires no_nodes { nodes.items ≡ [] }
     requires room { length call.refs ≤ vec_capacity nodes }
     ensures acts { IfOk result (λ c. Acts (progress_of step.old) (command.Call call) (granted.Call c) (progress_of step.new)) }
-    ensures fits { step.old.store.waits.taken ≡ [] → GoesSomewhere (state_of step.old.store) call.reference.0 → call_lacks_room (state_of step.old.store) (heads (state_of step.old.store) call.refs) (map.get (state_of step.old.store).refs call.reference.0) ≡ false → IsOk result }
+    ensures fits { step.old.store.waits.taken ≡ [] → GoesSomewhere (string_capacity lists.text) (state_of step.old.store) call.reference.0 → call_lacks_room (state_of step.old.store) (heads (state_of step.old.store) call.refs) (map.get (state_of step.old.store).refs call.reference.0) ≡ false → IsOk result }
     ensures left { OnOk result (step.old.store.slack ≤ step.new.store.slack + (length call.refs + 4)) }
     ensures taken { OnOk result (step.new.store.waits.taken ≡ step.old.store.waits.taken) }
     ensures noted { OnOk result (noted_of step.new.store.names ≡ noted_of step.old.store.names) }

@@ -1,4 +1,4 @@
-ghost use Rattle.std.specs.Prelude.{◌≡◌, ◌≢◌, ◌+◌, ◌<◌, ◌≤◌, None, [], false, nat_le, length, IsOk, IsSome, OnOk};
+ghost use Rattle.std.specs.Prelude.{◌≡◌, ◌≢◌, ◌+◌, ◌<◌, ◌≤◌, None, [], false, nat_le, length, string_capacity, IsOk, IsSome, OnOk};
 ghost use Rattle.std.specs.FinMap as map;
 ghost use Rattle.vat_machine.specs.Commands.{CallsHere, CallsDirect};
 ghost use Rattle.vat_machine.specs.Fullness.{exports_lack_room, going_out, lacks_room_at};
@@ -62,7 +62,7 @@ pub fn call_here(
     requires counted { id.0 < step.old.store.next_call }
     requires prepared { IsPrepared (length request.caps) lists }
     ensures called { OnOk result (CallsHere (progress_of step.old) id.0 request head (progress_of step.new)) }
-    ensures fits { step.old.store.waits.taken ≡ [] → IsOpenThere (state_of step.old.store) (settle (state_of step.old.store) head) → lacks_room_at (state_of step.old.store) request.caps (settle (state_of step.old.store) head) ≡ false → IsOk result }
+    ensures fits { step.old.store.waits.taken ≡ [] → IsOpenThere (string_capacity lists.text) (state_of step.old.store) (settle (state_of step.old.store) head) → lacks_room_at (state_of step.old.store) request.caps (settle (state_of step.old.store) head) ≡ false → IsOk result }
     ensures left { OnOk result (step.old.store.slack ≤ step.new.store.slack + (length request.caps + 4)) }
     ensures taken { OnOk result (step.new.store.waits.taken ≡ step.old.store.waits.taken) }
     ensures noted { OnOk result (noted_of step.new.store.names ≡ noted_of step.old.store.names) }

@@ -9,6 +9,7 @@ use Rattle.vat_machine.specs.State.{State}
 use Rattle.vat_machine.specs.Fullness.{is_exportable, name_lacks_room}
 use Rattle.vat_tables.specs.Exports.{IsNotExported}
 use Rattle.vat_waits.specs.Changes.{IsOpen}
+use Rattle.step_routes.specs.Prepared.{reason_limit}
 
 -- An export stands for the node, and none with a greater count; or none does.
 abbrev pub IsCount : Map Export → Node → Option ℕ → Type 0
@@ -25,11 +26,12 @@ AreCounts s counts = (n : Node) → is_exportable n ≡ true → IsCount s.expor
 abbrev pub HasExportRoom : State → (Node → Option ℕ) → Node → Type 0
 HasExportRoom s counts n = is_exportable n ≡ true → name_lacks_room (map.len s.exports) (counts n) ≡ false
 
--- Where a call waits if it goes to this node, it can: the promise is there and open, or the outcome is there.
-abbrev pub IsOpenThere : State → Node → Type 0
-IsOpenThere s (node.Object o) = Unit {0}
-IsOpenThere s (node.Promise p) = IsOpen (map.get s.promises p)
-IsOpenThere s (node.Field o path) = IsSome (map.get s.outcomes o)
-IsOpenThere s (node.Import e) = Unit {0}
-IsOpenThere s (node.Pipe q path) = Unit {0}
-IsOpenThere s (node.Broken reason) = Unit {0}
+-- Where a call waits if it goes to this node, it can: the promise is there and open, or the outcome is there. Where the
+-- node is broken, the reason fits into a text with that room.
+abbrev pub IsOpenThere : ℕ → State → Node → Type 0
+IsOpenThere room s (node.Object o) = Unit {0}
+IsOpenThere room s (node.Promise p) = IsOpen (map.get s.promises p)
+IsOpenThere room s (node.Field o path) = IsSome (map.get s.outcomes o)
+IsOpenThere room s (node.Import e) = Unit {0}
+IsOpenThere room s (node.Pipe q path) = Unit {0}
+IsOpenThere room s (node.Broken reason) = reason_limit ≤ room

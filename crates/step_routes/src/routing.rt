@@ -1,4 +1,4 @@
-ghost use Rattle.std.specs.Prelude.{◌≡◌, ◌+◌, ◌≤◌, ◌||◌, not, [], false, length, IsOk, OnOk};
+ghost use Rattle.std.specs.Prelude.{◌≡◌, ◌+◌, ◌≤◌, ◌||◌, not, [], false, length, string_capacity, IsOk, OnOk};
 ghost use Rattle.vat_machine.specs.Fullness.{is_spent, lacks_room_at};
 ghost use Rattle.vat_machine.specs.Nodes.{settle};
 ghost use Rattle.vat_machine.specs.Routing.{deliver, Relays, RoutedTo, Routes, RoutesAll, RoutesHeld};
@@ -30,8 +30,8 @@ fn has_numbers(store: &Store, caps: usize) -> bool
 
 /// Routes a call to where the node settles: at an object it is delivered, at an open node it waits, at a wire it is sent,
 /// and at a broken node it ends. `Full` where a limit of the numbers, the waiting calls, the questions or the exports is
-/// passed, `Memory` where it settles to a promise or an outcome that is not there; the step is only to be dropped then. It
-/// never fails where there is room and no call is taken out. Takes no memory, but at most one of the slack for each
+/// passed, `Memory` where it settles to a promise or an outcome that is not there, or the text has no room for a reason; the
+/// step is only to be dropped then. It never fails where there is room and no call is taken out. Takes no memory, but at most one of the slack for each
 /// capability, and two.
 pub fn route_kept(
     step: &mut Step,
@@ -43,7 +43,7 @@ pub fn route_kept(
     requires slack { length call.request.caps + 2 ≤ step.old.store.slack }
     requires prepared { IsPrepared (length call.request.caps) lists }
     ensures routed { OnOk result (Routes (progress_of step.old) call node (progress_of step.new)) }
-    ensures fits { step.old.store.waits.taken ≡ [] → IsOpenThere (state_of step.old.store) (settle (state_of step.old.store) node) → lacks_room_at (state_of step.old.store) call.request.caps (settle (state_of step.old.store) node) ≡ false → IsOk result }
+    ensures fits { step.old.store.waits.taken ≡ [] → IsOpenThere (string_capacity lists.text) (state_of step.old.store) (settle (state_of step.old.store) node) → lacks_room_at (state_of step.old.store) call.request.caps (settle (state_of step.old.store) node) ≡ false → IsOk result }
     ensures left { OnOk result (step.old.store.slack ≤ step.new.store.slack + (length call.request.caps + 2)) }
     ensures less { OnOk result (step.new.store.slack ≤ step.old.store.slack) }
     ensures taken { OnOk result (step.new.store.waits.taken ≡ step.old.store.waits.taken) }
@@ -78,6 +78,9 @@ pub fn route_kept(
             )
         }
         Node::Broken(reason) => {
+            if text.capacity() < 16 {
+                return Err(TableFault::Memory);
+            }
             end_broken_kept(step, call, exception_in(text, reason));
             Ok(())
         }

@@ -18,7 +18,7 @@ unreachable-requires c =
     let whole = c.nodes_are_there.ensures.there s c.requires.reached in
     let stops = c.nodes_settle.ensures.stops s c.requires.reached in
     let paired = c.embargoes_pair.ensures.paired s c.requires.reached in
-    let goes = goes_somewhere s whole stops c.nodes_settle.ensures.settles paired c.args.call.reference.0 (has_ref s c.args.call c.requires.allowed) in
+    let goes = goes_somewhere s whole stops c.nodes_settle.ensures.settles paired _ c.args.call.reference.0 (has_ref s c.args.call c.requires.allowed) c.requires.provided.text_room in
     let bad : false ≡ true = c.in_default.ensures.fits c.requires.none_taken goes (has_room s c.args.call c.requires.allowed) in
     cc
 

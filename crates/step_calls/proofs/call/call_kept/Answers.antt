@@ -45,7 +45,7 @@ returns-in_err-call_through-clause-fits c = λ none there room.
     let is = c.number_through-number.ensures.numbered in
     let caps : c.request_of-request.result.caps ≡ heads s c.args.call.refs = ap (λ (q : Request). q.caps) c.request_of-request.ensures in
     let roomy = ap (λ (ns : List Node). lacks_room_through (state_of mid.store) ns y.head y.embargo) caps ∙ room_numbered x mid r is y (sym c.in-Some.ensures) (heads s c.args.call.refs) room in
-    let ok = c.call_through.ensures.fits (c.number_through-number.ensures.taken ∙ none) (goes_numbered x mid r is y (sym c.in-Some.ensures) there) roomy in
+    let ok = c.call_through.ensures.fits (c.number_through-number.ensures.taken ∙ none) (goes_numbered x mid r is y (sym c.in-Some.ensures) _ there) roomy in
     absurd (let bad : false ≡ true = subst IsOk c.in_err-call_through.was ok in cc)
 
 pub returns-clause-left : goal.returns-clause-left

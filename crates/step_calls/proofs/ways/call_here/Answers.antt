@@ -16,5 +16,5 @@ returns-clause-fits c = λ none there room.
     let x = c.args.step.now in
     let mid = kept.new.step in
     c.route_kept.ensures.fits (kept.ensures.taken ∙ none)
-    (open_kept x mid c.args.id.0 kept.result kept.ensures.free kept.ensures.kept c.args.head there)
+    (open_kept x mid c.args.id.0 kept.result kept.ensures.free kept.ensures.kept _ c.args.head there)
     (room_kept x mid c.args.id.0 kept.result kept.ensures.free kept.ensures.kept c.args.request.caps c.args.head room)
