@@ -1,7 +1,7 @@
 -- An outcome becomes known: the pieces, put together.
 use Rattle.std.proofs.Common.{◌≡◌, inl, inr, ℕ, ◌≤◌, List, [], Option, Some, None, sym, ap, subst, ◌∙◌}
 use Rattle.std.specs.FinMap as map
-use Rattle.finite_maps.proofs.Gets.{get-insert_same}
+use Rattle.finite_maps.proofs.Gets.{get-insert_same, insert_same}
 use Rattle.vat_machine.specs.declared.calls.HeldCall.{HeldCall}
 use Rattle.vat_machine.specs.declared.calls.KeptOutcome.{KeptOutcome}
 use Rattle.vat_machine.specs.declared.calls.Caller.{Caller}
@@ -11,7 +11,7 @@ use Rattle.vat_machine.specs.Nodes.{is_field}
 use Rattle.vat_machine.specs.Progress.{Progress, with_state}
 use Rattle.vat_machine.specs.Routing.{RoutesHeld}
 use Rattle.vat_machine.specs.Settling.{Fits, known, Tells, SendsResolves, SettlesOpen, SettlesFrom, SettlesOutcome}
-use Rattle.vat_waits.specs.Changes.{caller_of}
+use Rattle.vat_waits.specs.Changes.{caller_of, HasNoneWaiting}
 use Rattle.vat_store.specs.declared.store.Store.{Store}
 use Rattle.vat_store.specs.Holding.{state_of, IsSound}
 use Rattle.store_waits.specs.Changes.{KnowsFrom, Knows, TakesHeld}
@@ -48,6 +48,13 @@ module _ (x : Step) (new : Store) (h : IsReady x) (sound : IsSound new) (less : 
 
   pub ready_freed : (o : ℕ) (e : Option KeptOutcome) (held : List HeldCall) → TakesHeld (state_of x.store) o e (state_of new) held → IsReady (record x { store = new })
   ready_freed o e held t = only (takes_only (state_of x.store) o e (state_of new) held t)
+
+-- Where none waits, none is taken out.
+pub none_to_take : (s : State) (o : ℕ) (who : Caller) (e : Option KeptOutcome) → map.get s.outcomes o ≡ e → Some who ≡ caller_of e → HasNoneWaiting e → TakesHeld s o e s []
+none_to_take s o who None there is none = let bad : ◌≡◌ {A = Option Caller} (Some who) None = is in absurd (cc)
+none_to_take s o who (Some x) there is none =
+    let again : record x { waiting = [] } ≡ x = ap (λ (hs : List HeldCall). record x { waiting = hs }) (sym none) in
+    (sym none, ap (λ (m : _). record s { outcomes = m }) (sym (ap (λ (y : KeptOutcome). map.insert s.outcomes o y) again ∙ insert_same s.outcomes o x there)))
 
 -- ---- The whole
 

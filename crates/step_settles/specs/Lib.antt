@@ -1,3 +1,4 @@
 pub mod Circles
 pub mod Returning
 pub mod Unknown
+pub mod Waiting

@@ -5,6 +5,7 @@ ghost use Rattle.vat_machine.specs.Settling.{Tells, SettlesOutcome};
 ghost use Rattle.vat_store.specs.Holding.{state_of};
 ghost use Rattle.store_waits.specs.Changes.{Knows, TakesHeld};
 ghost use Rattle.step_base.specs.InProgress.{progress_of, IsReady};
+ghost use Rattle.step_settles.specs.Waiting.{RoutesWaiting};
 
 use crate::resolving::resolve_fields;
 use crate::returning::returns;
@@ -34,8 +35,7 @@ pub fn settle_outcome(step: &mut Step, alloc: Global, key: u64, value: Value) ->
     make_known(step, key, fitted)?;
     tells(step, alloc, caller, told)?;
     // The outcome is there still: what goes before a Return is made leaves that of an answer which is open.
-    free_held(step, key)?;
-    route_held(step, alloc, key)?;
+    route_waiting(step, alloc, key)?;
     resolve_fields(step, alloc, key)?;
     Ok(())
 }
@@ -73,6 +73,25 @@ fn make_known(step: &mut Step, key: u64, value: Value) -> Result<(), Memory>
     };
     step_base::reserve(step, more)?;
     store_waits::know(&mut step.store, key, value)?;
+    Ok(())
+}
+
+// The calls that wait for the outcome, if any does, are taken out and routed in order.
+fn route_waiting(step: &mut Step, alloc: Global, key: u64) -> Result<(), Memory>
+    requires ready { IsReady step.old }
+    requires none_taken { step.old.store.waits.taken ≡ [] }
+    ensures routed { OnOk result (RoutesWaiting (progress_of step.old) key (map.get (state_of step.old.store).outcomes key) (progress_of step.new)) }
+    ensures taken { OnOk result (step.new.store.waits.taken ≡ []) }
+    ensures ready { OnOk result (IsReady step.new) }
+{
+    let Some(_caller) = step.store.waits.caller(key) else {
+        return Err(Memory);
+    };
+    if !step.store.waits.is_awaited(key) {
+        return Ok(());
+    }
+    free_held(step, key)?;
+    route_held(step, alloc, key)?;
     Ok(())
 }
 

@@ -21,8 +21,21 @@ pub fn resolve_fields(step: &mut Step, alloc: Global, key: u64) -> Result<(), Me
     ensures taken { OnOk result (step.new.store.waits.taken ≡ step.old.store.waits.taken) }
     ensures ready { OnOk result (IsReady step.new) }
 {
+    if step.store.names.of_outcome(key) == 0 {
+        return Ok(());
+    }
+    resolve_named(step, alloc, key)
+}
+
+// The same, where places name such a field.
+fn resolve_named(step: &mut Step, alloc: Global, key: u64) -> Result<(), Memory>
+    requires ready { IsReady step.old }
+    ensures sent { OnOk result (SendsResolves (progress_of step.old) None (is_field key) (progress_of step.new)) }
+    ensures taken { OnOk result (step.new.store.waits.taken ≡ step.old.store.waits.taken) }
+    ensures ready { OnOk result (IsReady step.new) }
+{
     let told: Option<Exception> = None;
-    let exports = exports_of_fields(&step.store, key, alloc)?;
+    let exports = store_peer::exports_of_field(&step.store, key, alloc)?;
     resolve_each(step, alloc, exports.as_slice(), &told)
 }
 
@@ -45,16 +58,6 @@ pub fn resolve_promises(
 }
 
 // What no place names has no export.
-fn exports_of_fields(store: &Store, key: u64, alloc: Global) -> Result<Items<(u32, Node)>, Memory>
-    requires { IsSound store.now }
-    ensures { IfOk result (λ list. list ≡ exports_where (is_field key) (map.entries (state_of store.now).exports)) }
-{
-    if store.names.of_outcome(key) == 0 {
-        return Ok(Items::new(alloc));
-    }
-    store_peer::exports_of_field(store, key, alloc)
-}
-
 fn exports_of_promise(store: &Store, key: u64, alloc: Global) -> Result<Items<(u32, Node)>, Memory>
     requires { IsSound store.now }
     ensures { IfOk result (λ list. list ≡ exports_where (is_promise key) (map.entries (state_of store.now).exports)) }

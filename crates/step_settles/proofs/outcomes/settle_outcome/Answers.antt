@@ -1,6 +1,5 @@
 use Rattle.std.proofs.Common.{ap, subst, ◌∙◌}
 use Rattle.vat_machine.specs.Progress.{Progress, with_state}
-use Rattle.vat_machine.specs.Routing.{RoutesHeld}
 use Rattle.vat_machine.specs.Settling.{Tells}
 use Rattle.vat_store.specs.Holding.{state_of}
 use Rattle.step_base.specs.InProgress.{progress_of}
@@ -15,12 +14,10 @@ returns-clause-settled c =
     let copy = c.in_ok-told.told in
     let knew = state_of c.make_known.new.step.store in
     let told = progress_of c.tells.new.step in
-    let freed = c.free_held.new.step in
-    let held = freed.store.waits.taken in
-    let routed = progress_of c.route_held.new.step in
-    settles d o c.args.value c.in_ok-fitted.fitted (state_of c.fit.new.step.store) knew told (state_of freed.store) routed (progress_of c.resolve_fields.new.step) held who copy
+    let routed = progress_of c.route_waiting.new.step in
+    let waited = c.in_ok-route_waiting.ensures.routed in
+    settles d o c.args.value c.in_ok-fitted.fitted (state_of c.fit.new.step.store) knew told waited.0 routed (progress_of c.resolve_fields.new.step) waited.1 who copy
     c.in-Some.ensures c.in_ok-fitted.ensures.fits c.in_ok-make_known.ensures.known c.in_ok-told.ensures
     (subst (λ (p : Progress). Tells p who copy told) (c.in_ok-make_known.ensures.same ∙ ap (λ (p : Progress). with_state p knew) c.in_ok-fitted.ensures.said) c.in_ok-tells.ensures.told)
-    c.in_ok-free_held.ensures.freed
-    (subst (λ (p : Progress). RoutesHeld p o held routed) c.in_ok-free_held.ensures.same c.in_ok-route_held.ensures.routed)
+    waited.2 waited.3
     c.in_ok-resolve_fields.ensures.sent
