@@ -18,7 +18,20 @@ pub fn head_of(store: &Store, id: RefId) -> Node
 }
 
 /// Where these references lead, put into a list, which is empty and has room for one of each. Takes no memory.
+#[inline(always)]
 pub fn heads(store: &Store, refs: &[RefId], nodes: &mut Vec<Node>)
+    requires empty { nodes.old.items ≡ [] }
+    requires room { length refs.now ≤ vec_capacity nodes.old }
+    ensures { nodes.new.items ≡ heads (state_of store.now) refs.now }
+{
+    if refs.is_empty() {
+        return;
+    }
+    heads_each(store, refs, nodes);
+}
+
+// The same, one after the other.
+fn heads_each(store: &Store, refs: &[RefId], nodes: &mut Vec<Node>)
     requires empty { nodes.old.items ≡ [] }
     requires room { length refs.now ≤ vec_capacity nodes.old }
     ensures { nodes.new.items ≡ heads (state_of store.now) refs.now }

@@ -86,6 +86,7 @@ fn take_all(step: &mut Step, descriptors: &[Descriptor]) -> Result<(), Fault>
 /// Takes the descriptors of a message: each sender descriptor adds one to its import. A vat of level 0 takes none. Makes
 /// the room for them. `Err` with the first fault of the descriptors, or for want of room or of memory; the step is only to
 /// be dropped then.
+#[inline(always)]
 pub fn take_descriptors(step: &mut Step, descriptors: &[Descriptor]) -> Result<(), Fault>
     requires ready { IsReady step.old }
     ensures none { OnOk result (descriptors_fault (state_of step.old.store) descriptors.now ≡ None) }
@@ -94,6 +95,9 @@ pub fn take_descriptors(step: &mut Step, descriptors: &[Descriptor]) -> Result<(
     ensures taken { OnOk result (step.new.store.waits.taken ≡ step.old.store.waits.taken) }
     ensures ready { OnOk result (IsReady step.new) }
 {
+    if descriptors.is_empty() {
+        return Ok(());
+    }
     match step.store.level {
         Level::Zero => Ok(()),
         Level::One => take_all(step, descriptors),

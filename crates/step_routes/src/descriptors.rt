@@ -59,7 +59,36 @@ fn have_one_each(store: &Store)
 /// The descriptors of these nodes, made one after the other, and the ids of the exports that they add one to, put into two
 /// lists, which are empty and have room for one of each node. `Full` where a limit of the exports is passed, and there alone;
 /// some may have one more on their count then. Takes no memory, but at most one of the slack for each node.
+#[inline(always)]
 pub fn describe_all_kept(
+    store: &mut Store,
+    nodes: &[Node],
+    said: &mut Vec<Descriptor>,
+    ids: &mut Vec<ExportId>,
+) -> Result<(), TableFault>
+    requires sound { IsSound store.old }
+    requires slack { length nodes.now ≤ store.old.slack }
+    requires none_said { said.old.items ≡ [] }
+    requires no_ids { ids.old.items ≡ [] }
+    requires room { length nodes.now ≤ vec_capacity said.old }
+    requires id_room { length nodes.now ≤ vec_capacity ids.old }
+    ensures ok { OnOk result (DescribesAll (state_of store.old) nodes.now said.new.items (state_of store.new)) }
+    ensures ids { OnOk result (ids.new.items ≡ export_ids (given said.new.items)) }
+    ensures full { IfErr result (λ fault. fault ≡ TableFault.Full) }
+    ensures fits { exports_lack_room (state_of store.old) (going_out (state_of store.old) nodes.now) ≡ false → IsOk result }
+    ensures left { (store.old.slack ≤ store.new.slack + length nodes.now) × (store.new.slack ≤ store.old.slack) }
+    ensures waits { store.new.waits ≡ store.old.waits }
+    ensures noted { noted_of store.new.names ≡ noted_of store.old.names }
+    ensures sound { IsSound store.new }
+{
+    if nodes.is_empty() {
+        return Ok(());
+    }
+    describe_each(store, nodes, said, ids)
+}
+
+// The same, node by node.
+fn describe_each(
     store: &mut Store,
     nodes: &[Node],
     said: &mut Vec<Descriptor>,

@@ -38,11 +38,21 @@ pub fn returns(step: &mut Step, alloc: Global, q: QuestionId, value: Value) -> R
         return Err(Memory);
     };
     let finished = answer.finished;
-    let taken = answer.taken.copy(alloc)?;
+    let taken = copy_ids(alloc, &answer.taken)?;
     let said = say_back(step, alloc, finished, value)?;
     collect(step);
     send_return(step, q, taken.as_slice(), said)?;
     Ok(())
+}
+
+// The same ids, in memory of their own; none take none.
+fn copy_ids(alloc: Global, ids: &Items<ExportId>) -> Result<Items<ExportId>, Memory>
+    ensures { IfOk result (λ copy. copy ≡ ids.now) }
+{
+    if ids.is_empty() {
+        return Ok(Items::new(alloc));
+    }
+    ids.copy(alloc)
 }
 
 // What the Return of a value says.

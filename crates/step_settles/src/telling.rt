@@ -81,6 +81,9 @@ pub fn copy_value(alloc: Global, value: &Value) -> Result<Value, Memory>
     match value {
         Value::Results(payload, caps) => {
             let payload = payload.copy(alloc)?;
+            if caps.is_empty() {
+                return Ok(Value::Results(payload, Items::new(alloc)));
+            }
             let caps = caps.copy(alloc)?;
             Ok(Value::Results(payload, caps))
         }

@@ -5,7 +5,7 @@ use Rattle.vat_machine.specs.declared.node.Node.{Node}
 use Rattle.vat_machine.specs.Commands.{heads}
 use Rattle.vat_store.specs.Holding.{state_of}
 use Rattle.step_checks.proofs.OneMore.{heads_more}
-use Rattle.step_checks.proofs.leading.heads.Goals as goal
+use Rattle.step_checks.proofs.leading.heads_each.Goals as goal
 
 pub loop-id-preserved : goal.loop-id-preserved
 loop-id-preserved c =

@@ -9,7 +9,7 @@ use Rattle.vat_machine.specs.Descriptors.{DescribesAll}
 use Rattle.vat_store.specs.Holding.{state_of}
 use Rattle.step_routes.proofs.Describing.{describes_more, given_more}
 use Rattle.step_routes.proofs.Roomy.{HasRoomFor, first_room, room_for_one, room_behind}
-use Rattle.step_routes.proofs.descriptors.describe_all_kept.Goals as goal
+use Rattle.step_routes.proofs.descriptors.describe_each.Goals as goal
 
 pub loop-node-preserved : goal.loop-node-preserved
 loop-node-preserved c =

@@ -6,7 +6,7 @@ use Rattle.vat_store.specs.Holding.{state_of, IsSound}
 use Rattle.vat_store.specs.Noted.{noted_of}
 use Rattle.vat_machine.specs.Fullness.{exports_lack_room, going_out}
 use Rattle.step_routes.proofs.Roomy.{HasRoomFor}
-use Rattle.step_routes.proofs.descriptors.describe_all_kept.Given as goal
+use Rattle.step_routes.proofs.descriptors.describe_each.Given as goal
 
 abbrev pub invariant-loop-node : goal.invariant-loop-node
 invariant-loop-node l = record {

@@ -1,7 +1,7 @@
 use Rattle.std.proofs.Common.{◌≡◌, ◌+◌, ◌-◌, ◌≤◌, take, length, vec_len, vec_capacity}
 use Rattle.vat_machine.specs.Commands.{heads}
 use Rattle.vat_store.specs.Holding.{state_of}
-use Rattle.step_checks.proofs.leading.heads.Given as goal
+use Rattle.step_checks.proofs.leading.heads_each.Given as goal
 
 abbrev pub invariant-loop-id : goal.invariant-loop-id
 invariant-loop-id l = record {
