@@ -107,14 +107,11 @@ fn come_to(step: &mut Step, alloc: Global, id: QuestionId, said: Returned) -> Re
         return Err(Memory);
     };
     let role = question.role;
-    match question.finish {
-        Finishing::Sent => {
-            forget_question(&mut step.store, id);
-            Ok(())
-        }
-        Finishing::Owed => keep_for(step, alloc, id, role, said),
-        Finishing::Waived => keep_for(step, alloc, id, role, said),
+    if let Finishing::Sent = question.finish {
+        forget_question(&mut step.store, id);
+        return Ok(());
     }
+    keep_for(step, alloc, id, role, said)
 }
 
 /// What was said comes back for a question. Where its Finish was sent, the question goes, and nothing more comes of it; else
