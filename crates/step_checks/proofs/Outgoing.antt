@@ -1,5 +1,5 @@
 -- Nodes that go out one after the other: how often each was named before, and what room that leaves.
-use Rattle.std.proofs.Common.{◌≡◌, ℕ, zero, suc, ◌+◌, ◌<◌, ◌≤◌, Bool, true, false, ◌&&◌, ◌||◌, cond, nat_le, List, [], ◌∷◌, ◌++◌, append_assoc, take, drop, get_or, if◌then◌else◌, length, Option, None, Some, option_to_list, unwrap_or, refl, sym, ap, subst, ◌∙◌, arith, T}
+use Rattle.std.proofs.Common.{◌≡◌, ℕ, suc, ◌+◌, ◌<◌, ◌≤◌, Bool, true, false, ◌&&◌, ◌||◌, cond, nat_le, List, [], ◌∷◌, ◌++◌, append_assoc, take, drop, get_or, if◌then◌else◌, length, Option, None, Some, option_to_list, unwrap_or, refl, sym, ap, subst, ◌∙◌, arith, T}
 use Rattle.std.proofs.Math.Nat.{zero-add}
 use Rattle.std.proofs.lemmas.List.{take_more, take_all, append-nil}
 use Rattle.std.proofs.Math.Seq.{split_at}
