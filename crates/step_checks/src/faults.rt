@@ -31,29 +31,33 @@ fn is_no_answer(store: &Store, id: QuestionId) -> Result<(), Fault>
 }
 
 // What the target names is there.
-fn has_target(store: &Store, target: Target) -> Result<(), Fault>
-    ensures ok { OnOk result (target_fault (state_of store.now) target ≡ None) }
-    ensures err { IfErr result (λ f. target_fault (state_of store.now) target ≡ Some (fault_number f)) }
+fn has_target(store: &Store, target: &Target) -> Result<(), Fault>
+    ensures ok { OnOk result (target_fault (state_of store.now) target.now ≡ None) }
+    ensures err { IfErr result (λ f. target_fault (state_of store.now) target.now ≡ Some (fault_number f)) }
 {
     match target {
-        Target::ImportedCap(id) => has_export(store, id),
-        Target::PromisedAnswer(id, _) => has_answer(store, id),
+        Target::ImportedCap(id) => has_export(store, *id),
+        Target::PromisedAnswer(id, _) => has_answer(store, *id),
     }
 }
 
 /// The node for which a target stands; a broken one if what it names is not there.
-pub fn target_node(store: &Store, target: Target) -> Node
-    ensures { result ≡ target_node (state_of store.now) target }
+pub fn target_node(store: &Store, target: &Target) -> Node
+    ensures { result ≡ target_node (state_of store.now) target.now }
 {
     match target {
-        Target::ImportedCap(id) => match store.exports.get(id) {
-            Some(export) => export.node,
-            None => Node::Broken(Reason::NullCapability),
-        },
-        Target::PromisedAnswer(id, path) => match store.answers.get(id.0) {
-            Some(answer) => Node::Field(answer.outcome, path.fields()),
-            None => Node::Broken(Reason::NullCapability),
-        },
+        Target::ImportedCap(id) => {
+            let Some(export) = store.exports.get(*id) else {
+                return Node::Broken(Reason::NullCapability);
+            };
+            export.node
+        }
+        Target::PromisedAnswer(id, path) => {
+            let Some(answer) = store.answers.get(id.0) else {
+                return Node::Broken(Reason::NullCapability);
+            };
+            Node::Field(answer.outcome, path.fields())
+        }
     }
 }
 
@@ -80,10 +84,10 @@ fn has_embargo(store: &Store, id: EmbargoId) -> Result<(), Fault>
 }
 
 // The target leads back to the peer's side.
-fn settles_to_wire(store: &Store, target: Target) -> Result<(), Fault>
+fn settles_to_wire(store: &Store, target: &Target) -> Result<(), Fault>
     requires { IsSound store.now }
-    ensures ok { OnOk result (is_wire (settle (state_of store.now) (target_node (state_of store.now) target)) ≡ true) }
-    ensures err { IfErr result (λ f. (f ≡ fault.DisembargoNotLoopback) × (is_wire (settle (state_of store.now) (target_node (state_of store.now) target)) ≡ false)) }
+    ensures ok { OnOk result (is_wire (settle (state_of store.now) (target_node (state_of store.now) target.now)) ≡ true) }
+    ensures err { IfErr result (λ f. (f ≡ fault.DisembargoNotLoopback) × (is_wire (settle (state_of store.now) (target_node (state_of store.now) target.now)) ≡ false)) }
 {
     match settle(store, target_node(store, target)) {
         Node::Import(_) => Ok(()),
@@ -125,16 +129,16 @@ pub fn fault_before_call(store: &Store, call: &Call) -> Result<(), Fault>
     ensures err { IfErr result (λ f. before_call (state_of store.now) call.now ≡ Some (fault_number f)) }
 {
     is_no_answer(store, call.question)?;
-    has_target(store, call.target)?;
+    has_target(store, &call.target)?;
     has_descriptors(&call.payload, &call.descriptors)
 }
 
 /// The fault of a Call behind its descriptors: it would have to wait where no more may.
-pub fn fault_behind_call(store: &Store, target: Target) -> Result<(), Fault>
+pub fn fault_behind_call(store: &Store, target: &Target) -> Result<(), Fault>
     requires sound { IsSound store.now }
     requires handed_out { store.now.waits.taken ≡ [] }
-    ensures ok { OnOk result (held_fault (state_of store.now) target ≡ None) }
-    ensures err { IfErr result (λ f. held_fault (state_of store.now) target ≡ Some (fault_number f)) }
+    ensures ok { OnOk result (held_fault (state_of store.now) target.now ≡ None) }
+    ensures err { IfErr result (λ f. held_fault (state_of store.now) target.now ≡ Some (fault_number f)) }
 {
     if store.waits.held() < POOL_LIMIT {
         return Ok(());
@@ -223,8 +227,8 @@ pub fn fault_of_disembargo(store: &Store, disembargo: Disembargo) -> Result<(), 
 {
     match disembargo.context {
         DisembargoContext::SenderLoopback(_) => {
-            has_target(store, disembargo.target)?;
-            settles_to_wire(store, disembargo.target)
+            has_target(store, &disembargo.target)?;
+            settles_to_wire(store, &disembargo.target)
         }
         DisembargoContext::ReceiverLoopback(id) => has_embargo(store, id),
     }

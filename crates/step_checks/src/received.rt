@@ -116,7 +116,7 @@ pub fn fault_behind(store: &Store, message: &Message) -> Result<(), Fault>
     ensures err { IfErr result (λ f. fault_behind (state_of store.now) message.now ≡ Some (fault_number f)) }
 {
     match message {
-        Message::Plain(PlainMessage::Call(call)) => fault_behind_call(store, call.target),
+        Message::Plain(PlainMessage::Call(call)) => fault_behind_call(store, &call.target),
         _ => Ok(()),
     }
 }

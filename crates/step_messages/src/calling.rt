@@ -6,7 +6,7 @@ ghost use Rattle.vat_machine.specs.Faults.{plain_fault};
 ghost use Rattle.vat_machine.specs.Messages.{TakesPlain};
 ghost use Rattle.vat_store.specs.Holding.{state_of};
 ghost use Rattle.step_base.specs.InProgress.{progress_of, IsReady};
-ghost use Rattle.step_messages.specs.Parts.{OpensFor, with_caps};
+ghost use Rattle.step_messages.specs.Parts.{OpensFor};
 ghost use Rattle.step_messages.specs.Stopping.{Stops};
 
 use crate::opening::open_with;
@@ -18,27 +18,6 @@ use step_base::Step;
 use step_checks::{fault_before_call, fault_behind_call, faults_in_parts, target_node};
 use step_routes::route;
 use vat_machine::{Fault, Node, Request, WaitingCall};
-
-fn request_of(call: Call, caps: Items<Node>) -> Request
-    ensures { result ≡ with_caps call caps }
-{
-    let Call {
-        question: _,
-        target: _,
-        interface,
-        method,
-        payload,
-        descriptors: _,
-        stamp,
-    } = call;
-    Request {
-        stamp,
-        interface,
-        method,
-        payload,
-        caps,
-    }
-}
 
 // The answer opens, and the call is routed.
 #[inline(always)]
@@ -60,7 +39,7 @@ fn open_for(
     let Ok(outcome) = open_with(step, question, taken) else {
         return Err(Fault::WantOfRoom);
     };
-    match route(step, alloc, WaitingCall { request, outcome }, target) {
+    match route(step, alloc, WaitingCall { request, outcome }, &target) {
         Ok(()) => Ok(()),
         Err(_) => Err(Fault::WantOfRoom),
     }
@@ -79,7 +58,7 @@ pub fn take_call(step: &mut Step, alloc: Global, call: Call) -> Result<(), Fault
 {
     faults_in_parts();
     fault_before_call(&step.store, &call)?;
-    let target = target_node(&step.store, call.target);
+    let target = target_node(&step.store, &call.target);
     let Ok(taken) = taken_of(&step.store, alloc, call.descriptors.as_slice()) else {
         return Err(Fault::WantOfRoom);
     };
@@ -87,10 +66,24 @@ pub fn take_call(step: &mut Step, alloc: Global, call: Call) -> Result<(), Fault
         return Err(Fault::WantOfRoom);
     };
     take_descriptors(step, call.descriptors.as_slice())?;
-    match fault_behind_call(&step.store, call.target) {
+    match fault_behind_call(&step.store, &call.target) {
         Ok(()) => {
-            let question = call.question;
-            let request = request_of(call, caps);
+            let Call {
+                question,
+                target: _,
+                interface,
+                method,
+                payload,
+                descriptors: _,
+                stamp,
+            } = call;
+            let request = Request {
+                stamp,
+                interface,
+                method,
+                payload,
+                caps,
+            };
             open_for(step, alloc, question, taken, request, target)
         }
         Err(fault) => Err(fault),

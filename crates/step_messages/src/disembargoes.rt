@@ -26,7 +26,7 @@ fn bounce(step: &mut Step, target: Target, id: EmbargoId) -> Result<(), Memory>
     ensures taken { OnOk result (step.new.store.waits.taken ≡ step.old.store.waits.taken) }
     ensures ready { OnOk result (IsReady step.new) }
 {
-    let wire = settle(&step.store, target_node(&step.store, target));
+    let wire = settle(&step.store, target_node(&step.store, &target));
     // The check found a wire.
     let Some(target) = wire_target(&wire) else {
         return Err(Memory);

@@ -17,10 +17,10 @@ fn read_one(store: &Store, descriptor: Descriptor) -> Node
         Descriptor::None => Node::Broken(Reason::NullCapability),
         Descriptor::SenderHosted(id) => Node::Import(id),
         Descriptor::SenderPromise(id) => Node::Import(id),
-        Descriptor::ReceiverHosted(id) => target_node(store, Target::ImportedCap(id)),
+        Descriptor::ReceiverHosted(id) => target_node(store, &Target::ImportedCap(id)),
         Descriptor::ReceiverAnswer(id, path) => target_node(
             store,
-            Target::PromisedAnswer(id, path),
+            &Target::PromisedAnswer(id, path),
         ),
     }
 }

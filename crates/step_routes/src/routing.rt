@@ -89,9 +89,9 @@ pub fn route_kept(
 
 /// Routes a call to where the node settles, as `route_kept` does, and makes the room for it: of memory it takes what the
 /// call wants there. `Err` for want of memory, or where a limit is passed; the step is only to be dropped then.
-pub fn route(step: &mut Step, alloc: Global, call: WaitingCall, node: Node) -> Result<(), Memory>
+pub fn route(step: &mut Step, alloc: Global, call: WaitingCall, node: &Node) -> Result<(), Memory>
     requires { IsReady step.old }
-    ensures routed { OnOk result (Routes (progress_of step.old) call node (progress_of step.new)) }
+    ensures routed { OnOk result (Routes (progress_of step.old) call node.now (progress_of step.new)) }
     ensures taken { OnOk result (step.new.store.waits.taken ≡ step.old.store.waits.taken) }
     ensures ready { OnOk result (IsReady step.new) }
 {
@@ -102,7 +102,32 @@ pub fn route(step: &mut Step, alloc: Global, call: WaitingCall, node: Node) -> R
 
 // The same, within room that was made.
 #[inline(always)]
-fn route_within(step: &mut Step, alloc: Global, call: WaitingCall, node: Node) -> Result<(), Memory>
+fn route_within(
+    step: &mut Step,
+    alloc: Global,
+    call: WaitingCall,
+    node: &Node,
+) -> Result<(), Memory>
+    requires ready { IsReady step.old }
+    requires slack { length call.request.caps + 2 ≤ step.old.store.slack }
+    ensures routed { OnOk result (Routes (progress_of step.old) call node.now (progress_of step.new)) }
+    ensures taken { OnOk result (step.new.store.waits.taken ≡ step.old.store.waits.taken) }
+    ensures ready { OnOk result (IsReady step.new) }
+{
+    let Node::Object(object) = node else {
+        return route_settled(step, alloc, call, *node);
+    };
+    deliver_if_numbered(step, alloc, call, *object)?;
+    Ok(())
+}
+
+// Routes a call that goes to no object at once.
+fn route_settled(
+    step: &mut Step,
+    alloc: Global,
+    call: WaitingCall,
+    node: Node,
+) -> Result<(), Memory>
     requires ready { IsReady step.old }
     requires slack { length call.request.caps + 2 ≤ step.old.store.slack }
     ensures routed { OnOk result (Routes (progress_of step.old) call node (progress_of step.new)) }
@@ -110,10 +135,7 @@ fn route_within(step: &mut Step, alloc: Global, call: WaitingCall, node: Node) -
     ensures ready { OnOk result (IsReady step.new) }
 {
     let at = vat_store::settle(&step.store, node);
-    let Node::Object(object) = at else {
-        return route_on(step, alloc, call, at);
-    };
-    deliver_if_numbered(step, alloc, call, object)
+    route_on(step, alloc, call, at)
 }
 
 // Routes a call to a node that leads no further: seldom an object, which `route_within` looks for first.
@@ -201,7 +223,7 @@ pub fn route_taken(step: &mut Step, alloc: Global, node: Node) -> Result<(), Mem
     let target = &node;
     while let Some(held) = store_waits::next_taken(&mut step.store) {
         let HeldCall { path: _, call } = held;
-        route(step, alloc, call, *target)?;
+        route(step, alloc, call, target)?;
     }
     Ok(())
 }
@@ -216,7 +238,7 @@ pub fn route_held(step: &mut Step, alloc: Global, o: u64) -> Result<(), Memory>
 {
     while let Some(held) = store_waits::next_taken(&mut step.store) {
         let HeldCall { path, call } = held;
-        route(step, alloc, call, Node::Field(o, path))?;
+        route(step, alloc, call, &Node::Field(o, path))?;
     }
     Ok(())
 }

@@ -1,4 +1,4 @@
-use Rattle.std.proofs.Common.{inl, List, None, sym, ap, subst, ◌∙◌}
+use Rattle.std.proofs.Common.{inl, List, None, sym, ap, ◌∙◌}
 use Rattle.std.proofs.lemmas.Result.{on_ok_weaker}
 use Rattle.rpc_msg.specs.declared.parts.Descriptor.{Descriptor}
 use Rattle.vat_machine.specs.State.{State}
@@ -7,8 +7,6 @@ use Rattle.vat_machine.specs.Descriptors.{read_all, take_all, taken_of}
 use Rattle.vat_machine.specs.Faults.{descriptors_fault}
 use Rattle.vat_store.specs.Holding.{state_of}
 use Rattle.step_base.specs.InProgress.{progress_of}
-use Rattle.vat_machine.specs.declared.calls.Request.{Request}
-use Rattle.step_messages.specs.Parts.{OpensFor}
 use Rattle.step_messages.proofs.Opened.{call_fault, is_new, opens_call}
 use Rattle.step_messages.proofs.calling.take_call.Goals as goal
 
@@ -34,8 +32,7 @@ returns-in-Ok-fault_behind_call-clause-takes c =
     let is = c.in_ok-take_descriptors.ensures.state ∙ ap (λ (ds : List Descriptor). with_state p (take_all s ds)) c.as_slice-3.ensures in
     let ids = c.in-Ok.ensures ∙ ap (λ (ds : List Descriptor). export_ids (taken_of s ds)) c.as_slice.ensures in
     let heads = c.in-Ok-read_all.ensures ∙ ap (λ (ds : List Descriptor). read_all s ds) c.as_slice-2.ensures in
-    let opens = λ (r : Request). OpensFor (progress_of c.take_descriptors.new.step) c.args.call.question.0 c.in-Ok.taken r c.target_node-target.result (progress_of c.open_for.new.step) in
-    on_ok_weaker c.open_for.result (λ h. opens_call p (progress_of c.take_descriptors.new.step) c.args.call c.in-Ok.taken c.in-Ok-read_all.caps c.target_node-target.result (progress_of c.open_for.new.step) is ids heads c.target_node-target.ensures (subst opens c.request_of-request.ensures h)) c.open_for.ensures.opens
+    on_ok_weaker c.open_for.result (λ h. opens_call p (progress_of c.take_descriptors.new.step) c.args.call c.in-Ok.taken c.in-Ok-read_all.caps c.target_node-target.result (progress_of c.open_for.new.step) is ids heads c.target_node-target.ensures h) c.open_for.ensures.opens
 
 pub returns-in-Err-clause-fault : goal.returns-in-Err-clause-fault
 returns-in-Err-clause-fault c =
