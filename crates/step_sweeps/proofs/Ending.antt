@@ -84,7 +84,7 @@ module _ (x : Store) (counted : Counts x.names (all_named x)) (none : x.waits.ta
       returned (Some said) e = tt
   noted_over q y (role.Direct c) over h = h over.0 (here.questions q ∙ over.1)
 
-  noted_question : (q : ℕ) (o : Option Question) → IsToFinish s q o → IsNotedAs s x.names.questions q o → Contains x.names.questions.noted q
+  pub noted_question : (q : ℕ) (o : Option Question) → IsToFinish s q o → IsNotedAs s x.names.questions q o → Contains x.names.questions.noted q
   noted_question q None h g = absurd h
   noted_question q (Some y) h g = noted_over q y y.role h.1 (g h.0)
 

@@ -5,10 +5,12 @@ pub mod Entries
 pub mod Leaving
 pub mod Looking
 pub mod Covering
+pub mod Deciding
 pub mod Things
 pub mod Thoughts
 pub mod Rising
 pub mod Ending
 pub mod ListedKeys
 pub mod Unnoted
+pub mod Withering
 pub mod Single

@@ -1,21 +1,14 @@
 -- Where one thing alone may go, and it names nothing.
-use Rattle.std.proofs.Common.{◌≡◌, ◌≢◌, ◌⊎◌, inl, inr, ℕ, zero, suc, List, [], ◌∷◌, ◌++◌, Option, None, Some, refl, ap, subst, arith}
+use Rattle.std.proofs.Common.{◌≡◌, ◌⊎◌, inl, inr, ℕ, List, [], ◌∷◌, ◌++◌, refl, subst, arith}
 use Rattle.std.specs.Ordering.{nat_cmp, is_lt}
 use Rattle.std.specs.List.Sorted.{IsSortedBy}
 use Rattle.std.specs.FinMap as map
 use Rattle.rpc_msg.specs.declared.ids.QuestionId.{QuestionId}
 use Rattle.vat_machine.specs.declared.node.Node.{Node}
-use Rattle.vat_machine.specs.declared.calls.Caller.{Caller}
-use Rattle.vat_machine.specs.declared.calls.Caller.TheVariants as caller
-use Rattle.vat_machine.specs.declared.calls.HeldCall.{HeldCall}
-use Rattle.vat_machine.specs.declared.calls.KeptOutcome.{KeptOutcome}
-use Rattle.vat_machine.specs.declared.calls.Value.{Value}
-use Rattle.vat_machine.specs.declared.entries.AnswerEntry.{AnswerEntry}
 use Rattle.vat_machine.specs.State.{State}
 use Rattle.vat_machine.specs.Lists.{how_many}
-use Rattle.vat_machine.specs.Nodes.{is_field}
-use Rattle.vat_machine.specs.Places.{places, names}
-use Rattle.vat_machine.specs.Collecting.{IsLooseOutcome, IsLooseValue, CallerIsDone, AnswerIsOther}
+use Rattle.vat_machine.specs.Places.{places}
+use Rattle.vat_machine.specs.Collecting.{IsLooseOutcome}
 use Rattle.vat_machine.specs.Sweeping.{IsToFinish}
 use Rattle.laws_acts.specs.Alike.{Alike}
 use Rattle.laws_acts.proofs.Parts.{how_many_append}
@@ -24,55 +17,10 @@ use Rattle.vat_store.specs.Holding.{state_of, IsSound}
 use Rattle.vat_store.specs.Noted.{Notes, noted_of, nothing_noted}
 use Rattle.step_sweeps.specs.Over.{AreOver}
 use Rattle.step_sweeps.specs.Thinking.{IsLoose, IsLeft, Covers, GoesAlone, without, named_by_thing, asked_by, is_id, nodes_of, promise_node, field_node, import_node, pipe_node}
+use Rattle.step_sweeps.proofs.Deciding.{outcome_or_not}
 use Rattle.step_sweeps.proofs.Covering.{covers_less, covers_more, thing_leaves}
 use Rattle.step_sweeps.proofs.Leaving.{thing_goes}
 use Rattle.step_sweeps.proofs.Ending.{begins, quiet, none_over, over_by, covers_noted}
-
--- ---- Whether an outcome is loose
-
-all_three : {A B C : Type 0} → A ⊎ ¬ A → B ⊎ ¬ B → C ⊎ ¬ C → (A × B × C) ⊎ ¬ (A × B × C)
-all_three (inl a) (inl b) (inl c) = inl (a, b, c)
-all_three (inl a) (inl b) (inr c) = inr (λ h. c h.2)
-all_three (inl a) (inr b) c = inr (λ h. b h.1)
-all_three (inr a) b c = inr (λ h. a h.0)
-
-none_or_not : {X : Type 0} (o : Option X) → (◌≡◌ {A = Option X} o None) ⊎ ¬ (◌≡◌ {A = Option X} o None)
-none_or_not None = inl refl
-none_or_not (Some x) = inr (λ h. absurd (let e : Some x ≡ None = h in cc))
-
-empty_or_not : (xs : List HeldCall) → (xs ≡ []) ⊎ ¬ (xs ≡ [])
-empty_or_not [] = inl refl
-empty_or_not (x ∷ xs) = inr (λ h. absurd (let e : (x ∷ xs) ≡ [] = h in cc))
-
-same_or_not : (m n : ℕ) → (m ≡ n) ⊎ (m ≢ n)
-same_or_not zero zero = inl refl
-same_or_not zero (suc n) = inr (λ h. absurd (omega (arith, h)))
-same_or_not (suc m) zero = inr (λ h. absurd (omega (arith, h)))
-same_or_not (suc m) (suc n) = more (same_or_not m n)
-  where
-    more : (m ≡ n) ⊎ (m ≢ n) → (suc m ≡ suc n) ⊎ (suc m ≢ suc n)
-    more (inl e) = inl (ap suc e)
-    more (inr e) = inr (λ h. e (omega (arith, h)))
-
-other_or_not : (o : ℕ) (a : Option AnswerEntry) → AnswerIsOther o a ⊎ ¬ (AnswerIsOther o a)
-other_or_not o None = inl tt
-other_or_not o (Some a) = turned (same_or_not a.outcome o)
-  where
-    turned : (a.outcome ≡ o) ⊎ (a.outcome ≢ o) → (a.outcome ≢ o) ⊎ ¬ (a.outcome ≢ o)
-    turned (inl e) = inr (λ h. h e)
-    turned (inr e) = inl e
-
-done_or_not : (s : State) (o : ℕ) (who : Caller) → CallerIsDone s o who ⊎ ¬ (CallerIsDone s o who)
-done_or_not s o (caller.Application c) = none_or_not (map.get s.calls c.0)
-done_or_not s o (caller.Peer q) = other_or_not o (map.get s.answers q.0)
-
-value_or_not : (s : State) (o : ℕ) (x : KeptOutcome) (v : Option Value) → IsLooseValue s o x v ⊎ ¬ (IsLooseValue s o x v)
-value_or_not s o x None = inr (λ h. h)
-value_or_not s o x (Some v) = all_three (empty_or_not x.waiting) (done_or_not s o x.caller) (same_or_not (names s (is_field o)) 0)
-
-outcome_or_not : (s : State) (o : ℕ) (x : Option KeptOutcome) → IsLooseOutcome s o x ⊎ ¬ (IsLooseOutcome s o x)
-outcome_or_not s o None = inr (λ h. h)
-outcome_or_not s o (Some x) = value_or_not s o x x.value
 
 -- ---- It goes, or not
 

@@ -14,6 +14,7 @@ mod sweeping;
 mod tallies;
 mod tally;
 mod thought;
+mod unnamed;
 
 pub use effects::{end_settled, sweep};
 pub use over::find_over;

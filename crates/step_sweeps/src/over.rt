@@ -12,6 +12,7 @@ use crate::alone::{find_over_alone, leaves_none_over, question_alone};
 use crate::considering::consider;
 use crate::finding::{consider_imports, consider_outcomes, consider_promises, consider_questions};
 use crate::thought::Thought;
+use crate::unnamed::{find_over_unnamed, no_pipe_holds};
 use rpc_msg::Memory;
 use vat_store::Store;
 
@@ -27,6 +28,9 @@ pub fn find_over(store: &Store, thought: &mut Thought) -> Result<(), Memory>
     ensures rested { noted_of store.now.names ≡ nothing_noted → IsOk result }
 {
     thought.over.clear();
+    if no_pipe_holds(store) {
+        return find_over_unnamed(store, &mut thought.over);
+    }
     if nothing_is_noted(store) {
         return Ok(());
     }

@@ -1,4 +1,4 @@
-ghost use Rattle.std.specs.Prelude.{◌≡◌, ◌+◌, ◌-◌, ◌^◌, ◌≤◌, ◌<◌, max, None, IsOk, OnOk, OnErr};
+ghost use Rattle.std.specs.Prelude.{◌≡◌, ◌==◌, ◌+◌, ◌-◌, ◌^◌, ◌≤◌, ◌<◌, max, None, IsOk, OnOk, OnErr};
 ghost use Rattle.std.specs.FinMap as map;
 ghost use Rattle.vat_names.specs.Names.{times, raised, lowered, noting, nothing_counted, roomier, with_rooms, TakesNoted};
 
@@ -54,6 +54,13 @@ impl Counter {
             Some(count) => *count,
             None => 0,
         }
+    }
+
+    /// Whether no key has a count. Takes no memory.
+    pub fn is_empty(&self) -> bool
+        ensures { result ≡ (map.len self.now.counts == 0) }
+    {
+        self.numbers.is_empty()
     }
 
     /// Makes room, so that so many new keys can be counted and so many keys noted besides, with none refused. `Err`

@@ -1,4 +1,5 @@
-ghost use Rattle.std.specs.Prelude.{◌≡◌, ◌↔◌, ◌+◌, ◌^◌, ◌<◌, ℕ, length, IsOk, IsTrue, OnOk, OnErr};
+ghost use Rattle.std.specs.Prelude.{◌≡◌, ◌==◌, ◌↔◌, ◌+◌, ◌^◌, ◌<◌, ℕ, length, IsOk, IsTrue, OnOk, OnErr};
+ghost use Rattle.std.specs.FinMap as map;
 
 use crate::counter::Counter;
 use rpc_msg::{ExportId, Memory, QuestionId};
@@ -44,7 +45,7 @@ impl Names {
         }
     }
 
-    /// How many places name the promise. Takes no memory, as do the next four.
+    /// How many places name the promise. Takes no memory, as do the next five.
     pub fn of_promise(&self, key: u64) -> u64
         ensures { result ≡ times self.now.promises.counts key }
     {
@@ -70,6 +71,13 @@ impl Names {
         ensures { result ≡ times self.now.questions.counts id.0 }
     {
         self.questions.count(id.0 as u64)
+    }
+
+    /// Whether no place names a Pipe of any question.
+    pub fn names_no_question(&self) -> bool
+        ensures { result ≡ (map.len self.now.questions.counts == 0) }
+    {
+        self.questions.is_empty()
     }
 
     /// How many places name the promise, the import, fields of the outcome or Pipes of the question that the node is of.
