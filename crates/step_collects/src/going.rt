@@ -2,7 +2,7 @@ ghost use Rattle.std.specs.Prelude.{◌≡◌, ℕ, [], IsTrue, MatchBool};
 ghost use Rattle.std.specs.FinMap as map;
 ghost use Rattle.vat_machine.specs.Collecting.{IsLoosePromise, IsLooseOutcome, IsLooseImport, IsTight, Collects};
 ghost use Rattle.vat_names.specs.Names.{Counts};
-ghost use Rattle.vat_store.specs.Holding.{state_of, all_named, IsCovered};
+ghost use Rattle.vat_store.specs.Holding.{state_of, all_named, IsCovered, IsSound};
 ghost use Rattle.step_base.specs.InProgress.{progress_of, IsReady, IsEnding};
 ghost use Rattle.step_collects.specs.Dropping.{Drops, Rests, OnlyReleases};
 
@@ -95,10 +95,23 @@ fn drop_promise(step: &mut Step) -> bool
     let Some(key) = next_loose_promise(&mut step.store) else {
         return false;
     };
-    let Some(_) = remove_promise(&mut step.store, key) else {
+    let_promise_go(&mut step.store, key);
+    true
+}
+
+// The promise goes. Apart, since a look at what is noted mostly finds nothing that goes.
+#[inline(never)]
+fn let_promise_go(store: &mut Store, key: u64)
+    requires sound { IsSound store.old }
+    requires loose { IsLoosePromise (state_of store.old) key (map.get (state_of store.old).promises key) }
+    ensures state { state_of store.new ≡ record (state_of store.old) { promises = map.remove (state_of store.old).promises key } }
+    ensures taken { store.new.waits.taken ≡ store.old.waits.taken }
+    ensures left { store.new.slack ≡ store.old.slack }
+    ensures sound { IsSound store.new }
+{
+    let Some(_) = remove_promise(store, key) else {
         unreachable!()
     };
-    true
 }
 
 // An outcome goes of which no place names a field, if there is one that may go.
@@ -113,8 +126,21 @@ fn drop_outcome(step: &mut Step) -> bool
     let Some(key) = next_loose_outcome(&mut step.store) else {
         return false;
     };
-    remove_outcome(&mut step.store, key);
+    let_outcome_go(&mut step.store, key);
     true
+}
+
+// The outcome goes, likewise apart.
+#[inline(never)]
+fn let_outcome_go(store: &mut Store, key: u64)
+    requires sound { IsSound store.old }
+    requires loose { IsLooseOutcome (state_of store.old) key (map.get (state_of store.old).outcomes key) }
+    ensures state { state_of store.new ≡ record (state_of store.old) { outcomes = map.remove (state_of store.old).outcomes key } }
+    ensures taken { store.new.waits.taken ≡ store.old.waits.taken }
+    ensures left { store.new.slack ≡ store.old.slack }
+    ensures sound { IsSound store.new }
+{
+    remove_outcome(store, key);
 }
 
 // An import goes that no place names, if there is one, and is to be released.

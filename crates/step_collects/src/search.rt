@@ -32,6 +32,7 @@ pub fn next_loose_promise(store: &mut Store) -> Option<u64>
 }
 
 /// Finds a known outcome that nobody waits for, whose caller is done and of which no place names a field.
+#[inline(always)]
 pub fn next_loose_outcome(store: &mut Store) -> Option<u64>
     requires sound { IsSound store.old }
     requires none_taken { store.old.waits.taken ≡ [] }
