@@ -9,13 +9,12 @@ use Rattle.vat_machine.specs.State.{State}
 use Rattle.vat_machine.specs.Lists.{how_many}
 use Rattle.vat_machine.specs.Places.{places}
 use Rattle.vat_machine.specs.Collecting.{IsLooseOutcome}
-use Rattle.vat_machine.specs.Sweeping.{IsToFinish}
 use Rattle.laws_acts.specs.Alike.{Alike}
 use Rattle.laws_acts.proofs.Parts.{how_many_append}
 use Rattle.vat_store.specs.declared.store.Store.{Store}
 use Rattle.vat_store.specs.Holding.{state_of, IsSound}
 use Rattle.vat_store.specs.Noted.{Notes, noted_of, nothing_noted}
-use Rattle.step_sweeps.specs.Over.{AreOver}
+use Rattle.step_sweeps.specs.Over.{AreOver, IsOnlyOver}
 use Rattle.step_sweeps.specs.Thinking.{IsLoose, IsLeft, Covers, GoesAlone, without, named_by_thing, asked_by, is_id, nodes_of, promise_node, field_node, import_node, pipe_node}
 use Rattle.step_sweeps.proofs.Deciding.{outcome_or_not}
 use Rattle.step_sweeps.proofs.Covering.{covers_less, covers_more, thing_leaves}
@@ -59,12 +58,11 @@ outcome_alone s o alone = by (outcome_or_not s o (map.get s.outcomes o))
     by (inr firm) = none_alone s (field_node o) alone firm
 
 -- A question is over, if it is to be finished.
-module _ (s : State) (q : QuestionId) (alone : GoesAlone s (pipe_node q.0)) where
-  pub question_over : IsToFinish s q.0 (map.get s.questions q.0) → AreOver s (q ∷ [])
-  question_over loose = over_alone s (pipe_node q.0) alone loose (q ∷ []) (λ k. refl) (λ k d low below. absurd (omega (arith, below)))
-
-  pub question_firm : ¬ (IsToFinish s q.0 (map.get s.questions q.0)) → AreOver s []
-  question_firm firm = none_alone s (pipe_node q.0) alone firm
+pub question_alone : (s : State) (q : QuestionId) → GoesAlone s (pipe_node q.0) → IsOnlyOver s q
+question_alone s q alone = record {
+  over = λ loose. over_alone s (pipe_node q.0) alone loose (q ∷ []) (λ k. refl) (λ k d low below. absurd (omega (arith, below)));
+  none = λ firm. none_alone s (pipe_node q.0) alone firm;
+}
 
 -- ---- By what is noted
 

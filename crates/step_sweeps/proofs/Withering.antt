@@ -25,7 +25,7 @@ use Rattle.vat_names.specs.Names.{count_of}
 use Rattle.vat_names.proofs.Counting.{other_key}
 use Rattle.vat_store.specs.declared.store.Store.{Store}
 use Rattle.vat_store.specs.Holding.{state_of, IsSound}
-use Rattle.step_sweeps.specs.Over.{AreOver}
+use Rattle.step_sweeps.specs.Over.{AreOver, IsOnlyOver}
 use Rattle.step_sweeps.specs.Thinking.{IsLoose, IsLeft, Covers, without, named_by_thing, asked_by, is_of, is_id, any, nodes_of, promise_node, field_node, import_node, pipe_node}
 use Rattle.step_sweeps.proofs.Deciding.{loose_or_not}
 use Rattle.step_sweeps.proofs.Entries.{with_one_more, is_open}
@@ -214,16 +214,13 @@ module _ (x : Store) (sound : IsSound x) (none_taken : x.waits.taken ≡ []) (un
   is_noted : (q : ℕ) → IsToFinish s q (map.get s.questions q) → Contains x.names.questions.noted q
   is_noted q loose = noted_question x sound.counted none_taken sound.covered q (map.get s.questions q) loose (sound.covered.questions q)
 
-  -- No question is noted, or one that is not to be finished.
+  -- No question is noted.
   pub unnoted_over : x.names.questions.noted ≡ [] → AreOver s []
   unnoted_over empty = none_over_then s unnamed_all noted covers (λ q loose. let there = subst (λ (ks : List ℕ). Contains ks q) empty (is_noted q loose) in let below = there.1 in absurd (omega (arith, below)))
 
-  module _ (few : length x.names.questions.noted ≤ 1) (q : QuestionId) (is : q.0 ≡ get_or x.names.questions.noted 0 0) where
-    others : (k : ℕ) → k ≢ q.0 → ¬ (IsToFinish s k (map.get s.questions k))
-    others k apart loose = apart (only_key x.names.questions.noted k few (is_noted k loose) ∙ sym is)
-
-    pub firm_over : ¬ (IsToFinish s q.0 (map.get s.questions q.0)) → AreOver s []
-    firm_over firm = none_over_then s unnamed_all noted covers (at_each (λ k. ¬ (IsToFinish s k (map.get s.questions k))) q.0 firm others)
-
-    pub noted_over : IsToFinish s q.0 (map.get s.questions q.0) → AreOver s (q ∷ [])
-    noted_over loose = one_over_then s unnamed_all noted covers q loose others
+  pub noted_only : length x.names.questions.noted ≤ 1 → (q : QuestionId) → q.0 ≡ get_or x.names.questions.noted 0 0 → IsOnlyOver s q
+  noted_only few q is =
+      let others : (k : ℕ) → k ≢ q.0 → ¬ (IsToFinish s k (map.get s.questions k)) = λ k apart loose. apart (only_key x.names.questions.noted k few (is_noted k loose) ∙ sym is) in record {
+        over = λ loose. one_over_then s unnamed_all noted covers q loose others;
+        none = λ firm. none_over_then s unnamed_all noted covers (at_each (λ k. ¬ (IsToFinish s k (map.get s.questions k))) q.0 firm others);
+      }

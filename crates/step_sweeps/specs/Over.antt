@@ -4,7 +4,7 @@ use Rattle.std.specs.FinMap as map
 use Rattle.finite_maps.specs.Tally.{Map}
 use Rattle.rpc_msg.specs.declared.ids.QuestionId.{QuestionId}
 use Rattle.vat_machine.specs.declared.entries.Question.{Question}
-use Rattle.vat_machine.specs.Sweeping.{Withers}
+use Rattle.vat_machine.specs.Sweeping.{IsToFinish, Withers}
 use Rattle.vat_machine.specs.State.{State}
 use Rattle.vat_machine.specs.Progress.{Progress}
 
@@ -33,3 +33,8 @@ pub record AreOver (s : State) (ids : List QuestionId) : Type 0 where
   pub withers : (d : Progress) → d.state ≡ s → Withers d over
   pub entries : map.entries over ≡ standing s ids
   pub rising : AreRising ids
+
+-- No other question can be over than this one, and it is over where it is to be finished.
+pub record IsOnlyOver (s : State) (q : QuestionId) : Type 0 where
+  pub over : IsToFinish s q.0 (map.get s.questions q.0) → AreOver s (q ∷ [])
+  pub none : ¬ (IsToFinish s q.0 (map.get s.questions q.0)) → AreOver s []

@@ -4,7 +4,7 @@ ghost use Rattle.vat_machine.specs.Sweeping.{IsToFinish};
 ghost use Rattle.vat_names.specs.Names.{Counts};
 ghost use Rattle.vat_store.specs.Holding.{state_of, all_named, IsSound};
 ghost use Rattle.vat_store.specs.Noted.{noted_of, nothing_noted};
-ghost use Rattle.step_sweeps.specs.Over.{AreOver};
+ghost use Rattle.step_sweeps.specs.Over.{AreOver, IsOnlyOver};
 ghost use Rattle.step_sweeps.specs.Thinking.{GoesAlone, named_by_thing, field_node, pipe_node};
 
 use crate::resting::is_to_be_finished;
@@ -39,7 +39,8 @@ pub(crate) fn question_alone(store: &Store) -> Option<QuestionId>
     Some(id)
 }
 
-// Finds whether the question is over, where nothing else may go and it names nothing.
+// Finds whether the question is over, where no other can be.
+#[inline(never)]
 pub(crate) fn find_over_alone(
     store: &Store,
     over: &mut Vec<QuestionId>,
@@ -47,7 +48,7 @@ pub(crate) fn find_over_alone(
 ) -> Result<(), Memory>
     requires counted { Counts store.now.names (all_named store.now) }
     requires none_taken { store.now.waits.taken ≡ [] }
-    requires alone { GoesAlone (state_of store.now) (pipe_node id.0) }
+    requires only { IsOnlyOver (state_of store.now) id }
     requires none_yet { over.old.items ≡ [] }
     ensures over { OnOk result (AreOver (state_of store.now) over.new.items) }
     ensures never { ¬ (IsToFinish (state_of store.now) id.0 (map.get (state_of store.now).questions id.0)) → IsOk result }

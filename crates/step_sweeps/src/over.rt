@@ -31,6 +31,19 @@ pub fn find_over(store: &Store, thought: &mut Thought) -> Result<(), Memory>
     if no_pipe_holds(store) {
         return find_over_unnamed(store, &mut thought.over);
     }
+    find_over_named(store, thought)
+}
+
+// Finds them where places name Pipes of questions, or more than one question is noted.
+#[inline(never)]
+fn find_over_named(store: &Store, thought: &mut Thought) -> Result<(), Memory>
+    requires sound { IsSound store.now }
+    requires none_taken { store.now.waits.taken ≡ [] }
+    requires none_yet { thought.old.over.items ≡ [] }
+    ensures over { OnOk result (AreOver (state_of store.now) thought.new.over.items) }
+    ensures never { IsTight (state_of store.now) → ((q : ℕ) → ¬ (IsToFinish (state_of store.now) q (map.get (state_of store.now).questions q))) → IsOk result }
+    ensures rested { noted_of store.now.names ≡ nothing_noted → IsOk result }
+{
     if nothing_is_noted(store) {
         return Ok(());
     }

@@ -4,7 +4,7 @@ ghost use Rattle.vat_machine.specs.Sweeping.{IsToFinish};
 ghost use Rattle.vat_store.specs.Holding.{state_of, IsSound};
 ghost use Rattle.step_sweeps.specs.Over.{AreOver};
 
-use crate::resting::is_to_be_finished;
+use crate::alone::find_over_alone;
 use rpc_msg::{Memory, QuestionId};
 use vat_store::Store;
 
@@ -31,12 +31,5 @@ pub(crate) fn find_over_unnamed(store: &Store, over: &mut Vec<QuestionId>) -> Re
     if keys.is_empty() {
         return Ok(());
     }
-    let id = QuestionId(keys[0] as u32);
-    if !is_to_be_finished(store, id) {
-        return Ok(());
-    }
-    let Ok(()) = over.push(id) else {
-        return Err(Memory);
-    };
-    Ok(())
+    find_over_alone(store, over, QuestionId(keys[0] as u32))
 }

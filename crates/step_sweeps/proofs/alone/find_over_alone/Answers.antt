@@ -2,18 +2,14 @@ use Rattle.std.proofs.Common.{◌∷◌, [], ◌++◌, List, sym, ap, subst, ◌
 use Rattle.rpc_msg.specs.declared.ids.QuestionId.{QuestionId}
 use Rattle.vat_store.specs.Holding.{state_of}
 use Rattle.step_sweeps.specs.Over.{AreOver}
-use Rattle.step_sweeps.proofs.Single.{question_over, question_firm}
 use Rattle.step_sweeps.proofs.alone.find_over_alone.Goals as goal
 
 pub returns-then-not-is_to_be_finished-clause-over :
     goal.returns-then-not-is_to_be_finished-clause-over
 returns-then-not-is_to_be_finished-clause-over c =
-    let s = state_of c.args.store.now in
-    subst (λ (ids : List QuestionId). AreOver s ids) (sym c.requires.none_yet) (question_firm s c.args.id c.requires.alone c.if-not-is_to_be_finished.ensures)
+    subst (λ (ids : List QuestionId). AreOver (state_of c.args.store.now) ids) (sym c.requires.none_yet) (c.requires.only.none c.if-not-is_to_be_finished.ensures)
 
 pub returns-clause-over : goal.returns-clause-over
 returns-clause-over c =
-    let s = state_of c.args.store.now in
-    let q = c.args.id in
-    subst (λ (ids : List QuestionId). AreOver s ids) (sym (c.in-Ok.ensures.items ∙ ap (λ (ids : List QuestionId). ids ++ q ∷ []) c.requires.none_yet))
-    (question_over s q c.requires.alone c.if-not-is_to_be_finished.ensures)
+    subst (λ (ids : List QuestionId). AreOver (state_of c.args.store.now) ids) (sym (c.in-Ok.ensures.items ∙ ap (λ (ids : List QuestionId). ids ++ c.args.id ∷ []) c.requires.none_yet))
+    (c.requires.only.over c.if-not-is_to_be_finished.ensures)
