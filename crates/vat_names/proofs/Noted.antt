@@ -1,8 +1,7 @@
 -- What is noted stays an id.
-use Rattle.std.proofs.Common.{◌≡◌, ℕ, ◌<◌, Bool, true, false, cond, nat_le, List, [], ◌∷◌, ◌++◌, Option, None, Some, All}
+use Rattle.std.proofs.Common.{ℕ, ◌<◌, Bool, true, false, cond, nat_le, [], ◌∷◌, Option, None, Some}
 use Rattle.std.proofs.lemmas.List.Elements.{All-nil, All-cons, All-append, All-push}
 use Rattle.vat_names.specs.Names.{Counted, noted_by, lowered, noting, HasIds}
-use Rattle.finite_maps.specs.Tally.{Map}
 use Rattle.std.specs.FinMap as map
 
 abbrev IsId : ℕ → Type 0

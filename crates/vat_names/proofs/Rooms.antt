@@ -1,11 +1,11 @@
 -- What room is left once nodes are named, and how often a node is named then.
-use Rattle.std.proofs.Common.{◌≡◌, ℕ, suc, ◌+◌, ◌-◌, ◌≤◌, ◌<◌, ◌^◌, max, List, [], ◌∷◌, length, Option, None, Some, refl, sym, ap, ◌∙◌, arith}
+use Rattle.std.proofs.Common.{◌≡◌, ℕ, ◌+◌, ◌≤◌, ◌<◌, ◌^◌, max, List, [], ◌∷◌, length, Option, None, Some, refl, sym, ap, arith}
 use Rattle.std.specs.FinMap as map
 use Rattle.finite_maps.specs.Tally.{Map}
 use Rattle.vat_machine.specs.declared.node.Node.{Node}
 use Rattle.vat_machine.specs.declared.node.Node.TheVariants as node
 use Rattle.finite_maps.proofs.Gets.{each_inserted}
-use Rattle.vat_names.specs.Names.{Counted, count_of, times, raised_by, room_by, raised, roomier, Names, named, named_all, times_named, HasRoom, all_roomier}
+use Rattle.vat_names.specs.Names.{Counted, count_of, times, raised_by, room_by, roomier, Names, named, named_all, times_named, HasRoom, all_roomier}
 
 -- ---- Room
 

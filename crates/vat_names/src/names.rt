@@ -177,6 +177,9 @@ impl Names {
         ensures had_room { HasRoom (length nodes.now) self.old → CanCount self.old nodes.now → IsOk result }
         ensures same { OnErr result (self.new ≡ all_with_rooms self.old self.new) }
     {
+        if nodes.is_empty() {
+            return Ok(());
+        }
         if !self.can_add(nodes) {
             return Err(Memory);
         }
