@@ -28,7 +28,7 @@ use Rattle.laws_runs.specs.MadeCalls.{NumbersItsCalls}
 use Rattle.vat_core.specs.Counting.{made_of as count_of}
 use Rattle.vat_world.specs.declared.notes.Note.{Note}
 use Rattle.vat_world.specs.Notes.{or_zero, index_of, made_of, made_entries, note_entries, granted_by, IsShort}
-use Rattle.vat_world.specs.Stages.{IsOwn, HadOwn, entries_of}
+use Rattle.vat_world.specs.Stages.{noted_entries, HadNote}
 
 -- ---- The index of a call
 
@@ -108,14 +108,12 @@ short s (command.Shut n) g x t k = tt
 
 -- ---- The own entry
 
-abbrev pub IsNoteOf : Vat → ℕ → Command → Result Note Memory → Type 0
-IsNoteOf v i c note = IfOk note (λ n. IsShort c → (answer : Granted) → note_entries v n answer ≡ granted_by i v c answer)
+abbrev pub IsNoteOf : ℕ → Command → Result Note Memory → Type 0
+IsNoteOf i c note = IfOk note (λ n. (v : Vat) → IsShort c → (answer : Granted) → note_entries v n answer ≡ granted_by i v c answer)
 
--- Where there was room, the entry that was made of the note is the command's own.
-pub own_so : (v : Vat) (h : List JournalEntry) (s : State) (c : Command) (g : Granted) (x : Effects) (t : State) (i : ℕ) (note : Result Note Memory) (own : Result (Option JournalEntry) Memory)
-    → NumbersItsCalls v s h → Obeys s c (Ok g) x t → i ≡ index_of s c → IsNoteOf v i c note → IsOwn v note g own → HadOwn true own → entries_of own ≡ granted_entries h v c g
-own_so v h s c g x t i (Ok n) (Ok o) counts k e noted is had =
-    is ∙ noted (short s c g x t k) g ∙ ap (λ (j : ℕ). granted_by j v c g) e ∙ written v h s c g x t counts k
-own_so v h s c g x t i (Ok n) (Err m) counts k e noted is had = absurd had
-own_so v h s c g x t i (Err m) (Ok o) counts k e noted is had = absurd is
-own_so v h s c g x t i (Err m) (Err l) counts k e noted is had = absurd had
+-- Where there was room, what the note gives is the command's own.
+pub own_so : (v : Vat) (h : List JournalEntry) (s : State) (c : Command) (g : Granted) (x : Effects) (t : State) (i : ℕ) (note : Result Note Memory)
+    → NumbersItsCalls v s h → Obeys s c (Ok g) x t → i ≡ index_of s c → IsNoteOf i c note → HadNote true note → noted_entries v note g ≡ granted_entries h v c g
+own_so v h s c g x t i (Ok n) counts k e noted had =
+    noted v (short s c g x t k) g ∙ ap (λ (j : ℕ). granted_by j v c g) e ∙ written v h s c g x t counts k
+own_so v h s c g x t i (Err m) counts k e noted had = absurd had

@@ -1,6 +1,5 @@
 -- The step of one vat, from its core's step and how that was told.
-use Rattle.std.proofs.Common.{◌≡◌, inl, inr, ℕ, Bool, true, false, cond, Option, None, Some, is_some, IfSome, Result, Ok, Err, List, [], ◌∷◌, refl, sym, ap, subst, ◌∙◌}
-use Rattle.std.specs.Option.{option_to_list}
+use Rattle.std.proofs.Common.{◌≡◌, inl, inr, ℕ, Bool, true, false, cond, Option, None, Some, is_some, IfSome, Result, Ok, Err, List, [], ◌∷◌, ◌++◌, length, append-nil, append_assoc, refl, sym, ap, subst, ◌∙◌}
 use Rattle.rpc_msg.specs.Memory.{Memory}
 use Rattle.rpc_msg.specs.declared.ids.Vat.{Vat}
 use Rattle.rpc_msg.specs.declared.message.PlainMessage.TheVariants as plain
@@ -17,7 +16,7 @@ use Rattle.vat_machine.specs.Progress.{quiet}
 use Rattle.vat_machine.specs.Down.{falling_by, IsUnchanged, Falls, ShutsFrom}
 use Rattle.vat_machine.specs.Steps.{Obeys, Refuses, LacksMemory, GoesDown, Shuts, IsDone, Receives, WasDown, FaultsBy, LacksRoom, IsHandled}
 use Rattle.vat_machine.specs.World.{given_up}
-use Rattle.vat_machine.specs.Journal.{own_entries, refused_entries}
+use Rattle.vat_machine.specs.Journal.{own_entries, effect_entries}
 use Rattle.vat_machine.proofs.StaysDown.{command_down}
 use Rattle.laws_steps.proofs.UsedOnce.{command_leaves_up, message_leaves_up}
 use Rattle.laws_runs.specs.MadeCalls.{NumbersItsCalls}
@@ -26,7 +25,7 @@ use Rattle.vat_core.specs.declared.obey.Answer.TheVariants.{Done, Refused}
 use Rattle.vat_core.specs.Answers.{AnswersTo, answer_in, effects_in}
 use Rattle.vat_world.specs.declared.notes.Note.{Note}
 use Rattle.vat_world.specs.Notes.{index_of}
-use Rattle.vat_world.specs.Stages.{Stage, stepped, without_sends, given_of, entries_of, IsFall, IsOwn, HadOwn, Logs, ObeysUp, ObeysDown, ObeysBy, HandlesUp}
+use Rattle.vat_world.specs.Stages.{Stage, stepped, without_sends, given_of, noted_entries, IsFall, HadNote, Logs, TellsDone, TellsRefused, ObeysUp, ObeysDown, ObeysBy, HandlesUp}
 use Rattle.vat_world.proofs.Noting.{IsNoteOf, own_so}
 
 -- ---- A step that takes a vat down says no more than an Abort
@@ -71,51 +70,59 @@ either : {X : Type 0} (b : Bool) (x : X) → cond b x x ≡ x
 either true x = refl
 either false x = refl
 
-pub handles_by : (v : Vat) (g : Stage) (m : Message) (x : Effects) (t : State) (room : Bool) (given : Effects) (new : Stage)
-    → Receives g.acting.core m x t → Logs v (record g { acting = record (g.acting) { core = t } }) x (Ok (Some (entry.Got v))) true room given new → HandlesUp v g m given new
-handles_by v g m x t room given new r l = record {
-  told = l.told;
-  room = room;
-  s = l.s;
-  told_so = (x, t, r, l.tells);
-  new_is = l.new_is ∙ ap (λ (own : List JournalEntry). stepped v g l.s l.told own) (either room (entry.Got v ∷ []));
-  given_is = l.given_is;
-}
+-- With an entry that was written before.
+behind : (v : Vat) (g : Stage) (s : State) (told : Effects) (xs own : List JournalEntry) → stepped v (record g { journal = g.journal ++ xs }) s told own ≡ stepped v g s told (xs ++ own)
+behind v g s told xs own = ap (λ (l : List JournalEntry). record (stepped v g s told []) { journal = l }) (append_assoc g.journal xs (own ++ effect_entries v told) ∙ ap (λ (l : List JournalEntry). g.journal ++ l) (sym (append_assoc xs own (effect_entries v told))))
 
--- ---- Commands
-
-pub refused_by : (v : Vat) (g : Stage) (c : Command) (a : Answer) (r : Refusal) (back : Command) (x : Effects) (t : State) (o : Option JournalEntry) (room : Bool) (given : Effects) (new : Stage)
-    → a ≡ Refused r back → AnswersTo g.acting.core c a t → option_to_list o ≡ refused_entries v r → x ≡ quiet
-    → Logs v (record g { acting = record (g.acting) { core = t } }) x (Ok o) false room given new → ObeysUp v g c (Refused r back) new
-refused_by v g c a r back x t o room given new e h own q l =
-    let k = subst (λ (b : Answer). AnswersTo g.acting.core c b t) e h in record {
-      answer = Err r;
+pub handles_by : (v : Vat) (g : Stage) (m : Message) (x : Effects) (t : State) (journal : List JournalEntry) (start : ℕ) (room : Bool) (given : Effects) (new : Stage)
+    → Receives g.acting.core m x t → journal ≡ g.journal ++ entry.Got v ∷ [] → start ≡ length journal
+    → ((b own : List JournalEntry) → journal ≡ b ++ own → start ≡ length b → Logs v (record g { acting = record (g.acting) { core = t }; journal = b }) x own room given new) → HandlesUp v g m given new
+handles_by v g m x t journal start room given new r j n logs =
+    let l = logs (g.journal ++ entry.Got v ∷ []) [] (j ∙ sym (append-nil (g.journal ++ entry.Got v ∷ []))) (n ∙ ap (λ (xs : List JournalEntry). length xs) j) in record {
       told = l.told;
       room = room;
       s = l.s;
-      told_so = (Err r, x, t, subst (λ (y : Effects). Obeys g.acting.core c (Err r) y t) (sym q) k.obeys, sym (either room (Err r)), l.tells);
-      new_is = l.new_is ∙ ap (λ (xs : List JournalEntry). stepped v g l.s l.told (cond room xs [])) own;
+      told_so = (x, t, r, l.tells);
+      new_is = l.new_is ∙ ap (λ (own : List JournalEntry). stepped v (record g { journal = g.journal ++ entry.Got v ∷ [] }) l.s l.told own) (either room []) ∙ behind v g l.s l.told (entry.Got v ∷ []) [];
+      given_is = l.given_is;
+    }
+
+-- ---- Commands
+
+pub refused_by : (v : Vat) (g : Stage) (c : Command) (a : Answer) (r : Refusal) (back : Command) (t : State) (new : Stage)
+    → a ≡ Refused r back → AnswersTo g.acting.core c a t → TellsRefused v (record g { acting = record (g.acting) { core = t } }) r new → ObeysUp v g c (Refused r back) new
+refused_by v g c a r back t new e h tells =
+    let k = subst (λ (b : Answer). AnswersTo g.acting.core c b t) e h in
+    let l = tells.logs in record {
+      answer = Err r;
+      told = l.told;
+      room = tells.room;
+      s = l.s;
+      told_so = (Err r, quiet, t, k.obeys, sym (either tells.room (Err r)), l.tells);
+      new_is = l.new_is;
       given_is = ap (λ (b : Command). Refused r b) k.handed_back;
     }
 
-done_writes : (v : Vat) (g : Stage) (c : Command) (granted : Granted) (x : Effects) (t : State) (i : ℕ) (note : Result Note Memory) (own : Result (Option JournalEntry) Memory) (room : Bool)
-    → NumbersItsCalls v g.acting.core g.journal → Obeys g.acting.core c (Ok granted) x t → i ≡ index_of g.acting.core c → IsNoteOf v i c note → IsOwn v note granted own → HadOwn room own
-    → cond room (entries_of own) [] ≡ cond room (own_entries g.journal v c (cond room (Ok granted) (given_up (Ok granted)))) []
-done_writes v g c granted x t i note own true counts k e noted is had = own_so v g.journal g.acting.core c granted x t i note own counts k e noted is had
-done_writes v g c granted x t i note own false counts k e noted is had = refl
+done_writes : (v : Vat) (g : Stage) (c : Command) (granted : Granted) (x : Effects) (t : State) (i : ℕ) (note : Result Note Memory) (room : Bool)
+    → NumbersItsCalls v g.acting.core g.journal → Obeys g.acting.core c (Ok granted) x t → i ≡ index_of g.acting.core c → IsNoteOf i c note → HadNote room note
+    → cond room (noted_entries v note granted) [] ≡ cond room (own_entries g.journal v c (cond room (Ok granted) (given_up (Ok granted)))) []
+done_writes v g c granted x t i note true counts k e noted had = own_so v g.journal g.acting.core c granted x t i note counts k e noted had
+done_writes v g c granted x t i note false counts k e noted had = refl
 
-pub done_by : (v : Vat) (g : Stage) (c : Command) (a : Answer) (granted left : Granted) (x : Effects) (t : State) (i : ℕ) (note : Result Note Memory) (own : Result (Option JournalEntry) Memory) (room : Bool) (given : Effects) (new : Stage)
-    → NumbersItsCalls v g.acting.core g.journal → a ≡ Done granted x → AnswersTo g.acting.core c a t → i ≡ index_of g.acting.core c → IsNoteOf v i c note → IsOwn v note granted own
-    → Logs v (record g { acting = record (g.acting) { core = t } }) x own false room given new → Ok left ≡ cond room (Ok granted) (given_up (Ok granted)) → ObeysUp v g c (Done left given) new
-done_by v g c a granted left x t i note own room given new counts e h is_index noted is l f =
-    let k = subst (λ (b : Answer). Obeys g.acting.core c (answer_in b) (effects_in b) t) e h.obeys in record {
+pub done_by : (v : Vat) (g : Stage) (c : Command) (a : Answer) (granted left : Granted) (x : Effects) (t : State) (i : ℕ) (note : Result Note Memory) (given : Effects) (new : Stage)
+    → NumbersItsCalls v g.acting.core g.journal → a ≡ Done granted x → AnswersTo g.acting.core c a t → i ≡ index_of g.acting.core c → IsNoteOf i c note
+    → TellsDone v (record g { acting = record (g.acting) { core = t } }) note granted x left given new → ObeysUp v g c (Done left given) new
+done_by v g c a granted left x t i note given new counts e h is_index noted tells =
+    let k = subst (λ (b : Answer). Obeys g.acting.core c (answer_in b) (effects_in b) t) e h.obeys in
+    let l = tells.logs in
+    let room = tells.room in record {
       answer = cond room (Ok granted) (given_up (Ok granted));
       told = l.told;
       room = room;
       s = l.s;
       told_so = (Ok granted, x, t, k, refl, l.tells);
-      new_is = l.new_is ∙ ap (λ (xs : List JournalEntry). stepped v g l.s l.told xs) (done_writes v g c granted x t i note own room counts k is_index noted is l.had_own);
-      given_is = ap (λ (y : Effects). Done left y) l.given_is ∙ ap (λ (b : Result Granted Refusal). given_of c b l.told) f;
+      new_is = l.new_is ∙ ap (λ (xs : List JournalEntry). stepped v g l.s l.told xs) (done_writes v g c granted x t i note room counts k is_index noted tells.had_note);
+      given_is = ap (λ (y : Effects). Done left y) l.given_is ∙ ap (λ (b : Result Granted Refusal). given_of c b l.told) tells.left_is;
     }
 
 -- At a vat that is down.

@@ -48,7 +48,11 @@ note_entries v note.Promise answer = born_promise v answer
 note_entries v note.Asked answer = asked_entries v answer
 note_entries v (note.Made m) answer = made_entries v m answer
 note_entries v (note.Advanced r) answer = advanced_entries v r answer
-note_entries v (note.Whole e) answer = e ∷ []
+note_entries v (note.Resolved p r) answer = entry.Resolved v p r ∷ []
+note_entries v (note.Rejected p e) answer = entry.Rejected v p e ∷ []
+note_entries v (note.Answered t o rs) answer = entry.Answered v t o rs ∷ []
+note_entries v (note.Dropped r) answer = entry.Dropped v r ∷ []
+note_entries v (note.Finished c) answer = entry.Finished v c ∷ []
 note_entries v note.Nothing answer = []
 
 -- What a command writes, a call with that index.

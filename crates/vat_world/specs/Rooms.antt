@@ -34,12 +34,16 @@ pub record HasRoom (s peer : kept.Side) (journal : List JournalEntry × ℕ) : T
   pub other : CanFall peer s
   pub entries : owed s.core.down + owed peer.core.down ≤ journal.1
 
--- The same while a vat takes its step, which was up before it.
+-- The same while a vat takes its step, which was up before it, and wrote an entry of its own.
 pub record IsReady (s peer : kept.Side) (journal : List JournalEntry × ℕ) : Type 0 where
   pub acting : CanAbort s peer
   pub other : CanFall peer s
-  pub entries : 3 + owed peer.core.down ≤ journal.1
+  pub entries : 2 + owed peer.core.down ≤ journal.1
 
 -- What contracts see of it all.
 abbrev pub seen_of : kept.Side → kept.Side → List JournalEntry × ℕ → Seen
 seen_of a b journal = record { world = record { a = side_of a; b = side_of b }; journal = journal.0; shut_a = a.was_shut; shut_b = b.was_shut }
+
+-- Of the room that is kept for both to go down nothing is lost.
+abbrev pub KeepsRoom : ℕ → ℕ → Type 0
+KeepsRoom old new = (k : ℕ) → k ≤ 6 → k ≤ old → k ≤ new

@@ -1,6 +1,5 @@
 -- The step of one vat: it, the messages to its peer, and the journal.
 use Rattle.std.specs.Prelude.{◌≡◌, ◌⊎◌, ℕ, Bool, true, false, cond, ◌&&◌, Option, None, Some, is_some, Result, Ok, Err, List, [], ◌∷◌, ◌++◌}
-use Rattle.std.specs.Option.{option_to_list}
 use Rattle.rpc_msg.specs.Memory.{Memory}
 use Rattle.rpc_msg.specs.declared.ids.Vat.{Vat}
 use Rattle.rpc_msg.specs.declared.message.Message.{Message}
@@ -14,8 +13,9 @@ use Rattle.vat_machine.specs.State.{State}
 use Rattle.vat_machine.specs.Down.{falling, silent}
 use Rattle.vat_machine.specs.Refusals.{is_shut}
 use Rattle.vat_machine.specs.Steps.{Obeys}
-use Rattle.vat_machine.specs.World.{Side, Tells, CommandTold, MessageTold}
-use Rattle.vat_machine.specs.Journal.{effect_entries, own_entries}
+use Rattle.vat_machine.specs.World.{Side, Tells, CommandTold, MessageTold, given_up}
+use Rattle.vat_machine.specs.Progress.{quiet}
+use Rattle.vat_machine.specs.Journal.{effect_entries, own_entries, refused_entries}
 use Rattle.vat_core.specs.declared.obey.Answer.{Answer}
 use Rattle.vat_core.specs.declared.obey.Answer.TheVariants.{Done, Refused}
 use Rattle.vat_world.specs.declared.notes.Note.{Note}
@@ -92,47 +92,52 @@ DeliversBy (m ∷ ms) None v g given new = (effects : Effects) × (given ≡ ste
 abbrev pub IsFall : Effects → ℕ → Type 0
 IsFall e n = (e ≡ falling n) ⊎ (e ≡ silent n)
 
--- The vat's own entry, where it could be made.
-abbrev pub entries_of : Result (Option JournalEntry) Memory → List JournalEntry
-entries_of (Ok o) = option_to_list o
-entries_of (Err m) = []
-
--- There was room, so the own entry could be made.
-abbrev pub HadOwn : Bool → Result (Option JournalEntry) Memory → Type 0
-HadOwn true (Ok o) = Unit {0}
-HadOwn true (Err m) = ⊥
-HadOwn false own = Unit {0}
-
--- What is written of a message that was received.
-abbrev pub got_entries : Vat → Bool → List JournalEntry
-got_entries v true = entry.Got v ∷ []
-got_entries v false = []
-
--- A core's step with these effects is told, with its own entry, or without room what was received.
-pub record Logs (v : Vat) (g : Stage) (effects : Effects) (own : Result (Option JournalEntry) Memory) (got : Bool) (room : Bool) (given : Effects) (new : Stage) : Type 0 where
+-- A core's step with these effects is told: with its own entries where there was room for it, and without them where there
+-- was none.
+pub record Logs (v : Vat) (g : Stage) (effects : Effects) (own : List JournalEntry) (room : Bool) (given : Effects) (new : Stage) : Type 0 where
   pub told : Effects
   pub s : State
   pub tells : Tells effects g.acting.core room told s
-  pub had_own : HadOwn room own
-  pub new_is : new ≡ stepped v g s told (cond room (entries_of own) (got_entries v got))
+  pub new_is : new ≡ stepped v g s told (cond room own [])
   pub given_is : given ≡ without_sends told
 
--- There was no room: of the step's entries only what was received is left, and the vat goes down.
-pub record Overflows (v : Vat) (g : Stage) (effects : Effects) (got : Bool) (given : Effects) (new : Stage) : Type 0 where
+-- There was no room: the step's own entries are gone, and the vat goes down.
+pub record Overflows (v : Vat) (g : Stage) (effects : Effects) (given : Effects) (new : Stage) : Type 0 where
   pub told : Effects
   pub s : State
   pub tells : Tells effects g.acting.core false told s
-  pub new_is : new ≡ stepped v g s told (got_entries v got)
+  pub new_is : new ≡ stepped v g s told []
   pub given_is : given ≡ without_sends told
+
+-- What is behind the entries that stood there.
+abbrev pub Extends : List JournalEntry → List JournalEntry → Type 0
+Extends xs ys = (more : List JournalEntry) × (ys ≡ xs ++ more)
+
+-- The entries that a note gives, where there is one.
+abbrev pub noted_entries : Vat → Result Note Memory → Granted → List JournalEntry
+noted_entries v (Ok note) answer = note_entries v note answer
+noted_entries v (Err m) answer = []
+
+-- There was room, so there is a note.
+abbrev pub HadNote : Bool → Result Note Memory → Type 0
+HadNote true (Ok note) = Unit {0}
+HadNote true (Err m) = ⊥
+HadNote false note = Unit {0}
+
+-- A step that was done is told, and this is left of what it granted.
+pub record TellsDone (v : Vat) (g : Stage) (note : Result Note Memory) (granted : Granted) (effects : Effects) (left : Granted) (given : Effects) (new : Stage) : Type 0 where
+  pub room : Bool
+  pub had_note : HadNote room note
+  pub logs : Logs v g effects (noted_entries v note granted) room given new
+  pub left_is : Ok left ≡ cond room (Ok granted) (given_up (Ok granted))
+
+-- A step that was refused is told.
+pub record TellsRefused (v : Vat) (g : Stage) (refusal : Refusal) (new : Stage) : Type 0 where
+  pub room : Bool
+  pub given : Effects
+  pub logs : Logs v g quiet (refused_entries v refusal) room given new
 
 -- The command was a shut that took down a vat which was up.
 abbrev pub takes_down : Option ℕ → Command → Option ℕ → Bool
 takes_down None c new = is_shut c && is_some new
 takes_down (Some n) c new = false
-
--- The own entry is that of the note, if there is one.
-abbrev pub IsOwn : Vat → Result Note Memory → Granted → Result (Option JournalEntry) Memory → Type 0
-IsOwn v (Ok note) answer (Ok own) = option_to_list own ≡ note_entries v note answer
-IsOwn v (Ok note) answer (Err m) = ⊥
-IsOwn v (Err m) answer (Ok own) = ⊥
-IsOwn v (Err m) answer (Err e) = Unit {0}

@@ -1,55 +1,68 @@
-ghost use Rattle.std.specs.Prelude.{◌≡◌, ◌++◌, [], ◌∷◌, map, IfOk, OnOk};
-ghost use Rattle.std.specs.Option.{option_to_list};
+ghost use Rattle.std.specs.Prelude.{◌≡◌, ◌≤◌, ◌<◌, ◌+◌, ◌++◌, [], ◌∷◌, map, length, IfSome, OnOk, OnErr};
 ghost use Rattle.vat_journal.specs.declared.entry.JournalEntry.TheVariants as entry;
 ghost use Rattle.vat_machine.specs.Journal.{effect_entries};
+ghost use Rattle.vat_world.specs.Stages.{Extends};
 
+use crate::journal::Journal;
 use rpc_msg::{Memory, Message, Vat};
 use std::alloc::Global;
 use vat_journal::{Delivery, Ended, JournalEntry};
 use vat_machine::Effects;
 
-/// The entries of a step: its own one, if it has one, and those of its effects, each a copy.
-pub(crate) fn entries_of(
-    alloc: Global,
-    vat: Vat,
-    own: Option<JournalEntry>,
-    effects: &Effects,
-) -> Result<Vec<JournalEntry>, Memory>
-    ensures { IfOk result (λ entries. entries.items ≡ option_to_list own ++ effect_entries vat effects.now) }
+/// How many entries the effects of a step have.
+pub(crate) fn count(effects: &Effects) -> Option<usize>
+    ensures { IfSome result (λ count. count ≡ length effects.now.sends + (length effects.now.deliveries + length effects.now.answers) + 1) }
 {
-    let mut entries = Vec::new(alloc);
-    if let Some(own) = own {
-        put(&mut entries, own)?;
-    }
-    put_sent(alloc, vat, &mut entries, effects.sends.as_slice())?;
-    put_delivered(alloc, vat, &mut entries, effects.deliveries.as_slice())?;
-    put_ended(alloc, vat, &mut entries, effects.answers.as_slice())?;
-    if let Some(number) = effects.down {
-        put(&mut entries, JournalEntry::Down(vat, number))?;
-    }
-    Ok(entries)
+    let more = effects.deliveries.len().checked_add(effects.answers.len())?;
+    let told = effects.sends.len().checked_add(more)?;
+    told.checked_add(1)
 }
 
-fn put(entries: &mut Vec<JournalEntry>, entry: JournalEntry) -> Result<(), Memory>
-    ensures { OnOk result (entries.new.items ≡ entries.old.items ++ entry ∷ []) }
+/// Puts the entries of a step's effects at the end, each a copy, where there is room. Where it answers `Err` some of them may
+/// stand there.
+pub(crate) fn put_effects(
+    alloc: Global,
+    vat: Vat,
+    journal: &mut Journal,
+    effects: &Effects,
+) -> Result<(), Memory>
+    requires { length effects.now.sends + (length effects.now.deliveries + length effects.now.answers) + 1 ≤ journal.old.1 }
+    ensures entries { OnOk result (journal.new.0 ≡ journal.old.0 ++ effect_entries vat effects.now) }
+    ensures room { journal.old.1 ≤ journal.new.1 + (length effects.now.sends + (length effects.now.deliveries + length effects.now.answers) + 1) }
+    ensures extends { OnErr result (Extends journal.old.0 journal.new.0) }
 {
-    match entries.push(entry) {
-        Ok(()) => return Ok(()),
-        Err(_) => return Err(Memory),
+    put_sent(alloc, vat, journal, effects.sends.as_slice())?;
+    put_delivered(alloc, vat, journal, effects.deliveries.as_slice())?;
+    put_ended(alloc, vat, journal, effects.answers.as_slice())?;
+    if let Some(number) = effects.down {
+        put_down(vat, journal, number);
     }
+    Ok(())
+}
+
+#[cold]
+fn put_down(vat: Vat, journal: &mut Journal, number: u16)
+    requires { 0 < journal.old.1 }
+    ensures entries { journal.new.0 ≡ journal.old.0 ++ entry.Down vat number ∷ [] }
+    ensures room { journal.old.1 ≤ journal.new.1 + 1 }
+{
+    journal.push(JournalEntry::Down(vat, number));
 }
 
 fn put_sent(
     alloc: Global,
     vat: Vat,
-    entries: &mut Vec<JournalEntry>,
+    journal: &mut Journal,
     messages: &[Message],
 ) -> Result<(), Memory>
-    ensures { OnOk result (entries.new.items ≡ entries.old.items ++ map (entry.Sent vat) messages.now) }
+    requires { length messages.now ≤ journal.old.1 }
+    ensures entries { OnOk result (journal.new.0 ≡ journal.old.0 ++ map (entry.Sent vat) messages.now) }
+    ensures room { journal.old.1 ≤ journal.new.1 + length messages.now }
+    ensures extends { OnErr result (Extends journal.old.0 journal.new.0) }
 {
     for message in messages {
         let copy = message.copy(alloc)?;
-        put(entries, JournalEntry::Sent(vat, copy))?;
+        journal.push(JournalEntry::Sent(vat, copy));
     }
     Ok(())
 }
@@ -57,14 +70,17 @@ fn put_sent(
 fn put_delivered(
     alloc: Global,
     vat: Vat,
-    entries: &mut Vec<JournalEntry>,
+    journal: &mut Journal,
     deliveries: &[Delivery],
 ) -> Result<(), Memory>
-    ensures { OnOk result (entries.new.items ≡ entries.old.items ++ map (entry.Delivered vat) deliveries.now) }
+    requires { length deliveries.now ≤ journal.old.1 }
+    ensures entries { OnOk result (journal.new.0 ≡ journal.old.0 ++ map (entry.Delivered vat) deliveries.now) }
+    ensures room { journal.old.1 ≤ journal.new.1 + length deliveries.now }
+    ensures extends { OnErr result (Extends journal.old.0 journal.new.0) }
 {
     for delivery in deliveries {
         let copy = delivery.copy(alloc)?;
-        put(entries, JournalEntry::Delivered(vat, copy))?;
+        journal.push(JournalEntry::Delivered(vat, copy));
     }
     Ok(())
 }
@@ -72,14 +88,17 @@ fn put_delivered(
 fn put_ended(
     alloc: Global,
     vat: Vat,
-    entries: &mut Vec<JournalEntry>,
+    journal: &mut Journal,
     answers: &[Ended],
 ) -> Result<(), Memory>
-    ensures { OnOk result (entries.new.items ≡ entries.old.items ++ map (entry.Ended vat) answers.now) }
+    requires { length answers.now ≤ journal.old.1 }
+    ensures entries { OnOk result (journal.new.0 ≡ journal.old.0 ++ map (entry.Ended vat) answers.now) }
+    ensures room { journal.old.1 ≤ journal.new.1 + length answers.now }
+    ensures extends { OnErr result (Extends journal.old.0 journal.new.0) }
 {
     for ended in answers {
         let copy = ended.copy(alloc)?;
-        put(entries, JournalEntry::Ended(vat, copy))?;
+        journal.push(JournalEntry::Ended(vat, copy));
     }
     Ok(())
 }

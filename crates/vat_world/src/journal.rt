@@ -1,5 +1,4 @@
-ghost use Rattle.std.specs.Prelude.{◌≡◌, ◌+◌, ◌<◌, ◌≤◌, [], ◌∷◌, ◌++◌, length, OnOk, IfOk};
-ghost use Rattle.std.specs.Option.{option_to_list};
+ghost use Rattle.std.specs.Prelude.{◌≡◌, ◌+◌, ◌<◌, ◌≤◌, [], ◌∷◌, ◌++◌, length, take, OnOk, IfOk};
 
 use rpc_msg::Memory;
 use std::alloc::Global;
@@ -42,6 +41,12 @@ impl Journal {
         self.entries.as_slice()
     }
 
+    pub(crate) fn len(&self) -> usize
+        ensures { result ≡ length self.now.0 }
+    {
+        self.entries.len()
+    }
+
     /// Makes room for that many more, beside the room that is kept.
     pub(crate) fn prepare(&mut self, more: usize) -> Result<(), Memory>
         ensures same { self.new.0 ≡ self.old.0 }
@@ -63,33 +68,14 @@ impl Journal {
         ensures entries { self.new.0 ≡ self.old.0 ++ entry ∷ [] }
         ensures room { self.old.1 ≤ self.new.1 + 1 }
     {
-        match self.entries.push(entry) {
-            Ok(()) => return,
-            Err(_) => unreachable!(),
-        }
+        self.entries.push_reserved(entry);
     }
 
-    /// Puts an entry at the end, if there is one.
-    pub(crate) fn push_if(&mut self, entry: Option<JournalEntry>)
-        requires { 0 < self.old.1 }
-        ensures entries { self.new.0 ≡ self.old.0 ++ option_to_list entry }
-        ensures room { self.old.1 ≤ self.new.1 + 1 }
+    /// Takes back all entries but that many, the oldest.
+    pub(crate) fn truncate(&mut self, len: usize)
+        ensures entries { self.new.0 ≡ take len self.old.0 }
+        ensures room { self.old.1 ≤ self.new.1 }
     {
-        match entry {
-            Some(entry) => self.push(entry),
-            None => {}
-        }
-    }
-
-    /// Puts these entries at the end, where there is room.
-    pub(crate) fn append(&mut self, mut more: Vec<JournalEntry>)
-        requires { length more.items ≤ self.old.1 }
-        ensures entries { self.new.0 ≡ self.old.0 ++ more.items }
-        ensures room { self.old.1 ≤ self.new.1 + length more.items }
-    {
-        match self.entries.append(&mut more) {
-            Ok(()) => return,
-            Err(_) => unreachable!(),
-        }
+        self.entries.truncate(len);
     }
 }

@@ -1,14 +1,14 @@
-ghost use Rattle.std.specs.Prelude.{◌≡◌, [], IfOk, IfSome};
-ghost use Rattle.std.specs.Option.{option_to_list};
+ghost use Rattle.std.specs.Prelude.{◌≡◌, ◌<◌, ◌≤◌, ◌+◌, [], ◌∷◌, ◌++◌, IfOk};
 ghost use Rattle.std.specs.FinMap as map;
 ghost use Rattle.vat_machine.specs.declared.command.Granted.{Granted};
-ghost use Rattle.vat_machine.specs.Journal.{refused_entries};
-ghost use Rattle.vat_world.specs.Notes.{index_of, made_of, granted_by, note_entries, IsShort};
+ghost use Rattle.vat_machine.specs.Journal.{born, born_promise, asked_entries, advanced_entries, refused_entries};
+ghost use Rattle.vat_world.specs.Notes.{index_of, made_of, made_entries, granted_by, note_entries, IsShort};
 ghost use Rattle.vat_journal.specs.declared.report.Outcome.TheVariants as outcome;
 ghost use Rattle.vat_journal.specs.declared.entry.JournalEntry.TheVariants as entry;
-ghost use Rattle.vat_world.specs.declared.notes.Note.TheVariants.{Made, Whole};
+ghost use Rattle.vat_world.specs.declared.notes.Note.TheVariants.{Made, Answered};
 
-use rpc_msg::{CallId, Exception, Items, Memory, Path, Payload, RefId, TaskId, Vat};
+use crate::journal::Journal;
+use rpc_msg::{CallId, Exception, Items, Memory, Path, Payload, PromiseId, RefId, TaskId, Vat};
 use std::alloc::Global;
 use vat_core::Core;
 use vat_journal::{JournalEntry, MadeCall, Origin, Outcome};
@@ -27,8 +27,16 @@ pub(crate) enum Note {
     Made(MadeCall),
     /// A reference is to take the shorter path.
     Advanced(RefId),
-    /// All of the entry is known.
-    Whole(JournalEntry),
+    /// A promise is resolved to a reference.
+    Resolved(PromiseId, RefId),
+    /// A promise is rejected.
+    Rejected(PromiseId, Exception),
+    /// A task has its outcome.
+    Answered(TaskId, Outcome, Items<RefId>),
+    /// A reference is dropped.
+    Dropped(RefId),
+    /// A call is finished.
+    Finished(CallId),
     /// There is no entry.
     Nothing,
 }
@@ -36,16 +44,15 @@ pub(crate) enum Note {
 /// Notes a command to a vat before its step takes it.
 pub(crate) fn note_of(
     alloc: Global,
-    vat: Vat,
     index: u64,
     command: &Command,
 ) -> Result<Note, Memory>
-    ensures { IfOk result (λ note. IsShort command.now → (answer : Granted) → note_entries vat note answer ≡ granted_by index vat command.now answer) }
+    ensures { IfOk result (λ note. (vat : Vat) → IsShort command.now → (answer : Granted) → note_entries vat note answer ≡ granted_by index vat command.now answer) }
 {
     match command {
         Command::Host(object) => Ok(Note::Born(Origin::Object(*object))),
         Command::CloneRef(reference) => Ok(Note::Born(Origin::Clone(*reference))),
-        Command::DropRef(reference) => Ok(Note::Whole(JournalEntry::Dropped(vat, *reference))),
+        Command::DropRef(reference) => Ok(Note::Dropped(*reference)),
         Command::Bootstrap => Ok(Note::Asked),
         Command::Call(call) => note_call(alloc, index, call),
         Command::Field(call, path) => match Path::from_ops(path.as_slice()) {
@@ -53,16 +60,14 @@ pub(crate) fn note_of(
             None => Ok(Note::Nothing),
         },
         Command::Promise => Ok(Note::Promise),
-        Command::Resolve(promise, reference) => {
-            Ok(Note::Whole(JournalEntry::Resolved(vat, *promise, *reference)))
-        }
+        Command::Resolve(promise, reference) => Ok(Note::Resolved(*promise, *reference)),
         Command::Reject(promise, exception) => {
             let exception = exception.copy(alloc)?;
-            Ok(Note::Whole(JournalEntry::Rejected(vat, *promise, exception)))
+            Ok(Note::Rejected(*promise, exception))
         }
-        Command::Answer(task, payload, refs) => note_answer(alloc, vat, *task, payload, refs),
-        Command::Fail(task, exception) => note_fail(alloc, vat, *task, exception),
-        Command::Finish(call) => Ok(Note::Whole(JournalEntry::Finished(vat, *call))),
+        Command::Answer(task, payload, refs) => note_answer(alloc, *task, payload, refs),
+        Command::Fail(task, exception) => note_fail(alloc, *task, exception),
+        Command::Finish(call) => Ok(Note::Finished(*call)),
         Command::Advance(reference) => Ok(Note::Advanced(*reference)),
         Command::Shut(_) => Ok(Note::Nothing),
     }
@@ -86,54 +91,141 @@ fn note_call(alloc: Global, index: u64, call: &CallCommand) -> Result<Note, Memo
 
 fn note_answer(
     alloc: Global,
-    vat: Vat,
     task: TaskId,
     payload: &Payload,
     refs: &Items<RefId>,
 ) -> Result<Note, Memory>
-    ensures { IfOk result (λ note. note ≡ Whole (entry.Answered vat task (outcome.Results payload.now) refs.now)) }
+    ensures { IfOk result (λ note. note ≡ Answered task (outcome.Results payload.now) refs.now) }
 {
     let payload = payload.copy(alloc)?;
     let refs = refs.copy(alloc)?;
-    Ok(Note::Whole(JournalEntry::Answered(vat, task, Outcome::Results(payload), refs)))
+    Ok(Note::Answered(task, Outcome::Results(payload), refs))
 }
 
-fn note_fail(alloc: Global, vat: Vat, task: TaskId, exception: &Exception) -> Result<Note, Memory>
-    ensures { IfOk result (λ note. note ≡ Whole (entry.Answered vat task (outcome.Exception exception.now) [])) }
+fn note_fail(alloc: Global, task: TaskId, exception: &Exception) -> Result<Note, Memory>
+    ensures { IfOk result (λ note. note ≡ Answered task (outcome.Exception exception.now) []) }
 {
     let exception = exception.copy(alloc)?;
     let refs = Items::new(alloc);
-    Ok(Note::Whole(JournalEntry::Answered(vat, task, Outcome::Exception(exception), refs)))
+    Ok(Note::Answered(task, Outcome::Exception(exception), refs))
 }
 
-/// The entry of a command that was noted so and answered this, if it has one.
-pub(crate) fn entry_of(vat: Vat, note: Note, answer: Granted) -> Option<JournalEntry>
-    ensures { option_to_list result ≡ note_entries vat note answer }
+/// Writes the entry of a command that was noted so and answered this, if it has one, where there is room.
+pub(crate) fn write_note(vat: Vat, journal: &mut Journal, note: Note, answer: Granted)
+    requires { 0 < journal.old.1 }
+    ensures entries { journal.new.0 ≡ journal.old.0 ++ note_entries vat note answer }
+    ensures room { journal.old.1 ≤ journal.new.1 + 1 }
 {
-    match (note, answer) {
-        (Note::Born(origin), Granted::Reference(id)) => Some(JournalEntry::Born(vat, id, origin)),
-        (Note::Promise, Granted::Promise(promise, id)) => {
-            Some(JournalEntry::Born(vat, id, Origin::Promise(promise)))
+    match note {
+        Note::Born(origin) => write_born(vat, journal, origin, answer),
+        Note::Promise => write_promise(vat, journal, answer),
+        Note::Asked => write_asked(vat, journal, answer),
+        Note::Made(made) => write_made(vat, journal, made, answer),
+        Note::Advanced(reference) => write_advanced(vat, journal, reference, answer),
+        Note::Resolved(promise, reference) => {
+            journal.push(JournalEntry::Resolved(vat, promise, reference));
         }
-        (Note::Asked, Granted::Call(call)) => Some(JournalEntry::Asked(vat, call)),
-        (Note::Made(made), Granted::Call(call)) => {
-            Some(JournalEntry::Made(vat, MadeCall { call, ..made }))
+        Note::Rejected(promise, exception) => {
+            journal.push(JournalEntry::Rejected(vat, promise, exception));
         }
-        (Note::Advanced(reference), Granted::Advanced(advanced)) => {
-            Some(JournalEntry::Advanced(vat, reference, advanced))
-        }
-        (Note::Whole(entry), _) => Some(entry),
-        _ => None,
+        Note::Answered(task, outcome, refs) => write_answered(vat, journal, task, outcome, refs),
+        Note::Dropped(reference) => journal.push(JournalEntry::Dropped(vat, reference)),
+        Note::Finished(call) => write_finished(vat, journal, call),
+        Note::Nothing => {}
     }
 }
 
-/// The entry of a command that was refused, if it has one.
-pub(crate) fn refused_entry(vat: Vat, refusal: Refusal) -> Option<JournalEntry>
-    ensures { option_to_list result ≡ refused_entries vat refusal }
+fn write_born(vat: Vat, journal: &mut Journal, origin: Origin, answer: Granted)
+    requires { 0 < journal.old.1 }
+    ensures entries { journal.new.0 ≡ journal.old.0 ++ born vat origin answer }
+    ensures room { journal.old.1 ≤ journal.new.1 + 1 }
+{
+    match answer {
+        Granted::Reference(id) => journal.push(JournalEntry::Born(vat, id, origin)),
+        _ => {}
+    }
+}
+
+fn write_promise(vat: Vat, journal: &mut Journal, answer: Granted)
+    requires { 0 < journal.old.1 }
+    ensures entries { journal.new.0 ≡ journal.old.0 ++ born_promise vat answer }
+    ensures room { journal.old.1 ≤ journal.new.1 + 1 }
+{
+    match answer {
+        Granted::Promise(promise, id) => {
+            journal.push(JournalEntry::Born(vat, id, Origin::Promise(promise)));
+        }
+        _ => {}
+    }
+}
+
+fn write_asked(vat: Vat, journal: &mut Journal, answer: Granted)
+    requires { 0 < journal.old.1 }
+    ensures entries { journal.new.0 ≡ journal.old.0 ++ asked_entries vat answer }
+    ensures room { journal.old.1 ≤ journal.new.1 + 1 }
+{
+    match answer {
+        Granted::Call(call) => journal.push(JournalEntry::Asked(vat, call)),
+        _ => {}
+    }
+}
+
+fn write_made(vat: Vat, journal: &mut Journal, made: MadeCall, answer: Granted)
+    requires { 0 < journal.old.1 }
+    ensures entries { journal.new.0 ≡ journal.old.0 ++ made_entries vat made answer }
+    ensures room { journal.old.1 ≤ journal.new.1 + 1 }
+{
+    match answer {
+        Granted::Call(call) => journal.push(JournalEntry::Made(vat, MadeCall { call, ..made })),
+        _ => {}
+    }
+}
+
+fn write_advanced(vat: Vat, journal: &mut Journal, reference: RefId, answer: Granted)
+    requires { 0 < journal.old.1 }
+    ensures entries { journal.new.0 ≡ journal.old.0 ++ advanced_entries vat reference answer }
+    ensures room { journal.old.1 ≤ journal.new.1 + 1 }
+{
+    match answer {
+        Granted::Advanced(advanced) => {
+            journal.push(JournalEntry::Advanced(vat, reference, advanced));
+        }
+        _ => {}
+    }
+}
+
+fn write_answered(
+    vat: Vat,
+    journal: &mut Journal,
+    task: TaskId,
+    outcome: Outcome,
+    refs: Items<RefId>,
+)
+    requires { 0 < journal.old.1 }
+    ensures entries { journal.new.0 ≡ journal.old.0 ++ entry.Answered vat task outcome refs ∷ [] }
+    ensures room { journal.old.1 ≤ journal.new.1 + 1 }
+{
+    journal.push(JournalEntry::Answered(vat, task, outcome, refs));
+}
+
+fn write_finished(vat: Vat, journal: &mut Journal, call: CallId)
+    requires { 0 < journal.old.1 }
+    ensures entries { journal.new.0 ≡ journal.old.0 ++ entry.Finished vat call ∷ [] }
+    ensures room { journal.old.1 ≤ journal.new.1 + 1 }
+{
+    journal.push(JournalEntry::Finished(vat, call));
+}
+
+/// Writes the entry of a command that was refused, if it has one, where there is room.
+#[cold]
+pub(crate) fn write_refused(vat: Vat, journal: &mut Journal, refusal: Refusal)
+    requires { 0 < journal.old.1 }
+    ensures entries { journal.new.0 ≡ journal.old.0 ++ refused_entries vat refusal }
+    ensures room { journal.old.1 ≤ journal.new.1 + 1 }
 {
     match refusal {
-        Refusal::Down => None,
-        _ => Some(JournalEntry::Refused(vat, refusal.code())),
+        Refusal::Down => {}
+        _ => journal.push(JournalEntry::Refused(vat, refusal.code())),
     }
 }
 

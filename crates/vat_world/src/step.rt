@@ -1,21 +1,21 @@
-ghost use Rattle.std.specs.Prelude.{◌≡◌, ◌||◌, None, Ok, cond};
+ghost use Rattle.std.specs.Prelude.{◌≡◌, ◌≤◌, ◌+◌, ◌||◌, None, Ok, IfSome, cond, length};
 ghost use Rattle.laws_runs.specs.MadeCalls.{NumbersItsCalls};
 ghost use Rattle.vat_machine.specs.Refusals.{is_shut};
-ghost use Rattle.vat_world.specs.Rooms.{stage_of, HasRoom};
-ghost use Rattle.vat_world.specs.Stages.{ObeysUp, ObeysBy, DeliversBy, HandlesUp, IsOwn, takes_down};
+ghost use Rattle.vat_world.specs.Rooms.{stage_of, owed, CanAbort, CanFall, HasRoom};
+ghost use Rattle.vat_world.specs.Stages.{ObeysUp, ObeysBy, DeliversBy, HandlesUp, IsFall, TellsDone, TellsRefused, takes_down};
 ghost use Rattle.vat_machine.specs.Progress.{quiet};
 ghost use Rattle.vat_machine.specs.World.{given_up};
 
 use crate::answer::StepAnswer;
 use crate::journal::Journal;
-use crate::log::{Told, log_step};
-use crate::notes::{Note, entry_of, index_of_call, note_of, refused_entry};
+use crate::log::{log_overflow, log_step};
+use crate::notes::{Note, index_of_call, note_of, write_note, write_refused};
 use crate::side::Side;
 use rpc_msg::{Items, Memory, Message, Vat};
 use std::alloc::Global;
 use vat_core::Answer;
 use vat_journal::{Advanced, JournalEntry};
-use vat_machine::{Command, Effects, Granted};
+use vat_machine::{Command, Effects, Granted, Refusal};
 
 /// A command at a vat. Answers what its core answers, with the effects of going down where the link or the journal could
 /// not grow.
@@ -68,35 +68,79 @@ fn obey_up(
     ensures peer_shut { peer.new.was_shut ≡ peer.old.was_shut }
     ensures room { HasRoom acting.new peer.new journal.new }
 {
+    let start = journal.len();
     let index = index_of_call(&acting.core, &command);
-    let note = note_of(alloc, vat, index, &command);
-    let answer = acting.core.obey(command);
-    let (granted, effects) = match answer {
-        Answer::Done(granted, effects) => (granted, effects),
-        Answer::Refused(refusal, back) => {
-            let own = Ok(refused_entry(vat, refusal));
-            let quiet = no_effects(alloc);
-            let told = log_step(alloc, vat, acting, peer, journal, own, false, quiet);
-            drop(told);
-            return Answer::Refused(refusal, back);
+    let note = note_of(alloc, index, &command);
+    let mut answer = acting.core.obey(command);
+    match &mut answer {
+        Answer::Done(granted, effects) => {
+            *granted = tell_done(alloc, vat, acting, peer, journal, start, note, *granted, effects);
+            return answer;
         }
-    };
-    let own = own_entry(vat, note, granted);
-    let told = log_step(alloc, vat, acting, peer, journal, own, false, effects);
-    Answer::Done(left_of(granted, told.room), told.effects)
+        Answer::Refused(refusal, _) => {
+            tell_refused(alloc, vat, acting, peer, journal, start, *refusal);
+            return answer;
+        }
+    }
 }
 
-fn own_entry(
+// Tells a step that was done, and gives what is left of what it granted.
+fn tell_done(
+    alloc: Global,
     vat: Vat,
+    acting: &mut Side,
+    peer: &mut Side,
+    journal: &mut Journal,
+    start: usize,
     note: Result<Note, Memory>,
     granted: Granted,
-) -> Result<Option<JournalEntry>, Memory>
-    ensures { IsOwn vat note granted result }
+    effects: &mut Effects,
+) -> Granted
+    requires start { start ≡ length journal.old.0 }
+    requires can_abort { CanAbort acting.old peer.old }
+    requires other { CanFall peer.old acting.old }
+    requires entries { 3 + owed peer.old.core.down ≤ journal.old.1 }
+    requires fell { IfSome acting.old.core.down (IsFall effects.old) }
+    ensures tells { TellsDone vat (stage_of acting.old peer.old journal.old) note granted effects.old result effects.new (stage_of acting.new peer.new journal.new) }
+    ensures was_shut { acting.new.was_shut ≡ acting.old.was_shut }
+    ensures peer_shut { peer.new.was_shut ≡ peer.old.was_shut }
+    ensures room { HasRoom acting.new peer.new journal.new }
 {
     match note {
-        Ok(note) => Ok(entry_of(vat, note, granted)),
-        Err(Memory) => Err(Memory),
+        Ok(note) => {
+            write_note(vat, journal, note, granted);
+            let room = log_step(alloc, vat, acting, peer, journal, start, effects);
+            return left_of(granted, room);
+        }
+        Err(Memory) => {
+            log_overflow(alloc, vat, acting, peer, journal, start, effects);
+            return left_of(granted, false);
+        }
     }
+}
+
+// Tells a step that was refused.
+#[cold]
+fn tell_refused(
+    alloc: Global,
+    vat: Vat,
+    acting: &mut Side,
+    peer: &mut Side,
+    journal: &mut Journal,
+    start: usize,
+    refusal: Refusal,
+)
+    requires start { start ≡ length journal.old.0 }
+    requires up { acting.old.core.down ≡ None }
+    requires room { HasRoom acting.old peer.old journal.old }
+    ensures tells { TellsRefused vat (stage_of acting.old peer.old journal.old) refusal (stage_of acting.new peer.new journal.new) }
+    ensures was_shut { acting.new.was_shut ≡ acting.old.was_shut }
+    ensures peer_shut { peer.new.was_shut ≡ peer.old.was_shut }
+    ensures room { HasRoom acting.new peer.new journal.new }
+{
+    write_refused(vat, journal, refusal);
+    let mut quiet = no_effects(alloc);
+    log_step(alloc, vat, acting, peer, journal, start, &mut quiet);
 }
 
 // What is left of an answer: where there was no room, a reference that was to advance did not.
@@ -161,8 +205,9 @@ fn handle(
     ensures peer_shut { peer.new.was_shut ≡ peer.old.was_shut }
     ensures room { HasRoom acting.new peer.new journal.new }
 {
-    let effects = acting.core.receive(message);
-    let own = Ok(Some(JournalEntry::Got(vat)));
-    let told = log_step(alloc, vat, acting, peer, journal, own, true, effects);
-    told.effects
+    let mut effects = acting.core.receive(message);
+    journal.push(JournalEntry::Got(vat));
+    let start = journal.len();
+    log_step(alloc, vat, acting, peer, journal, start, &mut effects);
+    effects
 }

@@ -5,10 +5,10 @@ use Rattle.vat_world.proofs.log.log_overflow.Goals as goal
 
 pub returns-in-Some-clause-overflows : goal.returns-in-Some-clause-overflows
 returns-in-Some-clause-overflows c =
-    overflow_down c.args.vat (stage_of c.args.acting.now c.args.peer.now c.args.journal.now) c.args.effects c.args.got _ _ _ _
-    (sym c.in-Some.ensures) c.received-own.ensures c.log_fall.ensures.stage c.log_fall.ensures.given
+    λ before more j l. overflow_down c.args.vat (stage_of c.args.acting.now c.args.peer.now c.args.journal.now) _ _ before more c.args.start _ _ _ _
+    (sym c.in-Some.ensures) c.truncate.ensures.entries c.log_fall.ensures.stage c.log_fall.ensures.given j l
 
 pub returns-clause-overflows : goal.returns-clause-overflows
 returns-clause-overflows c =
-    overflow_up c.args.vat (stage_of c.args.acting.now c.args.peer.now c.args.journal.now) c.args.effects c.args.got _ _ _ _ _
-    (sym c.in_default.ensures) c.shut-fallen.ensures c.received-own-2.ensures c.log_fall-2.ensures.stage c.log_fall-2.ensures.given
+    λ before more j l. overflow_up c.args.vat (stage_of c.args.acting.now c.args.peer.now c.args.journal.now) _ _ before more c.args.start _ _ _ _ _
+    (sym c.in_default.ensures) c.shut.ensures c.truncate.ensures.entries c.log_fall-2.ensures.stage c.log_fall-2.ensures.given j l
