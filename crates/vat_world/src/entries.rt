@@ -1,10 +1,12 @@
 ghost use Rattle.std.specs.Prelude.{◌≡◌, ◌≤◌, ◌<◌, ◌+◌, ◌++◌, [], ◌∷◌, map, length, IfSome, OnOk, OnErr};
+ghost use Rattle.rpc_msg.specs.declared.message.Message.TheVariants.{Plain};
+ghost use Rattle.rpc_msg.specs.declared.message.PlainMessage.TheVariants as plain;
 ghost use Rattle.vat_journal.specs.declared.entry.JournalEntry.TheVariants as entry;
 ghost use Rattle.vat_machine.specs.Journal.{effect_entries};
 ghost use Rattle.vat_world.specs.Stages.{Extends};
 
 use crate::journal::Journal;
-use rpc_msg::{Memory, Message, Vat};
+use rpc_msg::{Call, Finish, Memory, Message, PlainMessage, Return, Vat};
 use std::alloc::Global;
 use vat_journal::{Delivery, Ended, JournalEntry};
 use vat_machine::Effects;
@@ -61,9 +63,80 @@ fn put_sent(
     ensures extends { OnErr result (Extends journal.old.0 journal.new.0) }
 {
     for message in messages {
-        let copy = message.copy(alloc)?;
-        journal.push(JournalEntry::Sent(vat, copy));
+        put_message(alloc, vat, journal, message)?;
     }
+    Ok(())
+}
+
+// Each kind of message that most steps send goes into the journal as soon as it is copied.
+fn put_message(
+    alloc: Global,
+    vat: Vat,
+    journal: &mut Journal,
+    message: &Message,
+) -> Result<(), Memory>
+    requires { 0 < journal.old.1 }
+    ensures entries { OnOk result (journal.new.0 ≡ journal.old.0 ++ entry.Sent vat message.now ∷ []) }
+    ensures room { journal.old.1 ≤ journal.new.1 + 1 }
+    ensures same { OnErr result (journal.new.0 ≡ journal.old.0) }
+{
+    let Message::Plain(plain) = message else {
+        return put_other(alloc, vat, journal, message);
+    };
+    match plain {
+        PlainMessage::Call(call) => put_call(alloc, vat, journal, call),
+        PlainMessage::Return(back) => put_return(alloc, vat, journal, back),
+        PlainMessage::Finish(finish) => {
+            put_finish(vat, journal, *finish);
+            Ok(())
+        }
+        _ => put_other(alloc, vat, journal, message),
+    }
+}
+
+fn put_call(alloc: Global, vat: Vat, journal: &mut Journal, call: &Call) -> Result<(), Memory>
+    requires { 0 < journal.old.1 }
+    ensures entries { OnOk result (journal.new.0 ≡ journal.old.0 ++ entry.Sent vat (Plain (plain.Call call.now)) ∷ []) }
+    ensures room { journal.old.1 ≤ journal.new.1 + 1 }
+    ensures same { OnErr result (journal.new.0 ≡ journal.old.0) }
+{
+    let copy = call.copy(alloc)?;
+    journal.push(JournalEntry::Sent(vat, Message::Plain(PlainMessage::Call(copy))));
+    Ok(())
+}
+
+fn put_return(alloc: Global, vat: Vat, journal: &mut Journal, back: &Return) -> Result<(), Memory>
+    requires { 0 < journal.old.1 }
+    ensures entries { OnOk result (journal.new.0 ≡ journal.old.0 ++ entry.Sent vat (Plain (plain.Return back.now)) ∷ []) }
+    ensures room { journal.old.1 ≤ journal.new.1 + 1 }
+    ensures same { OnErr result (journal.new.0 ≡ journal.old.0) }
+{
+    let copy = back.copy(alloc)?;
+    journal.push(JournalEntry::Sent(vat, Message::Plain(PlainMessage::Return(copy))));
+    Ok(())
+}
+
+fn put_finish(vat: Vat, journal: &mut Journal, finish: Finish)
+    requires { 0 < journal.old.1 }
+    ensures entries { journal.new.0 ≡ journal.old.0 ++ entry.Sent vat (Plain (plain.Finish finish)) ∷ [] }
+    ensures room { journal.old.1 ≤ journal.new.1 + 1 }
+{
+    journal.push(JournalEntry::Sent(vat, Message::Plain(PlainMessage::Finish(finish))));
+}
+
+fn put_other(
+    alloc: Global,
+    vat: Vat,
+    journal: &mut Journal,
+    message: &Message,
+) -> Result<(), Memory>
+    requires { 0 < journal.old.1 }
+    ensures entries { OnOk result (journal.new.0 ≡ journal.old.0 ++ entry.Sent vat message.now ∷ []) }
+    ensures room { journal.old.1 ≤ journal.new.1 + 1 }
+    ensures same { OnErr result (journal.new.0 ≡ journal.old.0) }
+{
+    let copy = message.copy(alloc)?;
+    journal.push(JournalEntry::Sent(vat, copy));
     Ok(())
 }
 

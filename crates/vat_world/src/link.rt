@@ -40,10 +40,14 @@ impl Link {
 
     /// Makes room for that many more, beside the place that is kept.
     pub(crate) fn prepare(&mut self, more: usize) -> Result<(), Memory>
+        requires { 0 < self.old.1 }
         ensures same { self.new.0 ≡ self.old.0 }
         ensures ok { OnOk result (more + 1 ≤ self.new.1) }
         ensures room { self.old.1 ≤ self.new.1 }
     {
+        if more == 0 {
+            return Ok(());
+        }
         let Some(room) = more.checked_add(1) else {
             return Err(Memory);
         };

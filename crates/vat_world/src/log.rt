@@ -127,6 +127,9 @@ fn send(alloc: Global, inbox: &mut Link, effects: &mut Effects)
     ensures room { inbox.old.1 ≤ inbox.new.1 + length effects.old.sends }
     ensures rest { effects.new ≡ without_sends effects.old }
 {
+    if effects.sends.is_empty() {
+        return;
+    }
     inbox.append(mem::replace(&mut effects.sends, Items::new(alloc)));
 }
 
@@ -138,6 +141,7 @@ fn log_whole(
     journal: &mut Journal,
     effects: &mut Effects,
 ) -> Result<(), Memory>
+    requires { 0 < inbox.old.1 }
     ensures inbox { OnOk result (inbox.new.0 ≡ inbox.old.0 ++ effects.old.sends) }
     ensures journal { OnOk result (journal.new.0 ≡ journal.old.0 ++ effect_entries vat effects.old) }
     ensures given { OnOk result (effects.new ≡ without_sends effects.old) }
