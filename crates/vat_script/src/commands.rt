@@ -4,7 +4,7 @@ ghost use Rattle.vat_script.specs.Lines.{Reads, command_of, plain_of, ending_of,
 use crate::fault::{LineFault, ReadFault};
 use crate::line::{CallLine, FieldLine, LineCommand};
 use crate::name::Name;
-use crate::words::{read_caps, read_path, read_u16, read_u64};
+use crate::words::{is_word, read_caps, read_path, read_u16, read_u64};
 use rpc_msg::{ObjectId, TaskId};
 use std::alloc::Global;
 
@@ -16,15 +16,17 @@ pub(crate) fn read_command(
 ) -> Result<LineCommand, ReadFault>
     ensures { Reads (command_of word.now (map (λ word. word.now) rest.now)) result }
 {
-    match word {
-        "field" => read_field(alloc, rest),
-        "call" => read_call(alloc, rest),
-        "answer" => read_answer(alloc, rest),
-        _ => {
-            let command = read_plain(word, rest)?;
-            Ok(command)
-        }
+    if is_word("field", word) {
+        return read_field(alloc, rest);
     }
+    if is_word("call", word) {
+        return read_call(alloc, rest);
+    }
+    if is_word("answer", word) {
+        return read_answer(alloc, rest);
+    }
+    let command = read_plain(word, rest)?;
+    Ok(command)
 }
 
 fn read_field(alloc: Global, rest: &[&str]) -> Result<LineCommand, ReadFault>
@@ -100,28 +102,44 @@ fn read_answer(alloc: Global, rest: &[&str]) -> Result<LineCommand, ReadFault>
 fn read_plain(word: &str, rest: &[&str]) -> Result<LineCommand, LineFault>
     ensures { result ≡ plain_of word.now (map (λ word. word.now) rest.now) }
 {
-    match word {
-        "host" => read_host(rest),
-        "bootstrap" => read_bootstrap(rest),
-        "promise" => read_promise(rest),
-        "clone" => read_clone(rest),
-        _ => read_ending(word, rest),
+    if is_word("host", word) {
+        return read_host(rest);
     }
+    if is_word("bootstrap", word) {
+        return read_bootstrap(rest);
+    }
+    if is_word("promise", word) {
+        return read_promise(rest);
+    }
+    if is_word("clone", word) {
+        return read_clone(rest);
+    }
+    read_ending(word, rest)
 }
 
 /// Those of them that end something, or change what a reference leads to.
 fn read_ending(word: &str, rest: &[&str]) -> Result<LineCommand, LineFault>
     ensures { result ≡ ending_of word.now (map (λ word. word.now) rest.now) }
 {
-    match word {
-        "fail" => read_fail(rest),
-        "resolve" => read_resolve(rest),
-        "reject" => read_reject(rest),
-        "drop" => read_drop(rest),
-        "finish" => read_finish(rest),
-        "advance" => read_advance(rest),
-        _ => Err(LineFault::Word),
+    if is_word("fail", word) {
+        return read_fail(rest);
     }
+    if is_word("resolve", word) {
+        return read_resolve(rest);
+    }
+    if is_word("reject", word) {
+        return read_reject(rest);
+    }
+    if is_word("drop", word) {
+        return read_drop(rest);
+    }
+    if is_word("finish", word) {
+        return read_finish(rest);
+    }
+    if is_word("advance", word) {
+        return read_advance(rest);
+    }
+    Err(LineFault::Word)
 }
 
 fn read_bootstrap(rest: &[&str]) -> Result<LineCommand, LineFault>

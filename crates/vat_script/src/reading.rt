@@ -5,7 +5,7 @@ use crate::commands::read_command;
 use crate::fault::{LineFault, ReadFault};
 use crate::line::{GotLine, Line, TakeLine};
 use crate::name::Name;
-use crate::words::{read_u32, read_u64, read_vat};
+use crate::words::{is_word, read_u32, read_u64, read_vat};
 use rpc_msg::{TaskId, Vat};
 use std::alloc::Global;
 
@@ -16,11 +16,11 @@ pub(crate) fn read_words(alloc: Global, words: &[&str]) -> Result<Line, ReadFaul
     let [first, rest @ ..] = words else {
         return Err(ReadFault::Line(LineFault::Count));
     };
-    if *first == "deliver" {
+    if is_word("deliver", first) {
         let line = read_deliver(rest)?;
         return Ok(line);
     }
-    if *first == "tables" {
+    if is_word("tables", first) {
         let line = read_alone(Line::Tables, rest)?;
         return Ok(line);
     }
@@ -61,24 +61,20 @@ fn read_vat_line(alloc: Global, vat: Vat, rest: &[&str]) -> Result<Line, ReadFau
 fn read_act(alloc: Global, vat: Vat, word: &str, rest: &[&str]) -> Result<Line, ReadFault>
     ensures { Reads (act_of vat word.now (map (λ word. word.now) rest.now)) result }
 {
-    match word {
-        "take" => {
-            let line = read_take(vat, rest)?;
-            Ok(line)
-        }
-        "got" => {
-            let line = read_got(vat, rest)?;
-            Ok(line)
-        }
-        "turn" => {
-            let line = read_alone(Line::Turn(vat), rest)?;
-            Ok(line)
-        }
-        _ => {
-            let command = read_command(alloc, word, rest)?;
-            Ok(Line::Command(vat, command))
-        }
+    if is_word("take", word) {
+        let line = read_take(vat, rest)?;
+        return Ok(line);
     }
+    if is_word("got", word) {
+        let line = read_got(vat, rest)?;
+        return Ok(line);
+    }
+    if is_word("turn", word) {
+        let line = read_alone(Line::Turn(vat), rest)?;
+        return Ok(line);
+    }
+    let command = read_command(alloc, word, rest)?;
+    Ok(Line::Command(vat, command))
 }
 
 fn read_take(vat: Vat, rest: &[&str]) -> Result<Line, LineFault>

@@ -1,7 +1,7 @@
 ghost use Rattle.std.specs.Prelude.{◌≡◌, ◌==◌, ◌<◌, ◌≢◌, ◌^◌, nat_lt, IfOk, map, drop};
 ghost use Rattle.std.specs.Str.{all_ascii_digits};
 ghost use Rattle.vat_script.specs.Lines.{Reads};
-ghost use Rattle.vat_script.specs.Words.{vat_of, name_of, number_of, field_number, each_of, path_of, caps_of, caps_of_parts};
+ghost use Rattle.vat_script.specs.Words.{is_text, vat_of, name_of, number_of, field_number, each_of, path_of, caps_of, caps_of_parts};
 
 use crate::fault::{LineFault, ReadFault};
 use crate::name::Name;
@@ -12,12 +12,28 @@ use std::alloc::Global;
 /// The most capabilities that a line may name.
 const CAPS_LIMIT: usize = 65_535;
 
+/// Whether the word is that text. Most words have another length or another first letter, which is seen at once.
+#[inline(always)]
+pub(crate) fn is_word(text: &str, word: &str) -> bool
+    ensures { result ≡ is_text text.now word.now }
+{
+    if word.len() != text.len() {
+        return false;
+    }
+    if let ([first, ..], [letter, ..]) = (text.as_bytes(), word.as_bytes()) {
+        if *first != *letter {
+            return false;
+        }
+    }
+    word == text
+}
+
 pub(crate) fn read_vat(word: &str) -> Result<Vat, LineFault>
     ensures { result ≡ vat_of word.now }
 {
-    match word {
-        "a" => Ok(Vat::A),
-        "b" => Ok(Vat::B),
+    match word.as_bytes() {
+        [b'a'] => Ok(Vat::A),
+        [b'b'] => Ok(Vat::B),
         _ => Err(LineFault::Vat),
     }
 }
