@@ -36,6 +36,20 @@ pub fn rest(store: &mut Store) -> Result<(), Memory>
     Ok(())
 }
 
+// Takes the notes of questions away at the end of a step, where there are more than one: else they would gather where the
+// application makes no calls. One that is to be finished, which does not come there, keeps its note.
+pub(crate) fn forget_questions(store: &mut Store)
+    requires sound { IsSound store.old }
+    requires none_taken { store.old.waits.taken ≡ [] }
+    ensures same { store.new ≡ record store.old { names = store.new.names } }
+    ensures sound { IsSound store.new }
+{
+    if store.names.noted_questions().len() < 2 {
+        return;
+    }
+    let _ = rest_questions(store);
+}
+
 // Takes the notes of questions away, where none is to be finished.
 fn rest_questions(store: &mut Store) -> Result<(), Memory>
     requires sound { IsSound store.old }

@@ -6,6 +6,7 @@ ghost use Rattle.step_sweeps.specs.Ending.{finishing_of, swept_of, AreLeft};
 ghost use Rattle.step_sweeps.specs.Over.{standing, AreOver};
 
 use crate::finishing::finish_next;
+use crate::resting::forget_questions;
 use rpc_msg::QuestionId;
 use step_base::Step;
 use step_collects::collect_ending;
@@ -25,6 +26,7 @@ pub fn sweep_over(step: &mut Step, over: &[QuestionId])
 {
     finish_each(step, over);
     collect_ending(step);
+    forget_questions(&mut step.store);
 }
 
 // These questions are finished in order, those that are there.

@@ -1,3 +1,8 @@
+use Rattle.std.proofs.Common.{sym, subst}
+use Rattle.vat_machine.specs.Sweeping.{Sweeps}
+use Rattle.vat_store.specs.declared.store.Store.{Store}
+use Rattle.step_base.specs.InProgress.{progress_of}
+use Rattle.step_sweeps.specs.Ending.{swept_of}
 use Rattle.step_sweeps.proofs.Turning.{left_all, sweeps, swept_state}
 use Rattle.step_sweeps.proofs.sweeping.sweep_over.Goals as goal
 
@@ -6,8 +11,11 @@ finish_each-requires-clause-left c = left_all c.args.step.now c.args.over.now c.
 
 pub returns-clause-swept : goal.returns-clause-swept
 returns-clause-swept c =
-    sweeps c.args.step.now c.finish_each.new.step c.collect_ending.new.step c.args.over.now c.requires.ready c.requires.over
-    c.finish_each.ensures.each c.collect_ending.ensures.rest c.collect_ending.ensures.collects
+    let x = c.args.step.now in
+    let y = c.collect_ending.new.step in
+    subst (λ (s : Store). Sweeps (progress_of x) (swept_of (record y { store = s }))) (sym c.forget_questions.ensures.same)
+    (sweeps x c.finish_each.new.step y c.args.over.now c.requires.ready c.requires.over
+    c.finish_each.ensures.each c.collect_ending.ensures.rest c.collect_ending.ensures.collects)
 
 pub returns-clause-state : goal.returns-clause-state
-returns-clause-state c = swept_state c.collect_ending.new.step
+returns-clause-state c = swept_state (record (c.collect_ending.new.step) { store = c.forget_questions.new.store })
