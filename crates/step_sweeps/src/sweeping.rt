@@ -24,12 +24,29 @@ pub fn sweep_over(step: &mut Step, over: &[QuestionId])
     ensures taken { step.new.store.waits.taken ≡ [] }
     ensures ending { IsEnding step.new }
 {
-    finish_each(step, over);
+    finish_any(step, over);
     collect_ending(step);
     forget_questions(&mut step.store);
 }
 
-// These questions are finished in order, those that are there.
+// These questions are finished in order, those that are there. Mostly there is none.
+fn finish_any(step: &mut Step, over: &[QuestionId])
+    requires ending { IsEnding step.old }
+    requires none_taken { step.old.store.waits.taken ≡ [] }
+    requires left { AreLeft (state_of step.old.store) step.old over.now }
+    ensures each { FinishesEach (finishing_of step.old) (standing (state_of step.old.store) over.now) (finishing_of step.new) }
+    ensures arisen { step.new.arisen ≡ step.old.arisen }
+    ensures taken { step.new.store.waits.taken ≡ [] }
+    ensures ending { IsEnding step.new }
+{
+    if over.is_empty() {
+        return;
+    }
+    finish_each(step, over);
+}
+
+// So are these.
+#[inline(never)]
 fn finish_each(step: &mut Step, over: &[QuestionId])
     requires ending { IsEnding step.old }
     requires none_taken { step.old.store.waits.taken ≡ [] }
