@@ -55,10 +55,13 @@ impl Done for (Message, Message) {
         let ([_, _], [], []) = (sends.as_slice(), deliveries, answers) else {
             return Err(Astray::Otherwise);
         };
-        match (sends.pop(), sends.pop()) {
-            (Some(second), Some(first)) => Ok((first, second)),
-            _ => Err(Astray::Otherwise),
-        }
+        let Some(second) = sends.pop() else {
+            return Err(Astray::Otherwise);
+        };
+        let Some(first) = sends.pop() else {
+            return Err(Astray::Otherwise);
+        };
+        Ok((first, second))
     }
 }
 

@@ -41,14 +41,41 @@ impl Side {
             sends: Items::from_vec(sends),
             deliveries,
             answers,
-            down,
+            down: None,
         });
         done
     }
 
+    // A message alone was sent.
     fn send<T: Done>(&mut self, to: &mut Side, effects: Effects) -> Result<T, Astray> {
-        let message = self.did(effects)?;
-        to.receive(message)
+        let Effects {
+            sends,
+            deliveries,
+            answers,
+            down,
+        } = effects;
+        if let Some(number) = down {
+            return Err(Astray::Down(number));
+        }
+        let mut sends = sends.into_vec();
+        let ([_], [], []) = (
+            sends.as_slice(),
+            deliveries.as_slice(),
+            answers.as_slice(),
+        ) else {
+            return Err(Astray::Otherwise);
+        };
+        let Some(message) = sends.pop() else {
+            return Err(Astray::Otherwise);
+        };
+        self.core.recycle(Effects {
+            sends: Items::from_vec(sends),
+            deliveries,
+            answers,
+            down: None,
+        });
+        let effects = to.core.receive(message);
+        to.did(effects)
     }
 
     pub(crate) fn receive<T: Done>(&mut self, message: Message) -> Result<T, Astray> {
@@ -71,8 +98,8 @@ impl Side {
 
     pub(crate) fn call<T: Done>(&mut self, to: &mut Side, reference: RefId) -> Result<T, Astray> {
         let payload = self.null.copy(self.alloc)?;
-        let effects = self.made(reference, payload, Items::new(self.alloc))?;
-        self.send(to, effects)
+        let refs = Items::new(self.alloc);
+        self.send_call(to, call_of(reference, payload, refs))
     }
 
     /// A call that passes a reference.
@@ -83,40 +110,31 @@ impl Side {
         passed: RefId,
     ) -> Result<T, Astray> {
         let payload = Payload::root_capability(self.alloc)?;
-        let effects = self.made(reference, payload, one(self.alloc, passed)?)?;
-        self.send(to, effects)
+        let refs = one(self.alloc, passed)?;
+        self.send_call(to, call_of(reference, payload, refs))
+    }
+
+    fn send_call<T: Done>(&mut self, to: &mut Side, call: CallCommand) -> Result<T, Astray> {
+        match self.core.call(call) {
+            Ok((_, effects)) => self.send(to, effects),
+            Err((refusal, _)) => Err(Astray::Refused(refusal)),
+        }
     }
 
     /// A call that waits at this vat.
     pub(crate) fn call_later(&mut self, reference: RefId) -> Result<(), Astray> {
         let payload = self.null.copy(self.alloc)?;
-        let effects = self.made(reference, payload, Items::new(self.alloc))?;
-        self.did(effects)
-    }
-
-    fn made(
-        &mut self,
-        reference: RefId,
-        payload: Payload,
-        refs: Items<RefId>,
-    ) -> Result<Effects, Astray> {
-        let call = CallCommand {
-            reference,
-            interface: 0,
-            method: 0,
-            payload,
-            refs,
-        };
-        match self.core.call(call) {
-            Ok((_, effects)) => Ok(effects),
+        let refs = Items::new(self.alloc);
+        match self.core.call(call_of(reference, payload, refs)) {
+            Ok((_, effects)) => self.did(effects),
             Err((refusal, _)) => Err(Astray::Refused(refusal)),
         }
     }
 
     pub(crate) fn answer<T: Done>(&mut self, to: &mut Side, task: Task) -> Result<T, Astray> {
         let payload = self.null.copy(self.alloc)?;
-        let effects = self.answered(task, payload, Items::new(self.alloc))?;
-        self.send(to, effects)
+        let refs = Items::new(self.alloc);
+        self.send_answer(to, task, payload, refs)
     }
 
     /// The answer to a task, with a reference.
@@ -127,25 +145,29 @@ impl Side {
         passed: RefId,
     ) -> Result<T, Astray> {
         let payload = Payload::root_capability(self.alloc)?;
-        let effects = self.answered(task, payload, one(self.alloc, passed)?)?;
-        self.send(to, effects)
+        let refs = one(self.alloc, passed)?;
+        self.send_answer(to, task, payload, refs)
+    }
+
+    fn send_answer<T: Done>(
+        &mut self,
+        to: &mut Side,
+        task: Task,
+        payload: Payload,
+        refs: Items<RefId>,
+    ) -> Result<T, Astray> {
+        match self.core.answer(task.id, payload, refs) {
+            Ok(effects) => self.send(to, effects),
+            Err((refusal, _, _)) => Err(Astray::Refused(refusal)),
+        }
     }
 
     /// The answer to a task that is a call of this vat's own.
     pub(crate) fn answer_own(&mut self, task: Task) -> Result<Outcome, Astray> {
         let payload = self.null.copy(self.alloc)?;
-        let effects = self.answered(task, payload, Items::new(self.alloc))?;
-        self.did(effects)
-    }
-
-    fn answered(
-        &mut self,
-        task: Task,
-        payload: Payload,
-        refs: Items<RefId>,
-    ) -> Result<Effects, Astray> {
+        let refs = Items::new(self.alloc);
         match self.core.answer(task.id, payload, refs) {
-            Ok(effects) => Ok(effects),
+            Ok(effects) => self.did(effects),
             Err((refusal, _, _)) => Err(Astray::Refused(refusal)),
         }
     }
@@ -181,6 +203,16 @@ impl Side {
     pub(crate) fn let_go(&mut self, reference: RefId) -> Result<(), Astray> {
         let effects = self.core.drop_ref(reference)?;
         self.did(effects)
+    }
+}
+
+fn call_of(reference: RefId, payload: Payload, refs: Items<RefId>) -> CallCommand {
+    CallCommand {
+        reference,
+        interface: 0,
+        method: 0,
+        payload,
+        refs,
     }
 }
 
