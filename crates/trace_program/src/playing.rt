@@ -1,10 +1,11 @@
 ghost use Rattle.std.specs.Prelude.{◌≡◌, OnOk};
+ghost use Rattle.rpc_msg.specs.Payloads.{null_payload};
 ghost use Rattle.vat_world.specs.World.{Steps};
 ghost use Rattle.vat_world.specs.declared.answer.StepAnswer.{StepAnswer};
 ghost use Rattle.trace_program.specs.Playing.{PlaysLine, PlaysAll, told, answered, handed};
 
 use crate::fault::ScriptFault;
-use rpc_msg::{Memory, Vat};
+use rpc_msg::{Memory, Payload, Vat};
 use std::alloc::Global;
 use vat_machine::Effects;
 use vat_script::{Act, GiveFault, Line, LineCommand, Names};
@@ -21,8 +22,12 @@ pub fn play_lines(
 ) -> Result<(), ScriptFault>
     ensures { PlaysAll world.old names.old lines.now result world.new names.new }
 {
+    let null = match Payload::null(alloc) {
+        Ok(null) => null,
+        Err(Memory) => return Err(ScriptFault::Memory),
+    };
     for (i, line) in lines.iter().enumerate() {
-        match play_line(alloc, world, names, line) {
+        match play_line(alloc, world, names, &null, line) {
             Ok(()) => {}
             Err(GiveFault::Memory) => return Err(ScriptFault::Memory),
             Err(GiveFault::Name(fault)) => return Err(ScriptFault::Unnamed(i + 1, fault)),
@@ -35,11 +40,13 @@ fn play_line(
     alloc: Global,
     world: &mut World,
     names: &mut Names,
+    null: &Payload,
     line: &Line,
 ) -> Result<(), GiveFault>
+    requires { null.now ≡ null_payload }
     ensures { PlaysLine world.old names.old line.now result world.new names.new }
 {
-    match names.act(alloc, line)? {
+    match names.act_sharing(alloc, null, line)? {
         Act::Nothing => {}
         // a script for `run` has no line that says this
         Act::Turn(_) => {}

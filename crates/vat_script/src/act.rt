@@ -1,4 +1,5 @@
 ghost use Rattle.std.specs.Prelude.{◌≡◌};
+ghost use Rattle.rpc_msg.specs.Payloads.{null_payload};
 ghost use Rattle.vat_script.specs.Acting.{act_for};
 ghost use Rattle.vat_script.specs.Bindings.{Gives};
 
@@ -6,7 +7,7 @@ use crate::fault::GiveFault;
 use crate::line::Line;
 use crate::name::Name;
 use crate::names::Names;
-use rpc_msg::{RefId, Vat};
+use rpc_msg::{Payload, RefId, Vat};
 use std::alloc::Global;
 use vat_machine::Event;
 
@@ -30,6 +31,15 @@ impl Names {
     pub fn act(&self, alloc: Global, line: &Line) -> Result<Act, GiveFault>
         ensures { Gives (act_for self.now line.now) result }
     {
+        let null = Payload::null(alloc)?;
+        self.act_sharing(alloc, &null, line)
+    }
+
+    /// As `act`, with a null payload whose bytes are shared by those that the line's command carries.
+    pub fn act_sharing(&self, alloc: Global, null: &Payload, line: &Line) -> Result<Act, GiveFault>
+        requires { null.now ≡ null_payload }
+        ensures { Gives (act_for self.now line.now) result }
+    {
         match line {
             Line::Skip => Ok(Act::Nothing),
             Line::Deliver(vat) => Ok(Act::Happens(Event::Deliver(*vat))),
@@ -44,7 +54,7 @@ impl Names {
                 Ok(Act::Name(*vat, line.name, reference))
             }
             Line::Command(vat, said) => {
-                let command = self.command(alloc, *vat, said)?;
+                let command = self.command_sharing(alloc, null, *vat, said)?;
                 Ok(Act::Happens(Event::Command(*vat, command)))
             }
         }

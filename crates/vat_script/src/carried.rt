@@ -2,18 +2,24 @@ ghost use Rattle.std.specs.Prelude.{◌≡◌, ◌<◌, IfOk};
 ghost use Rattle.wire_writing.specs.Placing.{written};
 ghost use Rattle.wire_trees.specs.Trees.{capability};
 ghost use Rattle.wire_trees.specs.Views.{view};
+ghost use Rattle.rpc_msg.specs.Payloads.{null_payload};
 ghost use Rattle.vat_script.specs.Carried.{caps_tree, carrying, script_exception};
 
 use rpc_msg::{Exception, ExceptionKind, Memory, Payload, Pointers, Text, Tree};
 use std::alloc::Global;
 
-/// The payload that carries so many capabilities: null where there are none, else a struct without data whose pointers
-/// they are. `Memory` where a growth was refused; no payload carries more than 65,535 so.
-pub(crate) fn payload_carrying(alloc: Global, caps: usize) -> Result<Payload, Memory>
+/// The payload that carries so many capabilities: null where there are none, of which this is one, else a struct without
+/// data whose pointers they are. `Memory` where a growth was refused; no payload carries more than 65,535 so.
+pub(crate) fn payload_carrying(
+    alloc: Global,
+    null: &Payload,
+    caps: usize,
+) -> Result<Payload, Memory>
+    requires { null.now ≡ null_payload }
     ensures { IfOk result (λ payload. payload ≡ carrying caps) }
 {
     if caps == 0 {
-        return Payload::null(alloc);
+        return null.copy(alloc);
     }
     match u32::try_from(caps) {
         Ok(caps) => carry(alloc, caps),

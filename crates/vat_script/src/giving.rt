@@ -1,6 +1,7 @@
 ghost use Rattle.std.specs.Prelude.{◌≡◌, Ok};
 ghost use Rattle.vat_script.specs.declared.line.LineCommand.TheVariants as said;
 ghost use Rattle.vat_script.specs.Bindings.{Gives, command_for, of_one, reference_at, references_at};
+ghost use Rattle.rpc_msg.specs.Payloads.{null_payload};
 ghost use Rattle.vat_script.specs.Carried.{script_exception};
 ghost use Rattle.vat_machine.specs.declared.command.Command.TheVariants as command;
 ghost use Rattle.rpc_msg.specs.declared.ids.RefId.{RefId};
@@ -10,12 +11,18 @@ use crate::fault::GiveFault;
 use crate::line::{CallLine, FieldLine, LineCommand};
 use crate::name::Name;
 use crate::names::VatNames;
-use rpc_msg::{Items, RefId, TaskId};
+use rpc_msg::{Items, Payload, RefId, TaskId};
 use std::alloc::Global;
 use vat_machine::{CallCommand, Command};
 
 impl VatNames {
-    pub(crate) fn command(&self, alloc: Global, said: &LineCommand) -> Result<Command, GiveFault>
+    pub(crate) fn command(
+        &self,
+        alloc: Global,
+        null: &Payload,
+        said: &LineCommand,
+    ) -> Result<Command, GiveFault>
+        requires { null.now ≡ null_payload }
         ensures { Gives (command_for self.now said.now) result }
     {
         match said {
@@ -23,8 +30,8 @@ impl VatNames {
             LineCommand::Bootstrap(_) => Ok(Command::Bootstrap),
             LineCommand::Promise(_, _) => Ok(Command::Promise),
             LineCommand::Field(line) => self.field(alloc, line),
-            LineCommand::Call(line) => self.call(alloc, line),
-            LineCommand::Answer(task, caps) => self.answer(alloc, *task, caps),
+            LineCommand::Call(line) => self.call(alloc, null, line),
+            LineCommand::Answer(task, caps) => self.answer(alloc, null, *task, caps),
             LineCommand::Fail(task) => fail(alloc, *task),
             LineCommand::Resolve(promise, name) => self.resolve(*promise, *name),
             LineCommand::Reject(promise) => self.reject(alloc, *promise),
@@ -43,12 +50,13 @@ impl VatNames {
         Ok(Command::Field(call, path))
     }
 
-    fn call(&self, alloc: Global, line: &CallLine) -> Result<Command, GiveFault>
+    fn call(&self, alloc: Global, null: &Payload, line: &CallLine) -> Result<Command, GiveFault>
+        requires { null.now ≡ null_payload }
         ensures { Gives (command_for self.now (said.Call line.now)) result }
     {
         let reference = self.reference_at(line.reference)?;
         let refs = self.references_at(alloc, line.caps.as_slice())?;
-        let payload = payload_carrying(alloc, refs.len())?;
+        let payload = payload_carrying(alloc, null, refs.len())?;
         Ok(Command::Call(CallCommand {
             reference,
             interface: line.interface,
@@ -58,11 +66,18 @@ impl VatNames {
         }))
     }
 
-    fn answer(&self, alloc: Global, task: TaskId, caps: &Items<Name>) -> Result<Command, GiveFault>
+    fn answer(
+        &self,
+        alloc: Global,
+        null: &Payload,
+        task: TaskId,
+        caps: &Items<Name>,
+    ) -> Result<Command, GiveFault>
+        requires { null.now ≡ null_payload }
         ensures { Gives (command_for self.now (said.Answer task caps.now)) result }
     {
         let refs = self.references_at(alloc, caps.as_slice())?;
-        let payload = payload_carrying(alloc, refs.len())?;
+        let payload = payload_carrying(alloc, null, refs.len())?;
         Ok(Command::Answer(task, payload, refs))
     }
 

@@ -1,4 +1,5 @@
 ghost use Rattle.std.specs.Prelude.{◌≡◌, ◌⊎◌, Some, OnOk, OnErr};
+ghost use Rattle.rpc_msg.specs.Payloads.{null_payload};
 ghost use Rattle.vat_script.specs.Bindings.{Gives, unnamed, no_names, names_of, with_names_of, command_for, taken, got, bind_reference, bindings, binds, half_bound, with_tasks, with_outcomes};
 
 use crate::bound::Bound;
@@ -6,7 +7,7 @@ use crate::fault::{GiveFault, NameFault};
 use crate::handed::Handed;
 use crate::line::{GotLine, LineCommand, TakeLine};
 use crate::name::Name;
-use rpc_msg::{CallId, Memory, PromiseId, RefId, Vat};
+use rpc_msg::{CallId, Memory, Payload, PromiseId, RefId, Vat};
 use std::alloc::Global;
 use vat_journal::{Delivery, Ended};
 use vat_machine::{Command, Granted};
@@ -51,9 +52,24 @@ impl Names {
     pub fn command(&self, alloc: Global, vat: Vat, said: &LineCommand) -> Result<Command, GiveFault>
         ensures { Gives (command_for (names_of vat self.now) said.now) result }
     {
+        let null = Payload::null(alloc)?;
+        self.command_sharing(alloc, &null, vat, said)
+    }
+
+    /// As `command`, with a null payload whose bytes are shared by those that the command carries.
+    pub fn command_sharing(
+        &self,
+        alloc: Global,
+        null: &Payload,
+        vat: Vat,
+        said: &LineCommand,
+    ) -> Result<Command, GiveFault>
+        requires { null.now ≡ null_payload }
+        ensures { Gives (command_for (names_of vat self.now) said.now) result }
+    {
         match vat {
-            Vat::A => self.a.command(alloc, said),
-            Vat::B => self.b.command(alloc, said),
+            Vat::A => self.a.command(alloc, null, said),
+            Vat::B => self.b.command(alloc, null, said),
         }
     }
 

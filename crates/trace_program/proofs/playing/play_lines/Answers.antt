@@ -10,4 +10,4 @@ returns-in-Err-Name c =
 
 pub loop-i-preserved : goal.loop-i-preserved
 loop-i-preserved c =
-    plays_more _ _ _ _ _ _ _ _ _ c.loop-i-test.true c.index-lines-i.is c.loop-i.invariant c.in-Ok.ensures
+    plays_more _ _ _ _ _ _ _ _ _ c.loop-i-test.true c.index-lines-i.is c.loop-i.invariant c.in-Ok-play_line.ensures
