@@ -58,11 +58,7 @@ impl Side {
             return Err(Astray::Down(number));
         }
         let mut sends = sends.into_vec();
-        let ([_], [], []) = (
-            sends.as_slice(),
-            deliveries.as_slice(),
-            answers.as_slice(),
-        ) else {
+        let ([_], [], []) = (sends.as_slice(), deliveries.as_slice(), answers.as_slice()) else {
             return Err(Astray::Otherwise);
         };
         let Some(message) = sends.pop() else {

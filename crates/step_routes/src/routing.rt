@@ -30,9 +30,9 @@ fn has_numbers(store: &Store, caps: usize) -> bool
 
 /// Routes a call to where the node settles: at an object it is delivered, at an open node it waits, at a wire it is sent,
 /// and at a broken node it ends. `Full` where a limit of the numbers, the waiting calls, the questions or the exports is
-/// passed, `Memory` where it settles to a promise or an outcome that is not there, or the text has no room for a reason; the
-/// step is only to be dropped then. It never fails where there is room and no call is taken out. Takes no memory, but at most one of the slack for each
-/// capability, and two.
+/// passed, `Memory` where it settles to a promise or an outcome that is not there, or to a broken node while the text has no
+/// room for a reason; the step is only to be dropped then. It never fails else where there is room and no call is taken out.
+/// Takes no memory, but at most one of the slack for each capability, and two.
 pub fn route_kept(
     step: &mut Step,
     lists: Lists,

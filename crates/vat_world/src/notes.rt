@@ -42,11 +42,7 @@ pub(crate) enum Note {
 }
 
 /// Notes a command to a vat before its step takes it.
-pub(crate) fn note_of(
-    alloc: Global,
-    index: u64,
-    command: &Command,
-) -> Result<Note, Memory>
+pub(crate) fn note_of(alloc: Global, index: u64, command: &Command) -> Result<Note, Memory>
     ensures { IfOk result (λ note. (vat : Vat) → IsShort command.now → (answer : Granted) → note_entries vat note answer ≡ granted_by index vat command.now answer) }
 {
     match command {

@@ -74,7 +74,9 @@ fn obey_up(
     let mut answer = acting.core.obey(command);
     match &mut answer {
         Answer::Done(granted, effects) => {
-            *granted = tell_done(alloc, vat, acting, peer, journal, start, note, *granted, effects);
+            *granted = tell_done(
+                alloc, vat, acting, peer, journal, start, note, *granted, effects,
+            );
             return answer;
         }
         Answer::Refused(refusal, _) => {
