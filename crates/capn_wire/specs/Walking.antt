@@ -6,7 +6,7 @@ use Rattle.capn_wire.specs.declared.path.Op.TheVariants as op
 use Rattle.capn_wire.specs.declared.path.CapAt.{CapAt}
 use Rattle.capn_wire.specs.declared.path.CapAt.TheVariants as cap_at
 use Rattle.wire_trees.specs.Trees.{Tree, null, struct, list, capability}
-pub use Rattle.wire_cursor.specs.Looking.{field}
+pub use Rattle.wire_reading.specs.Looking.{field}
 
 abbrev pub walk : Tree → List Op → Option Tree
 walk t [] = Some t

@@ -4,7 +4,7 @@ ghost use Rattle.wire_reading.specs.Reading.{root_of, tree_read};
 ghost use Rattle.capn_wire.specs.Walking.{capability_at};
 
 use crate::path::{CapAt, Op};
-use wire_cursor::{Kind, View};
+use wire_reading::{Kind, View};
 
 /// What stands at a path from the root.
 pub fn find(view: &View, path: &[Op]) -> CapAt

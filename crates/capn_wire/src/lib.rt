@@ -44,5 +44,5 @@ mod payload;
 pub use faults::Memory;
 pub use path::{CapAt, Op};
 pub use payload::Payload;
-pub use wire_cursor::{Kind, Place, View};
+pub use wire_reading::{Kind, Place, View};
 pub use wire_trees::{Element, Fields, Items, PayloadFault, Pointers, Tree, WriteFault};

@@ -10,8 +10,7 @@ use crate::path::{CapAt, Op};
 use std::alloc::{AllocError, Global};
 use std::marker::Model;
 use std::sync::Arc;
-use wire_cursor::View;
-use wire_reading::{Message, build_tree, visited_words};
+use wire_reading::{Message, View, build_tree, visited_words};
 use wire_trees::{PayloadFault, Tree, WriteFault};
 use wire_writing::write_tree;
 

@@ -1,9 +1,13 @@
-pub mod Bytes
 pub mod Building
+pub mod Bytes
 pub mod Depths
 pub mod Framed
+pub mod Grown
+pub mod Held
 pub mod Joining
+pub mod Places
 pub mod Rooted
+pub mod Shown
 pub mod Spanned
 pub mod Steps
 pub mod Tables

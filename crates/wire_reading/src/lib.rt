@@ -1,18 +1,21 @@
-//! Reads payloads: the segments of a message, the checks on all that its root leads to, and the tree that it says.
+//! Reads payloads: the segments of a message, the checks on all that its root leads to, the tree that it says, and places
+//! in it, of which what is answered is what the tree says.
 #![tactic(auto)]
 
 mod build;
 mod layout;
 mod message;
 mod numbers;
+mod place;
 mod pointer;
 mod referent;
 mod span;
+mod text;
+mod view;
 mod walk;
 
-pub use build::{build_tree, element_at};
-pub use layout::{Layout, lay_out};
+pub use build::build_tree;
 pub use message::Message;
-pub use pointer::Shape;
-pub use referent::{Content, Referent, follow};
+pub use place::{Kind, Place};
+pub use view::View;
 pub use walk::visited_words;

@@ -1,4 +1,0 @@
-pub mod Places
-pub mod Grown
-pub mod Held
-pub mod Shown

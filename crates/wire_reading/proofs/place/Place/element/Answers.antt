@@ -1,0 +1,56 @@
+use Rattle.std.proofs.Common.{◌≡◌, drop, sym, ap, subst, ◌∙◌}
+use Rattle.wire_trees.specs.Trees.{Tree}
+use Rattle.wire_trees.specs.Widths.{bits_of}
+use Rattle.wire_reading.specs.declared.referent.Referent.{Referent}
+use Rattle.wire_reading.specs.declared.referent.Referent.TheVariants as referent
+use Rattle.wire_reading.specs.declared.referent.Content.{Content}
+use Rattle.wire_reading.specs.Segments.{segment_of}
+use Rattle.wire_reading.specs.Reading.{element}
+use Rattle.wire_reading.specs.Looking.{Spot, StandsFor, element_of}
+use Rattle.wire_reading.proofs.Shown.{so, none_in_content, none_otherwise, packed_there, other_size, past_end, within}
+use Rattle.wire_reading.proofs.place.Place.element.Goals as goal
+
+pub returns-in_default : goal.returns-in_default
+returns-in_default g c = λ t stands.
+    let p = c.args.self.now in
+    none_in_content p.message p.caps p.referent t g.E.Element.BITS c.args.number stands (λ (x : Content) is. c.in_default.not-Content x (ap (λ (q : Spot). q.referent) c.self.view_is ∙ is))
+
+pub returns-in_default-layout : goal.returns-in_default-layout
+returns-in_default-layout g c = λ t stands.
+    let p = c.args.self.now in
+    let here : p.referent ≡ referent.Content c.in-Content.content = sym (ap (λ (q : Spot). q.referent) c.self.view_is) ∙ c.in-Content.is in
+    let stood = subst (λ (r : Referent). StandsFor p.message p.caps r t) here stands in
+    (none_otherwise p.message p.caps c.in-Content.content t c.layout.result stood c.layout.ensures.laid c.in_default-layout.not-Packed).0 g.E.Element.BITS c.args.number
+
+pub returns-then-bits-BITS : goal.returns-then-bits-BITS
+returns-then-bits-BITS g c = λ t stands.
+    let p = c.args.self.now in
+    let here : p.referent ≡ referent.Content c.in-Content.content = sym (ap (λ (q : Spot). q.referent) c.self.view_is) ∙ c.in-Content.is in
+    let stood = subst (λ (r : Referent). StandsFor p.message p.caps r t) here stands in
+    let ws = drop c.in-Packed.start (segment_of p.message c.in-Content.content.segment) in
+    let is = packed_there p.message p.caps c.in-Content.content t c.in-Packed.start c.in-Packed.width c.in-Packed.count stood (rw c.in-Packed.is at c.layout.ensures.laid) in
+    other_size ws (bits_of c.in-Packed.width) c.in-Packed.count g.E.Element.BITS c.args.number (λ same. c.if-bits-BITS.true (c.bits.ensures.bits ∙ same ∙ sym c.BITS.ensures))
+    ∙ sym (ap (λ (u : Tree). element_of g.E.Element.BITS u c.args.number) is)
+
+pub returns-then-count-number : goal.returns-then-count-number
+returns-then-count-number g c = λ t stands.
+    let p = c.args.self.now in
+    let here : p.referent ≡ referent.Content c.in-Content.content = sym (ap (λ (q : Spot). q.referent) c.self.view_is) ∙ c.in-Content.is in
+    let stood = subst (λ (r : Referent). StandsFor p.message p.caps r t) here stands in
+    let ws = drop c.in-Packed.start (segment_of p.message c.in-Content.content.segment) in
+    let is = packed_there p.message p.caps c.in-Content.content t c.in-Packed.start c.in-Packed.width c.in-Packed.count stood (rw c.in-Packed.is at c.layout.ensures.laid) in
+    past_end ws (bits_of c.in-Packed.width) c.in-Packed.count g.E.Element.BITS c.args.number c.if-count-number.true
+    ∙ sym (ap (λ (u : Tree). element_of g.E.Element.BITS u c.args.number) is)
+
+pub returns : goal.returns
+returns g c = λ t stands.
+    let p = c.args.self.now in
+    let here : p.referent ≡ referent.Content c.in-Content.content = sym (ap (λ (q : Spot). q.referent) c.self.view_is) ∙ c.in-Content.is in
+    let stood = subst (λ (r : Referent). StandsFor p.message p.caps r t) here stands in
+    let ws = drop c.in-Packed.start (segment_of p.message c.in-Content.content.segment) in
+    let is = packed_there p.message p.caps c.in-Content.content t c.in-Packed.start c.in-Packed.width c.in-Packed.count stood (rw c.in-Packed.is at c.layout.ensures.laid) in
+    let same : bits_of c.in-Packed.width ≡ g.E.Element.BITS = sym c.bits.ensures.bits ∙ c.if-bits-BITS.false ∙ c.BITS.ensures in
+    let read : g.E.Element.said c.of_number.result ≡ element ws g.E.Element.BITS c.args.number =
+    c.of_number.ensures ∙ (rw c.BITS-2.ensures at c.element_at-said.ensures.same) ∙ ap (λ (q : Spot). element (drop c.in-Packed.start (segment_of q.message c.in-Content.content.segment)) g.E.Element.BITS c.args.number) c.self.view_is in
+    ap so read ∙ within ws (bits_of c.in-Packed.width) c.in-Packed.count g.E.Element.BITS c.args.number same c.if-count-number.false
+    ∙ sym (ap (λ (u : Tree). element_of g.E.Element.BITS u c.args.number) is)
