@@ -9,10 +9,10 @@ use Rattle.wire_trees.specs.Writable.{Part, is_uneven, is_too_deep, is_beyond, i
 use Rattle.wire_trees.specs.Measuring.{capped, own, together, measured, told}
 use Rattle.wire_trees.proofs.Parts.{AreGood}
 
-capped_low : (n : ℕ) → n ≤ 65536 → capped n ≡ n
+pub capped_low : (n : ℕ) → n ≤ 65536 → capped n ≡ n
 capped_low n le = let e : ltb 65536 n ≡ false = le-ltb _ _ le in rw e refl
 
-capped_high : (n : ℕ) → 65536 < n → capped n ≡ 65537
+pub capped_high : (n : ℕ) → 65536 < n → capped n ≡ 65537
 capped_high n lt = let e : ltb 65536 n ≡ true = lt-ltb _ _ lt in rw e refl
 
 capped_most : (n : ℕ) → capped n ≤ 65537
@@ -95,6 +95,10 @@ module _ (caps : ℕ) where
 
 abbrev pub nothing : Measure
 nothing = record { is_uneven = false; is_too_deep = false; is_beyond = false; is_too_wide = false; words = 1; visited = 0 }
+
+-- the words that are counted where they are few enough
+pub words_told : (caps : ℕ) (ps : List Part) → 1 + all_words words_taken ps ≤ 65536 → (measured caps nothing ps).words ≡ 1 + all_words words_taken ps
+words_told caps ps le = words_found caps nothing ps refl ∙ capped_low (1 + all_words words_taken ps) le
 
 -- the reason that the pass tells is the first of the reasons
 pub told_refused : (caps : ℕ) (ps : List Part) → told (measured caps nothing ps) ≡ refused caps ps
