@@ -28,9 +28,9 @@ fn words_at(
     requires small { start + count ≤ 2 ^ 17 }
     ensures { IfOk result (λ v. v.items ≡ take count (drop start (segment_of message.now segment))) }
 {
-    let mut words = Vec::new(alloc);
+    let mut words = Vec::with_capacity(alloc, usize::from(count))?;
     for k in 0..u32::from(count) {
-        words.push(message.word(segment, start + k))?;
+        words.push_reserved(message.word(segment, start + k));
     }
     Ok(words)
 }
@@ -62,10 +62,10 @@ fn elements_at<E: Element + Drop>(
     requires small { start + (count * E.BITS + 63) / 64 ≤ 2 ^ 17 }
     ensures { IfOk result (λ v. map E.said v.items ≡ elements (drop start (segment_of message.now segment)) E.BITS 0 count) }
 {
-    let mut values = Vec::new(alloc);
+    let mut values = Vec::with_capacity(alloc, count as usize)?;
     for k in 0..count {
         let number = element_at(message, segment, start, E::BITS, k);
-        values.push(E::of_number(number))?;
+        values.push_reserved(E::of_number(number));
     }
     Ok(values)
 }
@@ -235,7 +235,7 @@ fn build_structs(
     requires reads { IsOk (structs_at message.now (reading message.now caps levels) segment row.data_words row.pointer_words row.start row.count visited) }
     ensures { IfOk result (λ x. structs_at message.now (reading message.now caps levels) segment row.data_words row.pointer_words row.start row.count visited ≡ Ok (structs_view x.0.items, x.1)) }
 {
-    let mut items = Vec::new(alloc);
+    let mut items = Vec::with_capacity(alloc, row.count as usize)?;
     let mut at = row.start;
     for _ in 0..row.count {
         let words = words_at(alloc, message, segment, at, row.data_words)?;
@@ -244,7 +244,7 @@ fn build_structs(
         let (pointers, after) = build_pointers(
             alloc, message, caps, segment, first, length, levels, visited,
         )?;
-        items.push(make_fields(words, pointers))?;
+        items.push_reserved(make_fields(words, pointers));
         visited = after;
         at = first + length;
     }
@@ -269,7 +269,7 @@ fn build_pointers(
     requires reads { IsOk (pointers_at (reading message.now caps levels) segment start count visited) }
     ensures { IfOk result (λ x. pointers_at (reading message.now caps levels) segment start count visited ≡ Ok (trees_view (held x.0), x.1)) }
 {
-    let mut trees = Vec::new(alloc);
+    let mut trees = Vec::with_capacity(alloc, count as usize)?;
     for k in 0..count {
         let (tree, after) = build_pointer(
             alloc,
@@ -280,7 +280,7 @@ fn build_pointers(
             levels,
             visited,
         )?;
-        trees.push(tree)?;
+        trees.push_reserved(tree);
         visited = after;
     }
     Ok((Pointers::of(trees), visited))

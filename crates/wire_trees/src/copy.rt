@@ -71,7 +71,7 @@ fn copy_structs(alloc: Global, items: &[Fields]) -> Result<Vec<Fields>, AllocErr
     for item in items {
         let words = Vec::from_slice(alloc, item.words.as_slice())?;
         let pointers = copy_pointers(alloc, item.pointers.as_slice())?;
-        copies.push(Fields { words, pointers })?;
+        copies.push_reserved(Fields { words, pointers });
     }
     Ok(copies)
 }
@@ -82,7 +82,7 @@ fn copy_pointers(alloc: Global, trees: &[Tree]) -> Result<Pointers, AllocError>
 {
     let mut copies = Vec::with_capacity(alloc, trees.len())?;
     for tree in trees {
-        copies.push(copy_tree(alloc, tree)?)?;
+        copies.push_reserved(copy_tree(alloc, tree)?);
     }
     Ok(Pointers { trees: copies })
 }

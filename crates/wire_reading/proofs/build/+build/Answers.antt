@@ -63,22 +63,33 @@ build_pointer-returns t c =
 
 pub build_pointers-build_pointer-requires : goal.build_pointers-build_pointer-requires
 build_pointers-build_pointer-requires t c =
-    let reads = next_reads (reading c.args.message.now c.args.caps c.args.levels) c.args.segment c.args.start c.args.count c.loop-k.k c.loop-k.visited (trees_view c.loop-k.trees.items) _ c.loop-k-test.true c.requires.reads c.loop-k.invariant in
+    let reads = next_reads (reading c.args.message.now c.args.caps c.args.levels) c.args.segment c.args.start c.args.count c.loop-k.k c.loop-k.visited (trees_view c.loop-k.trees.items) _ c.loop-k-test.true c.requires.reads c.loop-k.invariant.same in
     search rules
 
 pub build_pointers-loop-k-preserved : goal.build_pointers-loop-k-preserved
 build_pointers-loop-k-preserved t c =
-    rw (c.in_ok-push.ensures.items, trees_view_push)
-    (pointers_go_on (reading c.args.message.now c.args.caps c.args.levels) c.args.segment c.args.start c.args.count c.loop-k.k c.loop-k.visited (trees_view c.loop-k.trees.items) (view c.in_ok-tree.tree) c.in_ok-tree.after _ c.loop-k-test.true c.in_ok-tree.ensures c.loop-k.invariant)
+    record {
+      same = rw (c.push_reserved.ensures.items, trees_view_push)
+          (pointers_go_on (reading c.args.message.now c.args.caps c.args.levels) c.args.segment c.args.start c.args.count c.loop-k.k c.loop-k.visited (trees_view c.loop-k.trees.items) (view c.in_ok-tree.tree) c.in_ok-tree.after _ c.loop-k-test.true c.in_ok-tree.ensures c.loop-k.invariant.same);
+      count = c.push_reserved.ensures.len ∙ ap (λ n. n + 1) c.loop-k.invariant.count;
+      room = c.push_reserved.ensures.capacity ∙ c.loop-k.invariant.room;
+    }
+
+pub build_pointers-push_reserved-requires : goal.build_pointers-push_reserved-requires
+build_pointers-push_reserved-requires t c =
+    let count = c.loop-k.invariant.count in
+    let room = c.loop-k.invariant.room in
+    let test = c.loop-k-test.true in
+    omega (arith, count, room, test)
 
 pub build_pointers-of-requires : goal.build_pointers-of-requires
 build_pointers-of-requires t c =
-    let all = pointers_over (reading c.args.message.now c.args.caps c.args.levels) c.args.segment c.args.start c.args.count c.loop-k.k c.loop-k.visited (trees_view c.loop-k.trees.items) _ c.loop-k-test.false c.loop-k.invariant in
+    let all = pointers_over (reading c.args.message.now c.args.caps c.args.levels) c.args.segment c.args.start c.args.count c.loop-k.k c.loop-k.visited (trees_view c.loop-k.trees.items) _ c.loop-k-test.false c.loop-k.invariant.same in
     pointers_shallow (reading c.args.message.now c.args.caps c.args.levels) 127 (reading_shallow c.args.message.now c.args.caps c.args.levels 127 (omega arith)) c.args.segment c.args.start c.args.count c.args.visited (trees_view c.loop-k.trees.items) c.loop-k.visited all
 
 pub build_pointers-returns : goal.build_pointers-returns
 build_pointers-returns t c =
-    rw c.of.ensures (pointers_over (reading c.args.message.now c.args.caps c.args.levels) c.args.segment c.args.start c.args.count c.loop-k.k c.loop-k.visited (trees_view c.loop-k.trees.items) _ c.loop-k-test.false c.loop-k.invariant)
+    rw c.of.ensures (pointers_over (reading c.args.message.now c.args.caps c.args.levels) c.args.segment c.args.start c.args.count c.loop-k.k c.loop-k.visited (trees_view c.loop-k.trees.items) _ c.loop-k-test.false c.loop-k.invariant.same)
 
 pub build_content-returns-in_ok-pointers-in-Struct : goal.build_content-returns-in_ok-pointers-in-Struct
 build_content-returns-in_ok-pointers-in-Struct t c =
@@ -114,10 +125,19 @@ build_structs-loop-preserved t c =
     record {
       place = omega (arith, c.loop.invariant.place);
       same =
-          rw (c.in_ok-push.ensures.items, structs_view_push, c.make_fields.ensures, c.in_ok-words.ensures)
+          rw (c.push_reserved.ensures.items, structs_view_push, c.make_fields.ensures, c.in_ok-words.ensures)
           (structs_go_on c.args.message.now (reading c.args.message.now c.args.caps c.args.levels) c.args.segment c.args.row.data_words c.args.row.pointer_words c.loop.at c.args.row.count c.loop.counter c.loop.visited (structs_view c.loop.items.items) _ c.loop.invariant.same
           (c.loop.at + c.from.result + c.from-length.result) (trees_view (held c.in_ok-pointers.pointers)) c.in_ok-pointers.after c.loop-test.true (omega arith) (rw (c.from.ensures, c.from-length.ensures) at c.in_ok-pointers.ensures));
+      count = c.push_reserved.ensures.len ∙ ap (λ n. n + 1) c.loop.invariant.count;
+      room = c.push_reserved.ensures.capacity ∙ c.loop.invariant.room;
     }
+
+pub build_structs-push_reserved-requires : goal.build_structs-push_reserved-requires
+build_structs-push_reserved-requires t c =
+    let count = c.loop.invariant.count in
+    let room = c.loop.invariant.room in
+    let test = c.loop-test.true in
+    omega (arith, count, room, test)
 
 pub build_structs-returns : goal.build_structs-returns
 build_structs-returns t c =
@@ -179,19 +199,25 @@ build_structs-overflow_add-at t c =
 pub build_pointers-loop-k-init : goal.build_pointers-loop-k-init
 build_pointers-loop-k-init t c =
     let read = reading c.args.message.now c.args.caps c.args.levels in
-    let none : c.new-trees.result.items ≡ [] = cc in
+    let none = c.in_ok-trees.ensures.items in
     let first : c.args.start + 0 ≡ c.args.start = omega arith in
     let all : c.args.count - 0 ≡ c.args.count = omega arith in
-    rw none (with_no_trees (pointers_at read c.args.segment (c.args.start + 0) (c.args.count - 0) c.args.visited)
-    ∙ ap (λ (i : ℕ). pointers_at read c.args.segment i (c.args.count - 0) c.args.visited) first ∙ ap (λ (n : ℕ). pointers_at read c.args.segment c.args.start n c.args.visited) all)
+    record {
+      same = rw none (with_no_trees (pointers_at read c.args.segment (c.args.start + 0) (c.args.count - 0) c.args.visited)
+          ∙ ap (λ (i : ℕ). pointers_at read c.args.segment i (c.args.count - 0) c.args.visited) first ∙ ap (λ (n : ℕ). pointers_at read c.args.segment c.args.start n c.args.visited) all);
+      count = c.in_ok-trees.ensures.len;
+      room = c.in_ok-trees.ensures.exact;
+    }
 
 pub build_structs-loop-init : goal.build_structs-loop-init
 build_structs-loop-init t c =
     let read = reading c.args.message.now c.args.caps c.args.levels in
-    let none : c.new-items.result.items ≡ [] = cc in
+    let none = c.in_ok-items.ensures.items in
     let all : c.args.row.count - 0 ≡ c.args.row.count = omega arith in
     record {
       place = omega arith;
       same = rw none (with_no_structs (structs_at c.args.message.now read c.args.segment c.args.row.data_words c.args.row.pointer_words c.args.row.start (c.args.row.count - 0) c.args.visited)
           ∙ ap (λ (n : ℕ). structs_at c.args.message.now read c.args.segment c.args.row.data_words c.args.row.pointer_words c.args.row.start n c.args.visited) all);
+      count = c.in_ok-items.ensures.len;
+      room = c.in_ok-items.ensures.exact;
     }

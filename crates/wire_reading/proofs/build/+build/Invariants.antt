@@ -1,4 +1,5 @@
 use Rattle.std.proofs.Common.{◌≡◌, ◌+◌, ◌*◌, ◌-◌}
+use Rattle.std.specs.Vec.{vec_len, vec_capacity}
 use Rattle.wire_reading.specs.Reading.{pointers_at, structs_at, reading}
 use Rattle.wire_trees.specs.Views.{trees_view, structs_view}
 use Rattle.wire_reading.proofs.Joining.{with_trees, with_structs}
@@ -18,13 +19,18 @@ decreases-build_content l = 4 * l.levels + 3
 
 -- the trees so far and those that are left are all of them
 abbrev pub invariant-build_pointers-loop-k : goal.invariant-build_pointers-loop-k
-invariant-build_pointers-loop-k l =
-    with_trees (trees_view l.trees.items) (pointers_at (reading l.message l.caps l.levels) l.segment (l.start + l.k) (l.count - l.k) l.visited)
-    ≡ pointers_at (reading l.message l.caps l.levels) l.segment l.start l.count l.fn.visited
+invariant-build_pointers-loop-k l = record {
+  same : with_trees (trees_view l.trees.items) (pointers_at (reading l.message l.caps l.levels) l.segment (l.start + l.k) (l.count - l.k) l.visited)
+      ≡ pointers_at (reading l.message l.caps l.levels) l.segment l.start l.count l.fn.visited;
+  count : vec_len l.trees ≡ l.k;
+  room : vec_capacity l.trees ≡ l.count;
+}
 
 abbrev pub invariant-build_structs-loop : goal.invariant-build_structs-loop
 invariant-build_structs-loop l = record {
   place : l.at ≡ l.row.start + l.counter * (l.row.data_words + l.row.pointer_words);
   same : with_structs (structs_view l.items.items) (structs_at l.message (reading l.message l.caps l.levels) l.segment l.row.data_words l.row.pointer_words l.at (l.row.count - l.counter) l.visited)
       ≡ structs_at l.message (reading l.message l.caps l.levels) l.segment l.row.data_words l.row.pointer_words l.row.start l.row.count l.fn.visited;
+  count : vec_len l.items ≡ l.counter;
+  room : vec_capacity l.items ≡ l.row.count;
 }

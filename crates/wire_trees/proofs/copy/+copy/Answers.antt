@@ -1,4 +1,4 @@
-use Rattle.std.proofs.Common.{◌≡◌, Bool, ℕ, ◌+◌, ◌<◌, ◌≤◌, List, [], ◌∷◌, ◌++◌, length, map, take, get_or, sym, ap, ◌∙◌}
+use Rattle.std.proofs.Common.{◌≡◌, Bool, ℕ, ◌+◌, ◌<◌, ◌≤◌, arith, List, [], ◌∷◌, ◌++◌, length, map, take, get_or, sym, ap, ◌∙◌}
 use Rattle.std.proofs.lemmas.List.{map_push, take_all, take_more}
 use Rattle.wire_trees.specs.declared.tree.Fields.{Fields}
 use Rattle.wire_trees.specs.Trees.{Trees, struct, list, packed, pointers, structs}
@@ -22,20 +22,42 @@ fields_same x y words trees =
 
 pub copy_pointers-loop-tree-preserved : goal.copy_pointers-loop-tree-preserved
 copy_pointers-loop-tree-preserved t c =
-    copied_more view c.push.new.self.items c.loop-tree.copies.items c.args.trees.now c.loop-tree.tree-index c.tree-item.result _ c.in_ok-push.ensures.items c.loop-tree-test.true c.tree-item.is c.in_ok-copy_tree.ensures c.loop-tree.invariant
+    record {
+      same = copied_more view c.push_reserved.new.self.items c.loop-tree.copies.items c.args.trees.now c.loop-tree.tree-index c.tree-item.result _ c.push_reserved.ensures.items c.loop-tree-test.true c.tree-item.is c.in_ok-copy_tree.ensures c.loop-tree.invariant.same;
+      count = c.push_reserved.ensures.len ∙ ap (λ n. n + 1) c.loop-tree.invariant.count;
+      room = c.push_reserved.ensures.capacity ∙ c.loop-tree.invariant.room;
+    }
+
+pub copy_pointers-push_reserved-requires : goal.copy_pointers-push_reserved-requires
+copy_pointers-push_reserved-requires t c =
+    let count = c.loop-tree.invariant.count in
+    let room = c.loop-tree.invariant.room in
+    let test = c.loop-tree-test.true in
+    omega (arith, count, room, test)
 
 pub copy_pointers-returns : goal.copy_pointers-returns
 copy_pointers-returns t c =
-    ap trees_of (copied_all view c.loop-tree.copies.items c.args.trees.now c.loop-tree.tree-index c.loop-tree-test.false c.loop-tree.invariant)
+    ap trees_of (copied_all view c.loop-tree.copies.items c.args.trees.now c.loop-tree.tree-index c.loop-tree-test.false c.loop-tree.invariant.same)
 
 pub copy_structs-loop-item-preserved : goal.copy_structs-loop-item-preserved
 copy_structs-loop-item-preserved t c =
     let same = fields_same c.item-item.result (record { words = c.in_ok-words.words; pointers = c.in_ok-pointers.pointers }) (c.in_ok-words.ensures.items ∙ c.as_slice.ensures.value) (c.in_ok-pointers.ensures ∙ ap trees_view c.as_slice-in-loop-item.ensures) in
-    copied_more fields_view c.push.new.self.items c.loop-item.copies.items c.args.items.now c.loop-item.item-index c.item-item.result _ c.in_ok-push.ensures.items c.loop-item-test.true c.item-item.is same c.loop-item.invariant
+    record {
+      same = copied_more fields_view c.push_reserved.new.self.items c.loop-item.copies.items c.args.items.now c.loop-item.item-index c.item-item.result _ c.push_reserved.ensures.items c.loop-item-test.true c.item-item.is same c.loop-item.invariant.same;
+      count = c.push_reserved.ensures.len ∙ ap (λ n. n + 1) c.loop-item.invariant.count;
+      room = c.push_reserved.ensures.capacity ∙ c.loop-item.invariant.room;
+    }
+
+pub copy_structs-push_reserved-requires : goal.copy_structs-push_reserved-requires
+copy_structs-push_reserved-requires t c =
+    let count = c.loop-item.invariant.count in
+    let room = c.loop-item.invariant.room in
+    let test = c.loop-item-test.true in
+    omega (arith, count, room, test)
 
 pub copy_structs-returns : goal.copy_structs-returns
 copy_structs-returns t c =
-    ap structs_of (copied_all fields_view c.loop-item.copies.items c.args.items.now c.loop-item.item-index c.loop-item-test.false c.loop-item.invariant)
+    ap structs_of (copied_all fields_view c.loop-item.copies.items c.args.items.now c.loop-item.item-index c.loop-item-test.false c.loop-item.invariant.same)
 
 pub copy_items-returns-in-Void : goal.copy_items-returns-in-Void
 copy_items-returns-in-Void t c = sym (ap items_view c.in-Void.is)
