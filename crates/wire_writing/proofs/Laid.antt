@@ -1,6 +1,6 @@
 -- What the steps of placing leave.
-use Rattle.std.proofs.Common.{◌≡◌, ℕ, zero, suc, cond, eqb, ◌+◌, ◌*◌, ◌^◌, ◌<◌, ◌≤◌, Bool, true, false, List, [], ◌∷◌, ◌++◌, length, take, drop, Result, Ok, Err, sym, ap, ◌∙◌, append_assoc, arith}
-use Rattle.std.specs.Prelude.{replicate, OnOk}
+use Rattle.std.proofs.Common.{◌≡◌, ℕ, zero, suc, cond, eqb, ◌+◌, ◌*◌, ◌^◌, ◌<◌, ◌≤◌, Bool, true, false, List, [], ◌∷◌, ◌++◌, length, take, drop, sym, ap, ◌∙◌, append_assoc, arith}
+use Rattle.std.specs.Prelude.{replicate}
 use Rattle.std.proofs.lemmas.List.{length-append, length-drop, length-take-le, length-replicate}
 use Rattle.wire_trees.specs.declared.tree.Tree as program
 use Rattle.wire_trees.specs.declared.tree.Fields.{Fields}
@@ -13,14 +13,6 @@ use Rattle.wire_writing.specs.Laying.{filled}
 use Rattle.wire_writing.proofs.Lengths.{length-placed_all, length-placed_structs}
 use Rattle.wire_writing.proofs.Filled.{filled_put, filled_zeros}
 use Rattle.wire_trees.proofs.Counts.{trees_counted, structs_counted}
-
-pub on_ok : {A E : Type 0} {P Q : Type 0} (r : Result A E) → (P → Q) → OnOk r P → OnOk r Q
-on_ok (Ok x) f p = f p
-on_ok (Err e) f p = tt
-
-pub on_result : {A E : Type 0} {P : Type 0} (r : Result A E) → P → OnOk r P
-on_result (Ok x) p = p
-on_result (Err e) p = tt
 
 pub fields_placed : (ts : List program.Tree) (ws done new ds : List ℕ) (at : ℕ) → done ≡ take at ws ++ (ds ++ drop (at + length ds) ws) → at + length ds + length ts ≤ length ws
     → new ≡ filled done (at + length ds) (placed_all (trees_view ts) (at + length ds) (length done))

@@ -9,7 +9,7 @@ use Rattle.wire_trees.specs.Writable.{Part, parts, words_taken, words_visited, a
 use Rattle.wire_trees.specs.Measuring.{measured, told}
 use Rattle.wire_writing.specs.Laying.{HaveSizes}
 use Rattle.wire_trees.proofs.Parts.{AreGood}
-use Rattle.wire_trees.proofs.Found.{nothing, told_refused, none_refused}
+use Rattle.wire_trees.proofs.Found.{nothing, told_refused, none_refused, words_told}
 use Rattle.wire_writing.proofs.Sized.{taken_by, sizes_move, taken_move}
 
 -- parts that can be written have sizes that can be said
@@ -36,6 +36,13 @@ sizes_at_root t caps can = sizes_move t 64 0 (sizes t caps can)
 
 pub room_at_root : (t : Tree) (caps : ℕ) → CanWrite t caps → 1 + all_words words_taken (parts t 0) ≤ 65536
 room_at_root t caps can = subst (λ n. 1 + n ≤ 65536) (taken_move t 64 0 (sizes t caps can)) can.1
+
+-- The words that were counted are those that the tree takes.
+pub count_at_root : (t : Tree) (caps : ℕ) (start m : Measure) → start ≡ nothing → m ≡ measured caps start (parts t 64) → CanWrite t caps → m.words ≡ 1 + all_words words_taken (parts t 0)
+count_at_root t caps start m begins found can =
+    ap (λ (x : Measure). x.words) (found ∙ ap (λ (s : Measure). measured caps s (parts t 64)) begins)
+    ∙ words_told caps (parts t 64) can.1
+    ∙ ap (λ k. 1 + k) (taken_move t 64 0 (sizes t caps can))
 
 -- The segment is short enough for its size to be told.
 pub short_segment : (t : Tree) (caps : ℕ) (words : List ℕ) → CanWrite t caps → words ≡ segment_for t → length words ≤ 65536

@@ -1,5 +1,6 @@
-//! Lays down the words of a tree that can be written.
+//! Lays down the words of a tree that can be written, in room that was made for all of them.
 ghost use Rattle.std.specs.Prelude.{◌≡◌, ℕ, List, true, ◌+◌, ◌*◌, ◌/◌, ◌^◌, ◌≤◌, ◌<◌, ◌∷◌, ◌++◌, length, map, replicate, take, drop, IfOk, OnOk};
+ghost use Rattle.std.specs.Vec.{vec_capacity};
 ghost use Rattle.wire_trees.specs.Trees.{struct, list, packed};
 ghost use Rattle.wire_trees.specs.Views.{view, fields_view, items_view, trees_view, structs_view};
 ghost use Rattle.wire_writing.specs.Placing.{joined, packed_words, struct_word, list_word, size_number, capability_word, struct_pointer, offset_of, content_then, placed, placed_all, placed_list, placed_structs, segment_for};
@@ -73,12 +74,14 @@ fn joined_word<E: Element>(elements: &[E]) -> u64
 }
 
 /// Lays down elements, so many in each word.
-fn push_packed<E: Element>(words: &mut Vec<u64>, elements: &[E]) -> Result<(), AllocError>
+fn push_packed<E: Element>(words: &mut Vec<u64>, elements: &[E])
     requires some { 0 < E.BITS }
     requires whole { 64 / E.BITS * E.BITS ≡ 64 }
     requires most { E.BITS < 64 }
     requires small { packed_size E.BITS (length elements.now) ≤ 65536 }
-    ensures items { OnOk result (words.new.items ≡ words.old.items ++ packed_words E.BITS (packed_size E.BITS (length elements.now)) (map E.said elements.now)) }
+    requires spare { length words.old.items + packed_size E.BITS (length elements.now) ≤ vec_capacity words.old }
+    ensures items { words.new.items ≡ words.old.items ++ packed_words E.BITS (packed_size E.BITS (length elements.now)) (map E.said elements.now) }
+    ensures capacity { vec_capacity words.old ≤ vec_capacity words.new }
     ensures fit { AreOf E.BITS (map E.said elements.now) }
 {
     E::fit(elements);
@@ -86,93 +89,99 @@ fn push_packed<E: Element>(words: &mut Vec<u64>, elements: &[E]) -> Result<(), A
     let mut rest = elements;
     for _ in 0..(elements.len() * usize::from(E::BITS)).div_ceil(64) {
         let (word, behind) = rest.split_at(per.min(rest.len()));
-        words.push(joined_word(word))?;
+        words.push_reserved(joined_word(word));
         rest = behind;
     }
-    Ok(())
 }
 
-fn push_zeros(words: &mut Vec<u64>, count: usize) -> Result<(), AllocError>
-    ensures { OnOk result (words.new.items ≡ words.old.items ++ replicate count 0) }
+fn push_zeros(words: &mut Vec<u64>, count: usize)
+    requires { length words.old.items + count ≤ vec_capacity words.old }
+    ensures items { words.new.items ≡ words.old.items ++ replicate count 0 }
+    ensures capacity { vec_capacity words.old ≤ vec_capacity words.new }
 {
     for _ in 0..count {
-        words.push(0)?;
+        words.push_reserved(0);
     }
-    Ok(())
 }
 
-fn push_eights(eights: &[u64], words: &mut Vec<u64>) -> Result<(), AllocError>
-    ensures items { OnOk result (words.new.items ≡ words.old.items ++ packed_words 64 (packed_size 64 (length eights.now)) eights.now) }
+fn push_eights(eights: &[u64], words: &mut Vec<u64>)
+    requires { length words.old.items + length eights.now ≤ vec_capacity words.old }
+    ensures items { words.new.items ≡ words.old.items ++ packed_words 64 (packed_size 64 (length eights.now)) eights.now }
+    ensures capacity { vec_capacity words.old ≤ vec_capacity words.new }
     ensures fit { AreOf 64 eights.now }
 {
-    words.extend_from_slice(eights)
+    let Ok(()) = words.extend_from_slice(eights) else {
+        unreachable!()
+    };
 }
 
 /// The pointer at word `at` to a list of elements, which are laid down behind all words.
-fn place_packed<E: Element>(
-    elements: &[E],
-    size: u64,
-    at: usize,
-    words: &mut Vec<u64>,
-) -> Result<u64, AllocError>
+fn place_packed<E: Element>(elements: &[E], size: u64, at: usize, words: &mut Vec<u64>) -> u64
     requires ahead { at < length words.old.items }
     requires some { 0 < E.BITS }
     requires whole { 64 / E.BITS * E.BITS ≡ 64 }
     requires most { E.BITS < 64 }
     requires size { size ≡ size_number E.BITS }
     requires room { length words.old.items + packed_size E.BITS (length elements.now) ≤ 65536 }
-    ensures word { IfOk result (λ word. word ≡ (placed_list (packed E.BITS (map E.said elements.now)) at (length words.old.items)).0) }
-    ensures placed { OnOk result (words.new.items ≡ words.old.items ++ (placed_list (packed E.BITS (map E.said elements.now)) at (length words.old.items)).1) }
+    requires spare { length words.old.items + packed_size E.BITS (length elements.now) ≤ vec_capacity words.old }
+    ensures word { result ≡ (placed_list (packed E.BITS (map E.said elements.now)) at (length words.old.items)).0 }
+    ensures placed { words.new.items ≡ words.old.items ++ (placed_list (packed E.BITS (map E.said elements.now)) at (length words.old.items)).1 }
+    ensures capacity { vec_capacity words.old ≤ vec_capacity words.new }
     ensures fit { AreOf E.BITS (map E.said elements.now) }
 {
     let next = words.len();
-    push_packed(words, elements)?;
-    Ok(word_of_list(distance(at, next), size, elements.len() as u64))
+    push_packed(words, elements);
+    word_of_list(distance(at, next), size, elements.len() as u64)
 }
 
 /// The pointer at word `at` to a list of words, which are laid down behind all words.
-fn place_eights(eights: &[u64], at: usize, words: &mut Vec<u64>) -> Result<u64, AllocError>
+fn place_eights(eights: &[u64], at: usize, words: &mut Vec<u64>) -> u64
     requires ahead { at < length words.old.items }
     requires room { length words.old.items + packed_size 64 (length eights.now) ≤ 65536 }
-    ensures word { IfOk result (λ word. word ≡ (placed_list (packed 64 eights.now) at (length words.old.items)).0) }
-    ensures placed { OnOk result (words.new.items ≡ words.old.items ++ (placed_list (packed 64 eights.now) at (length words.old.items)).1) }
+    requires spare { length words.old.items + packed_size 64 (length eights.now) ≤ vec_capacity words.old }
+    ensures word { result ≡ (placed_list (packed 64 eights.now) at (length words.old.items)).0 }
+    ensures placed { words.new.items ≡ words.old.items ++ (placed_list (packed 64 eights.now) at (length words.old.items)).1 }
+    ensures capacity { vec_capacity words.old ≤ vec_capacity words.new }
     ensures fit { AreOf 64 eights.now }
 {
     let next = words.len();
-    push_eights(eights, words)?;
-    Ok(word_of_list(distance(at, next), 5, eights.len() as u64))
+    push_eights(eights, words);
+    word_of_list(distance(at, next), 5, eights.len() as u64)
 }
 
 /// Puts words into the place of others.
 fn put(words: &mut Vec<u64>, at: usize, others: &[u64])
     requires { at + length others.now ≤ length words.old.items }
-    ensures { words.new.items ≡ take at words.old.items ++ (others.now ++ drop (at + length others.now) words.old.items) }
+    ensures items { words.new.items ≡ take at words.old.items ++ (others.now ++ drop (at + length others.now) words.old.items) }
+    ensures capacity { vec_capacity words.new ≡ vec_capacity words.old }
 {
     words[at..at + others.len()].copy_from_slice(others);
 }
 
 /// The pointer at word `at` to a tree, whose content is laid down behind all words with all that it leads to.
 #[cycle(place)]
-fn place_tree(tree: &Tree, at: usize, words: &mut Vec<u64>) -> Result<u64, AllocError>
+fn place_tree(tree: &Tree, at: usize, words: &mut Vec<u64>) -> u64
     requires ahead { at < length words.old.items }
     requires sizes { HaveSizes (parts (view tree.now) 0) }
     requires room { length words.old.items + all_words words_taken (parts (view tree.now) 0) ≤ 65536 }
-    ensures word { IfOk result (λ word. word ≡ (placed (view tree.now) at (length words.old.items)).0) }
-    ensures placed { OnOk result (words.new.items ≡ words.old.items ++ (placed (view tree.now) at (length words.old.items)).1) }
-    ensures fits { OnOk result (Fits (view tree.now)) }
+    requires spare { length words.old.items + all_words words_taken (parts (view tree.now) 0) ≤ vec_capacity words.old }
+    ensures word { result ≡ (placed (view tree.now) at (length words.old.items)).0 }
+    ensures placed { words.new.items ≡ words.old.items ++ (placed (view tree.now) at (length words.old.items)).1 }
+    ensures capacity { vec_capacity words.old ≤ vec_capacity words.new }
+    ensures fits { Fits (view tree.now) }
 {
     match tree {
-        Tree::Null => Ok(0),
-        Tree::Cap(index) => Ok(word_of_capability(*index)),
+        Tree::Null => 0,
+        Tree::Cap(index) => word_of_capability(*index),
         Tree::Struct {
             words: data,
             pointers,
         } => {
             let next = words.len();
             let trees = pointers.as_slice();
-            push_zeros(words, data.len() + trees.len())?;
-            place_fields(trees, data, next, words)?;
-            Ok(pointer_to_struct(at, next, data.len(), trees.len()))
+            push_zeros(words, data.len() + trees.len());
+            place_fields(trees, data, next, words);
+            pointer_to_struct(at, next, data.len(), trees.len())
         }
         Tree::List(items) => place_items(items, at, words),
     }
@@ -180,18 +189,20 @@ fn place_tree(tree: &Tree, at: usize, words: &mut Vec<u64>) -> Result<u64, Alloc
 
 /// The pointer at word `at` to a list.
 #[cycle(place)]
-fn place_items(items: &Items, at: usize, words: &mut Vec<u64>) -> Result<u64, AllocError>
+fn place_items(items: &Items, at: usize, words: &mut Vec<u64>) -> u64
     requires ahead { at < length words.old.items }
     requires sizes { HaveSizes (parts (list (items_view items.now)) 0) }
     requires room { length words.old.items + all_words words_taken (parts (list (items_view items.now)) 0) ≤ 65536 }
-    ensures word { IfOk result (λ word. word ≡ (placed_list (items_view items.now) at (length words.old.items)).0) }
-    ensures placed { OnOk result (words.new.items ≡ words.old.items ++ (placed_list (items_view items.now) at (length words.old.items)).1) }
-    ensures fits { OnOk result (FitsList (items_view items.now)) }
+    requires spare { length words.old.items + all_words words_taken (parts (list (items_view items.now)) 0) ≤ vec_capacity words.old }
+    ensures word { result ≡ (placed_list (items_view items.now) at (length words.old.items)).0 }
+    ensures placed { words.new.items ≡ words.old.items ++ (placed_list (items_view items.now) at (length words.old.items)).1 }
+    ensures capacity { vec_capacity words.old ≤ vec_capacity words.new }
+    ensures fits { FitsList (items_view items.now) }
 {
     let next = words.len();
     let distance = distance(at, next);
     match items {
-        Items::Void(count) => Ok(word_of_list(distance, 0, u64::from(*count))),
+        Items::Void(count) => word_of_list(distance, 0, u64::from(*count)),
         Items::Bits(bits) => place_packed(bits.as_slice(), 1, at, words),
         Items::Bytes(bytes) => place_packed(bytes.as_slice(), 2, at, words),
         Items::Twos(twos) => place_packed(twos.as_slice(), 3, at, words),
@@ -199,49 +210,48 @@ fn place_items(items: &Items, at: usize, words: &mut Vec<u64>) -> Result<u64, Al
         Items::Eights(eights) => place_eights(eights.as_slice(), at, words),
         Items::Pointers(pointers) => {
             let trees = pointers.as_slice();
-            place_pointers(trees, words)?;
-            Ok(word_of_list(distance, 6, trees.len() as u64))
+            place_pointers(trees, words);
+            word_of_list(distance, 6, trees.len() as u64)
         }
         Items::Structs {
             data_words,
             pointer_words,
             items,
         } => {
-            place_list(items, *data_words, *pointer_words, words)?;
+            place_list(items, *data_words, *pointer_words, words);
             let size = items.len() * (usize::from(*data_words) + usize::from(*pointer_words));
-            Ok(word_of_list(distance, 7, size as u64))
+            word_of_list(distance, 7, size as u64)
         }
     }
 }
 
 /// Pointers behind all words, and what they lead to.
 #[cycle(place)]
-fn place_pointers(trees: &[Tree], words: &mut Vec<u64>) -> Result<(), AllocError>
+fn place_pointers(trees: &[Tree], words: &mut Vec<u64>)
     requires sizes { HaveSizes (parts_of_all (trees_view trees.now) 0) }
     requires room { length words.old.items + (length trees.now + all_words words_taken (parts_of_all (trees_view trees.now) 0)) ≤ 65536 }
-    ensures placed { OnOk result (words.new.items ≡ words.old.items ++ content_then (placed_all (trees_view trees.now) (length words.old.items) (length words.old.items + length trees.now))) }
-    ensures fits { OnOk result (FitsAll (trees_view trees.now)) }
+    requires spare { length words.old.items + (length trees.now + all_words words_taken (parts_of_all (trees_view trees.now) 0)) ≤ vec_capacity words.old }
+    ensures placed { words.new.items ≡ words.old.items ++ content_then (placed_all (trees_view trees.now) (length words.old.items) (length words.old.items + length trees.now)) }
+    ensures capacity { vec_capacity words.old ≤ vec_capacity words.new }
+    ensures fits { FitsAll (trees_view trees.now) }
 {
     let next = words.len();
-    push_zeros(words, trees.len())?;
-    place_trees(trees, next, words)
+    push_zeros(words, trees.len());
+    place_trees(trees, next, words);
 }
 
 /// A tag and structs behind all words, and what they lead to.
 #[cycle(place)]
-fn place_list(
-    items: &[Fields],
-    data_words: u16,
-    pointer_words: u16,
-    words: &mut Vec<u64>,
-) -> Result<(), AllocError>
+fn place_list(items: &[Fields], data_words: u16, pointer_words: u16, words: &mut Vec<u64>)
     requires even { are_even data_words pointer_words (structs_view items.now) ≡ true }
     requires sizes { HaveSizes (parts_of_structs (structs_view items.now) 0) }
     requires few { length items.now < 2 ^ 30 }
     requires room { length words.old.items + (length items.now * (data_words + pointer_words) + 1 + all_words words_taken (parts_of_structs (structs_view items.now) 0)) ≤ 65536 }
-    ensures placed { OnOk result (words.new.items ≡ words.old.items ++ (struct_word (length items.now) data_words pointer_words
-        ∷ content_then (placed_structs (structs_view items.now) (length words.old.items + 1) (length words.old.items + 1 + length items.now * (data_words + pointer_words))))) }
-    ensures fits { OnOk result (FitsStructs (structs_view items.now)) }
+    requires spare { length words.old.items + (length items.now * (data_words + pointer_words) + 1 + all_words words_taken (parts_of_structs (structs_view items.now) 0)) ≤ vec_capacity words.old }
+    ensures placed { words.new.items ≡ words.old.items ++ (struct_word (length items.now) data_words pointer_words
+        ∷ content_then (placed_structs (structs_view items.now) (length words.old.items + 1) (length words.old.items + 1 + length items.now * (data_words + pointer_words)))) }
+    ensures capacity { vec_capacity words.old ≤ vec_capacity words.new }
+    ensures fits { FitsStructs (structs_view items.now) }
 {
     let next = words.len();
     let size = items.len() * (usize::from(data_words) + usize::from(pointer_words));
@@ -250,9 +260,9 @@ fn place_list(
         u64::from(data_words),
         u64::from(pointer_words),
     );
-    words.push(tag)?;
-    push_zeros(words, size)?;
-    place_structs(items, data_words, pointer_words, next + 1, words)
+    words.push_reserved(tag);
+    push_zeros(words, size);
+    place_structs(items, data_words, pointer_words, next + 1, words);
 }
 
 /// Structs in their places from word `at` on, and what they lead to behind all words.
@@ -263,71 +273,71 @@ fn place_structs(
     pointer_words: u16,
     at: usize,
     words: &mut Vec<u64>,
-) -> Result<(), AllocError>
+)
     requires even { are_even data_words pointer_words (structs_view items.now) ≡ true }
     requires inside { at + length items.now * (data_words + pointer_words) ≤ length words.old.items }
     requires sizes { HaveSizes (parts_of_structs (structs_view items.now) 0) }
     requires room { length words.old.items + all_words words_taken (parts_of_structs (structs_view items.now) 0) ≤ 65536 }
-    ensures placed { OnOk result (words.new.items ≡ filled words.old.items at (placed_structs (structs_view items.now) at (length words.old.items))) }
-    ensures fits { OnOk result (FitsStructs (structs_view items.now)) }
+    requires spare { length words.old.items + all_words words_taken (parts_of_structs (structs_view items.now) 0) ≤ vec_capacity words.old }
+    ensures placed { words.new.items ≡ filled words.old.items at (placed_structs (structs_view items.now) at (length words.old.items)) }
+    ensures capacity { vec_capacity words.old ≤ vec_capacity words.new }
+    ensures fits { FitsStructs (structs_view items.now) }
 {
     let mut slot = at;
     for item in items {
-        place_fields(item.pointers.as_slice(), &item.words, slot, words)?;
+        place_fields(item.pointers.as_slice(), &item.words, slot, words);
         slot += usize::from(data_words) + usize::from(pointer_words);
     }
-    Ok(())
 }
 
 /// A struct in its place from word `at` on, its data section first, and what it leads to behind all words.
 #[cycle(place)]
-fn place_fields(
-    pointers: &[Tree],
-    section: &[u64],
-    at: usize,
-    words: &mut Vec<u64>,
-) -> Result<(), AllocError>
+fn place_fields(pointers: &[Tree], section: &[u64], at: usize, words: &mut Vec<u64>)
     requires inside { at + length section.now + length pointers.now ≤ length words.old.items }
     requires sizes { HaveSizes (parts_of_all (trees_view pointers.now) 0) }
     requires room { length words.old.items + all_words words_taken (parts_of_all (trees_view pointers.now) 0) ≤ 65536 }
-    ensures placed { OnOk result (words.new.items ≡ filled words.old.items at (
+    requires spare { length words.old.items + all_words words_taken (parts_of_all (trees_view pointers.now) 0) ≤ vec_capacity words.old }
+    ensures placed { words.new.items ≡ filled words.old.items at (
       section.now ++ (placed_all (trees_view pointers.now) (at + length section.now) (length words.old.items)).0,
       (placed_all (trees_view pointers.now) (at + length section.now) (length words.old.items)).1,
-    )) }
-    ensures fits { OnOk result (FitsAll (trees_view pointers.now)) }
+    ) }
+    ensures capacity { vec_capacity words.old ≤ vec_capacity words.new }
+    ensures fits { FitsAll (trees_view pointers.now) }
 {
     put(words, at, section);
-    place_trees(pointers, at + section.len(), words)
+    place_trees(pointers, at + section.len(), words);
 }
 
 /// Pointers in their places from word `at` on, and what they lead to behind all words.
 #[cycle(place)]
-fn place_trees(trees: &[Tree], at: usize, words: &mut Vec<u64>) -> Result<(), AllocError>
+fn place_trees(trees: &[Tree], at: usize, words: &mut Vec<u64>)
     requires inside { at + length trees.now ≤ length words.old.items }
     requires sizes { HaveSizes (parts_of_all (trees_view trees.now) 0) }
     requires room { length words.old.items + all_words words_taken (parts_of_all (trees_view trees.now) 0) ≤ 65536 }
-    ensures placed { OnOk result (words.new.items ≡ filled words.old.items at (placed_all (trees_view trees.now) at (length words.old.items))) }
-    ensures fits { OnOk result (FitsAll (trees_view trees.now)) }
+    requires spare { length words.old.items + all_words words_taken (parts_of_all (trees_view trees.now) 0) ≤ vec_capacity words.old }
+    ensures placed { words.new.items ≡ filled words.old.items at (placed_all (trees_view trees.now) at (length words.old.items)) }
+    ensures capacity { vec_capacity words.old ≤ vec_capacity words.new }
+    ensures fits { FitsAll (trees_view trees.now) }
 {
     let mut slot = at;
     for tree in trees {
-        let word = place_tree(tree, slot, words)?;
+        let word = place_tree(tree, slot, words);
         words[slot] = word;
         slot += 1;
     }
-    Ok(())
 }
 
 /// The segment of a tree that takes so many words.
 pub fn place(alloc: Global, tree: &Tree, count: u32) -> Result<Vec<u64>, AllocError>
     requires sizes { HaveSizes (parts (view tree.now) 0) }
     requires room { 1 + all_words words_taken (parts (view tree.now) 0) ≤ 65536 }
+    requires count { count ≡ 1 + all_words words_taken (parts (view tree.now) 0) }
     ensures placed { IfOk result (λ words. words.items ≡ segment_for (view tree.now)) }
     ensures fits { OnOk result (Fits (view tree.now)) }
 {
     let mut words = Vec::with_capacity(alloc, count as usize)?;
-    words.push(0)?;
-    let root = place_tree(tree, 0, &mut words)?;
+    words.push_reserved(0);
+    let root = place_tree(tree, 0, &mut words);
     words[0] = root;
     Ok(words)
 }

@@ -17,4 +17,4 @@ returns-clause-word g c =
 
 pub returns-clause-placed : goal.returns-clause-placed
 returns-clause-placed g c =
-    rw (length-map c.args.elements.now g.E.Element.said) c.in_ok-push_packed.ensures.items
+    rw (length-map c.args.elements.now g.E.Element.said) c.push_packed.ensures.items

@@ -5,4 +5,4 @@ use Rattle.wire_writing.proofs.place.push_eights.Goals as goal
 
 pub returns-clause-items : goal.returns-clause-items
 returns-clause-items c =
-    rw (eights_whole (packed_size 64 (length c.args.eights.now)) c.args.eights.now (omega arith)) (search rules)
+    rw (eights_whole (packed_size 64 (length c.args.eights.now)) c.args.eights.now (omega arith)) c.in-Ok.ensures.items

@@ -21,12 +21,24 @@ loop-preserved g c =
     let product : length c.args.elements.now * c.from.result ≡ length c.args.elements.now * bits = ap (λ (b : ℕ). length c.args.elements.now * b) (c.from.ensures ∙ c.BITS-2.ensures) in
     let same_len = length-map c.loop.rest.now g.E.Element.said in
     let fills : 64 / c.from-per.result ≡ 64 / bits = ap (λ (b : ℕ). 64 / b) (c.from-per.ensures ∙ c.BITS.ensures) in
+    let count = c.loop.invariant.count in
+    let more = c.push_reserved.ensures.len in
     let at_min : c.min.result ≡ min (64 / c.from-per.result) (length rest) = rw same_len c.min.ensures in
     record {
       fit = subst (AreOf bits) (sym back) (are_drop bits c.min.result rest c.loop.invariant.fit);
-      same = rw (c.in_ok-push.ensures.items, c.joined_word.ensures)
+      same = rw (c.push_reserved.ensures.items, c.joined_word.ensures)
           (packed_more bits (64 / c.from-per.result) (packed_size bits (length c.args.elements.now)) c.loop.counter c.min.result c.loop.words.items rest (said c.split_at.result.0.now) (said c.split_at.result.1.now) _ fills (omega (arith, product)) at_min front back c.loop.invariant.same);
+      count = omega (arith, count, more);
+      capacity = c.push_reserved.ensures.capacity ∙ c.loop.invariant.capacity;
     }
+
+pub push_reserved-requires : goal.push_reserved-requires
+push_reserved-requires g c =
+    let product : length c.args.elements.now * c.from.result ≡ length c.args.elements.now * g.E.Element.BITS = ap (λ (b : ℕ). length c.args.elements.now * b) (c.from.ensures ∙ c.BITS-2.ensures) in
+    let spare = c.requires.spare in
+    let count = c.loop.invariant.count in
+    let capacity = c.loop.invariant.capacity in
+    omega (arith, product, spare, count, capacity)
 
 pub joined_word-requires-clause-few : goal.joined_word-requires-clause-few
 joined_word-requires-clause-few g c =

@@ -2,7 +2,7 @@ use Rattle.std.proofs.Common.{ℕ, List, subst, refl, ap, ◌∙◌, rules}
 use Rattle.wire_trees.specs.Views.{view}
 use Rattle.wire_trees.specs.Widths.{AreOf}
 use Rattle.wire_writing.specs.Placing.{one_segment}
-use Rattle.wire_writing.proofs.Writing.{told_so, can_write, sizes_at_root, room_at_root, short_segment, no_reason, some_reason}
+use Rattle.wire_writing.proofs.Writing.{told_so, can_write, sizes_at_root, room_at_root, count_at_root, short_segment, no_reason, some_reason}
 use Rattle.wire_writing.proofs.write.write_tree.Goals as goal
 
 pub returns-in-Some-clause-refused : goal.returns-in-Some-clause-refused
@@ -19,6 +19,11 @@ pub place-requires-clause-room : goal.place-requires-clause-room
 place-requires-clause-room c =
     let none = told_so (view c.args.tree.now) c.args.caps c.start.result c.measure_tree-measure.result c.start.ensures c.measure_tree-measure.ensures c.in_default.ensures in
     room_at_root (view c.args.tree.now) c.args.caps (can_write (view c.args.tree.now) c.args.caps none)
+
+pub place-requires-clause-count : goal.place-requires-clause-count
+place-requires-clause-count c =
+    let none = told_so (view c.args.tree.now) c.args.caps c.start.result c.measure_tree-measure.result c.start.ensures c.measure_tree-measure.ensures c.in_default.ensures in
+    count_at_root (view c.args.tree.now) c.args.caps c.start.result c.measure_tree-measure.result c.start.ensures c.measure_tree-measure.ensures (can_write (view c.args.tree.now) c.args.caps none)
 
 pub returns-in_err-words-clause-refused : goal.returns-in_err-words-clause-refused
 returns-in_err-words-clause-refused c =
