@@ -55,19 +55,19 @@ fn elements_at<E: Element + Drop>(
     segment: u32,
     start: u32,
     count: u32,
-) -> Result<Vec<E>, AllocError>
+) -> Result<Items, AllocError>
     requires some { 0 < E.BITS }
     requires bits { E.BITS ≤ 64 }
     requires inside { start + (count * E.BITS + 63) / 64 ≤ length (segment_of message.now segment) }
     requires small { start + (count * E.BITS + 63) / 64 ≤ 2 ^ 17 }
-    ensures { IfOk result (λ v. map E.said v.items ≡ elements (drop start (segment_of message.now segment)) E.BITS 0 count) }
+    ensures { IfOk result (λ x. items_view x ≡ packed E.BITS (elements (drop start (segment_of message.now segment)) E.BITS 0 count)) }
 {
     let mut values = Vec::with_capacity(alloc, count as usize)?;
     for k in 0..count {
         let number = element_at(message, segment, start, E::BITS, k);
         values.push_reserved(E::of_number(number));
     }
-    Ok(values)
+    Ok(E::list(values))
 }
 
 /// The elements of a list without pointers.
@@ -85,11 +85,11 @@ fn packed_items(
 {
     match width {
         Width::Void => Ok(void_items(count)),
-        Width::Bit => Ok(Items::Bits(elements_at(alloc, message, segment, start, count)?)),
-        Width::Byte => Ok(Items::Bytes(elements_at(alloc, message, segment, start, count)?)),
-        Width::TwoBytes => Ok(Items::Twos(elements_at(alloc, message, segment, start, count)?)),
-        Width::FourBytes => Ok(Items::Fours(elements_at(alloc, message, segment, start, count)?)),
-        Width::EightBytes => Ok(Items::Eights(elements_at(alloc, message, segment, start, count)?)),
+        Width::Bit => elements_at::<bool>(alloc, message, segment, start, count),
+        Width::Byte => elements_at::<u8>(alloc, message, segment, start, count),
+        Width::TwoBytes => elements_at::<u16>(alloc, message, segment, start, count),
+        Width::FourBytes => elements_at::<u32>(alloc, message, segment, start, count),
+        Width::EightBytes => elements_at::<u64>(alloc, message, segment, start, count),
     }
 }
 

@@ -1,7 +1,9 @@
 //! Trees again, in memory of their own.
-ghost use Rattle.std.specs.Prelude.{◌≡◌, IfOk};
+ghost use Rattle.std.specs.Prelude.{◌≡◌, IfOk, map};
+ghost use Rattle.wire_trees.specs.Trees.{packed};
 ghost use Rattle.wire_trees.specs.Views.{view, held, items_view, trees_view, structs_view};
 
+use crate::element::Element;
 use crate::tree::{Fields, Items, Pointers, Tree};
 use std::alloc::{AllocError, Global};
 
@@ -33,17 +35,24 @@ fn copy_tree(alloc: Global, tree: &Tree) -> Result<Tree, AllocError>
     }
 }
 
+fn copy_elements<E: Element>(alloc: Global, elements: &[E]) -> Result<Items, AllocError>
+    ensures { IfOk result (λ copy. items_view copy ≡ packed E.BITS (map E.said elements.now)) }
+{
+    let copy = Vec::from_slice(alloc, elements)?;
+    Ok(E::list(copy))
+}
+
 #[cycle(copy)]
 fn copy_items(alloc: Global, items: &Items) -> Result<Items, AllocError>
     ensures { IfOk result (λ copy. items_view copy ≡ items_view items.now) }
 {
     match items {
         Items::Void(count) => Ok(Items::Void(*count)),
-        Items::Bits(bits) => Ok(Items::Bits(Vec::from_slice(alloc, bits.as_slice())?)),
-        Items::Bytes(bytes) => Ok(Items::Bytes(Vec::from_slice(alloc, bytes.as_slice())?)),
-        Items::Twos(twos) => Ok(Items::Twos(Vec::from_slice(alloc, twos.as_slice())?)),
-        Items::Fours(fours) => Ok(Items::Fours(Vec::from_slice(alloc, fours.as_slice())?)),
-        Items::Eights(eights) => Ok(Items::Eights(Vec::from_slice(alloc, eights.as_slice())?)),
+        Items::Bits(bits) => copy_elements(alloc, bits.as_slice()),
+        Items::Bytes(bytes) => copy_elements(alloc, bytes.as_slice()),
+        Items::Twos(twos) => copy_elements(alloc, twos.as_slice()),
+        Items::Fours(fours) => copy_elements(alloc, fours.as_slice()),
+        Items::Eights(eights) => copy_elements(alloc, eights.as_slice()),
         Items::Pointers(pointers) => {
             let pointers = copy_pointers(alloc, pointers.as_slice())?;
             Ok(Items::Pointers(pointers))

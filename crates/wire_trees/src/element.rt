@@ -1,7 +1,10 @@
 //! The elements of lists without pointers, by the numbers that their bits say.
 ghost use Rattle.std.specs.Prelude.{◌≡◌, ℕ, ◌^◌, ◌<◌, map};
-ghost use Rattle.wire_trees.specs.Views.{bit};
+ghost use Rattle.wire_trees.specs.Trees.{packed};
+ghost use Rattle.wire_trees.specs.Views.{bit, items_view};
 ghost use Rattle.wire_trees.specs.Widths.{AreOf};
+
+use crate::tree::Items;
 
 /// An element of a list without pointers, whose bits say a number.
 pub trait Element: Copy {
@@ -24,6 +27,10 @@ pub trait Element: Copy {
     /// The numbers of elements take no more bits. It does nothing.
     fn fit(elements: &[Self])
         ensures { AreOf BITS (map said elements.now) };
+
+    /// The list of these elements.
+    fn list(elements: Vec<Self>) -> Items
+        ensures { items_view result ≡ packed BITS (map said elements.items) };
 }
 
 impl Element for bool {
@@ -42,6 +49,12 @@ impl Element for bool {
     }
 
     fn fit(_elements: &[bool]) {}
+
+    fn list(elements: Vec<bool>) -> Items
+        ensures { items_view result ≡ packed 1 (map bit elements.items) }
+    {
+        Items::Bits(elements)
+    }
 }
 
 impl Element for u8 {
@@ -60,6 +73,12 @@ impl Element for u8 {
     }
 
     fn fit(_elements: &[u8]) {}
+
+    fn list(elements: Vec<u8>) -> Items
+        ensures { items_view result ≡ packed 8 (map (λ x. x) elements.items) }
+    {
+        Items::Bytes(elements)
+    }
 }
 
 impl Element for u16 {
@@ -78,6 +97,12 @@ impl Element for u16 {
     }
 
     fn fit(_elements: &[u16]) {}
+
+    fn list(elements: Vec<u16>) -> Items
+        ensures { items_view result ≡ packed 16 (map (λ x. x) elements.items) }
+    {
+        Items::Twos(elements)
+    }
 }
 
 impl Element for u32 {
@@ -96,6 +121,12 @@ impl Element for u32 {
     }
 
     fn fit(_elements: &[u32]) {}
+
+    fn list(elements: Vec<u32>) -> Items
+        ensures { items_view result ≡ packed 32 (map (λ x. x) elements.items) }
+    {
+        Items::Fours(elements)
+    }
 }
 
 impl Element for u64 {
@@ -114,4 +145,10 @@ impl Element for u64 {
     }
 
     fn fit(_elements: &[u64]) {}
+
+    fn list(elements: Vec<u64>) -> Items
+        ensures { items_view result ≡ packed 64 (map (λ x. x) elements.items) }
+    {
+        Items::Eights(elements)
+    }
 }

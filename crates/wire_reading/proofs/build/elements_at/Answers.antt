@@ -1,5 +1,6 @@
 use Rattle.std.proofs.Common.{◌+◌, ap, drop, map, ◌∙◌, arith}
 use Rattle.std.proofs.lemmas.List.{map_push}
+use Rattle.wire_trees.specs.Trees.{packed}
 use Rattle.wire_reading.specs.Segments.{segment_of}
 use Rattle.wire_reading.proofs.Building.{elements_more, elements_done, element_inside}
 use Rattle.wire_reading.proofs.build.elements_at.Goals as goal
@@ -20,7 +21,9 @@ push_reserved-requires g c =
     omega (arith, count, room, test)
 
 pub returns : goal.returns
-returns g c = elements_done (drop c.args.start (segment_of c.args.message.now c.args.segment)) (map g.E.Element.said c.loop-k.values.items) g.E.Element.BITS c.loop-k.k c.args.count _ c.loop-k-test.false c.loop-k.invariant.same
+returns g c =
+    c.list.ensures
+    ∙ ap (packed g.E.Element.BITS) (elements_done (drop c.args.start (segment_of c.args.message.now c.args.segment)) (map g.E.Element.said c.loop-k.values.items) g.E.Element.BITS c.loop-k.k c.args.count _ c.loop-k-test.false c.loop-k.invariant.same)
 
 pub element_at-number-requires-clause-inside : goal.element_at-number-requires-clause-inside
 element_at-number-requires-clause-inside g c =

@@ -1,7 +1,5 @@
-use Rattle.std.proofs.Common.{ap, sym, ◌∙◌, drop, rules}
-use Rattle.std.proofs.lemmas.List.{map-id}
+use Rattle.std.proofs.Common.{ap, sym, ◌∙◌, drop}
 use Rattle.wire_trees.specs.Trees.{packed}
-use Rattle.wire_trees.specs.declared.tree.Items.{the_lemmas}
 use Rattle.wire_reading.specs.Segments.{segment_of}
 use Rattle.wire_reading.proofs.Building.{elements_void}
 use Rattle.wire_reading.proofs.build.packed_items.Goals as goal
@@ -9,22 +7,17 @@ use Rattle.wire_reading.proofs.build.packed_items.Goals as goal
 pub returns-in-Void : goal.returns-in-Void
 returns-in-Void c = rw c.in-Void.is (c.void_items.ensures ∙ ap (packed 0) (sym (elements_void (drop c.args.start (segment_of c.args.message.now c.args.segment)) 0 c.args.count)))
 
-pub returns-in_ok-elements_at-in-Byte : goal.returns-in_ok-elements_at-in-Byte
-returns-in_ok-elements_at-in-Byte c =
-    let same = sym (map-id c.in_ok-elements_at-in-Byte.field-0.items) ∙ c.in_ok-elements_at-in-Byte.ensures in
-    rw (c.in-Byte.is, ← same) (search (rules, the_lemmas))
+pub returns-in-Bit : goal.returns-in-Bit
+returns-in-Bit c = rw c.in-Bit.is c.elements_at.ensures
 
-pub returns-in_ok-elements_at-in-TwoBytes : goal.returns-in_ok-elements_at-in-TwoBytes
-returns-in_ok-elements_at-in-TwoBytes c =
-    let same = sym (map-id c.in_ok-elements_at-in-TwoBytes.field-0.items) ∙ c.in_ok-elements_at-in-TwoBytes.ensures in
-    rw (c.in-TwoBytes.is, ← same) (search (rules, the_lemmas))
+pub returns-in-Byte : goal.returns-in-Byte
+returns-in-Byte c = rw c.in-Byte.is c.elements_at-in-Byte.ensures
 
-pub returns-in_ok-elements_at-in-FourBytes : goal.returns-in_ok-elements_at-in-FourBytes
-returns-in_ok-elements_at-in-FourBytes c =
-    let same = sym (map-id c.in_ok-elements_at-in-FourBytes.field-0.items) ∙ c.in_ok-elements_at-in-FourBytes.ensures in
-    rw (c.in-FourBytes.is, ← same) (search (rules, the_lemmas))
+pub returns-in-TwoBytes : goal.returns-in-TwoBytes
+returns-in-TwoBytes c = rw c.in-TwoBytes.is c.elements_at-in-TwoBytes.ensures
 
-pub returns-in_ok-elements_at-in-EightBytes : goal.returns-in_ok-elements_at-in-EightBytes
-returns-in_ok-elements_at-in-EightBytes c =
-    let same = sym (map-id c.in_ok-elements_at-in-EightBytes.field-0.items) ∙ c.in_ok-elements_at-in-EightBytes.ensures in
-    rw (c.in-EightBytes.is, ← same) (search (rules, the_lemmas))
+pub returns-in-FourBytes : goal.returns-in-FourBytes
+returns-in-FourBytes c = rw c.in-FourBytes.is c.elements_at-in-FourBytes.ensures
+
+pub returns-in-EightBytes : goal.returns-in-EightBytes
+returns-in-EightBytes c = rw c.in-EightBytes.is c.elements_at-in-EightBytes.ensures

@@ -1,7 +1,8 @@
-use Rattle.std.proofs.Common.{◌≡◌, Bool, ℕ, ◌+◌, ◌<◌, ◌≤◌, arith, List, [], ◌∷◌, ◌++◌, length, map, take, get_or, sym, ap, ◌∙◌}
-use Rattle.std.proofs.lemmas.List.{map_push, take_all, take_more}
+use Rattle.std.proofs.Common.{◌≡◌, Bool, ℕ, ◌+◌, ◌<◌, ◌≤◌, arith, List, [], ◌∷◌, ◌++◌, length, map, take, get_or, sym, ap, subst, ◌∙◌}
+use Rattle.std.specs.Prelude.{IfOk}
+use Rattle.std.proofs.lemmas.List.{map_push, map-id, take_all, take_more}
 use Rattle.wire_trees.specs.declared.tree.Fields.{Fields}
-use Rattle.wire_trees.specs.Trees.{Trees, struct, list, packed, pointers, structs}
+use Rattle.wire_trees.specs.Trees.{Trees, Elements, struct, list, packed, pointers, structs}
 use Rattle.wire_trees.specs.Views.{bit, view, held, items_view, fields_view, trees_of, structs_of, trees_view, structs_view}
 use Rattle.wire_trees.proofs.Viewed.{view_fields, view_struct, view_list, view_bits, view_bytes, view_twos, view_fours, view_eights, view_pointers, view_structs}
 use Rattle.wire_trees.proofs.copy.+copy.Goals as goal
@@ -62,25 +63,30 @@ copy_structs-returns t c =
 pub copy_items-returns-in-Void : goal.copy_items-returns-in-Void
 copy_items-returns-in-Void t c = sym (ap items_view c.in-Void.is)
 
-pub copy_items-returns-in_ok-from_slice-in-Bits : goal.copy_items-returns-in_ok-from_slice-in-Bits
-copy_items-returns-in_ok-from_slice-in-Bits t c =
-    view_bits _ ∙ ap (λ (bs : List Bool). packed 1 (map bit bs)) (c.in_ok-from_slice-in-Bits.ensures.items ∙ c.as_slice.ensures.value) ∙ sym (ap items_view c.in-Bits.is ∙ view_bits c.in-Bits.bits)
+pub copy_items-returns-in-Bits : goal.copy_items-returns-in-Bits
+copy_items-returns-in-Bits t c =
+    let same = ap (λ (bs : List Bool). packed 1 (map bit bs)) c.as_slice.ensures.value ∙ sym (ap items_view c.in-Bits.is ∙ view_bits c.in-Bits.bits) in
+    subst (λ (es : Elements). IfOk c.copy_elements.result (λ copy. items_view copy ≡ es)) same c.copy_elements.ensures
 
-pub copy_items-returns-in_ok-from_slice-in-Bytes : goal.copy_items-returns-in_ok-from_slice-in-Bytes
-copy_items-returns-in_ok-from_slice-in-Bytes t c =
-    view_bytes _ ∙ ap (packed 8) (c.in_ok-from_slice-in-Bytes.ensures.items ∙ c.as_slice-in-Bytes.ensures.value) ∙ sym (ap items_view c.in-Bytes.is ∙ view_bytes c.in-Bytes.bytes)
+pub copy_items-returns-in-Bytes : goal.copy_items-returns-in-Bytes
+copy_items-returns-in-Bytes t c =
+    let same = ap (packed 8) (map-id c.as_slice-in-Bytes.result.now ∙ c.as_slice-in-Bytes.ensures.value) ∙ sym (ap items_view c.in-Bytes.is ∙ view_bytes c.in-Bytes.bytes) in
+    subst (λ (es : Elements). IfOk c.copy_elements-in-Bytes.result (λ copy. items_view copy ≡ es)) same c.copy_elements-in-Bytes.ensures
 
-pub copy_items-returns-in_ok-from_slice-in-Twos : goal.copy_items-returns-in_ok-from_slice-in-Twos
-copy_items-returns-in_ok-from_slice-in-Twos t c =
-    view_twos _ ∙ ap (packed 16) (c.in_ok-from_slice-in-Twos.ensures.items ∙ c.as_slice-in-Twos.ensures.value) ∙ sym (ap items_view c.in-Twos.is ∙ view_twos c.in-Twos.twos)
+pub copy_items-returns-in-Twos : goal.copy_items-returns-in-Twos
+copy_items-returns-in-Twos t c =
+    let same = ap (packed 16) (map-id c.as_slice-in-Twos.result.now ∙ c.as_slice-in-Twos.ensures.value) ∙ sym (ap items_view c.in-Twos.is ∙ view_twos c.in-Twos.twos) in
+    subst (λ (es : Elements). IfOk c.copy_elements-in-Twos.result (λ copy. items_view copy ≡ es)) same c.copy_elements-in-Twos.ensures
 
-pub copy_items-returns-in_ok-from_slice-in-Fours : goal.copy_items-returns-in_ok-from_slice-in-Fours
-copy_items-returns-in_ok-from_slice-in-Fours t c =
-    view_fours _ ∙ ap (packed 32) (c.in_ok-from_slice-in-Fours.ensures.items ∙ c.as_slice-in-Fours.ensures.value) ∙ sym (ap items_view c.in-Fours.is ∙ view_fours c.in-Fours.fours)
+pub copy_items-returns-in-Fours : goal.copy_items-returns-in-Fours
+copy_items-returns-in-Fours t c =
+    let same = ap (packed 32) (map-id c.as_slice-in-Fours.result.now ∙ c.as_slice-in-Fours.ensures.value) ∙ sym (ap items_view c.in-Fours.is ∙ view_fours c.in-Fours.fours) in
+    subst (λ (es : Elements). IfOk c.copy_elements-in-Fours.result (λ copy. items_view copy ≡ es)) same c.copy_elements-in-Fours.ensures
 
-pub copy_items-returns-in_ok-from_slice-in-Eights : goal.copy_items-returns-in_ok-from_slice-in-Eights
-copy_items-returns-in_ok-from_slice-in-Eights t c =
-    view_eights _ ∙ ap (packed 64) (c.in_ok-from_slice-in-Eights.ensures.items ∙ c.as_slice-in-Eights.ensures.value) ∙ sym (ap items_view c.in-Eights.is ∙ view_eights c.in-Eights.eights)
+pub copy_items-returns-in-Eights : goal.copy_items-returns-in-Eights
+copy_items-returns-in-Eights t c =
+    let same = ap (packed 64) (map-id c.as_slice-in-Eights.result.now ∙ c.as_slice-in-Eights.ensures.value) ∙ sym (ap items_view c.in-Eights.is ∙ view_eights c.in-Eights.eights) in
+    subst (λ (es : Elements). IfOk c.copy_elements-in-Eights.result (λ copy. items_view copy ≡ es)) same c.copy_elements-in-Eights.ensures
 
 pub copy_items-returns-in_ok-pointers-in-Pointers : goal.copy_items-returns-in_ok-pointers-in-Pointers
 copy_items-returns-in_ok-pointers-in-Pointers t c =

@@ -1,4 +1,4 @@
-use Rattle.std.proofs.Common.{sym, arith}
+use Rattle.std.proofs.Common.{sym}
 use Rattle.wire_trees.proofs.Found.{capped_low, capped_high}
 use Rattle.wire_trees.proofs.measure.capped_words.Goals as goal
 

@@ -1,9 +1,9 @@
-use Rattle.std.proofs.Common.{◌≡◌, ℕ, ◌+◌, ◌-◌, ◌*◌, ◌/◌, ◌<◌, ◌≤◌, List, [], length, take, drop, get_or, refl, sym, ap, subst, ◌∙◌, arith}
+use Rattle.std.proofs.Common.{◌≡◌, ℕ, ◌+◌, ◌*◌, ◌/◌, ◌<◌, ◌≤◌, List, length, take, drop, get_or, sym, ap, subst, ◌∙◌, arith}
 use Rattle.std.specs.Prelude.{slice_index}
 use Rattle.std.proofs.lemmas.List.{get_or-drop, length-drop, map-id}
 use Rattle.byteorder.specs.Endian.{little_number}
 use Rattle.wire_reading.specs.declared.span.Span.{Span}
-use Rattle.wire_reading.specs.Segments.{segment_of, word_at}
+use Rattle.wire_reading.specs.Segments.{segment_of}
 use Rattle.wire_reading.specs.Index.{spanned}
 use Rattle.wire_reading.specs.Reading.{elements}
 use Rattle.wire_reading.proofs.Spanned.{is_there, length-spanned, size-spanned, word-spanned}

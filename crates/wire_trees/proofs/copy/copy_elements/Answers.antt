@@ -1,0 +1,6 @@
+use Rattle.std.proofs.Common.{map, ap, ◌∙◌}
+use Rattle.wire_trees.specs.Trees.{packed}
+use Rattle.wire_trees.proofs.copy.copy_elements.Goals as goal
+
+pub returns : goal.returns
+returns g c = c.list.ensures ∙ ap (packed g.E.Element.BITS) (ap (map g.E.Element.said) c.in_ok-copy.ensures.items)
