@@ -4,7 +4,7 @@ use rpc_msg::{ObjectId, Vat};
 use std::alloc::Global;
 use vat_machine::{AnswerEntry, Import, Level, OwnCall, Question, Reference};
 use vat_names::Names;
-use vat_tables::{Exports, Keyed, Numbered, Questions};
+use vat_tables::{Exports, Keyed, Questions, Rising};
 use vat_waits::Waits;
 
 /// All that a vat's core holds. Its fields are open to the crates of the core; what holds of them together is `IsSound`
@@ -22,13 +22,13 @@ pub struct Store {
     pub imports: Keyed<Import>,
     /// What this vat gave the peer, by ids of its own.
     pub exports: Exports,
-    pub refs: Numbered<Reference>,
+    pub refs: Rising<Reference>,
     /// The application's unfinished calls.
-    pub calls: Numbered<OwnCall>,
+    pub calls: Rising<OwnCall>,
     /// The tasks that the application did not answer, each with the key of its outcome.
-    pub tasks: Numbered<u64>,
+    pub tasks: Rising<u64>,
     /// The promises that the application did not settle, each with its key.
-    pub unsettled: Numbered<u64>,
+    pub unsettled: Rising<u64>,
     /// Own promises, kept outcomes and embargoes, with the calls that wait there.
     pub waits: Waits,
     /// How many places name each promise, outcome, import and question.
@@ -65,10 +65,10 @@ impl Store {
             answers: Keyed::new(alloc),
             imports: Keyed::new(alloc),
             exports: Exports::new(alloc),
-            refs: Numbered::new(alloc),
-            calls: Numbered::new(alloc),
-            tasks: Numbered::new(alloc),
-            unsettled: Numbered::new(alloc),
+            refs: Rising::new(alloc),
+            calls: Rising::new(alloc),
+            tasks: Rising::new(alloc),
+            unsettled: Rising::new(alloc),
             waits: Waits::new(alloc),
             names: Names::new(alloc),
             next_ref: 0,

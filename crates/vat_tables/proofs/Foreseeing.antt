@@ -1,10 +1,9 @@
 -- Whether nodes meet a limit, told by how often each stands among those before it.
-use Rattle.std.proofs.Common.{◌≡◌, ◌≢◌, ℕ, zero, suc, ◌+◌, ◌<◌, ◌≤◌, ◌==◌, ◌||◌, Bool, true, false, nat_le, List, [], ◌∷◌, count_by, take, drop, get_or, length, Option, Some, None, if◌then◌else◌, refl, sym, ap, subst, ◌∙◌, arith}
-use Rattle.std.proofs.lemmas.Bool.{eq-eqb, ne_eqb}
+use Rattle.std.proofs.Common.{◌≡◌, ℕ, zero, suc, ◌+◌, ◌<◌, ◌||◌, Bool, true, false, List, [], ◌∷◌, count_by, take, drop, get_or, length, Option, Some, None, if◌then◌else◌, refl, sym, ap, ◌∙◌, arith}
 use Rattle.std.proofs.lemmas.List.Sums.{count_by_more_yes, count_by_more_no}
 use Rattle.std.proofs.Math.Seq.{drop-cons}
 use Rattle.vat_machine.specs.declared.node.Node.{Node}
-use Rattle.vat_tables.specs.Exports.{node_eq, is_name_limit, size_then, one_more, counts_then, meet_limit, added, Passes}
+use Rattle.vat_tables.specs.Exports.{node_eq, is_name_limit, size_then, one_more, counts_then, meet_limit, added}
 use Rattle.vat_tables.specs.declared.fault.TableFault.{TableFault}
 use Rattle.vat_tables.specs.declared.fault.TableFault.TheVariants.{Full, Memory}
 use Rattle.vat_tables.proofs.NodeKeys.{node_same, node_itself}

@@ -10,4 +10,6 @@ pub mod NodeKeys
 pub mod Options
 pub mod PoolLemmas
 pub mod RisingKeys
+pub mod RisingPlaces
+pub mod RisingTable
 pub mod SlabTable

@@ -10,6 +10,7 @@ mod keyed;
 mod numbered;
 mod picked;
 mod questions;
+mod rising;
 mod slots;
 
 pub use answers::Answers;
@@ -21,3 +22,4 @@ pub use keyed::Keyed;
 pub use numbered::Numbered;
 pub use picked::Picked;
 pub use questions::Questions;
+pub use rising::Rising;

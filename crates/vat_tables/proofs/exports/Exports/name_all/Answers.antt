@@ -1,11 +1,10 @@
-use Rattle.std.proofs.Common.{◌≡◌, ◌+◌, ◌++◌, ◌∷◌, [], List, Err, suc, true, false, length, take, drop, sym, ap, subst, ◌∙◌, arith}
+use Rattle.std.proofs.Common.{◌≡◌, ◌+◌, ◌++◌, ◌∷◌, [], List, Err, suc, true, false, take, drop, sym, ap, subst, ◌∙◌, arith}
 use Rattle.std.proofs.lemmas.List.{take_all, take_more}
 use Rattle.std.proofs.Math.Seq.{split_at}
 use Rattle.std.specs.FinMap as map
 use Rattle.std.specs.HashMap as hash
 use Rattle.rpc_msg.specs.declared.ids.ExportId.{ExportId}
 use Rattle.vat_machine.specs.declared.node.Node.{Node}
-use Rattle.vat_tables.specs.declared.fault.TableFault.{TableFault}
 use Rattle.vat_tables.specs.declared.fault.TableFault.TheVariants.{Full}
 use Rattle.vat_machine.specs.declared.entries.Export.{Export}
 use Rattle.vat_tables.specs.Table.{Table}

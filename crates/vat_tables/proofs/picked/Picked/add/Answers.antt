@@ -1,6 +1,6 @@
-use Rattle.std.proofs.Common.{◌≤◌, sym, ◌∙◌, ap, arith, subst}
+use Rattle.std.proofs.Common.{sym, ◌∙◌, ap}
 use Rattle.std.specs.FinMap as map
-use Rattle.vat_tables.proofs.SlabTable.{table-get, table-insert, room_less}
+use Rattle.vat_tables.proofs.SlabTable.{table-get, table-insert}
 use Rattle.vat_tables.proofs.picked.Picked.add.Goals as goal
 
 pub returns-clause-free : goal.returns-clause-free
