@@ -3,7 +3,7 @@ ghost use Rattle.vat_script.specs.Lines.{line_of, line_for, is_marked, is_skippe
 
 use crate::fault::{LineFault, ReadFault};
 use crate::name::Name;
-use crate::parts::split_at_each;
+use crate::parts::split_into;
 use crate::reading::read_words;
 use rpc_msg::{Items, ObjectId, Op, TaskId, Vat};
 use std::alloc::Global;
@@ -114,6 +114,19 @@ impl Line {
     pub fn read(alloc: Global, program: Program, text: &str) -> Result<Line, ReadFault>
         ensures { Reads (line_of program text.now) result }
     {
+        let mut words = Vec::new(alloc);
+        Line::read_by(alloc, program, text, &mut words)
+    }
+
+    /// The same; the words of the line stand in that list then.
+    pub(crate) fn read_by<'t>(
+        alloc: Global,
+        program: Program,
+        text: &'t str,
+        words: &mut Vec<&'t str>,
+    ) -> Result<Line, ReadFault>
+        ensures { Reads (line_of program text.now) result }
+    {
         let bytes = text.as_bytes();
         if is_skipped(bytes) {
             return Ok(Line::Skip);
@@ -124,7 +137,7 @@ impl Line {
         if bytes.last() == Some(&b'\r') {
             return Err(ReadFault::Line(LineFault::CarriageReturn));
         }
-        let words = split_at_each(alloc, text, b' ')?;
+        split_into(words, text, b' ')?;
         read_for(alloc, program, words.as_slice())
     }
 

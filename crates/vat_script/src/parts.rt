@@ -1,4 +1,4 @@
-ghost use Rattle.std.specs.Prelude.{◌≡◌, ◌==◌, ◌<◌, ◌++◌, ◌∷◌, false, All, IfOk, IfSome, IfNone, map};
+ghost use Rattle.std.specs.Prelude.{◌≡◌, ◌==◌, ◌<◌, ◌++◌, ◌∷◌, false, All, IfOk, OnOk, IfSome, IfNone, map};
 ghost use Rattle.std.specs.List.{slice_split};
 
 use std::alloc::{AllocError, Global};
@@ -13,13 +13,27 @@ pub(crate) fn split_at_each(alloc: Global, text: &str, mark: u8) -> Result<Vec<&
     ensures { IfOk result (λ parts. map (λ part. part.now) parts.items ≡ slice_split (λ c. c == mark) text.now) }
 {
     let mut parts = Vec::with_capacity(alloc, FEW)?;
+    split_into(&mut parts, text, mark)?;
+    Ok(parts)
+}
+
+/// Puts these parts into a list, in place of what stands there.
+pub(crate) fn split_into<'t>(
+    parts: &mut Vec<&'t str>,
+    text: &'t str,
+    mark: u8,
+) -> Result<(), AllocError>
+    requires { mark < 128 }
+    ensures { OnOk result (map (λ part. part.now) parts.new.items ≡ slice_split (λ c. c == mark) text.now) }
+{
+    parts.clear();
     let mut rest = text;
     while let Some((part, behind)) = split_at_first(rest, mark) {
         parts.push(part)?;
         rest = behind;
     }
     parts.push(rest)?;
-    Ok(parts)
+    Ok(())
 }
 
 /// What stands before the first such byte, and what stands behind it, if there is one.

@@ -39,8 +39,9 @@ fn read_texts(alloc: Global, program: Program, texts: &[&str]) -> Result<Items<L
     ensures { ReadsLines (lines_from program 1 (map (λ text. text.now) texts.now)) result }
 {
     let mut lines = Items::new(alloc);
+    let mut words = Vec::new(alloc);
     for (i, text) in texts.iter().enumerate() {
-        let line = match Line::read(alloc, program, text) {
+        let line = match Line::read_by(alloc, program, text, &mut words) {
             Ok(line) => line,
             Err(ReadFault::Memory) => return Err(ScriptFault::Memory),
             Err(ReadFault::Line(fault)) => return Err(ScriptFault::Line(i + 1, fault)),

@@ -2,7 +2,7 @@ use Rattle.std.proofs.Common.{rules, ◌==◌, ◌++◌, ◌∷◌, ◌∙◌, [
 use Rattle.std.specs.List.{slice_split}
 use Rattle.std.proofs.lemmas.List.{map-append, append_assoc}
 use Rattle.std.proofs.lemmas.List.Splits.{slice_split_at, slice_split_none}
-use Rattle.vat_script.proofs.parts.split_at_each.Goals as goal
+use Rattle.vat_script.proofs.parts.split_into.Goals as goal
 
 pub loop-part-preserved : goal.loop-part-preserved
 loop-part-preserved c =

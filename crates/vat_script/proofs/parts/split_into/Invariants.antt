@@ -2,7 +2,7 @@ use denote.Shadow.{shadow}
 use denote.Text.{Utf8}
 use Rattle.std.proofs.Common.{◌≡◌, ◌==◌, ◌++◌, length, map}
 use Rattle.std.specs.List.{slice_split}
-use Rattle.vat_script.proofs.parts.split_at_each.Given as goal
+use Rattle.vat_script.proofs.parts.split_into.Given as goal
 
 -- the parts so far, and those of the rest, are all parts
 abbrev pub invariant-loop-part : goal.invariant-loop-part
