@@ -1,11 +1,12 @@
 -- Names as keys of a tree: two are equal in its order exactly where they are.
-use Rattle.std.proofs.Common.{◌≡◌, ℕ, Bool, true, false, List, length, take, refl, sym, ap, ◌∙◌, eq-eqb}
+use Rattle.std.proofs.Common.{◌≡◌, ℕ, Bool, true, false, List, length, reverse, take, refl, sym, ap, ◌∙◌, eq-eqb}
 use Rattle.std.specs.declared.cmp.Ordering.{Ordering}
 use Rattle.std.specs.declared.cmp.Ordering.TheVariants.{Less, Equal, Greater}
 use Rattle.std.specs.Ordering.{nat_cmp, ordering_then, is_eq}
 use Rattle.std.specs.Cmp.{unsigned_tied}
 use Rattle.std.specs.Cmp.Lexicographic.{slice_cmp}
 use Rattle.std.specs.FinMap.{nat_cmp-IsAntisymmetric}
+use Rattle.std.proofs.lemmas.List.{length-reverse, reverse-reverse}
 use Rattle.std.proofs.lemmas.Map.Text.{is_eq-slice_cmp}
 use Rattle.std.proofs.lemmas.Slice.Eq.{bytes_eq-Decides}
 use Rattle.std.proofs.Math.Seq.{take-append_seam}
@@ -43,14 +44,19 @@ letters_same x y e = (bytes_eq-Decides x y).0 (sym (is_eq-slice_cmp x y) ∙ e)
 letters_itself : (x : List ℕ) → is_eq (slice_cmp nat_cmp x x) ≡ true
 letters_itself x = is_eq-slice_cmp x x ∙ (bytes_eq-Decides x x).1 refl
 
+taken : (x : List ℕ) → take (length x) (padded (reverse x)) ≡ reverse x
+taken x = ap (λ n. take n (padded (reverse x))) (sym (length-reverse x)) ∙ take-append_seam (reverse x) _
+
 name_same : (x y : Name) → is_eq (name_cmp x y) ≡ true → x ≡ y
 name_same x y e =
-    let places : padded x ≡ padded y = letters_same _ _ (first_tied _ _ e) in
+    let places : padded (reverse x) ≡ padded (reverse y) = letters_same _ _ (first_tied _ _ e) in
     let long : length x ≡ length y = nat_cmp-IsAntisymmetric _ _ (tied _ (then_tied _ _ e)) in
-    sym (take-append_seam x _) ∙ ap (take (length x)) places ∙ ap (λ n. take n (padded y)) long ∙ take-append_seam y _
+    let turned : reverse x ≡ reverse y =
+    sym (taken x) ∙ ap (take (length x)) places ∙ ap (λ n. take n (padded (reverse y))) long ∙ taken y in
+    sym (reverse-reverse x) ∙ ap reverse turned ∙ reverse-reverse y
 
 name_itself : (x : Name) → is_eq (name_cmp x x) ≡ true
-name_itself x = both_tied _ _ (letters_itself (padded x)) (unsigned_tied (length x) (length x) ∙ eq-eqb (length x) (length x) refl)
+name_itself x = both_tied _ _ (letters_itself (padded (reverse x))) (unsigned_tied (length x) (length x) ∙ eq-eqb (length x) (length x) refl)
 
 same_answer : (a b : Bool) → (a ≡ true → b ≡ true) → (b ≡ true → a ≡ true) → a ≡ b
 same_answer true b f g = sym (f refl)

@@ -11,25 +11,26 @@ const NAME_LIMIT: usize = 16;
 /// A name of a script: 1 to 16 lower case letters and digits. Seen by contracts as its letters. It takes no memory.
 #[derive(Clone, Copy, Debug, PartialEq, Eq, PartialOrd, Ord, Drop)]
 pub struct Name {
-    /// The letters, and zeros behind them.
+    /// The letters from the last one on, and zeros behind them: names are compared from there, where those of one script
+    /// differ most.
     places: [u8; NAME_LIMIT],
     len: usize,
 }
 
 impl Model for Name {
-    ghost use Rattle.std.specs.Prelude.{ℕ, List, length, take};
+    ghost use Rattle.std.specs.Prelude.{ℕ, List, length, reverse, take};
 
     ghost Value = { List ℕ };
 
-    ghost use Rattle.vat_script.specs.Letters.{padded, IsPadded, padded_take};
+    ghost use Rattle.vat_script.specs.Letters.{padded, IsPadded, turned_take};
 
-    ghost view = { λ a. take a.len a.places };
+    ghost view = { λ a. reverse (take a.len a.places) };
 
     ghost invariant = { λ a. IsPadded a.len a.places };
 
-    ghost inverse = { λ letters. record { places = padded letters; len = length letters } };
+    ghost inverse = { λ letters. record { places = padded (reverse letters); len = length letters } };
 
-    ghost inverse_ok = { λ a h. padded_take a.len a.places h (λ places len. record { places = places; len = len }) };
+    ghost inverse_ok = { λ a h. turned_take a.len a.places h (λ places len. record { places = places; len = len }) };
 }
 
 impl Name {
@@ -55,15 +56,15 @@ impl Name {
             places: [0; NAME_LIMIT],
             len: 0,
         };
-        for letter in letters {
-            name.push(*letter);
+        for i in (0..letters.len()).rev() {
+            name.put_first(letters[i]);
         }
         name
     }
 
-    fn push(&mut self, letter: u8)
+    fn put_first(&mut self, letter: u8)
         requires { length self.old < 16 }
-        ensures { self.new ≡ self.old ++ letter ∷ [] }
+        ensures { self.new ≡ letter ∷ self.old }
     {
         self.places[self.len] = letter;
         self.len += 1;

@@ -1,5 +1,5 @@
-use Rattle.std.proofs.Common.{◌≡◌, take}
+use Rattle.std.proofs.Common.{◌≡◌, drop}
 use Rattle.vat_script.proofs.name.Name.of_letters.Given as goal
 
-abbrev pub invariant-loop-letter : goal.invariant-loop-letter
-invariant-loop-letter l = l.name ≡ take l.letter-index l.letters
+abbrev pub invariant-loop-i : goal.invariant-loop-i
+invariant-loop-i l = l.name ≡ drop l.i l.letters
