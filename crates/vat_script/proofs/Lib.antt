@@ -4,3 +4,4 @@ pub mod Going
 pub mod Carrying
 pub mod NameKeys
 pub mod NameTree
+pub mod LinesRead

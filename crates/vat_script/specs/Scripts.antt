@@ -1,5 +1,5 @@
 -- The lines of a whole script (docs/script.md, "Lines").
-use Rattle.std.specs.Prelude.{ℕ, ◌≡◌, ◌+◌, ◌==◌, Result, Ok, Err, List, [], ◌∷◌}
+use Rattle.std.specs.Prelude.{ℕ, ◌≡◌, ◌+◌, ◌==◌, Result, Ok, Err, List, [], ◌∷◌, ◌++◌}
 use Rattle.std.specs.List.{slice_split}
 use Rattle.std.specs.Str.{IsUtf8}
 use Rattle.vat_script.specs.declared.line.Line.{Line}
@@ -37,3 +37,14 @@ ReadsScript p script (Ok lines) = IsUtf8 script × (lines_from p 1 (texts_of scr
 ReadsScript p script (Err (fault.Line n e)) = IsUtf8 script × (lines_from p 1 (texts_of script) ≡ Err (n, e))
 ReadsScript p script (Err fault.NotText) = IsUtf8 script → ⊥
 ReadsScript p script (Err fault.Memory) = Unit {0}
+
+-- A line was read, and stands behind those before it.
+abbrev pub IsAdded : Result Line LineFault → List Line → List Line → Type 0
+IsAdded (Ok line) before after = after ≡ before ++ line ∷ []
+IsAdded (Err e) before after = ⊥
+
+-- The line with that number is at fault, unless memory ran out.
+abbrev pub IsAtFault : Result Line LineFault → ℕ → ScriptFault → Type 0
+IsAtFault said n (fault.Line m e) = (m ≡ n) × (said ≡ Err e)
+IsAtFault said n fault.NotText = ⊥
+IsAtFault said n fault.Memory = Unit {0}

@@ -38,7 +38,7 @@ pub(crate) fn split_into<'t>(
 
 /// What stands before the first such byte, and what stands behind it, if there is one.
 #[inline(always)]
-fn split_at_first(text: &str, mark: u8) -> Option<(&str, &str)>
+pub(crate) fn split_at_first(text: &str, mark: u8) -> Option<(&str, &str)>
     requires { mark < 128 }
     ensures found { IfSome result (λ parts. (text.now ≡ parts.0.now ++ mark ∷ parts.1.now) × All (λ c. (c == mark) ≡ false) parts.0.now) }
     ensures none { IfNone result (All (λ c. (c == mark) ≡ false) text.now) }
