@@ -4,7 +4,7 @@ use crate::heard::message;
 use crate::told::write_effects;
 use anyhow::{Result, bail};
 use journal_words::{letter, write_counts};
-use rpc_msg::{Message, ObjectId, RefId, Vat};
+use rpc_msg::{Message, ObjectId, Payload, RefId, Vat};
 use std::alloc::Global;
 use std::collections::VecDeque;
 use std::fmt::Write;
@@ -72,7 +72,8 @@ impl Scene {
     }
 
     fn follow_line(&mut self, alloc: Global, line: &Line) -> Result<()> {
-        let act = self.names.act(alloc, line)?;
+        let null = Payload::null(alloc)?;
+        let act = self.names.act(alloc, &null, line)?;
         match act {
             Act::Nothing => Ok(()),
             Act::Turn(_) => Ok(()),

@@ -46,7 +46,7 @@ fn play_line(
     requires { null.now ≡ null_payload }
     ensures { PlaysLine world.old names.old line.now result world.new names.new }
 {
-    match names.act_sharing(alloc, null, line)? {
+    match names.act(alloc, null, line)? {
         Act::Nothing => {}
         // a script for `run` has no line that says this
         Act::Turn(_) => {}

@@ -26,17 +26,10 @@ pub enum Act {
 }
 
 impl Names {
-    /// What a line does. `Name` with the first thing that it names and that is not bound or not there, where there is
-    /// one; `Memory` as in `command`.
-    pub fn act(&self, alloc: Global, line: &Line) -> Result<Act, GiveFault>
-        ensures { Gives (act_for self.now line.now) result }
-    {
-        let null = Payload::null(alloc)?;
-        self.act_sharing(alloc, &null, line)
-    }
-
-    /// As `act`, with a null payload whose bytes are shared by those that the line's command carries.
-    pub fn act_sharing(&self, alloc: Global, null: &Payload, line: &Line) -> Result<Act, GiveFault>
+    /// What a line does. Where its command carries no capabilities, its payload shares the bytes of the null payload that
+    /// is given. It takes memory for what the command carries. `Name` with the first thing that it names and that is not
+    /// bound or not there, where there is one; `Memory` as in `command`.
+    pub fn act(&self, alloc: Global, null: &Payload, line: &Line) -> Result<Act, GiveFault>
         requires { null.now ≡ null_payload }
         ensures { Gives (act_for self.now line.now) result }
     {
@@ -54,7 +47,7 @@ impl Names {
                 Ok(Act::Name(*vat, line.name, reference))
             }
             Line::Command(vat, said) => {
-                let command = self.command_sharing(alloc, null, *vat, said)?;
+                let command = self.command(alloc, null, *vat, said)?;
                 Ok(Act::Happens(Event::Command(*vat, command)))
             }
         }

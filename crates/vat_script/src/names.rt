@@ -46,18 +46,11 @@ impl Names {
         }
     }
 
-    /// What a line asks of a vat. `Name` with the first thing that the line names and that is not bound there, where
-    /// there is one; `Memory` where a growth was refused, or more than 65,535 capabilities are named, which no line that
-    /// was read does.
-    pub fn command(&self, alloc: Global, vat: Vat, said: &LineCommand) -> Result<Command, GiveFault>
-        ensures { Gives (command_for (names_of vat self.now) said.now) result }
-    {
-        let null = Payload::null(alloc)?;
-        self.command_sharing(alloc, &null, vat, said)
-    }
-
-    /// As `command`, with a null payload whose bytes are shared by those that the command carries.
-    pub fn command_sharing(
+    /// What a line asks of a vat. A call or an answer without capabilities carries a copy of the null payload that is given,
+    /// which shares its bytes; all else that a command carries takes memory. `Name` with the first thing that the line names
+    /// and that is not bound there, where there is one; `Memory` where a growth was refused, or more than 65,535
+    /// capabilities are named, which no line that was read does.
+    pub fn command(
         &self,
         alloc: Global,
         null: &Payload,

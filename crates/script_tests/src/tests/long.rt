@@ -1,6 +1,6 @@
 //! Scripts of many lines, and long lines.
 
-use rpc_msg::{RefId, Vat};
+use rpc_msg::{Payload, RefId, Vat};
 use std::alloc::Global;
 use std::process::Abort;
 use vat_machine::{Command, Event};
@@ -35,8 +35,10 @@ fn a_payload_of_all_the_capabilities_that_may_be(rt: HostRuntime) {
     assert!(rt; names.name(Vat::B, named, RefId(1)).is_ok());
     let text = repeated(&rt, rt.alloc(), "b answer 0 x", ",x", 65_534);
     let line = Line::read(rt.alloc(), Program::Pair, text.as_str()).expect(&rt, "a line");
+    let null = Payload::null(rt.alloc()).expect(&rt, "memory");
     let Ok(Act::Happens(Event::Command(_, Command::Answer(_, payload, refs)))) = names.act(
         rt.alloc(),
+        &null,
         &line,
     ) else {
         return rt.abort();

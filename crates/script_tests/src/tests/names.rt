@@ -1,6 +1,6 @@
 //! What names stand for, and what lines do by them.
 
-use rpc_msg::{CallId, PromiseId, RefId, Vat};
+use rpc_msg::{CallId, Payload, PromiseId, RefId, Vat};
 use std::alloc::Global;
 use std::process::Abort;
 use vat_machine::{Command, Event, Granted};
@@ -41,7 +41,8 @@ const LINES: &[(&str, Granted)] = &[
 
 /// The number that a line's command is about.
 fn about(names: &Names, rt: &impl Abort, alloc: Global, text: &str) -> Result<u64, GiveFault> {
-    match names.act(alloc, &line(rt, alloc, text))? {
+    let null = Payload::null(alloc)?;
+    match names.act(alloc, &null, &line(rt, alloc, text))? {
         Act::Happens(Event::Command(_, Command::Finish(call))) => Ok(call.0),
         Act::Happens(Event::Command(_, Command::DropRef(reference))) => Ok(reference.0),
         Act::Happens(Event::Command(_, Command::Advance(reference))) => Ok(reference.0),
@@ -97,8 +98,12 @@ fn a_call_carries_the_named_references(rt: HostRuntime) {
     let named = Name::read("n").expect(&rt, "a name");
     assert!(rt; names.name(Vat::A, named, RefId(12)).is_ok());
     let call = line(&rt, rt.alloc(), "a call w x 7 1 n");
-    let Ok(Act::Happens(Event::Command(Vat::A, Command::Call(made)))) = names.act(rt.alloc(), &call)
-    else {
+    let null = Payload::null(rt.alloc()).expect(&rt, "memory");
+    let Ok(Act::Happens(Event::Command(Vat::A, Command::Call(made)))) = names.act(
+        rt.alloc(),
+        &null,
+        &call,
+    ) else {
         return rt.abort();
     };
     assert!(rt; made.payload.bytes() == ONE_CAP.as_slice());
