@@ -1,12 +1,12 @@
 //! What a tree would take, and what keeps it from being written, in one pass.
 ghost use Rattle.std.specs.Prelude.{◌≡◌, ◌==◌, ◌||◌, ℕ, List, false, if◌then◌else◌, length, nat_lt};
 ghost use Rattle.wire_trees.specs.Trees.{struct, list, capability, packed, pointers as pointers_of, structs, trees_count, structs_count};
-ghost use Rattle.wire_trees.specs.Views.{view, items_view, trees_view, structs_view};
+ghost use Rattle.wire_trees.specs.Views.{view, held, items_view, trees_view, structs_view};
 ghost use Rattle.wire_trees.specs.Writable.{parts, parts_of_all, parts_of_structs, are_even};
 ghost use Rattle.wire_trees.specs.Measuring.{capped, own, together, measured};
 
 use crate::limits::{MOST_ELEMENTS, MOST_SECTION, MOST_WORDS};
-use crate::tree::{Fields, Items, Tree};
+use crate::tree::{Fields, Items, Pointers, Tree};
 
 /// What is found in the parts of a tree. Numbers above the limit are one more than it.
 #[derive(Clone, Copy)]
@@ -50,6 +50,13 @@ impl Measure {
         }
     }
 
+    /// What is found here and in a list of so many elements of so many bits.
+    fn and_packed(self, count: u64, bits: u8, levels: u32) -> Measure
+        ensures { (caps : ℕ) (xs : List ℕ) → length xs ≡ count → result ≡ together self (own caps (record { levels = levels; what = list (packed bits xs) })) }
+    {
+        self.and(packed_measure(count, bits, levels))
+    }
+
     /// What is found here and there.
     fn and(self, other: Measure) -> Measure
         ensures { result ≡ together self other }
@@ -90,13 +97,13 @@ fn empty_elements(count: u128, step: u128) -> u128
 
 /// A struct, without what its pointers lead to.
 #[tactic(auto, using(crate::proofs::Counts::trees_counted))]
-fn struct_measure(words: &[u64], pointers: &[Tree], levels: u32) -> Measure
-    ensures { (caps : ℕ) → result ≡ own caps (record { levels = levels; what = struct words.now (trees_view pointers.now) }) }
+fn struct_measure(words: &[u64], pointers: &Pointers, levels: u32) -> Measure
+    ensures { (caps : ℕ) → result ≡ own caps (record { levels = levels; what = struct words.now (trees_view (held pointers.now)) }) }
 {
-    let size = capped_words(words.len() as u128 + pointers.len() as u128);
+    let size = capped_words(words.len() as u128 + pointers.trees.len() as u128);
     Measure {
         is_too_deep: levels == 0,
-        is_too_wide: is_too_wide(words.len(), pointers.len()),
+        is_too_wide: is_too_wide(words.len(), pointers.trees.len()),
         words: size,
         visited: size,
         ..Measure::start(0)
@@ -119,10 +126,10 @@ fn packed_measure(count: u64, bits: u8, levels: u32) -> Measure
 
 /// A list of pointers, without what they lead to.
 #[tactic(auto, using(crate::proofs::Counts::trees_counted))]
-fn pointers_measure(pointers: &[Tree], levels: u32) -> Measure
-    ensures { (caps : ℕ) → result ≡ own caps (record { levels = levels; what = list (pointers_of (trees_view pointers.now)) }) }
+fn pointers_measure(pointers: &Pointers, levels: u32) -> Measure
+    ensures { (caps : ℕ) → result ≡ own caps (record { levels = levels; what = list (pointers_of (trees_view (held pointers.now))) }) }
 {
-    let size = capped_words(pointers.len() as u128);
+    let size = capped_words(pointers.trees.len() as u128);
     Measure {
         is_too_deep: levels == 0,
         words: size,
@@ -173,8 +180,8 @@ pub fn measure_tree(tree: &Tree, caps: u32, levels: u32, so_far: Measure) -> Mea
         Tree::Null => so_far,
         Tree::Cap(index) => so_far.and(capability_measure(*index, caps)),
         Tree::Struct { words, pointers } => {
-            let so_far = so_far.and(struct_measure(words, &pointers.trees, levels));
-            measure_trees(&pointers.trees, caps, levels.saturating_sub(1), so_far)
+            let so_far = so_far.and(struct_measure(words, pointers, levels));
+            measure_pointers(pointers, caps, levels.saturating_sub(1), so_far)
         }
         Tree::List(items) => measure_items(items, caps, levels, so_far),
     }
@@ -186,15 +193,15 @@ fn measure_items(items: &Items, caps: u32, levels: u32, so_far: Measure) -> Meas
     ensures { result ≡ measured caps so_far (parts (list (items_view items.now)) levels) }
 {
     match items {
-        Items::Void(count) => so_far.and(packed_measure(u64::from(*count), 0, levels)),
-        Items::Bits(bits) => so_far.and(packed_measure(bits.len() as u64, 1, levels)),
-        Items::Bytes(bytes) => so_far.and(packed_measure(bytes.len() as u64, 8, levels)),
-        Items::Twos(twos) => so_far.and(packed_measure(twos.len() as u64, 16, levels)),
-        Items::Fours(fours) => so_far.and(packed_measure(fours.len() as u64, 32, levels)),
-        Items::Eights(eights) => so_far.and(packed_measure(eights.len() as u64, 64, levels)),
+        Items::Void(count) => so_far.and_packed(u64::from(*count), 0, levels),
+        Items::Bits(bits) => so_far.and_packed(bits.len() as u64, 1, levels),
+        Items::Bytes(bytes) => so_far.and_packed(bytes.len() as u64, 8, levels),
+        Items::Twos(twos) => so_far.and_packed(twos.len() as u64, 16, levels),
+        Items::Fours(fours) => so_far.and_packed(fours.len() as u64, 32, levels),
+        Items::Eights(eights) => so_far.and_packed(eights.len() as u64, 64, levels),
         Items::Pointers(pointers) => {
-            let so_far = so_far.and(pointers_measure(&pointers.trees, levels));
-            measure_trees(&pointers.trees, caps, levels.saturating_sub(1), so_far)
+            let so_far = so_far.and(pointers_measure(pointers, levels));
+            measure_pointers(pointers, caps, levels.saturating_sub(1), so_far)
         }
         Items::Structs {
             data_words,
@@ -213,16 +220,17 @@ fn measure_structs(items: &[Fields], caps: u32, levels: u32, mut so_far: Measure
     ensures { result ≡ measured caps so_far (parts_of_structs (structs_view items.now) levels) }
 {
     for item in items {
-        so_far = measure_trees(&item.pointers.trees, caps, levels, so_far);
+        so_far = measure_pointers(&item.pointers, caps, levels, so_far);
     }
     so_far
 }
 
-/// Trees with all that they hold.
+/// What pointers lead to, with all that it holds.
 #[cycle(measure)]
-fn measure_trees(trees: &[Tree], caps: u32, levels: u32, mut so_far: Measure) -> Measure
-    ensures { result ≡ measured caps so_far (parts_of_all (trees_view trees.now) levels) }
+fn measure_pointers(pointers: &Pointers, caps: u32, levels: u32, mut so_far: Measure) -> Measure
+    ensures { result ≡ measured caps so_far (parts_of_all (trees_view (held pointers.now)) levels) }
 {
+    let trees = pointers.as_slice();
     for tree in trees {
         // Most pointers are null, and no call is made for these.
         if let Tree::Null = tree {

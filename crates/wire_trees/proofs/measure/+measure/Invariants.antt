@@ -5,8 +5,8 @@ use Rattle.wire_trees.specs.Measuring.{measured}
 use Rattle.wire_trees.proofs.measure.+measure.Given as goal
 
 -- what is left to measure ends as all of it does
-abbrev pub invariant-measure_trees-loop-tree : goal.invariant-measure_trees-loop-tree
-invariant-measure_trees-loop-tree l =
+abbrev pub invariant-measure_pointers-loop-tree : goal.invariant-measure_pointers-loop-tree
+invariant-measure_pointers-loop-tree l =
     measured l.caps l.so_far (parts_of_all (trees_view (drop l.tree-index l.trees)) l.levels) ≡ measured l.caps l.fn.so_far (parts_of_all (trees_view l.trees) l.levels)
 
 abbrev pub invariant-measure_structs-loop-item : goal.invariant-measure_structs-loop-item
