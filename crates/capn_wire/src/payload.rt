@@ -63,9 +63,17 @@ impl Payload {
         ensures first { IfErr result (λ e. (e ≡ faults.Memory) ⊎ (message_of bytes.now caps ≡ Err e)) }
     {
         visited_words(bytes, caps)?;
-        let copy = Vec::from_slice(alloc, bytes)?;
-        let payload = Payload::sharing(alloc, copy, caps)?;
+        let payload = Payload::of_bytes(alloc, bytes, caps)?;
         Ok(payload)
+    }
+
+    /// A payload of a copy of these bytes.
+    fn of_bytes(alloc: Global, bytes: &[u8], caps: u32) -> Result<Payload, AllocError>
+        requires { IsEncoded (record { bytes = bytes.now; caps = caps }) }
+        ensures { IfOk result (λ p. p ≡ record { bytes = bytes.now; caps = caps }) }
+    {
+        let copy = Vec::from_slice(alloc, bytes)?;
+        Payload::sharing(alloc, copy, caps)
     }
 
     /// The payload of these bytes, which its copies will share.
@@ -96,8 +104,8 @@ impl Payload {
     pub fn null(alloc: Global) -> Result<Payload, Memory>
         ensures { IfOk result (λ p. (p ≡ null_payload) × (tree_of p ≡ null)) }
     {
-        let bytes = Vec::from_slice(alloc, &[0, 0, 0, 0, 1, 0, 0, 0, 0, 0, 0, 0, 0, 0, 0, 0])?;
-        let payload = Payload::sharing(alloc, bytes, 0)?;
+        let bytes = [0, 0, 0, 0, 1, 0, 0, 0, 0, 0, 0, 0, 0, 0, 0, 0];
+        let payload = Payload::of_bytes(alloc, &bytes, 0)?;
         Ok(payload)
     }
 
@@ -105,8 +113,8 @@ impl Payload {
     pub fn root_capability(alloc: Global) -> Result<Payload, Memory>
         ensures { IfOk result (λ p. (p ≡ root_payload) × (tree_of p ≡ capability 0)) }
     {
-        let bytes = Vec::from_slice(alloc, &[0, 0, 0, 0, 1, 0, 0, 0, 3, 0, 0, 0, 0, 0, 0, 0])?;
-        let payload = Payload::sharing(alloc, bytes, 1)?;
+        let bytes = [0, 0, 0, 0, 1, 0, 0, 0, 3, 0, 0, 0, 0, 0, 0, 0];
+        let payload = Payload::of_bytes(alloc, &bytes, 1)?;
         Ok(payload)
     }
 
@@ -167,8 +175,7 @@ impl Payload {
         if let Ok(bytes) = Arc::try_clone(&self.bytes) {
             return Ok(Payload { bytes, caps });
         }
-        let copy = Vec::from_slice(alloc, self.bytes.as_slice())?;
-        let payload = Payload::sharing(alloc, copy, caps)?;
+        let payload = Payload::of_bytes(alloc, self.bytes.as_slice(), caps)?;
         Ok(payload)
     }
 }
