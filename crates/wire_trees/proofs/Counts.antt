@@ -34,6 +34,11 @@ not_even d p s rest ps =
     ap (λ (f : List ℕ × Trees). eqb (length f.0) d && (eqb (trees_count f.1) p && are_even d p (structs_view rest))) (view_fields s)
     ∙ rw b (and_right (eqb (length s.words.items) d) false refl)
 
+other_words : (d p : ℕ) (s : Fields) (rest : List Fields) → (length s.words.items ≡ d → ⊥) → are_even d p (structs_view (s ∷ rest)) ≡ false
+other_words d p s rest ds =
+    let a : eqb (length s.words.items) d ≡ false = ne_eqb _ _ ds in
+    ap (λ (f : List ℕ × Trees). eqb (length f.0) d && (eqb (trees_count f.1) p && are_even d p (structs_view rest))) (view_fields s) ∙ rw a refl
+
 pub even_more : (d p : ℕ) (ss : List Fields) (i : ℕ) (s : Fields) (total : Bool) → i < length ss → s ≡ get_or ss i s → length s.words.items ≡ d → length s.pointers.trees.items ≡ p
     → are_even d p (structs_view (drop i ss)) ≡ total → are_even d p (structs_view (drop (i + 1) ss)) ≡ total
 even_more d p ss i s total lt is_s ds ps so_far =
@@ -43,6 +48,11 @@ pub even_stops : (d p : ℕ) (ss : List Fields) (i : ℕ) (s : Fields) (total : 
     → are_even d p (structs_view (drop i ss)) ≡ total → false ≡ total
 even_stops d p ss i s total lt is_s ps so_far =
     sym (not_even d p s (drop (i + 1) ss) ps) ∙ sym (ap (λ (l : List Fields). are_even d p (structs_view l)) (item_more ss i s lt is_s)) ∙ so_far
+
+pub words_stop : (d p : ℕ) (ss : List Fields) (i : ℕ) (s : Fields) (total : Bool) → i < length ss → s ≡ get_or ss i s → (length s.words.items ≡ d → ⊥)
+    → are_even d p (structs_view (drop i ss)) ≡ total → false ≡ total
+words_stop d p ss i s total lt is_s ds so_far =
+    sym (other_words d p s (drop (i + 1) ss) ds) ∙ sym (ap (λ (l : List Fields). are_even d p (structs_view l)) (item_more ss i s lt is_s)) ∙ so_far
 
 pub measured_append : (caps : ℕ) (m : Measure) (ps qs : List Part) → measured caps m (ps ++ qs) ≡ measured caps (measured caps m ps) qs
 measured_append caps m [] qs = refl
