@@ -199,38 +199,30 @@ fn place_items(items: &Items, at: usize, words: &mut Vec<u64>) -> u64
     ensures capacity { vec_capacity words.old ≤ vec_capacity words.new }
     ensures fits { FitsList (items_view items.now) }
 {
-    let next = words.len();
-    let distance = distance(at, next);
     match items {
-        Items::Void(count) => word_of_list(distance, 0, u64::from(*count)),
+        Items::Void(count) => word_of_list(distance(at, words.len()), 0, u64::from(*count)),
         Items::Bits(bits) => place_packed(bits.as_slice(), 1, at, words),
         Items::Bytes(bytes) => place_packed(bytes.as_slice(), 2, at, words),
         Items::Twos(twos) => place_packed(twos.as_slice(), 3, at, words),
         Items::Fours(fours) => place_packed(fours.as_slice(), 4, at, words),
         Items::Eights(eights) => place_eights(eights.as_slice(), at, words),
-        Items::Pointers(pointers) => {
-            let trees = pointers.as_slice();
-            place_pointers(trees, words);
-            word_of_list(distance, 6, trees.len() as u64)
-        }
+        Items::Pointers(pointers) => place_pointers(pointers.as_slice(), at, words),
         Items::Structs {
             data_words,
             pointer_words,
             items,
-        } => {
-            place_list(items, *data_words, *pointer_words, words);
-            let size = items.len() * (usize::from(*data_words) + usize::from(*pointer_words));
-            word_of_list(distance, 7, size as u64)
-        }
+        } => place_list(items, *data_words, *pointer_words, at, words),
     }
 }
 
-/// Pointers behind all words, and what they lead to.
+/// The pointer at word `at` to a list of pointers, which are laid down behind all words with all that they lead to.
 #[cycle(place)]
-fn place_pointers(trees: &[Tree], words: &mut Vec<u64>)
+fn place_pointers(trees: &[Tree], at: usize, words: &mut Vec<u64>) -> u64
+    requires ahead { at < length words.old.items }
     requires sizes { HaveSizes (parts_of_all (trees_view trees.now) 0) }
     requires room { length words.old.items + (length trees.now + all_words words_taken (parts_of_all (trees_view trees.now) 0)) ≤ 65536 }
     requires spare { length words.old.items + (length trees.now + all_words words_taken (parts_of_all (trees_view trees.now) 0)) ≤ vec_capacity words.old }
+    ensures word { result ≡ list_word (offset_of at (length words.old.items)) 6 (length trees.now) }
     ensures placed { words.new.items ≡ words.old.items ++ content_then (placed_all (trees_view trees.now) (length words.old.items) (length words.old.items + length trees.now)) }
     ensures capacity { vec_capacity words.old ≤ vec_capacity words.new }
     ensures fits { FitsAll (trees_view trees.now) }
@@ -238,16 +230,26 @@ fn place_pointers(trees: &[Tree], words: &mut Vec<u64>)
     let next = words.len();
     push_zeros(words, trees.len());
     place_trees(trees, next, words);
+    word_of_list(distance(at, next), 6, trees.len() as u64)
 }
 
-/// A tag and structs behind all words, and what they lead to.
+/// The pointer at word `at` to a list of structs. A tag and the structs are laid down behind all words, with all that
+/// they lead to.
 #[cycle(place)]
-fn place_list(items: &[Fields], data_words: u16, pointer_words: u16, words: &mut Vec<u64>)
+fn place_list(
+    items: &[Fields],
+    data_words: u16,
+    pointer_words: u16,
+    at: usize,
+    words: &mut Vec<u64>,
+) -> u64
+    requires ahead { at < length words.old.items }
     requires even { are_even data_words pointer_words (structs_view items.now) ≡ true }
     requires sizes { HaveSizes (parts_of_structs (structs_view items.now) 0) }
     requires few { length items.now < 2 ^ 30 }
     requires room { length words.old.items + (length items.now * (data_words + pointer_words) + 1 + all_words words_taken (parts_of_structs (structs_view items.now) 0)) ≤ 65536 }
     requires spare { length words.old.items + (length items.now * (data_words + pointer_words) + 1 + all_words words_taken (parts_of_structs (structs_view items.now) 0)) ≤ vec_capacity words.old }
+    ensures word { result ≡ list_word (offset_of at (length words.old.items)) 7 (length items.now * (data_words + pointer_words)) }
     ensures placed { words.new.items ≡ words.old.items ++ (struct_word (length items.now) data_words pointer_words
         ∷ content_then (placed_structs (structs_view items.now) (length words.old.items + 1) (length words.old.items + 1 + length items.now * (data_words + pointer_words)))) }
     ensures capacity { vec_capacity words.old ≤ vec_capacity words.new }
@@ -263,6 +265,7 @@ fn place_list(items: &[Fields], data_words: u16, pointer_words: u16, words: &mut
     words.push_reserved(tag);
     push_zeros(words, size);
     place_structs(items, data_words, pointer_words, next + 1, words);
+    word_of_list(distance(at, next), 7, size as u64)
 }
 
 /// Structs in their places from word `at` on, and what they lead to behind all words.

@@ -1,5 +1,7 @@
 //! Writes a tree: the reasons not to, and the bytes of a message of one segment.
-ghost use Rattle.std.specs.Prelude.{◌≡◌, ◌≤◌, None, Err, length, IfOk, IfErr, OnOk, MatchOption};
+ghost use Rattle.std.specs.Prelude.{◌≡◌, ◌+◌, ◌≤◌, ◌++◌, None, Err, length, IfOk, IfErr, OnOk, MatchOption};
+ghost use Rattle.std.specs.Vec.{vec_capacity};
+ghost use Rattle.byteorder.specs.Endian.{little_bytes};
 ghost use Rattle.wire_trees.specs.declared.faults.WriteFault.TheVariants as faults;
 ghost use Rattle.wire_trees.specs.Views.{view};
 ghost use Rattle.wire_trees.specs.Writable.{refusal};
@@ -38,6 +40,17 @@ fn refusal_of(measure: Measure) -> Option<WriteFault>
     None
 }
 
+/// A word behind all bytes, in room that was made for it.
+fn push_word(bytes: &mut Vec<u8>, word: u64)
+    requires { length bytes.old.items + 8 ≤ vec_capacity bytes.old }
+    ensures items { bytes.new.items ≡ bytes.old.items ++ little_bytes 8 word }
+    ensures capacity { vec_capacity bytes.old ≤ vec_capacity bytes.new }
+{
+    let Ok(()) = bytes.extend_from_slice(&word.to_le_bytes()) else {
+        unreachable!()
+    };
+}
+
 /// The bytes of a message of one segment.
 fn message_of(alloc: Global, words: &[u64]) -> Result<Vec<u8>, AllocError>
     requires { length words.now ≤ 65536 }
@@ -45,10 +58,10 @@ fn message_of(alloc: Global, words: &[u64]) -> Result<Vec<u8>, AllocError>
     ensures fit { AreOf 64 words.now }
 {
     let mut bytes = Vec::with_capacity(alloc, 8 + 8 * words.len())?;
-    bytes.extend_from_slice(&0_u32.to_le_bytes())?;
-    bytes.extend_from_slice(&(words.len() as u32).to_le_bytes())?;
+    // The table: no segment more than one, and its size.
+    push_word(&mut bytes, words.len() as u64 * 0x1_0000_0000);
     for word in words {
-        bytes.extend_from_slice(&word.to_le_bytes())?;
+        push_word(&mut bytes, *word);
     }
     Ok(bytes)
 }

@@ -42,11 +42,11 @@ place_items-place_pointers-requires t c =
     let sizes = subst (λ (es : Elements). HaveSizes (parts (tree.list es) 0)) e c.requires.sizes in
     let room = subst (λ (es : Elements). length c.args.words.now.items + taken (parts (tree.list es) 0) ≤ 65536) e c.requires.room in
     let n = trees_counted c.in-Pointers.pointers.trees.items in
-    let below : HaveSizes (parts_of_all (trees_view c.as_slice-trees.result.now) 0) = rw c.as_slice-trees.ensures sizes.1 in
-    let fits : length c.args.words.now.items + (length c.as_slice-trees.result.now + taken (parts_of_all (trees_view c.as_slice-trees.result.now) 0)) ≤ 65536 = rw c.as_slice-trees.ensures (omega (arith, room, n)) in
+    let below : HaveSizes (parts_of_all (trees_view c.as_slice-in-Pointers.result.now) 0) = rw c.as_slice-in-Pointers.ensures sizes.1 in
+    let fits : length c.args.words.now.items + (length c.as_slice-in-Pointers.result.now + taken (parts_of_all (trees_view c.as_slice-in-Pointers.result.now) 0)) ≤ 65536 = rw c.as_slice-in-Pointers.ensures (omega (arith, room, n)) in
     let spare = subst (λ (es : Elements). length c.args.words.now.items + taken (parts (tree.list es) 0) ≤ vec_capacity c.args.words.now) e c.requires.spare in
-    let spares : length c.args.words.now.items + (length c.as_slice-trees.result.now + taken (parts_of_all (trees_view c.as_slice-trees.result.now) 0)) ≤ vec_capacity c.args.words.now = rw c.as_slice-trees.ensures (omega (arith, spare, n)) in
-    (search (rules, the_lemmas), (below, (fits, spares)))
+    let spares : length c.args.words.now.items + (length c.as_slice-in-Pointers.result.now + taken (parts_of_all (trees_view c.as_slice-in-Pointers.result.now) 0)) ≤ vec_capacity c.args.words.now = rw c.as_slice-in-Pointers.ensures (omega (arith, spare, n)) in
+    (search (rules, the_lemmas), (c.requires.ahead, (below, (fits, spares))))
 
 pub place_items-place_list-requires : goal.place_items-place_list-requires
 place_items-place_list-requires t c =
@@ -62,84 +62,12 @@ place_items-place_list-requires t c =
     let fits : length c.args.words.now.items + (length c.deref.result.now * (c.in-Structs.data_words + c.in-Structs.pointer_words) + 1 + taken (parts_of_structs (structs_view c.deref.result.now) 0)) ≤ 65536 = rw c.deref.ensures.value (omega (arith, room, same)) in
     let spare = subst (λ (es : Elements). length c.args.words.now.items + taken (parts (tree.list es) 0) ≤ vec_capacity c.args.words.now) e c.requires.spare in
     let spares : length c.args.words.now.items + (length c.deref.result.now * (c.in-Structs.data_words + c.in-Structs.pointer_words) + 1 + taken (parts_of_structs (structs_view c.deref.result.now) 0)) ≤ vec_capacity c.args.words.now = rw c.deref.ensures.value (omega (arith, spare, same)) in
-    (search (rules, the_lemmas), (even, (below, (short, (fits, spares)))))
-
-pub place_items-overflow_mul-size : goal.place_items-overflow_mul-size
-place_items-overflow_mul-size t c =
-    let e = ap items_view c.in-Structs.is ∙ view_structs c.in-Structs.data_words c.in-Structs.pointer_words c.in-Structs.items in
-    let sizes = subst (λ (es : Elements). HaveSizes (parts (tree.list es) 0)) e c.requires.sizes in
-    let room = subst (λ (es : Elements). length c.args.words.now.items + taken (parts (tree.list es) 0) ≤ 65536) e c.requires.room in
-    let n = structs_counted c.in-Structs.items.items in
-    let same : structs_count (structs_view c.in-Structs.items.items) * (c.in-Structs.data_words + c.in-Structs.pointer_words) ≡ length c.in-Structs.items.items * (c.in-Structs.data_words + c.in-Structs.pointer_words) = ap (λ (k : ℕ). k * (c.in-Structs.data_words + c.in-Structs.pointer_words)) n in
-    let small : length c.in-Structs.items.items * (c.in-Structs.data_words + c.in-Structs.pointer_words) ≤ 65536 = omega (arith, room, same) in
-    let is_len : c.len.result ≡ length c.in-Structs.items.items = omega arith in
-    rw (is_len, c.from-in-Structs.ensures, c.from-in-Structs-2.ensures) (omega (arith, small))
-
-pub place_items-word_of_list-requires-in-Pointers-clause-count : goal.place_items-word_of_list-requires-in-Pointers-clause-count
-place_items-word_of_list-requires-in-Pointers-clause-count t c =
-    let e = ap items_view c.in-Pointers.is ∙ view_pointers c.in-Pointers.pointers in
-    let room = subst (λ (es : Elements). length c.args.words.now.items + taken (parts (tree.list es) 0) ≤ 65536) e c.requires.room in
-    let n = trees_counted c.in-Pointers.pointers.trees.items in
-    let k = ap length c.as_slice-trees.ensures in
-    omega (arith, room, n, k)
-
-pub place_items-word_of_list-requires-in-Structs-clause-count : goal.place_items-word_of_list-requires-in-Structs-clause-count
-place_items-word_of_list-requires-in-Structs-clause-count t c =
-    let e = ap items_view c.in-Structs.is ∙ view_structs c.in-Structs.data_words c.in-Structs.pointer_words c.in-Structs.items in
-    let sizes = subst (λ (es : Elements). HaveSizes (parts (tree.list es) 0)) e c.requires.sizes in
-    let room = subst (λ (es : Elements). length c.args.words.now.items + taken (parts (tree.list es) 0) ≤ 65536) e c.requires.room in
-    let n = structs_counted c.in-Structs.items.items in
-    let same : structs_count (structs_view c.in-Structs.items.items) * (c.in-Structs.data_words + c.in-Structs.pointer_words) ≡ length c.in-Structs.items.items * (c.in-Structs.data_words + c.in-Structs.pointer_words) = ap (λ (k : ℕ). k * (c.in-Structs.data_words + c.in-Structs.pointer_words)) n in
-    let small : length c.in-Structs.items.items * (c.in-Structs.data_words + c.in-Structs.pointer_words) ≤ 65536 = omega (arith, room, same) in
-    let is_len : c.len.result ≡ length c.in-Structs.items.items = omega arith in
-    rw (is_len, c.from-in-Structs.ensures, c.from-in-Structs-2.ensures) (omega (arith, small))
-
-pub place_items-returns-in-Void-clause-word : goal.place_items-returns-in-Void-clause-word
-place_items-returns-in-Void-clause-word t c =
-    let e = ap items_view c.in-Void.is ∙ view_void c.in-Void.count in
-    let n = length-replicate {A = ℕ} c.in-Void.count 0 in
-    let is_next : c.len-next.result ≡ length c.args.words.now.items = omega arith in
-    rw e (c.word_of_list.ensures ∙ rw (c.distance-distance.ensures, is_next, c.from.ensures, n) refl)
+    (search (rules, the_lemmas), (c.requires.ahead, (even, (below, (short, (fits, spares))))))
 
 pub place_items-returns-in-Void-clause-fits : goal.place_items-returns-in-Void-clause-fits
 place_items-returns-in-Void-clause-fits t c =
     let e = ap items_view c.in-Void.is ∙ view_void c.in-Void.count in
     subst FitsList (sym e) ((width.Void, refl), zeros_fit c.in-Void.count)
-
-pub place_items-returns-in-Pointers-clause-word : goal.place_items-returns-in-Pointers-clause-word
-place_items-returns-in-Pointers-clause-word t c =
-    let e = ap items_view c.in-Pointers.is ∙ view_pointers c.in-Pointers.pointers in
-    let sizes = subst (λ (es : Elements). HaveSizes (parts (tree.list es) 0)) e c.requires.sizes in
-    let room = subst (λ (es : Elements). length c.args.words.now.items + taken (parts (tree.list es) 0) ≤ 65536) e c.requires.room in
-    let n = trees_counted c.in-Pointers.pointers.trees.items in
-    let is_next : c.len-next.result ≡ length c.args.words.now.items = omega arith in
-    rw e (c.word_of_list-in-Pointers.ensures ∙ rw (c.distance-distance.ensures, is_next, c.as_slice-trees.ensures, n) refl)
-
-pub place_items-returns-in-Pointers-clause-placed : goal.place_items-returns-in-Pointers-clause-placed
-place_items-returns-in-Pointers-clause-placed t c =
-    let e = ap items_view c.in-Pointers.is ∙ view_pointers c.in-Pointers.pointers in
-    let sizes = subst (λ (es : Elements). HaveSizes (parts (tree.list es) 0)) e c.requires.sizes in
-    let room = subst (λ (es : Elements). length c.args.words.now.items + taken (parts (tree.list es) 0) ≤ 65536) e c.requires.room in
-    let n = trees_counted c.in-Pointers.pointers.trees.items in
-    rw e (rw n (rw c.as_slice-trees.ensures at c.place_pointers.ensures.placed))
-
-pub place_items-returns-in-Structs-clause-word : goal.place_items-returns-in-Structs-clause-word
-place_items-returns-in-Structs-clause-word t c =
-    let e = ap items_view c.in-Structs.is ∙ view_structs c.in-Structs.data_words c.in-Structs.pointer_words c.in-Structs.items in
-    let sizes = subst (λ (es : Elements). HaveSizes (parts (tree.list es) 0)) e c.requires.sizes in
-    let room = subst (λ (es : Elements). length c.args.words.now.items + taken (parts (tree.list es) 0) ≤ 65536) e c.requires.room in
-    let n = structs_counted c.in-Structs.items.items in
-    let is_next : c.len-next.result ≡ length c.args.words.now.items = omega arith in
-    let is_len : c.len.result ≡ length c.in-Structs.items.items = omega arith in
-    rw e (c.word_of_list-in-Structs.ensures ∙ rw (c.distance-distance.ensures, is_next, is_len, c.from-in-Structs.ensures, c.from-in-Structs-2.ensures, n) refl)
-
-pub place_items-returns-in-Structs-clause-placed : goal.place_items-returns-in-Structs-clause-placed
-place_items-returns-in-Structs-clause-placed t c =
-    let e = ap items_view c.in-Structs.is ∙ view_structs c.in-Structs.data_words c.in-Structs.pointer_words c.in-Structs.items in
-    let sizes = subst (λ (es : Elements). HaveSizes (parts (tree.list es) 0)) e c.requires.sizes in
-    let room = subst (λ (es : Elements). length c.args.words.now.items + taken (parts (tree.list es) 0) ≤ 65536) e c.requires.room in
-    let n = structs_counted c.in-Structs.items.items in
-    rw e (rw n (rw c.deref.ensures.value at c.place_list.ensures.placed))
 
 pub place_tree-place_fields-requires : goal.place_tree-place_fields-requires
 place_tree-place_fields-requires t c =
@@ -580,3 +508,40 @@ place_list-returns-clause-capacity t c =
     let b = c.push_zeros.ensures.capacity in
     let d = c.place_structs.ensures.capacity in
     omega (arith, a, b, d)
+
+pub place_items-returns-in-Void-clause-word : goal.place_items-returns-in-Void-clause-word
+place_items-returns-in-Void-clause-word t c =
+    let e = ap items_view c.in-Void.is ∙ view_void c.in-Void.count in
+    let n = length-replicate {A = ℕ} c.in-Void.count 0 in
+    let is_next : c.len.result ≡ length c.args.words.now.items = omega arith in
+    rw e (c.word_of_list.ensures ∙ rw (c.distance.ensures, is_next, c.from.ensures, n) refl)
+
+pub place_items-returns-in-Pointers-clause-word : goal.place_items-returns-in-Pointers-clause-word
+place_items-returns-in-Pointers-clause-word t c =
+    let e = ap items_view c.in-Pointers.is ∙ view_pointers c.in-Pointers.pointers in
+    rw e (rw (trees_counted c.in-Pointers.pointers.trees.items) (rw c.as_slice-in-Pointers.ensures at c.place_pointers.ensures.word))
+
+pub place_items-returns-in-Pointers-clause-placed : goal.place_items-returns-in-Pointers-clause-placed
+place_items-returns-in-Pointers-clause-placed t c =
+    let e = ap items_view c.in-Pointers.is ∙ view_pointers c.in-Pointers.pointers in
+    rw e (rw (trees_counted c.in-Pointers.pointers.trees.items) (rw c.as_slice-in-Pointers.ensures at c.place_pointers.ensures.placed))
+
+pub place_items-returns-in-Structs-clause-word : goal.place_items-returns-in-Structs-clause-word
+place_items-returns-in-Structs-clause-word t c =
+    let e = ap items_view c.in-Structs.is ∙ view_structs c.in-Structs.data_words c.in-Structs.pointer_words c.in-Structs.items in
+    rw e (rw (structs_counted c.in-Structs.items.items) (rw c.deref.ensures.value at c.place_list.ensures.word))
+
+pub place_items-returns-in-Structs-clause-placed : goal.place_items-returns-in-Structs-clause-placed
+place_items-returns-in-Structs-clause-placed t c =
+    let e = ap items_view c.in-Structs.is ∙ view_structs c.in-Structs.data_words c.in-Structs.pointer_words c.in-Structs.items in
+    rw e (rw (structs_counted c.in-Structs.items.items) (rw c.deref.ensures.value at c.place_list.ensures.placed))
+
+pub place_pointers-returns-clause-word : goal.place_pointers-returns-clause-word
+place_pointers-returns-clause-word t c =
+    let is_next : c.len-next.result ≡ length c.args.words.now.items = omega arith in
+    c.word_of_list.ensures ∙ rw (c.distance.ensures, is_next) refl
+
+pub place_list-returns-clause-word : goal.place_list-returns-clause-word
+place_list-returns-clause-word t c =
+    let is_next : c.len-next.result ≡ length c.args.words.now.items = omega arith in
+    c.word_of_list.ensures ∙ rw (c.distance.ensures, is_next, c.from.ensures, c.from-2.ensures) refl

@@ -1,4 +1,4 @@
-use Rattle.std.proofs.Common.{length, arith, rules}
+use Rattle.std.proofs.Common.{length, arith}
 use Rattle.wire_trees.specs.Widths.{packed_size}
 use Rattle.wire_writing.proofs.Filled.{eights_whole}
 use Rattle.wire_writing.proofs.place.push_eights.Goals as goal
