@@ -1,3 +1,4 @@
+pub mod Bytes
 pub mod Filled
 pub mod Laid
 pub mod Lengths
