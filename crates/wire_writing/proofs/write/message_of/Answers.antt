@@ -1,4 +1,6 @@
-use Rattle.std.proofs.Common.{ℕ, List, ◌*◌, ◌++◌, length, ap, ◌∙◌, arith}
+use Rattle.std.proofs.Common.{ℕ, List, ◌*◌, ◌++◌, length, take, get_or, sym, ap, ◌∙◌, arith}
+use Rattle.std.specs.List.{flat_map}
+use Rattle.std.proofs.lemmas.List.{flat_map_more, length-append, take_more}
 use Rattle.byteorder.specs.Endian.{little_bytes}
 use Rattle.wire_writing.proofs.Bytes.{upper_half}
 use Rattle.wire_writing.proofs.write.message_of.Goals as goal
@@ -12,4 +14,24 @@ loop-word-init c =
       bytes = made ∙ upper_half (length c.args.words.now);
       count = ap length made;
       spare = omega (arith, room, kept);
+    }
+
+pub loop-word-preserved : goal.loop-word-preserved
+loop-word-preserved c =
+    let inv = c.loop-word.invariant in
+    let i = c.loop-word.word-index in
+    let ws = c.args.words.now in
+    let x = get_or ws i 0 in
+    let table = little_bytes 4 0 ++ little_bytes 4 (length ws) in
+    let made = c.push_word-in-loop-word.ensures.items in
+    let long = ap length made ∙ length-append c.loop-word.bytes.items (little_bytes 8 x) in
+    let count = inv.count in
+    let spare = inv.spare in
+    let kept = c.push_word-in-loop-word.ensures.capacity in
+    record {
+      bytes = made ∙ ap (λ (l : List ℕ). l ++ little_bytes 8 x) inv.bytes
+          ∙ flat_map_more (little_bytes 8) table (take i ws) x
+          ∙ ap (λ (xs : List ℕ). table ++ flat_map (little_bytes 8) xs) (sym (take_more ws i 0 c.loop-word-test.true));
+      count = omega (arith, long, count);
+      spare = omega (arith, spare, kept);
     }
