@@ -3,3 +3,4 @@ pub mod Making
 pub mod Wired
 pub mod Once
 pub mod Rooms
+pub mod Directly

@@ -38,7 +38,7 @@ fn ref_of(store: &Store, id: RefId) -> Option<Reference>
 }
 
 // One more call is made through the reference, and has the next number.
-fn number_through(step: &mut Step, reference: RefId) -> CallId
+pub(crate) fn number_through(step: &mut Step, reference: RefId) -> CallId
     requires ready { IsReady step.old }
     requires number { step.old.store.next_call + 1 < number_limit }
     requires made { made_through (map.get (state_of step.old.store).refs reference.0) + 1 < number_limit }
