@@ -13,7 +13,7 @@ use Rattle.vat_machine.specs.Nodes.{promise_link, link, settle}
 use Rattle.vat_machine.specs.Places.{named_by_reference}
 use Rattle.vat_waits.specs.Changes.{IsOpen}
 use Rattle.laws_steps.specs.Settled.{IsThere, AreThere}
-use Rattle.laws_steps.specs.NodesThere.{Stands, IsWhole}
+use Rattle.laws_steps.specs.NodesThere.{IsWhole}
 use Rattle.laws_steps.proofs.Among.{named, in_refs}
 use Rattle.laws_steps.proofs.LeadsOn.{there_where_it_settles}
 use Rattle.laws_nodes.specs.Settling.{AllStop, Settling}
