@@ -72,6 +72,7 @@ pub fn relay_kept(
 /// A call of the application, which has no entry yet, goes out as a question of its own. The two lists are empty and have
 /// room for one of each capability. `Full` where a limit of the exports or of the questions is passed, and there alone; the
 /// step is only to be dropped then. Takes no memory, but at most one of the slack for each capability, and two.
+#[inline(always)]
 pub fn call_direct_kept(
     step: &mut Step,
     id: CallId,

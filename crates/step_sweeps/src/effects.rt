@@ -19,6 +19,7 @@ use vat_machine::Effects;
 
 /// Ends a step whose outcomes are settled and in which these questions are over, and hands out what it says. No step is in
 /// progress then. Takes no memory. No call may be taken out to be routed.
+#[inline(never)]
 pub fn end_settled(step: &mut Step, over: &[QuestionId]) -> Effects
     requires ready { IsReady step.old }
     requires none_taken { step.old.store.waits.taken ≡ [] }

@@ -20,6 +20,7 @@ use vat_store::Store;
 /// they themselves name, goes one after the other. Nothing is changed but the memory of the thought, which grows with what
 /// goes. `Err` where a growth was refused, which does not come where nothing is noted. No call may be taken out to be
 /// routed.
+#[inline(never)]
 pub fn find_over(store: &Store, thought: &mut Thought) -> Result<(), Memory>
     requires sound { IsSound store.now }
     requires none_taken { store.now.waits.taken ≡ [] }
