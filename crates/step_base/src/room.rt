@@ -14,6 +14,7 @@ const SPARE: usize = 4;
 /// Begins a step, with room for so many entries of every kind, names, messages, deliveries, ends and outcomes, and for the
 /// Finish of each question and the Release of each import. `Err` where a growth was refused; no step is begun then, and at
 /// most room is changed.
+#[inline(never)]
 pub fn begin(step: &mut Step, more: usize) -> Result<(), Memory>
     requires { IsIdle step.old }
     ensures store { IsSameButRoom step.old.store step.new.store }
