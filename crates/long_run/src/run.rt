@@ -81,7 +81,9 @@ impl Run {
                 let held = self.application(vat);
                 held.forget(gone);
                 held.keep(granted)?;
-                held.note(&effects)
+                held.note(&effects)?;
+                self.world.recycle(vat, effects);
+                Ok(())
             }
             StepAnswer::Answered(Answer::Refused(..)) => {
                 self.refused = self.refused.saturating_add(1);
@@ -99,6 +101,7 @@ impl Run {
                     bail!("a vat went down");
                 }
                 self.application(vat).note(&effects)?;
+                self.world.recycle(vat, effects);
                 Ok(true)
             }
             _ => Ok(false),

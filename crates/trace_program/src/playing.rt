@@ -68,7 +68,22 @@ fn happen(
     ensures { OnOk result ((answer : StepAnswer) × Steps world.old event answer world.new × (names.new ≡ told names.old line.now answer)) }
 {
     let answer = world.step(event);
-    keep(alloc, names, line, &answer)
+    let kept = keep(alloc, names, line, &answer);
+    give_back(world, line, answer);
+    kept
+}
+
+/// Gives back the memory in which the line's vat said what it did.
+fn give_back(world: &mut World, line: &Line, answer: StepAnswer)
+    ensures { world.new ≡ world.old }
+{
+    match (line, answer) {
+        (Line::Command(vat, _), StepAnswer::Answered(Answer::Done(_, effects))) => {
+            world.recycle(*vat, effects)
+        }
+        (Line::Deliver(vat), StepAnswer::Handled(effects)) => world.recycle(*vat, effects),
+        _ => {}
+    }
 }
 
 /// Binds what the line's command was granted, and keeps the references that its vat's application was handed.

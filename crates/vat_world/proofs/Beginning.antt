@@ -1,5 +1,5 @@
 -- Two new vats are a world to which a run leads, with room to go down.
-use Rattle.std.proofs.Common.{◌≡◌, ℕ, ◌≤◌, Bool, false, Option, None, Some, List, [], sym, ap, subst, ◌∙◌, arith}
+use Rattle.std.proofs.Common.{◌≡◌, ℕ, Bool, false, Option, None, Some, List, [], sym, ap, subst, ◌∙◌, arith}
 use Rattle.std.proofs.Common.{Result, Ok, Err}
 use Rattle.std.specs.Result.{IfOk, IsErrAnd}
 use Rattle.rpc_msg.specs.declared.ids.Vat.TheVariants.{A, B}
@@ -9,7 +9,7 @@ use Rattle.vat_machine.specs.declared.command.Level.TheVariants.{One}
 use Rattle.vat_machine.specs.State.{start}
 use Rattle.vat_machine.specs.World.{Side}
 use Rattle.vat_world.specs.declared.side.Side as kept
-use Rattle.vat_world.specs.Rooms.{side_of, seen_of, owed, CanAbort, CanFallBy, HasRoom}
+use Rattle.vat_world.specs.Rooms.{side_of, seen_of, CanAbort, CanFallBy, HasRoom}
 use Rattle.vat_world.specs.World.{Seen, new_seen, IsReached}
 use Rattle.vat_world.proofs.Reaching.{reached_new}
 use Rattle.vat_world.proofs.Standing.{owed_three}

@@ -1,5 +1,5 @@
 -- How a step is told, from how its parts are.
-use Rattle.std.proofs.Common.{◌≡◌, ℕ, ◌≤◌, Bool, true, false, cond, Option, None, Some, Result, Ok, Err, List, [], ◌∷◌, ◌++◌, map, take, length, append-nil, append_assoc, refl, sym, ap, subst, ◌∙◌, arith}
+use Rattle.std.proofs.Common.{◌≡◌, ℕ, Bool, true, false, cond, Option, None, Some, Result, Ok, Err, List, [], ◌∷◌, ◌++◌, map, take, length, append-nil, append_assoc, refl, sym, ap, subst, ◌∙◌}
 use Rattle.rpc_msg.specs.Memory.{Memory}
 use Rattle.rpc_msg.specs.declared.ids.Vat.{Vat}
 use Rattle.rpc_msg.specs.declared.message.Message.{Message}
@@ -14,7 +14,7 @@ use Rattle.vat_machine.specs.Numbers.{want_of_room}
 use Rattle.vat_machine.specs.Progress.{quiet}
 use Rattle.vat_machine.specs.State.{State}
 use Rattle.vat_machine.specs.Down.{ShutsFrom, Falls}
-use Rattle.vat_machine.specs.World.{Side, overflow_effects, overflown, given_up}
+use Rattle.vat_machine.specs.World.{overflow_effects, overflown, given_up}
 use Rattle.vat_machine.specs.Journal.{effect_entries, refused_entries, went_down}
 use Rattle.vat_world.specs.declared.notes.Note.{Note}
 use Rattle.vat_world.specs.Notes.{note_entries}

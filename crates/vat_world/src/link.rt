@@ -57,15 +57,31 @@ impl Link {
         }
     }
 
-    /// Puts these messages at the end, where there is room. Takes no memory.
-    pub(crate) fn append(&mut self, more: Items<Message>)
+    /// Puts these messages at the end, where there is room, and gives back their list, which is empty. Takes no memory.
+    pub(crate) fn append(&mut self, more: Items<Message>) -> Items<Message>
         requires { length more ≤ self.old.1 }
         ensures messages { self.new.0 ≡ self.old.0 ++ more }
         ensures room { self.old.1 ≤ self.new.1 + length more }
+        ensures none { result ≡ [] }
     {
-        let mut more = VecDeque::from(more.into_vec());
+        let mut more = more.into_vec();
+        if more.len() == 1 {
+            if let Some(message) = more.pop() {
+                self.messages.push_back_reserved(message);
+            }
+            return Items::from_vec(more);
+        }
+        self.append_all(VecDeque::from(more))
+    }
+
+    fn append_all(&mut self, mut more: VecDeque<Message>) -> Items<Message>
+        requires { length more.items ≤ self.old.1 }
+        ensures messages { self.new.0 ≡ self.old.0 ++ more.items }
+        ensures room { self.old.1 ≤ self.new.1 + length more.items }
+        ensures none { result ≡ [] }
+    {
         match self.messages.append(&mut more) {
-            Ok(()) => return,
+            Ok(()) => return Items::from_vec(Vec::from(more)),
             Err(_) => unreachable!(),
         }
     }

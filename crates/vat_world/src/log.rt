@@ -130,7 +130,8 @@ fn send(alloc: Global, inbox: &mut Link, effects: &mut Effects)
     if effects.sends.is_empty() {
         return;
     }
-    inbox.append(mem::replace(&mut effects.sends, Items::new(alloc)));
+    let sends = mem::replace(&mut effects.sends, Items::new(alloc));
+    effects.sends = inbox.append(sends);
 }
 
 // Tells the whole step, or changes nothing but the room, and what is behind the entries that were there.

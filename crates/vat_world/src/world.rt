@@ -19,7 +19,7 @@ use std::alloc::Global;
 use std::marker::Model;
 use vat_core::Answer;
 use vat_journal::JournalEntry;
-use vat_machine::{Command, Event};
+use vat_machine::{Command, Effects, Event};
 
 /// Two vats of level 1, the messages on their way between them, and the journal of what happens. It keeps the room that both
 /// vats need to go down, so that want of memory takes a vat down and is written.
@@ -149,10 +149,34 @@ impl World {
     {
         bootstraps_stay();
         for event in events {
+            let vat = acting(&event);
             let answer = self.happen(event);
-            drop(answer);
+            self.give_back(vat, answer);
         }
         self.promises();
+    }
+
+    fn give_back(&mut self, vat: Vat, answer: StepAnswer)
+        ensures { self.new ≡ self.old }
+    {
+        match answer {
+            StepAnswer::Answered(Answer::Done(_, effects)) | StepAnswer::Handled(effects) => {
+                self.recycle(vat, effects)
+            }
+            _ => {}
+        }
+    }
+
+    /// Takes back the memory of effects of that vat that were looked at, for those of its later steps; what they still hold
+    /// is dropped. Nothing else changes, and no memory is taken. Who gives back what each step answers saves the vats memory
+    /// that each step would else take.
+    pub fn recycle(&mut self, vat: Vat, effects: Effects)
+        ensures { self.new ≡ self.old }
+    {
+        match vat {
+            Vat::A => self.a.core.recycle(effects),
+            Vat::B => self.b.core.recycle(effects),
+        }
     }
 
     // Of every value of this type: a run of two new vats leads to it.
@@ -242,5 +266,11 @@ impl World {
             Vat::A => self.a.was_shut,
             Vat::B => self.b.was_shut,
         }
+    }
+}
+
+fn acting(event: &Event) -> Vat {
+    match event {
+        Event::Command(vat, _) | Event::Deliver(vat) => *vat,
     }
 }

@@ -1,4 +1,3 @@
-use Rattle.std.proofs.Common.{sym}
 use Rattle.vat_world.proofs.Telling.{all_written}
 use Rattle.vat_world.proofs.entries.put_effects.Goals as goal
 
