@@ -4,10 +4,10 @@
 
 mod calling;
 mod opening;
-mod plain;
+mod straight_call;
 
 pub use calling::call;
 pub use opening::{bootstrap, promise};
-pub use plain::call_straight;
 pub use step_calls::{StraightCall, straight};
 pub use step_ends as ends;
+pub use straight_call::call_straight;

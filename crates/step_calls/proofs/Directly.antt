@@ -30,7 +30,7 @@ use Rattle.vat_machine.specs.Commands.{CallsThrough, CallsBy, CallsDirect, Makes
 use Rattle.vat_machine.proofs.Settles.{settles_here}
 use Rattle.step_calls.specs.Straight.{LeadsStraight, IsStraight}
 use Rattle.step_calls.specs.Ways.{numbered}
-use Rattle.step_calls.specs.declared.plain.StraightCall.{StraightCall}
+use Rattle.step_calls.specs.declared.straight_call.StraightCall.{StraightCall}
 use Rattle.step_calls.proofs.Making.{makes}
 
 -- ---- It is not refused

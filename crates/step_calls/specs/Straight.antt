@@ -9,7 +9,7 @@ use Rattle.vat_machine.specs.Fullness.{has_no_room}
 use Rattle.vat_machine.specs.Limits.{number_limit}
 use Rattle.vat_machine.specs.Refusals.{refused}
 use Rattle.vat_machine.specs.State.{State}
-use Rattle.step_calls.specs.declared.plain.StraightCall.{StraightCall}
+use Rattle.step_calls.specs.declared.straight_call.StraightCall.{StraightCall}
 
 -- The head of the reference is that import, no embargo holds its calls, and so many were made through it.
 abbrev pub LeadsStraight : Option Reference → StraightCall → Type 0

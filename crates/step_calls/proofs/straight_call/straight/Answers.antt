@@ -3,9 +3,9 @@ use Rattle.std.specs.FinMap as map
 use Rattle.vat_machine.specs.declared.entries.Reference.{Reference}
 use Rattle.vat_store.specs.Holding.{state_of}
 use Rattle.step_calls.specs.Straight.{LeadsStraight}
-use Rattle.step_calls.specs.declared.plain.StraightCall.{StraightCall}
+use Rattle.step_calls.specs.declared.straight_call.StraightCall.{StraightCall}
 use Rattle.step_calls.proofs.Directly.{none_long, straight_allowed}
-use Rattle.step_calls.proofs.plain.straight.Goals as goal
+use Rattle.step_calls.proofs.straight_call.straight.Goals as goal
 
 pub returns : goal.returns
 returns c =

@@ -8,7 +8,7 @@ use Rattle.vat_store.specs.Holding.{state_of}
 use Rattle.step_base.specs.InProgress.{progress_of}
 use Rattle.step_calls.specs.Straight.{IsStraight}
 use Rattle.step_ends.proofs.Answered.{does, done}
-use Rattle.step_asks.proofs.plain.call_straight.Goals as goal
+use Rattle.step_asks.proofs.straight_call.call_straight.Goals as goal
 
 pub call_straight-id-requires-clause-straight : goal.call_straight-id-requires-clause-straight
 call_straight-id-requires-clause-straight c = subst (λ (s : State). IsStraight s c.args.call c.args.straight) (sym c.begin_quietly.ensures.same) c.requires.straight

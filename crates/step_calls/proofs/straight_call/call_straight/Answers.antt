@@ -2,7 +2,7 @@ use Rattle.std.proofs.Common.{List, ap}
 use Rattle.vat_machine.specs.declared.node.Node.{Node}
 use Rattle.step_base.specs.InProgress.{progress_of}
 use Rattle.step_calls.proofs.Directly.{sent_by, straight_made}
-use Rattle.step_calls.proofs.plain.call_straight.Goals as goal
+use Rattle.step_calls.proofs.straight_call.call_straight.Goals as goal
 
 pub returns-clause-acts : goal.returns-clause-acts
 returns-clause-acts c =
