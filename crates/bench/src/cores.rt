@@ -1,7 +1,7 @@
 //! How long a round trip of two cores takes, and a cycle with an embargo.
 
 use crate::astray::Astray;
-use crate::done::{Outcome, Task};
+use crate::done::Task;
 use crate::side::Side;
 use rpc_msg::{ObjectId, RefId, Vat};
 use std::alloc::Global;
@@ -45,9 +45,10 @@ impl Pair {
     fn new(alloc: Global) -> Result<Pair, Astray> {
         let mut a = Side::new(alloc, Vat::A, None)?;
         let mut b = Side::new(alloc, Vat::B, Some(ObjectId(0)))?;
-        let results = a.bootstrap(&mut b)?;
-        let outcome: Outcome = a.receive(results)?;
-        a.finish::<()>(&mut b, outcome)?;
+        let asked = a.bootstrap()?;
+        let results = b.reply(asked)?;
+        let outcome = a.receive(results)?.outcome()?;
+        a.finish(&mut b, outcome)?;
         let root = given(outcome.given)?;
         let own = a.host(ObjectId(1))?;
         let theirs = pass(&mut a, &mut b, root, own)?;
@@ -60,7 +61,7 @@ impl Pair {
             pass(&mut self.a, &mut self.b, self.root, own)?;
         }
         for _ in 0..load.open {
-            let _task: Task = self.a.call(&mut self.b, self.root)?;
+            let _ = self.a.call(&mut self.b, self.root)?.task()?;
         }
         let (_, promised) = self.a.promise()?;
         for _ in 0..load.waiting {
@@ -71,8 +72,8 @@ impl Pair {
 
     /// A call, its answer, and its end.
     fn round_trip(&mut self) -> Result<(), Astray> {
-        let task = self.a.call(&mut self.b, self.root)?;
-        let outcome = self.b.answer(&mut self.a, task)?;
+        let task = self.a.call(&mut self.b, self.root)?.task()?;
+        let outcome = self.b.answer(&mut self.a, task)?.outcome()?;
         self.a.finish(&mut self.b, outcome)
     }
 
@@ -80,40 +81,47 @@ impl Pair {
     /// again behind an embargo.
     fn cycle(&mut self) -> Result<(), Astray> {
         let (promise, promised) = self.b.promise()?;
-        let task = self.a.call(&mut self.b, self.root)?;
-        let outcome: Outcome = self.b.answer_with(&mut self.a, task, promised)?;
+        let task = self.a.call(&mut self.b, self.root)?.task()?;
+        let answered = self.b.answer_with(&mut self.a, task, promised)?;
+        let outcome = answered.outcome()?;
         self.b.let_go(promised)?;
-        self.a.finish::<()>(&mut self.b, outcome)?;
+        self.a.finish(&mut self.b, outcome)?;
         let reference = given(outcome.given)?;
         // it waits at the promise
-        self.a.call::<()>(&mut self.b, reference)?;
+        self.a.call(&mut self.b, reference)?.nothing()?;
         let (comes_back, resolve) = self.b.resolve(promise, self.theirs)?;
-        let first = self.a.receive(comes_back)?;
-        self.a.receive::<()>(resolve)?;
+        let first = self.a.receive(comes_back)?.task()?;
+        self.a.receive(resolve)?.nothing()?;
         self.embargo(reference, first)
     }
 
     fn embargo(&mut self, reference: RefId, first: Task) -> Result<(), Astray> {
         let (disembargo, release) = self.a.advance(reference)?;
         self.a.call_later(reference)?;
-        let echo = self.b.receive(disembargo)?;
-        self.b.receive::<()>(release)?;
-        let second = self.a.receive(echo)?;
+        let echo = self.b.reply(disembargo)?;
+        self.b.receive(release)?.nothing()?;
+        let second = self.a.receive(echo)?.task()?;
         let outcome = self.a.answer_own(second)?;
         self.a.finish_own(outcome)?;
-        let (results, finish) = self.a.answer(&mut self.b, first)?;
-        let outcome = self.a.receive(results)?;
-        self.a.receive::<()>(finish)?;
-        self.a.finish::<()>(&mut self.b, outcome)?;
+        self.answer_first(first)?;
         self.a.let_go(reference)
+    }
+
+    /// Vat a answers the first call, which vat b passed on to it, and is told the same of its own.
+    fn answer_first(&mut self, first: Task) -> Result<(), Astray> {
+        let answer = self.a.answer_message(first)?;
+        let (results, finish) = self.b.reply_two(answer)?;
+        let outcome = self.a.receive(results)?.outcome()?;
+        self.a.receive(finish)?.nothing()?;
+        self.a.finish(&mut self.b, outcome)
     }
 }
 
 /// Vat a calls the root of vat b and passes it a reference: the one that vat b is given.
 fn pass(a: &mut Side, b: &mut Side, root: RefId, own: RefId) -> Result<RefId, Astray> {
-    let task: Task = a.call_with(b, root, own)?;
-    let outcome = b.answer(a, task)?;
-    a.finish::<()>(b, outcome)?;
+    let task = a.call_with(b, root, own)?.task()?;
+    let outcome = b.answer(a, task)?.outcome()?;
+    a.finish(b, outcome)?;
     given(task.given)
 }
 

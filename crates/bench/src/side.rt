@@ -25,7 +25,15 @@ impl Side {
         Ok(Side { alloc, core, null })
     }
 
-    fn did<T: Done>(&mut self, effects: Effects) -> Result<T, Astray> {
+    // Nothing was sent.
+    fn did(&mut self, effects: Effects) -> Result<Done, Astray> {
+        let done = Done::of(&effects);
+        self.core.recycle(effects);
+        done
+    }
+
+    // A message alone was sent.
+    fn sent(&mut self, effects: Effects) -> Result<Message, Astray> {
         let Effects {
             sends,
             deliveries,
@@ -36,18 +44,50 @@ impl Side {
             return Err(Astray::Down(number));
         }
         let mut sends = sends.into_vec();
-        let done = T::take(&mut sends, deliveries.as_slice(), answers.as_slice());
+        let ([_], [], []) = (sends.as_slice(), deliveries.as_slice(), answers.as_slice()) else {
+            return Err(Astray::Otherwise);
+        };
+        let Some(message) = sends.pop() else {
+            return Err(Astray::Otherwise);
+        };
         self.core.recycle(Effects {
             sends: Items::from_vec(sends),
             deliveries,
             answers,
             down: None,
         });
-        done
+        Ok(message)
     }
 
-    // A message alone was sent.
-    fn send<T: Done>(&mut self, to: &mut Side, effects: Effects) -> Result<T, Astray> {
+    // Two messages were sent, in that order.
+    fn sent_two(&mut self, effects: Effects) -> Result<(Message, Message), Astray> {
+        let Effects {
+            sends,
+            deliveries,
+            answers,
+            down,
+        } = effects;
+        if let Some(number) = down {
+            return Err(Astray::Down(number));
+        }
+        let mut sends = sends.into_vec();
+        let ([_, _], [], []) = (sends.as_slice(), deliveries.as_slice(), answers.as_slice()) else {
+            return Err(Astray::Otherwise);
+        };
+        let (Some(second), Some(first)) = (sends.pop(), sends.pop()) else {
+            return Err(Astray::Otherwise);
+        };
+        self.core.recycle(Effects {
+            sends: Items::from_vec(sends),
+            deliveries,
+            answers,
+            down: None,
+        });
+        Ok((first, second))
+    }
+
+    // As `sent`, and the message goes straight there.
+    fn send(&mut self, to: &mut Side, effects: Effects) -> Result<Done, Astray> {
         let Effects {
             sends,
             deliveries,
@@ -71,12 +111,27 @@ impl Side {
             down: None,
         });
         let effects = to.core.receive(message);
-        to.did(effects)
+        let done = Done::of(&effects);
+        to.core.recycle(effects);
+        done
     }
 
-    pub(crate) fn receive<T: Done>(&mut self, message: Message) -> Result<T, Astray> {
+    /// Takes a message, and sends nothing.
+    pub(crate) fn receive(&mut self, message: Message) -> Result<Done, Astray> {
         let effects = self.core.receive(message);
         self.did(effects)
+    }
+
+    /// Takes a message, and sends one.
+    pub(crate) fn reply(&mut self, message: Message) -> Result<Message, Astray> {
+        let effects = self.core.receive(message);
+        self.sent(effects)
+    }
+
+    /// Takes a message, and sends two.
+    pub(crate) fn reply_two(&mut self, message: Message) -> Result<(Message, Message), Astray> {
+        let effects = self.core.receive(message);
+        self.sent_two(effects)
     }
 
     pub(crate) fn host(&mut self, object: ObjectId) -> Result<RefId, Astray> {
@@ -87,128 +142,131 @@ impl Side {
         Ok(self.core.promise()?)
     }
 
-    pub(crate) fn bootstrap<T: Done>(&mut self, to: &mut Side) -> Result<T, Astray> {
+    pub(crate) fn bootstrap(&mut self) -> Result<Message, Astray> {
         let (_, effects) = self.core.bootstrap()?;
+        self.sent(effects)
+    }
+
+    pub(crate) fn call(&mut self, to: &mut Side, reference: RefId) -> Result<Done, Astray> {
+        let payload = self.null.copy(self.alloc)?;
+        let refs = Items::new(self.alloc);
+        let effects = self.calls(reference, payload, refs)?;
         self.send(to, effects)
     }
 
-    pub(crate) fn call<T: Done>(&mut self, to: &mut Side, reference: RefId) -> Result<T, Astray> {
-        let payload = self.null.copy(self.alloc)?;
-        let refs = Items::new(self.alloc);
-        self.send_call(to, call_of(reference, payload, refs))
-    }
-
     /// A call that passes a reference.
-    pub(crate) fn call_with<T: Done>(
+    pub(crate) fn call_with(
         &mut self,
         to: &mut Side,
         reference: RefId,
         passed: RefId,
-    ) -> Result<T, Astray> {
+    ) -> Result<Done, Astray> {
         let payload = Payload::root_capability(self.alloc)?;
         let refs = one(self.alloc, passed)?;
-        self.send_call(to, call_of(reference, payload, refs))
-    }
-
-    fn send_call<T: Done>(&mut self, to: &mut Side, call: CallCommand) -> Result<T, Astray> {
-        match self.core.call(call) {
-            Ok((_, effects)) => self.send(to, effects),
-            Err((refusal, _)) => Err(Astray::Refused(refusal)),
-        }
+        let effects = self.calls(reference, payload, refs)?;
+        self.send(to, effects)
     }
 
     /// A call that waits at this vat.
     pub(crate) fn call_later(&mut self, reference: RefId) -> Result<(), Astray> {
         let payload = self.null.copy(self.alloc)?;
         let refs = Items::new(self.alloc);
-        match self.core.call(call_of(reference, payload, refs)) {
-            Ok((_, effects)) => self.did(effects),
+        let effects = self.calls(reference, payload, refs)?;
+        self.did(effects)?.nothing()
+    }
+
+    fn calls(
+        &mut self,
+        reference: RefId,
+        payload: Payload,
+        refs: Items<RefId>,
+    ) -> Result<Effects, Astray> {
+        let call = CallCommand {
+            reference,
+            interface: 0,
+            method: 0,
+            payload,
+            refs,
+        };
+        match self.core.call(call) {
+            Ok((_, effects)) => Ok(effects),
             Err((refusal, _)) => Err(Astray::Refused(refusal)),
         }
     }
 
-    pub(crate) fn answer<T: Done>(&mut self, to: &mut Side, task: Task) -> Result<T, Astray> {
-        let payload = self.null.copy(self.alloc)?;
-        let refs = Items::new(self.alloc);
-        self.send_answer(to, task, payload, refs)
+    pub(crate) fn answer(&mut self, to: &mut Side, task: Task) -> Result<Done, Astray> {
+        let effects = self.answers(task)?;
+        self.send(to, effects)
     }
 
     /// The answer to a task, with a reference.
-    pub(crate) fn answer_with<T: Done>(
+    pub(crate) fn answer_with(
         &mut self,
         to: &mut Side,
         task: Task,
         passed: RefId,
-    ) -> Result<T, Astray> {
+    ) -> Result<Done, Astray> {
         let payload = Payload::root_capability(self.alloc)?;
         let refs = one(self.alloc, passed)?;
-        self.send_answer(to, task, payload, refs)
-    }
-
-    fn send_answer<T: Done>(
-        &mut self,
-        to: &mut Side,
-        task: Task,
-        payload: Payload,
-        refs: Items<RefId>,
-    ) -> Result<T, Astray> {
         match self.core.answer(task.id, payload, refs) {
             Ok(effects) => self.send(to, effects),
             Err((refusal, _, _)) => Err(Astray::Refused(refusal)),
         }
     }
 
+    /// The answer to a task, as a message.
+    pub(crate) fn answer_message(&mut self, task: Task) -> Result<Message, Astray> {
+        let effects = self.answers(task)?;
+        self.sent(effects)
+    }
+
     /// The answer to a task that is a call of this vat's own.
     pub(crate) fn answer_own(&mut self, task: Task) -> Result<Outcome, Astray> {
+        let effects = self.answers(task)?;
+        self.did(effects)?.outcome()
+    }
+
+    fn answers(&mut self, task: Task) -> Result<Effects, Astray> {
         let payload = self.null.copy(self.alloc)?;
         let refs = Items::new(self.alloc);
         match self.core.answer(task.id, payload, refs) {
-            Ok(effects) => self.did(effects),
+            Ok(effects) => Ok(effects),
             Err((refusal, _, _)) => Err(Astray::Refused(refusal)),
         }
     }
 
-    pub(crate) fn finish<T: Done>(&mut self, to: &mut Side, outcome: Outcome) -> Result<T, Astray> {
+    pub(crate) fn finish(&mut self, to: &mut Side, outcome: Outcome) -> Result<(), Astray> {
         let effects = self.core.finish(outcome.call)?;
-        self.send(to, effects)
+        self.send(to, effects)?.nothing()
     }
 
     /// Finishes a call to an object of this vat.
     pub(crate) fn finish_own(&mut self, outcome: Outcome) -> Result<(), Astray> {
         let effects = self.core.finish(outcome.call)?;
-        self.did(effects)
+        self.did(effects)?.nothing()
     }
 
-    pub(crate) fn resolve<T: Done>(
+    /// Resolves a promise for which one call waits, and which the other vat has.
+    pub(crate) fn resolve(
         &mut self,
         promise: PromiseId,
         reference: RefId,
-    ) -> Result<T, Astray> {
+    ) -> Result<(Message, Message), Astray> {
         let effects = self.core.resolve(promise, reference)?;
-        self.did(effects)
+        self.sent_two(effects)
     }
 
     /// Lets a reference take the shorter path, behind an embargo.
-    pub(crate) fn advance<T: Done>(&mut self, reference: RefId) -> Result<T, Astray> {
+    pub(crate) fn advance(&mut self, reference: RefId) -> Result<(Message, Message), Astray> {
         match self.core.advance(reference)? {
-            (Advanced::Embargoed, effects) => self.did(effects),
+            (Advanced::Embargoed, effects) => self.sent_two(effects),
             _ => Err(Astray::Otherwise),
         }
     }
 
     pub(crate) fn let_go(&mut self, reference: RefId) -> Result<(), Astray> {
         let effects = self.core.drop_ref(reference)?;
-        self.did(effects)
-    }
-}
-
-fn call_of(reference: RefId, payload: Payload, refs: Items<RefId>) -> CallCommand {
-    CallCommand {
-        reference,
-        interface: 0,
-        method: 0,
-        payload,
-        refs,
+        self.did(effects)?.nothing()
     }
 }
 

@@ -45,8 +45,8 @@ impl Vats {
     /// Vat a comes to hold a reference to the other's bootstrap object.
     fn meet(&mut self) -> Result<RefId, Astray> {
         self.command(Vat::A, Command::Bootstrap)?;
-        self.deliver::<()>(Vat::B)?;
-        let outcome = self.deliver(Vat::A)?;
+        self.deliver(Vat::B)?.nothing()?;
+        let outcome = self.deliver(Vat::A)?.outcome()?;
         self.finish(outcome)?;
         match outcome.given {
             Some(root) => Ok(root),
@@ -56,9 +56,9 @@ impl Vats {
 
     fn round_trip(&mut self, root: RefId) -> Result<(), Astray> {
         self.call(root)?;
-        let task = self.deliver(Vat::B)?;
+        let task = self.deliver(Vat::B)?.task()?;
         self.answer(task)?;
-        let outcome = self.deliver(Vat::A)?;
+        let outcome = self.deliver(Vat::A)?.outcome()?;
         self.finish(outcome)
     }
 
@@ -81,35 +81,27 @@ impl Vats {
 
     fn finish(&mut self, outcome: Outcome) -> Result<(), Astray> {
         self.command(Vat::A, Command::Finish(outcome.call))?;
-        self.deliver(Vat::B)
+        self.deliver(Vat::B)?.nothing()
     }
 
     fn command(&mut self, vat: Vat, command: Command) -> Result<(), Astray> {
         match self.world.step(Event::Command(vat, command)) {
-            StepAnswer::Answered(Answer::Done(_, effects)) => did(effects),
+            StepAnswer::Answered(Answer::Done(_, effects)) => self.did(vat, effects)?.nothing(),
             StepAnswer::Answered(Answer::Refused(refusal, _)) => Err(Astray::Refused(refusal)),
             _ => Err(Astray::Otherwise),
         }
     }
 
-    fn deliver<T: Done>(&mut self, vat: Vat) -> Result<T, Astray> {
+    fn deliver(&mut self, vat: Vat) -> Result<Done, Astray> {
         match self.world.step(Event::Deliver(vat)) {
-            StepAnswer::Handled(effects) => did(effects),
+            StepAnswer::Handled(effects) => self.did(vat, effects),
             _ => Err(Astray::Otherwise),
         }
     }
-}
 
-fn did<T: Done>(effects: Effects) -> Result<T, Astray> {
-    let Effects {
-        sends,
-        deliveries,
-        answers,
-        down,
-    } = effects;
-    if let Some(number) = down {
-        return Err(Astray::Down(number));
+    fn did(&mut self, vat: Vat, effects: Effects) -> Result<Done, Astray> {
+        let done = Done::of(&effects);
+        self.world.recycle(vat, effects);
+        done
     }
-    let mut sends = sends.into_vec();
-    T::take(&mut sends, deliveries.as_slice(), answers.as_slice())
 }
