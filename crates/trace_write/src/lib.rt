@@ -2,6 +2,7 @@
 #![tactic(auto)]
 
 mod line;
+mod part;
 mod version;
 mod write_entries;
 mod write_lists;

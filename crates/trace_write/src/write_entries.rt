@@ -4,29 +4,21 @@ ghost use Rattle.trace_write.specs.Parts.{in_base64};
 ghost use Rattle.trace_write.specs.Values.{head_data, born_data, asked_data, made_by, delivered_by, answered_by, ended_by, resolved_promise_data, rejected_data, dropped_data, finished_data, advanced_data, refused_data, sent_by, got_data, down_data, tables_data, value};
 ghost use Rattle.trace_write.specs.Fits.{FitsOrigin, FitsMade, FitsDelivery, FitsOutcome, FitsU16, FitsMessage, FitsCounts, Fits};
 
+use crate::part::{add_part, put_part};
 use crate::version::TraceVersion;
-use crate::write_lists::write_list;
-use crate::write_members::{Leaf, add_member, write_flat, write_leaves};
+use crate::write_members::{add_member, put_text, write_event, write_flat_event, write_numbers};
 use crate::write_messages::write_message;
-use crate::write_parts::{
-    name_of_advanced, name_of_vat, write_counts, write_exception, write_origin, write_outcome,
-    write_payload, write_stamp,
-};
-use rpc_msg::{CallId, Exception, Message, PromiseId, RefId, TaskId, Vat};
-use serde_json::{Value, put};
+use rpc_msg::{CallId, Exception, Items, Message, PromiseId, RefId, TaskId, Vat};
+use serde_json::{Map, Value};
 use std::alloc::{AllocError, Global};
 use vat_journal::{Advanced, Counts, Delivery, Ended, JournalEntry, MadeCall, Origin, Outcome};
 
 fn write_head(alloc: Global, version: TraceVersion) -> Result<Value, AllocError>
     ensures { IfOk result (λ v. view v ≡ head_data version) }
 {
-    write_flat(
-        alloc,
-        &[
-            ("k", Leaf::Text("head")),
-            ("version", Leaf::Number(version.number())),
-        ],
-    )
+    let mut members = write_numbers(alloc, &[("version", version.number())])?;
+    put_text(&mut members, alloc, "k", "head")?;
+    Ok(Value::Object(members))
 }
 
 fn write_born(
@@ -38,29 +30,14 @@ fn write_born(
     ensures is { IfOk result (λ v. view v ≡ born_data vat reference origin.now) }
     ensures fits { OnOk result (FitsOrigin origin.now) }
 {
-    let mut object = write_leaves(
-        alloc,
-        &[
-            ("k", Leaf::Text("born")),
-            ("ref", Leaf::Number(reference.0)),
-            ("vat", Leaf::Text(name_of_vat(vat))),
-        ],
-    )?;
-    put(&mut object, alloc, "origin", write_origin(alloc, origin)?)?;
-    Ok(Value::Object(object))
+    let members = write_event(alloc, "born", vat, &[("ref", reference.0)])?;
+    add_part(members, alloc, "origin", origin)
 }
 
 fn write_asked(alloc: Global, vat: Vat, call: CallId) -> Result<Value, AllocError>
     ensures { IfOk result (λ v. view v ≡ asked_data vat call) }
 {
-    write_flat(
-        alloc,
-        &[
-            ("call", Leaf::Number(call.0)),
-            ("k", Leaf::Text("asked")),
-            ("vat", Leaf::Text(name_of_vat(vat))),
-        ],
-    )
+    write_flat_event(alloc, "asked", vat, &[("call", call.0)])
 }
 
 fn write_made(alloc: Global, vat: Vat, made: &MadeCall) -> Result<Value, AllocError>
@@ -68,31 +45,16 @@ fn write_made(alloc: Global, vat: Vat, made: &MadeCall) -> Result<Value, AllocEr
     ensures fits { OnOk result (FitsMade made.now) }
 {
     let method = made.method;
-    let mut object = write_leaves(
-        alloc,
-        &[
-            ("call", Leaf::Number(made.call.0)),
-            ("index", Leaf::Number(made.index)),
-            ("interface", Leaf::Number(made.interface)),
-            ("k", Leaf::Text("made")),
-            ("method", Leaf::Number(u64::from(method))),
-            ("ref", Leaf::Number(made.reference.0)),
-            ("vat", Leaf::Text(name_of_vat(vat))),
-        ],
-    )?;
-    put(
-        &mut object,
-        alloc,
-        "payload",
-        write_payload(alloc, &made.payload)?,
-    )?;
-    put(
-        &mut object,
-        alloc,
-        "refs",
-        write_list(alloc, made.refs.as_slice())?,
-    )?;
-    Ok(Value::Object(object))
+    let numbers = &[
+        ("call", made.call.0),
+        ("index", made.index),
+        ("interface", made.interface),
+        ("method", u64::from(method)),
+        ("ref", made.reference.0),
+    ];
+    let mut members = write_event(alloc, "made", vat, numbers)?;
+    put_part(&mut members, alloc, "payload", &made.payload)?;
+    add_part(members, alloc, "refs", &made.refs)
 }
 
 fn write_delivered(alloc: Global, vat: Vat, delivery: &Delivery) -> Result<Value, AllocError>
@@ -100,36 +62,16 @@ fn write_delivered(alloc: Global, vat: Vat, delivery: &Delivery) -> Result<Value
     ensures fits { OnOk result (FitsDelivery delivery.now) }
 {
     let method = delivery.method;
-    let mut object = write_leaves(
-        alloc,
-        &[
-            ("interface", Leaf::Number(delivery.interface)),
-            ("k", Leaf::Text("delivered")),
-            ("method", Leaf::Number(u64::from(method))),
-            ("object", Leaf::Number(delivery.object.0)),
-            ("task", Leaf::Number(delivery.task.0)),
-            ("vat", Leaf::Text(name_of_vat(vat))),
-        ],
-    )?;
-    put(
-        &mut object,
-        alloc,
-        "payload",
-        write_payload(alloc, &delivery.payload)?,
-    )?;
-    put(
-        &mut object,
-        alloc,
-        "refs",
-        write_list(alloc, delivery.refs.as_slice())?,
-    )?;
-    put(
-        &mut object,
-        alloc,
-        "stamp",
-        write_stamp(alloc, &delivery.stamp)?,
-    )?;
-    Ok(Value::Object(object))
+    let numbers = &[
+        ("interface", delivery.interface),
+        ("method", u64::from(method)),
+        ("object", delivery.object.0),
+        ("task", delivery.task.0),
+    ];
+    let mut members = write_event(alloc, "delivered", vat, numbers)?;
+    put_part(&mut members, alloc, "payload", &delivery.payload)?;
+    put_part(&mut members, alloc, "refs", &delivery.refs)?;
+    add_part(members, alloc, "stamp", &delivery.stamp)
 }
 
 fn write_answered(
@@ -137,54 +79,23 @@ fn write_answered(
     vat: Vat,
     task: TaskId,
     outcome: &Outcome,
-    refs: &[RefId],
+    refs: &Items<RefId>,
 ) -> Result<Value, AllocError>
     ensures is { IfOk result (λ v. view v ≡ answered_by in_base64 vat task outcome.now refs.now) }
     ensures fits { OnOk result (FitsOutcome outcome.now) }
 {
-    let mut object = write_leaves(
-        alloc,
-        &[
-            ("k", Leaf::Text("answered")),
-            ("task", Leaf::Number(task.0)),
-            ("vat", Leaf::Text(name_of_vat(vat))),
-        ],
-    )?;
-    put(
-        &mut object,
-        alloc,
-        "outcome",
-        write_outcome(alloc, outcome)?,
-    )?;
-    put(&mut object, alloc, "refs", write_list(alloc, refs)?)?;
-    Ok(Value::Object(object))
+    let mut members = write_event(alloc, "answered", vat, &[("task", task.0)])?;
+    put_part(&mut members, alloc, "outcome", outcome)?;
+    add_part(members, alloc, "refs", refs)
 }
 
 fn write_ended(alloc: Global, vat: Vat, ended: &Ended) -> Result<Value, AllocError>
     ensures is { IfOk result (λ v. view v ≡ ended_by in_base64 vat ended.now) }
     ensures fits { OnOk result (FitsOutcome ended.now.outcome) }
 {
-    let mut object = write_leaves(
-        alloc,
-        &[
-            ("call", Leaf::Number(ended.call.0)),
-            ("k", Leaf::Text("ended")),
-            ("vat", Leaf::Text(name_of_vat(vat))),
-        ],
-    )?;
-    put(
-        &mut object,
-        alloc,
-        "outcome",
-        write_outcome(alloc, &ended.outcome)?,
-    )?;
-    put(
-        &mut object,
-        alloc,
-        "refs",
-        write_list(alloc, ended.refs.as_slice())?,
-    )?;
-    Ok(Value::Object(object))
+    let mut members = write_event(alloc, "ended", vat, &[("call", ended.call.0)])?;
+    put_part(&mut members, alloc, "outcome", &ended.outcome)?;
+    add_part(members, alloc, "refs", &ended.refs)
 }
 
 fn write_resolved(
@@ -195,15 +106,8 @@ fn write_resolved(
 ) -> Result<Value, AllocError>
     ensures { IfOk result (λ v. view v ≡ resolved_promise_data vat promise reference) }
 {
-    write_flat(
-        alloc,
-        &[
-            ("k", Leaf::Text("resolved")),
-            ("promise", Leaf::Number(promise.0)),
-            ("ref", Leaf::Number(reference.0)),
-            ("vat", Leaf::Text(name_of_vat(vat))),
-        ],
-    )
+    let numbers = &[("promise", promise.0), ("ref", reference.0)];
+    write_flat_event(alloc, "resolved", vat, numbers)
 }
 
 fn write_rejected(
@@ -214,75 +118,39 @@ fn write_rejected(
 ) -> Result<Value, AllocError>
     ensures { IfOk result (λ v. view v ≡ rejected_data vat promise exception.now) }
 {
-    let members = write_leaves(
-        alloc,
-        &[
-            ("k", Leaf::Text("rejected")),
-            ("promise", Leaf::Number(promise.0)),
-            ("vat", Leaf::Text(name_of_vat(vat))),
-        ],
-    )?;
-    let exception = write_exception(alloc, exception)?;
-    add_member(members, alloc, "exception", exception)
+    let members = write_event(alloc, "rejected", vat, &[("promise", promise.0)])?;
+    add_part(members, alloc, "exception", exception)
 }
 
 fn write_dropped(alloc: Global, vat: Vat, reference: RefId) -> Result<Value, AllocError>
     ensures { IfOk result (λ v. view v ≡ dropped_data vat reference) }
 {
-    write_flat(
-        alloc,
-        &[
-            ("k", Leaf::Text("dropped")),
-            ("ref", Leaf::Number(reference.0)),
-            ("vat", Leaf::Text(name_of_vat(vat))),
-        ],
-    )
+    write_flat_event(alloc, "dropped", vat, &[("ref", reference.0)])
 }
 
 fn write_finished(alloc: Global, vat: Vat, call: CallId) -> Result<Value, AllocError>
     ensures { IfOk result (λ v. view v ≡ finished_data vat call) }
 {
-    write_flat(
-        alloc,
-        &[
-            ("call", Leaf::Number(call.0)),
-            ("k", Leaf::Text("finished")),
-            ("vat", Leaf::Text(name_of_vat(vat))),
-        ],
-    )
+    write_flat_event(alloc, "finished", vat, &[("call", call.0)])
 }
 
 fn write_advanced(
     alloc: Global,
     vat: Vat,
     reference: RefId,
-    advanced: Advanced,
+    advanced: &Advanced,
 ) -> Result<Value, AllocError>
-    ensures { IfOk result (λ v. view v ≡ advanced_data vat reference advanced) }
+    ensures { IfOk result (λ v. view v ≡ advanced_data vat reference advanced.now) }
 {
-    write_flat(
-        alloc,
-        &[
-            ("answer", Leaf::Text(name_of_advanced(advanced))),
-            ("k", Leaf::Text("advanced")),
-            ("ref", Leaf::Number(reference.0)),
-            ("vat", Leaf::Text(name_of_vat(vat))),
-        ],
-    )
+    let members = write_event(alloc, "advanced", vat, &[("ref", reference.0)])?;
+    add_part(members, alloc, "answer", advanced)
 }
 
 fn write_refused(alloc: Global, vat: Vat, code: u16) -> Result<Value, AllocError>
     ensures is { IfOk result (λ v. view v ≡ refused_data vat code) }
     ensures fits { OnOk result (FitsU16 code) }
 {
-    write_flat(
-        alloc,
-        &[
-            ("code", Leaf::Number(u64::from(code))),
-            ("k", Leaf::Text("refused")),
-            ("vat", Leaf::Text(name_of_vat(vat))),
-        ],
-    )
+    write_flat_event(alloc, "refused", vat, &[("code", u64::from(code))])
 }
 
 fn write_sent(
@@ -294,11 +162,7 @@ fn write_sent(
     ensures is { IfOk result (λ v. view v ≡ sent_by version in_base64 vat message.now) }
     ensures fits { OnOk result (FitsMessage TraceVersion.Two message.now) }
 {
-    let leaves = &[
-        ("k", Leaf::Text("sent")),
-        ("vat", Leaf::Text(name_of_vat(vat))),
-    ];
-    let members = write_leaves(alloc, leaves)?;
+    let members = write_event(alloc, "sent", vat, &[])?;
     let message = write_message(alloc, message, version)?;
     add_member(members, alloc, "message", message)
 }
@@ -306,37 +170,24 @@ fn write_sent(
 fn write_got(alloc: Global, vat: Vat) -> Result<Value, AllocError>
     ensures { IfOk result (λ v. view v ≡ got_data vat) }
 {
-    write_flat(
-        alloc,
-        &[
-            ("k", Leaf::Text("got")),
-            ("vat", Leaf::Text(name_of_vat(vat))),
-        ],
-    )
+    write_flat_event(alloc, "got", vat, &[])
 }
 
 fn write_down(alloc: Global, vat: Vat, fault: u16) -> Result<Value, AllocError>
     ensures is { IfOk result (λ v. view v ≡ down_data vat fault) }
     ensures fits { OnOk result (FitsU16 fault) }
 {
-    write_flat(
-        alloc,
-        &[
-            ("fault", Leaf::Number(u64::from(fault))),
-            ("k", Leaf::Text("down")),
-            ("vat", Leaf::Text(name_of_vat(vat))),
-        ],
-    )
+    write_flat_event(alloc, "down", vat, &[("fault", u64::from(fault))])
 }
 
 fn write_tables(alloc: Global, a: &Counts, b: &Counts) -> Result<Value, AllocError>
     ensures is { IfOk result (λ v. view v ≡ tables_data a.now b.now) }
     ensures fits { OnOk result (FitsCounts a.now × FitsCounts b.now) }
 {
-    let mut members = write_leaves(alloc, &[("k", Leaf::Text("tables"))])?;
-    put(&mut members, alloc, "a", write_counts(alloc, a)?)?;
-    let b = write_counts(alloc, b)?;
-    add_member(members, alloc, "b", b)
+    let mut members = Map::new(alloc);
+    put_text(&mut members, alloc, "k", "tables")?;
+    put_part(&mut members, alloc, "a", a)?;
+    add_part(members, alloc, "b", b)
 }
 
 pub(crate) fn write_entry(
@@ -354,7 +205,7 @@ pub(crate) fn write_entry(
         JournalEntry::Made(vat, made) => write_made(alloc, *vat, made),
         JournalEntry::Delivered(vat, delivery) => write_delivered(alloc, *vat, delivery),
         JournalEntry::Answered(vat, task, outcome, refs) => {
-            write_answered(alloc, *vat, *task, outcome, refs.as_slice())
+            write_answered(alloc, *vat, *task, outcome, refs)
         }
         JournalEntry::Ended(vat, ended) => write_ended(alloc, *vat, ended),
         JournalEntry::Resolved(vat, promise, reference) => {
@@ -366,7 +217,7 @@ pub(crate) fn write_entry(
         JournalEntry::Dropped(vat, reference) => write_dropped(alloc, *vat, *reference),
         JournalEntry::Finished(vat, call) => write_finished(alloc, *vat, *call),
         JournalEntry::Advanced(vat, reference, advanced) => {
-            write_advanced(alloc, *vat, *reference, *advanced)
+            write_advanced(alloc, *vat, *reference, advanced)
         }
         JournalEntry::Refused(vat, code) => write_refused(alloc, *vat, *code),
         JournalEntry::Sent(vat, message) => write_sent(alloc, *vat, message, version),

@@ -1,26 +1,16 @@
 ghost use Rattle.std.specs.Prelude.{◌≡◌, IfOk, OnOk};
-ghost use Rattle.serde_json.specs.Data.{Data};
 ghost use Rattle.serde_json.specs.View.{view};
-ghost use Rattle.trace_write.specs.Parts.{list, reference_data, op_data, pair_data, descriptor_data};
-ghost use Rattle.trace_write.specs.Fits.{FitsAny, FitsAll, FitsOp, FitsPair, FitsDescriptor};
+ghost use Rattle.trace_write.specs.Parts.{list, path_data, reference_data, op_data, pair_data, descriptor_data};
+ghost use Rattle.trace_write.specs.Fits.{FitsAny, FitsAll, FitsPath, FitsOp, FitsPair, FitsDescriptor};
 
-use crate::write_parts::{write_answer_place, write_number, write_only};
-use rpc_msg::{Descriptor, ExportId, Op, RefId};
-use serde_json::{Value, json};
+use crate::part::Part;
+use crate::write_members::{write_number, write_only};
+use crate::write_parts::write_answer_place;
+use rpc_msg::{Descriptor, ExportId, Items, Op, Path, RefId};
+use serde_json::{ToValue, Value};
 use std::alloc::{AllocError, Global};
 
-/// What stands in a list.
-pub(crate) trait Part {
-    ghost shown: { Self → Data };
-
-    ghost fits: { Self → Type 0 };
-
-    fn write(&self, alloc: Global) -> Result<Value, AllocError>
-        ensures is { IfOk result (λ v. view v ≡ shown self.now) }
-        ensures fits { OnOk result (fits self.now) };
-}
-
-pub(crate) fn write_list<T: Part>(alloc: Global, parts: &[T]) -> Result<Value, AllocError>
+fn write_list<T: Part>(alloc: Global, parts: &[T]) -> Result<Value, AllocError>
     ensures is { IfOk result (λ v. view v ≡ list T.shown parts.now) }
     ensures fits { OnOk result (FitsAll T.fits parts.now) }
 {
@@ -29,6 +19,26 @@ pub(crate) fn write_list<T: Part>(alloc: Global, parts: &[T]) -> Result<Value, A
         values.push(part.write(alloc)?)?;
     }
     Ok(Value::Array(values))
+}
+
+impl<T: Part> Part for Items<T> {
+    ghost shown = { list T.shown };
+
+    ghost fits = { FitsAll T.fits };
+
+    fn write(&self, alloc: Global) -> Result<Value, AllocError> {
+        write_list(alloc, self.as_slice())
+    }
+}
+
+impl Part for Path {
+    ghost shown = { path_data };
+
+    ghost fits = { FitsPath };
+
+    fn write(&self, alloc: Global) -> Result<Value, AllocError> {
+        write_list(alloc, self.as_slice())
+    }
 }
 
 impl Part for RefId {
@@ -60,7 +70,8 @@ impl Part for (ExportId, u32) {
     ghost fits = { FitsPair };
 
     fn write(&self, alloc: Global) -> Result<Value, AllocError> {
-        json!(in alloc; [self.0.0, self.1])
+        let pair = vec![in alloc; Value::from(self.0.0), Value::from(self.1)]?;
+        Ok(Value::Array(pair))
     }
 }
 
@@ -71,12 +82,12 @@ impl Part for Descriptor {
 
     fn write(&self, alloc: Global) -> Result<Value, AllocError> {
         match self {
-            Descriptor::None => json!(in alloc; "none"),
+            Descriptor::None => "none".to_value(alloc),
             Descriptor::SenderHosted(id) => write_number(alloc, "senderHosted", id.0),
             Descriptor::SenderPromise(id) => write_number(alloc, "senderPromise", id.0),
             Descriptor::ReceiverHosted(id) => write_number(alloc, "receiverHosted", id.0),
             Descriptor::ReceiverAnswer(question, path) => {
-                let answer = write_answer_place(alloc, *question, path.as_slice())?;
+                let answer = write_answer_place(alloc, *question, path)?;
                 write_only(alloc, "receiverAnswer", answer)
             }
         }

@@ -1,58 +1,77 @@
-ghost use Rattle.std.specs.Prelude.{◌≡◌, IfOk, OnOk, map};
-ghost use Rattle.serde_json.specs.Data.{put as with_member, no_members, object};
+ghost use Rattle.std.specs.Prelude.{◌≡◌, codes, IfOk, OnOk, map};
+ghost use Rattle.serde_json.specs.Data.{put as with_member, no_members, object, string};
 ghost use Rattle.serde_json.specs.View.{view, members_view};
-ghost use Rattle.trace_write.specs.Members.{leaf_data, with_all};
+ghost use Rattle.trace_write.specs.Parts.{nat, only, vat_data};
+ghost use Rattle.trace_write.specs.Members.{with_all};
+ghost use Rattle.trace_write.specs.Fits.{FitsU32};
 
-use serde_json::{Map, Value, json, put};
+use crate::write_parts::name_of_vat;
+use rpc_msg::Vat;
+use serde_json::{Map, ToValue, Value, put};
 use std::alloc::{AllocError, Global};
 
-/// A value without parts.
-#[derive(Clone, Copy)]
-pub(crate) enum Leaf<'a> {
-    Number(u64),
-    Text(&'a str),
-}
-
-fn write_leaf(alloc: Global, leaf: &Leaf<'_>) -> Result<Value, AllocError>
-    ensures { IfOk result (λ v. view v ≡ leaf_data leaf.now) }
-{
-    match leaf {
-        Leaf::Number(number) => Ok(Value::from(*number)),
-        Leaf::Text(text) => json!(in alloc; *text),
-    }
-}
-
-fn put_leaf(
-    members: &mut Map<String, Value>,
+/// The members of an object that are numbers. Others can be put beside them, in any order.
+pub(crate) fn write_numbers(
     alloc: Global,
-    key: &str,
-    leaf: &Leaf<'_>,
-) -> Result<(), AllocError>
-    ensures { OnOk result (members_view members.new.entries ≡ with_member key.now (leaf_data leaf.now) (members_view members.old.entries)) }
-{
-    let value = write_leaf(alloc, leaf)?;
-    put(members, alloc, key, value)
-}
-
-/// The members of an object that have no parts. Others can be put beside them, in any order.
-pub(crate) fn write_leaves(
-    alloc: Global,
-    leaves: &[(&str, Leaf<'_>)],
+    numbers: &[(&str, u64)],
 ) -> Result<Map<String, Value>, AllocError>
-    ensures { IfOk result (λ m. members_view m.entries ≡ with_all (map (λ l. (l.0.now, leaf_data l.1)) leaves.now) no_members) }
+    ensures { IfOk result (λ m. members_view m.entries ≡ with_all (map (λ n. (n.0.now, nat n.1)) numbers.now) no_members) }
 {
     let mut members = Map::new(alloc);
-    for (key, leaf) in leaves {
-        put_leaf(&mut members, alloc, key, leaf)?;
+    for (key, number) in numbers {
+        put(&mut members, alloc, key, Value::from(*number))?;
     }
     Ok(members)
 }
 
-/// An object whose members have no parts.
-pub(crate) fn write_flat(alloc: Global, leaves: &[(&str, Leaf<'_>)]) -> Result<Value, AllocError>
-    ensures { IfOk result (λ v. view v ≡ object (with_all (map (λ l. (l.0.now, leaf_data l.1)) leaves.now) no_members)) }
+/// An object of numbers.
+pub(crate) fn write_flat(alloc: Global, numbers: &[(&str, u64)]) -> Result<Value, AllocError>
+    ensures { IfOk result (λ v. view v ≡ object (with_all (map (λ n. (n.0.now, nat n.1)) numbers.now) no_members)) }
 {
-    let members = write_leaves(alloc, leaves)?;
+    let members = write_numbers(alloc, numbers)?;
+    Ok(Value::Object(members))
+}
+
+/// Puts a text beside an object's members.
+pub(crate) fn put_text(
+    members: &mut Map<String, Value>,
+    alloc: Global,
+    key: &str,
+    text: &str,
+) -> Result<(), AllocError>
+    ensures { OnOk result (members_view members.new.entries ≡ with_member key.now (string text.now) (members_view members.old.entries)) }
+{
+    let value = text.to_value(alloc)?;
+    put(members, alloc, key, value)
+}
+
+/// The members that a vat's entry of that kind has: the vat, the kind, and numbers. Others can be put beside them.
+pub(crate) fn write_event(
+    alloc: Global,
+    kind: &str,
+    vat: Vat,
+    numbers: &[(&str, u64)],
+) -> Result<Map<String, Value>, AllocError>
+    ensures { IfOk result (λ m. members_view m.entries ≡ with_member (codes "vat") (vat_data vat) (
+        with_member (codes "k") (string kind.now) (with_all (map (λ n. (n.0.now, nat n.1)) numbers.now) no_members))) }
+{
+    let mut members = write_numbers(alloc, numbers)?;
+    put_text(&mut members, alloc, "k", kind)?;
+    put_text(&mut members, alloc, "vat", name_of_vat(vat))?;
+    Ok(members)
+}
+
+/// A vat's entry of that kind, of which nothing is said but numbers.
+pub(crate) fn write_flat_event(
+    alloc: Global,
+    kind: &str,
+    vat: Vat,
+    numbers: &[(&str, u64)],
+) -> Result<Value, AllocError>
+    ensures { IfOk result (λ v. view v ≡ object (with_member (codes "vat") (vat_data vat) (
+        with_member (codes "k") (string kind.now) (with_all (map (λ n. (n.0.now, nat n.1)) numbers.now) no_members)))) }
+{
+    let members = write_event(alloc, kind, vat, numbers)?;
     Ok(Value::Object(members))
 }
 
@@ -67,4 +86,19 @@ pub(crate) fn add_member(
 {
     put(&mut members, alloc, key, value)?;
     Ok(Value::Object(members))
+}
+
+/// An object of one member.
+pub(crate) fn write_only(alloc: Global, key: &str, value: Value) -> Result<Value, AllocError>
+    ensures { IfOk result (λ v. view v ≡ only key.now (view value)) }
+{
+    add_member(Map::new(alloc), alloc, key, value)
+}
+
+/// An object of one member, a number.
+pub(crate) fn write_number(alloc: Global, key: &str, number: u32) -> Result<Value, AllocError>
+    ensures is { IfOk result (λ v. view v ≡ only key.now (nat number)) }
+    ensures fits { OnOk result (FitsU32 number) }
+{
+    write_only(alloc, key, Value::from(number))
 }

@@ -1,79 +1,83 @@
-ghost use Rattle.std.specs.Prelude.{◌≡◌, IfOk, OnOk};
-ghost use Rattle.serde_json.specs.View.{view};
-ghost use Rattle.trace_write.specs.Parts.{in_base64};
+ghost use Rattle.std.specs.Prelude.{◌≡◌, codes, IfOk, OnOk};
+ghost use Rattle.serde_json.specs.Data.{put as with_member, object, member, no_members};
+ghost use Rattle.serde_json.specs.View.{view, members_view};
+ghost use Rattle.trace_write.specs.Parts.{list, descriptor_data, payload_data, in_base64};
 ghost use Rattle.trace_write.specs.Messages.{call_by, body_by, return_by, finish_data, resolved_data, resolve_data, release_data, context_data, disembargo_data, plain_by, message_by};
-ghost use Rattle.trace_write.specs.Fits.{FitsCall, FitsBody, FitsReturn, FitsFinish, FitsResolved, FitsResolve, FitsRelease, FitsContext, FitsDisembargo, FitsPlain, FitsMessage};
+ghost use Rattle.trace_write.specs.Fits.{FitsAll, FitsPayload, FitsCall, FitsBody, FitsReturn, FitsFinish, FitsResolved, FitsResolve, FitsRelease, FitsContext, FitsDisembargo, FitsDescriptor, FitsPlain, FitsMessage};
 
+use crate::part::{Part, add_part, put_part, write_under};
 use crate::version::TraceVersion;
-use crate::write_lists::{Part, write_list};
-use crate::write_members::{Leaf, add_member, write_flat, write_leaves};
-use crate::write_parts::{
-    write_exception, write_number, write_only, write_payload, write_stamp, write_target,
-};
+use crate::write_members::{add_member, write_flat, write_number, write_numbers, write_only};
 use rpc_msg::{
-    Call, Disembargo, DisembargoContext, Finish, Message, PlainMessage, Release, Resolve,
-    ResolvedTo, Return, ReturnBody,
+    Call, Descriptor, Disembargo, DisembargoContext, Finish, Items, Message, Payload, PlainMessage,
+    Release, Resolve, ResolvedTo, Return, ReturnBody,
 };
-use serde_json::{Map, Value, json, put};
+use serde_json::{Map, ToValue, Value};
 use std::alloc::{AllocError, Global};
 
-fn write_call(alloc: Global, call: &Call) -> Result<Value, AllocError>
-    ensures is { IfOk result (λ v. view v ≡ call_by in_base64 call.now) }
-    ensures fits { OnOk result (FitsCall call.now) }
+/// Puts a payload and its capabilities beside an object's members.
+fn put_content(
+    members: &mut Map<String, Value>,
+    alloc: Global,
+    payload: &Payload,
+    descriptors: &Items<Descriptor>,
+) -> Result<(), AllocError>
+    ensures is { OnOk result (members_view members.new.entries ≡ with_member (codes "payload") (payload_data (in_base64 payload.now)) (
+        with_member (codes "caps") (list descriptor_data descriptors.now) (members_view members.old.entries))) }
+    ensures fits { OnOk result (FitsAll FitsDescriptor descriptors.now × FitsPayload payload.now) }
 {
-    let method = call.method;
-    let question = call.question.0;
-    let mut object = write_leaves(
-        alloc,
-        &[
-            ("interface", Leaf::Number(call.interface)),
-            ("method", Leaf::Number(u64::from(method))),
-            ("question", Leaf::Number(u64::from(question))),
-        ],
-    )?;
-    put(
-        &mut object,
-        alloc,
-        "caps",
-        write_list(alloc, call.descriptors.as_slice())?,
-    )?;
-    put(
-        &mut object,
-        alloc,
-        "payload",
-        write_payload(alloc, &call.payload)?,
-    )?;
-    put(
-        &mut object,
-        alloc,
-        "stamp",
-        write_stamp(alloc, &call.stamp)?,
-    )?;
-    put(
-        &mut object,
-        alloc,
-        "target",
-        write_target(alloc, &call.target)?,
-    )?;
-    Ok(Value::Object(object))
+    put_part(members, alloc, "caps", descriptors)?;
+    put_part(members, alloc, "payload", payload)
 }
 
-fn write_body(alloc: Global, body: &ReturnBody) -> Result<Value, AllocError>
-    ensures is { IfOk result (λ v. view v ≡ body_by in_base64 body.now) }
-    ensures fits { OnOk result (FitsBody body.now) }
+impl Part for Call {
+    ghost shown = { call_by in_base64 };
+
+    ghost fits = { FitsCall };
+
+    fn write(&self, alloc: Global) -> Result<Value, AllocError> {
+        let method = self.method;
+        let question = self.question.0;
+        let numbers = &[
+            ("interface", self.interface),
+            ("method", u64::from(method)),
+            ("question", u64::from(question)),
+        ];
+        let mut members = write_numbers(alloc, numbers)?;
+        put_content(&mut members, alloc, &self.payload, &self.descriptors)?;
+        put_part(&mut members, alloc, "stamp", &self.stamp)?;
+        add_part(members, alloc, "target", &self.target)
+    }
+}
+
+fn write_results(
+    alloc: Global,
+    payload: &Payload,
+    descriptors: &Items<Descriptor>,
+) -> Result<Value, AllocError>
+    ensures is { IfOk result (λ v. view v ≡ object (member (codes "caps") (list descriptor_data descriptors.now) (
+        member (codes "payload") (payload_data (in_base64 payload.now)) no_members))) }
+    ensures fits { OnOk result (FitsAll FitsDescriptor descriptors.now × FitsPayload payload.now) }
 {
-    match body {
-        ReturnBody::Results(payload, descriptors) => {
-            let caps = write_list(alloc, descriptors.as_slice())?;
-            let payload = write_payload(alloc, payload)?;
-            let results = json!(in alloc; {"caps": caps, "payload": payload})?;
-            write_only(alloc, "results", results)
+    let mut members = Map::new(alloc);
+    put_content(&mut members, alloc, payload, descriptors)?;
+    Ok(Value::Object(members))
+}
+
+impl Part for ReturnBody {
+    ghost shown = { body_by in_base64 };
+
+    ghost fits = { FitsBody };
+
+    fn write(&self, alloc: Global) -> Result<Value, AllocError> {
+        match self {
+            ReturnBody::Results(payload, descriptors) => {
+                let results = write_results(alloc, payload, descriptors)?;
+                write_only(alloc, "results", results)
+            }
+            ReturnBody::Exception(exception) => write_under(alloc, "exception", exception),
+            ReturnBody::Canceled => "canceled".to_value(alloc),
         }
-        ReturnBody::Exception(exception) => {
-            let exception = write_exception(alloc, exception)?;
-            write_only(alloc, "exception", exception)
-        }
-        ReturnBody::Canceled => json!(in alloc; "canceled"),
     }
 }
 
@@ -81,9 +85,9 @@ fn write_return(alloc: Global, said: &Return, version: TraceVersion) -> Result<V
     ensures is { IfOk result (λ v. view v ≡ return_by version in_base64 said.now) }
     ensures fits { OnOk result (FitsReturn TraceVersion.Two said.now) }
 {
-    let answer = said.answer.0;
-    let mut members = write_leaves(alloc, &[("answer", Leaf::Number(u64::from(answer)))])?;
-    put(&mut members, alloc, "body", write_body(alloc, &said.body)?)?;
+    let answer = u64::from(said.answer.0);
+    let mut members = write_numbers(alloc, &[("answer", answer)])?;
+    put_part(&mut members, alloc, "body", &said.body)?;
     let flag = Value::Bool(said.release_param_caps);
     match version {
         TraceVersion::One => add_member(members, alloc, "release", flag),
@@ -95,8 +99,8 @@ fn write_finish(alloc: Global, finish: &Finish, version: TraceVersion) -> Result
     ensures is { IfOk result (λ v. view v ≡ finish_data version finish.now) }
     ensures fits { OnOk result (FitsFinish TraceVersion.Two finish.now) }
 {
-    let question = Leaf::Number(u64::from(finish.question.0));
-    let members = write_leaves(alloc, &[("question", question)])?;
+    let question = u64::from(finish.question.0);
+    let members = write_numbers(alloc, &[("question", question)])?;
     let flag = Value::Bool(finish.release_result_caps);
     match version {
         TraceVersion::One => add_member(members, alloc, "release", flag),
@@ -104,70 +108,68 @@ fn write_finish(alloc: Global, finish: &Finish, version: TraceVersion) -> Result
     }
 }
 
-fn write_resolved(alloc: Global, to: &ResolvedTo) -> Result<Value, AllocError>
-    ensures is { IfOk result (λ v. view v ≡ resolved_data to.now) }
-    ensures fits { OnOk result (FitsResolved to.now) }
-{
-    match to {
-        ResolvedTo::Cap(descriptor) => {
-            let descriptor = descriptor.write(alloc)?;
-            write_only(alloc, "cap", descriptor)
-        }
-        ResolvedTo::Exception(exception) => {
-            let exception = write_exception(alloc, exception)?;
-            write_only(alloc, "exception", exception)
+impl Part for ResolvedTo {
+    ghost shown = { resolved_data };
+
+    ghost fits = { FitsResolved };
+
+    fn write(&self, alloc: Global) -> Result<Value, AllocError> {
+        match self {
+            ResolvedTo::Cap(descriptor) => write_under(alloc, "cap", descriptor),
+            ResolvedTo::Exception(exception) => write_under(alloc, "exception", exception),
         }
     }
 }
 
-fn write_resolve(alloc: Global, resolve: &Resolve) -> Result<Value, AllocError>
-    ensures is { IfOk result (λ v. view v ≡ resolve_data resolve.now) }
-    ensures fits { OnOk result (FitsResolve resolve.now) }
-{
-    let promise = resolve.promise.0;
-    let members = write_leaves(alloc, &[("promise", Leaf::Number(u64::from(promise)))])?;
-    let to = write_resolved(alloc, &resolve.to)?;
-    add_member(members, alloc, "to", to)
-}
+impl Part for Resolve {
+    ghost shown = { resolve_data };
 
-fn write_release(alloc: Global, release: &Release) -> Result<Value, AllocError>
-    ensures is { IfOk result (λ v. view v ≡ release_data release.now) }
-    ensures fits { OnOk result (FitsRelease release.now) }
-{
-    let count = release.count;
-    let export = release.export.0;
-    write_flat(
-        alloc,
-        &[
-            ("count", Leaf::Number(u64::from(count))),
-            ("id", Leaf::Number(u64::from(export))),
-        ],
-    )
-}
+    ghost fits = { FitsResolve };
 
-fn write_context(alloc: Global, context: &DisembargoContext) -> Result<Value, AllocError>
-    ensures is { IfOk result (λ v. view v ≡ context_data context.now) }
-    ensures fits { OnOk result (FitsContext context.now) }
-{
-    match context {
-        DisembargoContext::SenderLoopback(id) => write_number(alloc, "senderLoopback", id.0),
-        DisembargoContext::ReceiverLoopback(id) => write_number(alloc, "receiverLoopback", id.0),
+    fn write(&self, alloc: Global) -> Result<Value, AllocError> {
+        let promise = u64::from(self.promise.0);
+        let members = write_numbers(alloc, &[("promise", promise)])?;
+        add_part(members, alloc, "to", &self.to)
     }
 }
 
-fn write_disembargo(alloc: Global, disembargo: &Disembargo) -> Result<Value, AllocError>
-    ensures is { IfOk result (λ v. view v ≡ disembargo_data disembargo.now) }
-    ensures fits { OnOk result (FitsDisembargo disembargo.now) }
-{
-    let mut members = Map::new(alloc);
-    put(
-        &mut members,
-        alloc,
-        "context",
-        write_context(alloc, &disembargo.context)?,
-    )?;
-    let target = write_target(alloc, &disembargo.target)?;
-    add_member(members, alloc, "target", target)
+impl Part for Release {
+    ghost shown = { release_data };
+
+    ghost fits = { FitsRelease };
+
+    fn write(&self, alloc: Global) -> Result<Value, AllocError> {
+        let count = u64::from(self.count);
+        let export = u64::from(self.export.0);
+        write_flat(alloc, &[("count", count), ("id", export)])
+    }
+}
+
+impl Part for DisembargoContext {
+    ghost shown = { context_data };
+
+    ghost fits = { FitsContext };
+
+    fn write(&self, alloc: Global) -> Result<Value, AllocError> {
+        match self {
+            DisembargoContext::SenderLoopback(id) => write_number(alloc, "senderLoopback", id.0),
+            DisembargoContext::ReceiverLoopback(id) => {
+                write_number(alloc, "receiverLoopback", id.0)
+            }
+        }
+    }
+}
+
+impl Part for Disembargo {
+    ghost shown = { disembargo_data };
+
+    ghost fits = { FitsDisembargo };
+
+    fn write(&self, alloc: Global) -> Result<Value, AllocError> {
+        let mut members = Map::new(alloc);
+        put_part(&mut members, alloc, "context", &self.context)?;
+        add_part(members, alloc, "target", &self.target)
+    }
 }
 
 fn write_plain(
@@ -179,18 +181,12 @@ fn write_plain(
     ensures fits { OnOk result (FitsPlain TraceVersion.Two message.now) }
 {
     match message {
-        PlainMessage::Abort(exception) => {
-            let exception = write_exception(alloc, exception)?;
-            write_only(alloc, "abort", exception)
-        }
+        PlainMessage::Abort(exception) => write_under(alloc, "abort", exception),
         PlainMessage::Bootstrap(question) => {
             let bootstrap = write_number(alloc, "question", question.0)?;
             write_only(alloc, "bootstrap", bootstrap)
         }
-        PlainMessage::Call(call) => {
-            let call = write_call(alloc, call)?;
-            write_only(alloc, "call", call)
-        }
+        PlainMessage::Call(call) => write_under(alloc, "call", call),
         PlainMessage::Return(said) => {
             let said = write_return(alloc, said, version)?;
             write_only(alloc, "return", said)
@@ -199,18 +195,9 @@ fn write_plain(
             let finish = write_finish(alloc, finish, version)?;
             write_only(alloc, "finish", finish)
         }
-        PlainMessage::Resolve(resolve) => {
-            let resolve = write_resolve(alloc, resolve)?;
-            write_only(alloc, "resolve", resolve)
-        }
-        PlainMessage::Release(release) => {
-            let release = write_release(alloc, release)?;
-            write_only(alloc, "release", release)
-        }
-        PlainMessage::Disembargo(disembargo) => {
-            let disembargo = write_disembargo(alloc, disembargo)?;
-            write_only(alloc, "disembargo", disembargo)
-        }
+        PlainMessage::Resolve(resolve) => write_under(alloc, "resolve", resolve),
+        PlainMessage::Release(release) => write_under(alloc, "release", release),
+        PlainMessage::Disembargo(disembargo) => write_under(alloc, "disembargo", disembargo),
         PlainMessage::Other(number) => write_only(alloc, "other", Value::from(*number)),
     }
 }

@@ -1,13 +1,16 @@
-ghost use Rattle.std.specs.Prelude.{◌≡◌, IfOk, OnOk};
+ghost use Rattle.std.specs.Prelude.{◌≡◌, codes, IfOk, OnOk};
+ghost use Rattle.serde_json.specs.Data.{string, object, member, no_members};
 ghost use Rattle.serde_json.specs.View.{view};
-ghost use Rattle.trace_write.specs.Parts.{nat, only, vat_name, kind_name, advanced_name, answer_data, target_data, stamp_data, payload_data, in_base64, exception_data, outcome_by, origin_data, counts_data};
-ghost use Rattle.trace_write.specs.Fits.{FitsU32, FitsAll, FitsOp, FitsTarget, FitsPayload, FitsOutcome, FitsOrigin, FitsCounts};
+ghost use Rattle.trace_write.specs.Parts.{nat, vat_name, vat_data, kind_name, advanced_name, path_data, answer_data, target_data, stamp_data, payload_data, in_base64, exception_data, outcome_by, origin_data, counts_data};
+ghost use Rattle.trace_write.specs.Fits.{FitsAny, FitsU32, FitsAnswer, FitsPath, FitsTarget, FitsPayload, FitsOutcome, FitsOrigin, FitsCounts};
 
-use crate::write_lists::write_list;
-use crate::write_members::{Leaf, add_member, write_flat, write_leaves};
+use crate::part::{Part, add_part, put_part, write_under};
+use crate::write_members::{add_member, write_number, write_numbers, write_only};
 use base64::engine::general_purpose::STANDARD;
-use rpc_msg::{Exception, ExceptionKind, Op, Payload, QuestionId, Stamp, Target, Vat};
-use serde_json::{Map, Value, json, put};
+use rpc_msg::{
+    CallId, Exception, ExceptionKind, Path, Payload, QuestionId, Stamp, Target, Text, Vat,
+};
+use serde_json::{Map, ToValue, Value};
 use std::alloc::{AllocError, Global};
 use vat_journal::{Advanced, Counts, Origin, Outcome};
 
@@ -31,7 +34,7 @@ fn name_of_kind(kind: ExceptionKind) -> &'static str
     }
 }
 
-pub(crate) fn name_of_advanced(advanced: Advanced) -> &'static str
+fn name_of_advanced(advanced: Advanced) -> &'static str
     ensures { result.now ≡ advanced_name advanced }
 {
     match advanced {
@@ -42,126 +45,159 @@ pub(crate) fn name_of_advanced(advanced: Advanced) -> &'static str
     }
 }
 
-/// An object of one member.
-pub(crate) fn write_only(alloc: Global, key: &str, value: Value) -> Result<Value, AllocError>
-    ensures { IfOk result (λ v. view v ≡ only key.now (view value)) }
-{
-    let mut object = Map::new(alloc);
-    put(&mut object, alloc, key, value)?;
-    Ok(Value::Object(object))
+impl Part for Vat {
+    ghost shown = { vat_data };
+
+    ghost fits = { FitsAny };
+
+    fn write(&self, alloc: Global) -> Result<Value, AllocError> {
+        name_of_vat(*self).to_value(alloc)
+    }
 }
 
-/// An object of one member, a number.
-pub(crate) fn write_number(alloc: Global, key: &str, number: u32) -> Result<Value, AllocError>
-    ensures is { IfOk result (λ v. view v ≡ only key.now (nat number)) }
-    ensures fits { OnOk result (FitsU32 number) }
-{
-    write_only(alloc, key, Value::from(number))
+impl Part for ExceptionKind {
+    ghost shown = { λ k. string (kind_name k) };
+
+    ghost fits = { FitsAny };
+
+    fn write(&self, alloc: Global) -> Result<Value, AllocError> {
+        name_of_kind(*self).to_value(alloc)
+    }
+}
+
+impl Part for Advanced {
+    ghost shown = { λ a. string (advanced_name a) };
+
+    ghost fits = { FitsAny };
+
+    fn write(&self, alloc: Global) -> Result<Value, AllocError> {
+        name_of_advanced(*self).to_value(alloc)
+    }
+}
+
+impl Part for Text {
+    ghost shown = { string };
+
+    ghost fits = { FitsAny };
+
+    fn write(&self, alloc: Global) -> Result<Value, AllocError> {
+        self.as_str().to_value(alloc)
+    }
 }
 
 pub(crate) fn write_answer_place(
     alloc: Global,
     question: QuestionId,
-    path: &[Op],
+    path: &Path,
 ) -> Result<Value, AllocError>
     ensures is { IfOk result (λ v. view v ≡ answer_data question path.now) }
-    ensures fits { OnOk result (FitsU32 question.0 × FitsAll FitsOp path.now) }
+    ensures fits { OnOk result (FitsAnswer (question, path.now)) }
 {
-    let members = write_leaves(alloc, &[("question", Leaf::Number(u64::from(question.0)))])?;
-    let path = write_list(alloc, path)?;
-    add_member(members, alloc, "path", path)
+    let question = u64::from(question.0);
+    let members = write_numbers(alloc, &[("question", question)])?;
+    add_part(members, alloc, "path", path)
 }
 
-pub(crate) fn write_target(alloc: Global, target: &Target) -> Result<Value, AllocError>
-    ensures is { IfOk result (λ v. view v ≡ target_data target.now) }
-    ensures fits { OnOk result (FitsTarget target.now) }
-{
-    match target {
-        Target::ImportedCap(id) => write_number(alloc, "import", id.0),
-        Target::PromisedAnswer(question, path) => {
-            let answer = write_answer_place(alloc, *question, path.as_slice())?;
-            write_only(alloc, "answer", answer)
+impl Part for Target {
+    ghost shown = { target_data };
+
+    ghost fits = { FitsTarget };
+
+    fn write(&self, alloc: Global) -> Result<Value, AllocError> {
+        match self {
+            Target::ImportedCap(id) => write_number(alloc, "import", id.0),
+            Target::PromisedAnswer(question, path) => {
+                let answer = write_answer_place(alloc, *question, path)?;
+                write_only(alloc, "answer", answer)
+            }
         }
     }
 }
 
-pub(crate) fn write_stamp(alloc: Global, stamp: &Stamp) -> Result<Value, AllocError>
-    ensures { IfOk result (λ v. view v ≡ stamp_data stamp.now) }
-{
-    write_flat(
-        alloc,
-        &[
-            ("index", Leaf::Number(stamp.index)),
-            ("ref", Leaf::Number(stamp.reference.0)),
-            ("vat", Leaf::Text(name_of_vat(stamp.vat))),
-        ],
-    )
+impl Part for Stamp {
+    ghost shown = { stamp_data };
+
+    ghost fits = { FitsAny };
+
+    fn write(&self, alloc: Global) -> Result<Value, AllocError> {
+        let members = write_numbers(alloc, &[("index", self.index), ("ref", self.reference.0)])?;
+        add_part(members, alloc, "vat", &self.vat)
+    }
 }
 
-pub(crate) fn write_payload(alloc: Global, payload: &Payload) -> Result<Value, AllocError>
-    ensures is { IfOk result (λ v. view v ≡ payload_data (in_base64 payload.now)) }
-    ensures fits { OnOk result (FitsPayload payload.now) }
-{
-    let caps = payload.caps();
-    let bytes = STANDARD.encode(alloc, payload.bytes())?;
-    json!(in alloc; {"bytes": &bytes, "caps": caps})
+impl Part for Payload {
+    ghost shown = { λ p. payload_data (in_base64 p) };
+
+    ghost fits = { FitsPayload };
+
+    fn write(&self, alloc: Global) -> Result<Value, AllocError> {
+        let caps = self.caps();
+        let bytes = STANDARD.encode(alloc, self.bytes())?;
+        let members = write_numbers(alloc, &[("caps", u64::from(caps))])?;
+        add_member(members, alloc, "bytes", Value::String(bytes))
+    }
 }
 
-pub(crate) fn write_exception(alloc: Global, exception: &Exception) -> Result<Value, AllocError>
-    ensures { IfOk result (λ v. view v ≡ exception_data exception.now) }
-{
-    write_flat(
-        alloc,
-        &[
-            ("kind", Leaf::Text(name_of_kind(exception.kind))),
-            ("reason", Leaf::Text(exception.reason.as_str())),
-        ],
-    )
+impl Part for Exception {
+    ghost shown = { exception_data };
+
+    ghost fits = { FitsAny };
+
+    fn write(&self, alloc: Global) -> Result<Value, AllocError> {
+        let mut members = Map::new(alloc);
+        put_part(&mut members, alloc, "kind", &self.kind)?;
+        add_part(members, alloc, "reason", &self.reason)
+    }
 }
 
-pub(crate) fn write_outcome(alloc: Global, outcome: &Outcome) -> Result<Value, AllocError>
-    ensures is { IfOk result (λ v. view v ≡ outcome_by in_base64 outcome.now) }
-    ensures fits { OnOk result (FitsOutcome outcome.now) }
-{
-    match outcome {
-        Outcome::Results(payload) => {
-            let payload = write_payload(alloc, payload)?;
-            write_only(alloc, "results", payload)
-        }
-        Outcome::Exception(exception) => {
-            let exception = write_exception(alloc, exception)?;
-            write_only(alloc, "exception", exception)
+impl Part for Outcome {
+    ghost shown = { outcome_by in_base64 };
+
+    ghost fits = { FitsOutcome };
+
+    fn write(&self, alloc: Global) -> Result<Value, AllocError> {
+        match self {
+            Outcome::Results(payload) => write_under(alloc, "results", payload),
+            Outcome::Exception(exception) => write_under(alloc, "exception", exception),
         }
     }
 }
 
-pub(crate) fn write_origin(alloc: Global, origin: &Origin) -> Result<Value, AllocError>
-    ensures is { IfOk result (λ v. view v ≡ origin_data origin.now) }
-    ensures fits { OnOk result (FitsOrigin origin.now) }
+/// A place in the results of a call.
+fn write_field(alloc: Global, call: CallId, path: &Path) -> Result<Value, AllocError>
+    ensures is { IfOk result (λ v. view v ≡ object (member (codes "call") (nat call.0) (member (codes "path") (path_data path.now) no_members))) }
+    ensures fits { OnOk result (FitsPath path.now) }
 {
-    match origin {
-        Origin::Object(object) => write_only(alloc, "object", Value::from(object.0)),
-        Origin::Promise(promise) => write_only(alloc, "promise", Value::from(promise.0)),
-        Origin::Clone(reference) => write_only(alloc, "clone", Value::from(reference.0)),
-        Origin::Field(call, path) => {
-            let path = write_list(alloc, path.as_slice())?;
-            let field = json!(in alloc; {"call": call.0, "path": path})?;
-            write_only(alloc, "field", field)
+    let members = write_numbers(alloc, &[("call", call.0)])?;
+    add_part(members, alloc, "path", path)
+}
+
+impl Part for Origin {
+    ghost shown = { origin_data };
+
+    ghost fits = { FitsOrigin };
+
+    fn write(&self, alloc: Global) -> Result<Value, AllocError> {
+        match self {
+            Origin::Object(object) => write_only(alloc, "object", Value::from(object.0)),
+            Origin::Promise(promise) => write_only(alloc, "promise", Value::from(promise.0)),
+            Origin::Clone(reference) => write_only(alloc, "clone", Value::from(reference.0)),
+            Origin::Field(call, path) => {
+                let field = write_field(alloc, *call, path)?;
+                write_only(alloc, "field", field)
+            }
         }
     }
 }
 
-pub(crate) fn write_counts(alloc: Global, counts: &Counts) -> Result<Value, AllocError>
-    ensures is { IfOk result (λ v. view v ≡ counts_data counts.now) }
-    ensures fits { OnOk result (FitsCounts counts.now) }
-{
-    let mut members = Map::new(alloc);
-    put(
-        &mut members,
-        alloc,
-        "exports",
-        write_list(alloc, counts.exports.as_slice())?,
-    )?;
-    let imports = write_list(alloc, counts.imports.as_slice())?;
-    add_member(members, alloc, "imports", imports)
+impl Part for Counts {
+    ghost shown = { counts_data };
+
+    ghost fits = { FitsCounts };
+
+    fn write(&self, alloc: Global) -> Result<Value, AllocError> {
+        let mut members = Map::new(alloc);
+        put_part(&mut members, alloc, "exports", &self.exports)?;
+        add_part(members, alloc, "imports", &self.imports)
+    }
 }
