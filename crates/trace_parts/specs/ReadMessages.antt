@@ -1,9 +1,11 @@
 -- Reading messages.
 use Rattle.std.specs.Prelude.{ℕ, ◌^◌, List, codes, Some, None, Ok, Err, if◌then◌else◌}
 use Rattle.std.specs.Str.{bytes_eq}
-use Rattle.serde_json.specs.Data.{Data, null, boolean, number, string, array, object}
+use Rattle.serde_json.specs.Data.{Data, Members, null, boolean, number, string, array, object}
 use Rattle.rpc_msg.specs.Payloads.{null_payload}
 use Rattle.rpc_msg.specs.declared.ids.QuestionId.{QuestionId}
+use Rattle.rpc_msg.specs.declared.ids.Stamp.{Stamp}
+use Rattle.rpc_msg.specs.declared.parts.Target.{Target}
 use Rattle.rpc_msg.specs.declared.message.Call.{Call}
 use Rattle.rpc_msg.specs.declared.message.ReturnBody.{ReturnBody}
 use Rattle.rpc_msg.specs.declared.message.ReturnBody.TheVariants as body
@@ -23,8 +25,16 @@ use Rattle.rpc_msg.specs.declared.message.Message.TheVariants as message
 use Rattle.trace_parts.specs.declared.fault.Fault.TheVariants as fault
 use Rattle.trace_write.specs.declared.version.TraceVersion.{TraceVersion}
 use Rattle.trace_write.specs.Messages.{param_caps_key, result_caps_key}
-use Rattle.trace_parts.specs.Reading.{Read, ◌>>=◌, members_at, nat_at, u64_at, flag_at, end_at, field_at, only_at, list_at}
+use Rattle.trace_parts.specs.Reading.{Read, ◌>>=◌, members_at, nat_at, u64_at, flag_at, end_at, last_at, field_at, only_at, list_at}
 use Rattle.trace_parts.specs.ReadParts.{Raw, descriptor_at, target_at, stamp_at, raw_at, exception_at}
+
+-- what follows the payload
+unfoldable pub call_rest : Members → Read (QuestionId × Stamp × Target)
+call_rest ms = do
+  question ← field_at (nat_at (2 ^ 32)) (codes "question") ms
+  stamp ← field_at stamp_at (codes "stamp") question.1
+  target ← last_at target_at (codes "target") stamp.1
+  Ok (record { 0 = question.0 }, stamp.0, target)
 
 unfoldable pub call_at : Data → Read (Call × Raw)
 call_at d = do
@@ -33,11 +43,8 @@ call_at d = do
   interface ← field_at u64_at (codes "interface") caps.1
   method ← field_at (nat_at (2 ^ 16)) (codes "method") interface.1
   raw ← field_at raw_at (codes "payload") method.1
-  question ← field_at (nat_at (2 ^ 32)) (codes "question") raw.1
-  stamp ← field_at stamp_at (codes "stamp") question.1
-  target ← field_at target_at (codes "target") stamp.1
-  end ← end_at target.1
-  Ok (record { question = record { 0 = question.0 }; target = target.0; interface = interface.0; method = method.0; payload = null_payload; descriptors = caps.0; stamp = stamp.0 }, Some raw.0)
+  rest ← call_rest raw.1
+  Ok (record { question = rest.0; target = rest.2; interface = interface.0; method = method.0; payload = null_payload; descriptors = caps.0; stamp = rest.1 }, Some raw.0)
 
 unfoldable pub results_at : Data → Read (ReturnBody × Raw)
 results_at d = do
@@ -69,17 +76,15 @@ return_at version d = do
   ms ← members_at d
   answer ← field_at (nat_at (2 ^ 32)) (codes "answer") ms
   body ← field_at body_at (codes "body") answer.1
-  flag ← field_at (flag_at version) (param_caps_key version) body.1
-  end ← end_at flag.1
-  Ok (record { answer = record { 0 = answer.0 }; release_param_caps = flag.0; body = body.0.0 }, body.0.1)
+  flag ← last_at (flag_at version) (param_caps_key version) body.1
+  Ok (record { answer = record { 0 = answer.0 }; release_param_caps = flag; body = body.0.0 }, body.0.1)
 
 unfoldable pub finish_at : TraceVersion → Data → Read Finish
 finish_at version d = do
   ms ← members_at d
   question ← field_at (nat_at (2 ^ 32)) (codes "question") ms
-  flag ← field_at (flag_at version) (result_caps_key version) question.1
-  end ← end_at flag.1
-  Ok (record { question = record { 0 = question.0 }; release_result_caps = flag.0 })
+  flag ← last_at (flag_at version) (result_caps_key version) question.1
+  Ok (record { question = record { 0 = question.0 }; release_result_caps = flag })
 
 abbrev pub resolved_under : List ℕ → Data → Read ResolvedTo
 resolved_under key d =
@@ -94,17 +99,15 @@ unfoldable pub resolve_at : Data → Read Resolve
 resolve_at d = do
   ms ← members_at d
   promise ← field_at (nat_at (2 ^ 32)) (codes "promise") ms
-  to ← field_at resolved_at (codes "to") promise.1
-  end ← end_at to.1
-  Ok (record { promise = record { 0 = promise.0 }; to = to.0 })
+  to ← last_at resolved_at (codes "to") promise.1
+  Ok (record { promise = record { 0 = promise.0 }; to = to })
 
 unfoldable pub release_at : Data → Read Release
 release_at d = do
   ms ← members_at d
   count ← field_at (nat_at (2 ^ 32)) (codes "count") ms
-  id ← field_at (nat_at (2 ^ 32)) (codes "id") count.1
-  end ← end_at id.1
-  Ok (record { export = record { 0 = id.0 }; count = count.0 })
+  id ← last_at (nat_at (2 ^ 32)) (codes "id") count.1
+  Ok (record { export = record { 0 = id }; count = count.0 })
 
 abbrev pub context_under : List ℕ → Data → Read DisembargoContext
 context_under key d =
@@ -119,16 +122,14 @@ unfoldable pub disembargo_at : Data → Read Disembargo
 disembargo_at d = do
   ms ← members_at d
   context ← field_at context_at (codes "context") ms
-  target ← field_at target_at (codes "target") context.1
-  end ← end_at target.1
-  Ok (record { target = target.0; context = context.0 })
+  target ← last_at target_at (codes "target") context.1
+  Ok (record { target = target; context = context.0 })
 
 unfoldable pub bootstrap_at : Data → Read QuestionId
 bootstrap_at d = do
   ms ← members_at d
-  question ← field_at (nat_at (2 ^ 32)) (codes "question") ms
-  end ← end_at question.1
-  Ok (record { 0 = question.0 })
+  question ← last_at (nat_at (2 ^ 32)) (codes "question") ms
+  Ok (record { 0 = question })
 
 -- a message without a payload
 abbrev pub bare_under : TraceVersion → List ℕ → Data → Read PlainMessage

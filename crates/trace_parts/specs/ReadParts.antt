@@ -28,7 +28,7 @@ use Rattle.vat_journal.specs.declared.report.Advanced.TheVariants as advanced
 use Rattle.trace_parts.specs.declared.fault.Fault.TheVariants as fault
 use Rattle.trace_write.specs.Parts.{in_base64}
 use Rattle.trace_write.specs.Fits.{FitsU32}
-use Rattle.trace_parts.specs.Reading.{Read, ◌>>=◌, members_at, nat_at, u64_at, text_at, end_at, field_at, only_at, list_at}
+use Rattle.trace_parts.specs.Reading.{Read, ◌>>=◌, members_at, nat_at, u64_at, text_at, last_at, field_at, only_at, list_at}
 
 -- What stands for a payload on a line, where there is one: a text and a number.
 abbrev pub Raw : Type 0
@@ -69,9 +69,8 @@ unfoldable pub answer_at : Data → Read (QuestionId × List Op)
 answer_at d = do
   ms ← members_at d
   path ← field_at path_at (codes "path") ms
-  question ← field_at (nat_at (2 ^ 32)) (codes "question") path.1
-  end ← end_at question.1
-  Ok (record { 0 = question.0 }, path.0)
+  question ← last_at (nat_at (2 ^ 32)) (codes "question") path.1
+  Ok (record { 0 = question }, path.0)
 
 abbrev pub target_under : List ℕ → Data → Read Target
 target_under key d =
@@ -106,18 +105,16 @@ stamp_at d = do
   ms ← members_at d
   index ← field_at u64_at (codes "index") ms
   reference ← field_at reference_at (codes "ref") index.1
-  vat ← field_at vat_at (codes "vat") reference.1
-  end ← end_at vat.1
-  Ok (record { vat = vat.0; reference = reference.0; index = index.0 })
+  vat ← last_at vat_at (codes "vat") reference.1
+  Ok (record { vat = vat; reference = reference.0; index = index.0 })
 
 -- What stands for a payload: it is decoded once the whole line has its shape.
 unfoldable pub raw_at : Data → Read (List ℕ × ℕ)
 raw_at d = do
   ms ← members_at d
   text ← field_at text_at (codes "bytes") ms
-  caps ← field_at (nat_at (2 ^ 32)) (codes "caps") text.1
-  end ← end_at caps.1
-  Ok (text.0, caps.0)
+  caps ← last_at (nat_at (2 ^ 32)) (codes "caps") text.1
+  Ok (text.0, caps)
 
 abbrev pub kind_named : List ℕ → Read ExceptionKind
 kind_named s =
@@ -134,9 +131,8 @@ unfoldable pub exception_at : Data → Read Exception
 exception_at d = do
   ms ← members_at d
   kind ← field_at kind_at (codes "kind") ms
-  reason ← field_at text_at (codes "reason") kind.1
-  end ← end_at reason.1
-  Ok (record { kind = kind.0; reason = reason.0 })
+  reason ← last_at text_at (codes "reason") kind.1
+  Ok (record { kind = kind.0; reason = reason })
 
 abbrev pub outcome_under : List ℕ → Data → Read (Outcome × Raw)
 outcome_under key d =
@@ -151,9 +147,8 @@ unfoldable pub field_origin_at : Data → Read Origin
 field_origin_at d = do
   ms ← members_at d
   call ← field_at u64_at (codes "call") ms
-  path ← field_at path_at (codes "path") call.1
-  end ← end_at path.1
-  Ok (origin.Field (record { 0 = call.0 }) path.0)
+  path ← last_at path_at (codes "path") call.1
+  Ok (origin.Field (record { 0 = call.0 }) path)
 
 abbrev pub origin_under : List ℕ → Data → Read Origin
 origin_under key d =
@@ -187,6 +182,5 @@ unfoldable pub counts_at : Data → Read Counts
 counts_at d = do
   ms ← members_at d
   exports ← field_at (list_at pair_at) (codes "exports") ms
-  imports ← field_at (list_at pair_at) (codes "imports") exports.1
-  end ← end_at imports.1
-  Ok (record { exports = exports.0; imports = imports.0 })
+  imports ← last_at (list_at pair_at) (codes "imports") exports.1
+  Ok (record { exports = exports.0; imports = imports })

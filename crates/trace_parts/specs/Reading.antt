@@ -100,6 +100,17 @@ field_at f key ms = do
   x ← f m.0
   Ok (x, m.1)
 
+-- the last member's value
+unfoldable pub last_value_at : List ℕ → Members → Read Data
+last_value_at key ms = do
+  m ← next_at key ms
+  end ← end_at m.1
+  Ok m.0
+
+-- the last member, read by f
+unfoldable pub last_at : {A : Type 0} → (Data → Read A) → List ℕ → Members → Read A
+last_at f key ms = last_value_at key ms >>= f
+
 -- a member that is the text `word`
 unfoldable pub word_at : List ℕ → List ℕ → Members → Read Members
 word_at word key ms = do

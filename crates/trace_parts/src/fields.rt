@@ -3,7 +3,7 @@ ghost use Rattle.serde_json.specs.Data.{Data, boolean, string, object, member, n
 ghost use Rattle.serde_json.specs.View.{view, members_view};
 ghost use Rattle.trace_write.specs.Parts.{nat, list, only};
 ghost use Rattle.trace_write.specs.Fits.{FitsAny, FitsU32, FitsU16, FitsAll, FitsFlag};
-ghost use Rattle.trace_parts.specs.Reading.{Read, Gives, members_at, next_at, end_at, field_at, nat_at, u64_at, text_at, word_at, only_at, list_at, flag_at};
+ghost use Rattle.trace_parts.specs.Reading.{Read, Gives, members_at, next_at, end_at, last_value_at, last_at, field_at, nat_at, u64_at, text_at, word_at, only_at, list_at, flag_at};
 
 use crate::fault::Fault;
 use rpc_msg::{Items, Text};
@@ -70,6 +70,16 @@ impl<'v> Fields<'v> {
         T::read(alloc, value)
     }
 
+    /// The text that the next member is, which has to have that key.
+    #[tactic(auto, unfolding(crate::specs::Reading::field_at))]
+    pub(crate) fn text(&mut self, key: &str) -> Result<&'v str, Fault>
+        ensures gives { Gives (λ s. (s.now, members_view self.new.rest)) result (field_at text_at key.now (members_view self.old.rest)) }
+        ensures ok { IfOk result (λ s. members_view self.old.rest ≡ member key.now (string s.now) (members_view self.new.rest)) }
+    {
+        let value = self.next(key)?;
+        text_of(value)
+    }
+
     /// The next member has to be that text.
     #[tactic(auto, unfolding(crate::specs::Reading::word_at))]
     pub fn word(&mut self, key: &str, word: &str) -> Result<(), Fault>
@@ -82,6 +92,37 @@ impl<'v> Fields<'v> {
         } else {
             Err(Fault::WrongShape)
         }
+    }
+
+    /// The value of the last member, which has to have that key.
+    #[tactic(auto, unfolding(crate::specs::Reading::last_value_at))]
+    pub fn last_value(mut self, key: &str) -> Result<&'v Value, Fault>
+        ensures gives { Gives (λ v. view v.now) result (last_value_at key.now (members_view self.entry.rest)) }
+        ensures ok { IfOk result (λ v. members_view self.entry.rest ≡ member key.now (view v.now) no_members) }
+    {
+        let value = self.next(key)?;
+        self.end()?;
+        Ok(value)
+    }
+
+    /// The part that the last member is, which has to have that key.
+    #[tactic(auto, unfolding(crate::specs::Reading::last_at))]
+    pub fn last<T: Part>(self, alloc: Global, key: &str) -> Result<T, Fault>
+        ensures gives { Gives (λ x. x) result (last_at T.at key.now (members_view self.entry.rest)) }
+        ensures ok { IfOk result (λ x. (members_view self.entry.rest ≡ member key.now (T.shown x) no_members) × T.fits x) }
+    {
+        let value = self.last_value(key)?;
+        T::read(alloc, value)
+    }
+
+    /// The flag that the last member is, which has to have that key, and to be false in version 1.
+    #[tactic(auto, unfolding(crate::specs::Reading::last_at))]
+    pub(crate) fn last_flag(self, key: &str, version: TraceVersion) -> Result<bool, Fault>
+        ensures gives { Gives (λ flag. flag) result (last_at (flag_at version) key.now (members_view self.entry.rest)) }
+        ensures ok { IfOk result (λ flag. (members_view self.entry.rest ≡ member key.now (boolean flag) no_members) × FitsFlag version flag) }
+    {
+        let value = self.last_value(key)?;
+        flag_of(value, version)
     }
 
     /// No member is left; `WrongShape` where one is.
@@ -121,7 +162,7 @@ pub(crate) fn text_of(value: &Value) -> Result<&str, Fault>
 }
 
 /// The flag of a Return or a Finish, which has to be false in version 1.
-pub(crate) fn flag_of(value: &Value, version: TraceVersion) -> Result<bool, Fault>
+fn flag_of(value: &Value, version: TraceVersion) -> Result<bool, Fault>
     ensures gives { Gives (λ flag. flag) result (flag_at version (view value.now)) }
     ensures ok { IfOk result (λ flag. (view value.now ≡ boolean flag) × FitsFlag version flag) }
 {

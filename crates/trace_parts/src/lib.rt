@@ -10,4 +10,4 @@ mod parts;
 pub use fault::Fault;
 pub use fields::{Fields, Part};
 pub use messages::message_of;
-pub use parts::{RawPayload, no_payload, outcome_of, raw_payload_of};
+pub use parts::{RawPayload, next_payload, no_payload, outcome_of};

@@ -1,18 +1,19 @@
 ghost use Rattle.std.specs.Prelude.{◌≡◌, codes, IfOk, option_map};
-ghost use Rattle.serde_json.specs.View.{view};
-ghost use Rattle.trace_write.specs.Parts.{nat, only, in_base64};
+ghost use Rattle.serde_json.specs.Data.{member, no_members};
+ghost use Rattle.serde_json.specs.View.{view, members_view};
+ghost use Rattle.trace_write.specs.Parts.{nat, only, stamp_data, target_data, in_base64};
 ghost use Rattle.trace_write.specs.Messages.{param_caps_key, result_caps_key, call_by, body_by, return_by, finish_data, resolved_data, resolve_data, release_data, context_data, disembargo_data, plain_by, message_by};
-ghost use Rattle.trace_write.specs.Fits.{FitsU32, FitsCall, FitsBody, FitsReturn, FitsFinish, FitsResolved, FitsResolve, FitsRelease, FitsContext, FitsDisembargo, FitsPlain, FitsMessage};
-ghost use Rattle.trace_parts.specs.Reading.{Gives};
+ghost use Rattle.trace_write.specs.Fits.{FitsU32, FitsTarget, FitsCall, FitsBody, FitsReturn, FitsFinish, FitsResolved, FitsResolve, FitsRelease, FitsContext, FitsDisembargo, FitsPlain, FitsMessage};
+ghost use Rattle.trace_parts.specs.Reading.{Gives, field_at};
 ghost use Rattle.trace_parts.specs.ReadParts.{stands_for, FitsRaw};
-ghost use Rattle.trace_parts.specs.ReadMessages.{call_at, results_at, tagged_body, body_at, return_at, finish_at, resolved_at, resolve_at, release_at, context_at, disembargo_at, bootstrap_at, bare_under, plain_under, plain_at, message_at};
+ghost use Rattle.trace_parts.specs.ReadMessages.{call_rest, call_at, results_at, tagged_body, body_at, return_at, finish_at, resolved_at, resolve_at, release_at, context_at, disembargo_at, bootstrap_at, bare_under, plain_under, plain_at, message_at};
 
 use crate::fault::Fault;
-use crate::fields::{Fields, Part, flag_of, only_member};
-use crate::parts::{RawPayload, no_payload, raw_payload_of};
+use crate::fields::{Fields, Part, only_member};
+use crate::parts::{RawPayload, next_payload, no_payload};
 use rpc_msg::{
     Call, Disembargo, DisembargoContext, EmbargoId, ExportId, Finish, Message, PlainMessage,
-    QuestionId, Release, Resolve, ResolvedTo, Return, ReturnBody,
+    QuestionId, Release, Resolve, ResolvedTo, Return, ReturnBody, Stamp, Target,
 };
 use serde_json::Value;
 use std::alloc::Global;
@@ -36,7 +37,21 @@ fn key_of_result_caps(version: TraceVersion) -> &'static str
     }
 }
 
-#[tactic(auto, unfolding(crate::specs::ReadMessages::call_at, crate::specs::Reading::field_at))]
+/// The members of a Call behind its payload.
+#[tactic(auto, unfolding(crate::specs::ReadMessages::call_rest))]
+fn rest_of_call(alloc: Global, mut fields: Fields<'_>) -> Result<(QuestionId, Stamp, Target), Fault>
+    ensures gives { Gives (λ r. r) result (call_rest (members_view fields.entry.rest)) }
+    ensures ok { IfOk result (λ r. (members_view fields.entry.rest ≡ member (codes "question") (nat r.0.0) (
+        member (codes "stamp") (stamp_data r.1) (
+        member (codes "target") (target_data r.2) no_members))) × FitsU32 r.0.0 × FitsTarget r.2) }
+{
+    let question = fields.read(alloc, "question")?;
+    let stamp = fields.read(alloc, "stamp")?;
+    let target = fields.last(alloc, "target")?;
+    Ok((QuestionId(question), stamp, target))
+}
+
+#[tactic(auto, unfolding(crate::specs::ReadMessages::call_at))]
 fn call_of(alloc: Global, value: &Value) -> Result<(Call, Option<RawPayload<'_>>), Fault>
     ensures gives { Gives (λ c. (c.0, option_map (λ r. (r.text.now, r.caps)) c.1)) result (call_at (view value.now)) }
     ensures ok { IfOk result (λ c. (view value.now ≡ call_by (stands_for (option_map (λ r. (r.text.now, r.caps)) c.1)) c.0)
@@ -46,13 +61,10 @@ fn call_of(alloc: Global, value: &Value) -> Result<(Call, Option<RawPayload<'_>>
     let descriptors = fields.read(alloc, "caps")?;
     let interface = fields.read(alloc, "interface")?;
     let method = fields.read(alloc, "method")?;
-    let raw = raw_payload_of(alloc, fields.next("payload")?)?;
-    let question = fields.read(alloc, "question")?;
-    let stamp = fields.read(alloc, "stamp")?;
-    let target = fields.read(alloc, "target")?;
-    fields.end()?;
+    let raw = next_payload(alloc, &mut fields)?;
+    let (question, stamp, target) = rest_of_call(alloc, fields)?;
     let call = Call {
-        question: QuestionId(question),
+        question,
         target,
         interface,
         method,
@@ -63,7 +75,7 @@ fn call_of(alloc: Global, value: &Value) -> Result<(Call, Option<RawPayload<'_>>
     Ok((call, Some(raw)))
 }
 
-#[tactic(auto, unfolding(crate::specs::ReadMessages::results_at, crate::specs::Reading::field_at))]
+#[tactic(auto, unfolding(crate::specs::ReadMessages::results_at))]
 fn results_of(alloc: Global, value: &Value) -> Result<(ReturnBody, Option<RawPayload<'_>>), Fault>
     ensures gives { Gives (λ b. (b.0, option_map (λ r. (r.text.now, r.caps)) b.1)) result (results_at (view value.now)) }
     ensures ok { IfOk result (λ b. (only (codes "results") (view value.now) ≡ body_by (stands_for (option_map (λ r. (r.text.now, r.caps)) b.1)) b.0)
@@ -71,7 +83,7 @@ fn results_of(alloc: Global, value: &Value) -> Result<(ReturnBody, Option<RawPay
 {
     let mut fields = Fields::of(value)?;
     let descriptors = fields.read(alloc, "caps")?;
-    let raw = raw_payload_of(alloc, fields.next("payload")?)?;
+    let raw = next_payload(alloc, &mut fields)?;
     fields.end()?;
     let payload = no_payload(alloc)?;
     Ok((ReturnBody::Results(payload, descriptors), Some(raw)))
@@ -114,7 +126,21 @@ fn body_of(alloc: Global, value: &Value) -> Result<(ReturnBody, Option<RawPayloa
     }
 }
 
-#[tactic(auto, unfolding(crate::specs::ReadMessages::return_at, crate::specs::Reading::field_at))]
+/// The body that the next member is.
+#[tactic(auto, unfolding(crate::specs::Reading::field_at))]
+fn next_body<'v>(
+    alloc: Global,
+    fields: &mut Fields<'v>,
+) -> Result<(ReturnBody, Option<RawPayload<'v>>), Fault>
+    ensures gives { Gives (λ b. ((b.0, option_map (λ r. (r.text.now, r.caps)) b.1), members_view fields.new.rest)) result (field_at body_at (codes "body") (members_view fields.old.rest)) }
+    ensures ok { IfOk result (λ b. (members_view fields.old.rest ≡ member (codes "body") (body_by (stands_for (option_map (λ r. (r.text.now, r.caps)) b.1)) b.0) (members_view fields.new.rest))
+        × FitsBody b.0 × FitsRaw (option_map (λ r. (r.text.now, r.caps)) b.1)) }
+{
+    let value = fields.next("body")?;
+    body_of(alloc, value)
+}
+
+#[tactic(auto, unfolding(crate::specs::ReadMessages::return_at))]
 fn return_of(
     alloc: Global,
     value: &Value,
@@ -126,9 +152,8 @@ fn return_of(
 {
     let mut fields = Fields::of(value)?;
     let answer = fields.read(alloc, "answer")?;
-    let (body, raw) = body_of(alloc, fields.next("body")?)?;
-    let release_param_caps = flag_of(fields.next(key_of_param_caps(version))?, version)?;
-    fields.end()?;
+    let (body, raw) = next_body(alloc, &mut fields)?;
+    let release_param_caps = fields.last_flag(key_of_param_caps(version), version)?;
     let said = Return {
         answer: QuestionId(answer),
         release_param_caps,
@@ -137,15 +162,14 @@ fn return_of(
     Ok((said, raw))
 }
 
-#[tactic(auto, unfolding(crate::specs::ReadMessages::finish_at, crate::specs::Reading::field_at))]
+#[tactic(auto, unfolding(crate::specs::ReadMessages::finish_at))]
 fn finish_of(alloc: Global, value: &Value, version: TraceVersion) -> Result<Finish, Fault>
     ensures gives { Gives (λ f. f) result (finish_at version (view value.now)) }
     ensures ok { IfOk result (λ f. (view value.now ≡ finish_data version f) × FitsFinish version f) }
 {
     let mut fields = Fields::of(value)?;
     let question = fields.read(alloc, "question")?;
-    let release_result_caps = flag_of(fields.next(key_of_result_caps(version))?, version)?;
-    fields.end()?;
+    let release_result_caps = fields.last_flag(key_of_result_caps(version), version)?;
     Ok(Finish {
         question: QuestionId(question),
         release_result_caps,
@@ -183,8 +207,7 @@ impl Part for Resolve {
     fn read(alloc: Global, value: &Value) -> Result<Resolve, Fault> {
         let mut fields = Fields::of(value)?;
         let promise = fields.read(alloc, "promise")?;
-        let to = fields.read(alloc, "to")?;
-        fields.end()?;
+        let to = fields.last(alloc, "to")?;
         Ok(Resolve {
             promise: ExportId(promise),
             to,
@@ -203,8 +226,7 @@ impl Part for Release {
     fn read(alloc: Global, value: &Value) -> Result<Release, Fault> {
         let mut fields = Fields::of(value)?;
         let count = fields.read(alloc, "count")?;
-        let id = fields.read(alloc, "id")?;
-        fields.end()?;
+        let id = fields.last(alloc, "id")?;
         Ok(Release {
             export: ExportId(id),
             count,
@@ -243,8 +265,7 @@ impl Part for Disembargo {
     fn read(alloc: Global, value: &Value) -> Result<Disembargo, Fault> {
         let mut fields = Fields::of(value)?;
         let context = fields.read(alloc, "context")?;
-        let target = fields.read(alloc, "target")?;
-        fields.end()?;
+        let target = fields.last(alloc, "target")?;
         Ok(Disembargo { target, context })
     }
 }
@@ -255,8 +276,7 @@ fn bootstrap_of(alloc: Global, value: &Value) -> Result<QuestionId, Fault>
     ensures ok { IfOk result (λ q. (view value.now ≡ only (codes "question") (nat q.0)) × FitsU32 q.0) }
 {
     let mut fields = Fields::of(value)?;
-    let question = fields.read(alloc, "question")?;
-    fields.end()?;
+    let question = fields.last(alloc, "question")?;
     Ok(QuestionId(question))
 }
 

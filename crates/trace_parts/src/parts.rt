@@ -1,10 +1,10 @@
 ghost use Rattle.std.specs.Prelude.{◌≡◌, ◌^◌, codes, IfOk, IfErr, option_map};
-ghost use Rattle.serde_json.specs.Data.{string};
-ghost use Rattle.serde_json.specs.View.{view};
+ghost use Rattle.serde_json.specs.Data.{string, member};
+ghost use Rattle.serde_json.specs.View.{view, members_view};
 ghost use Rattle.rpc_msg.specs.Payloads.{null_payload};
 ghost use Rattle.trace_write.specs.Parts.{only, reference_data, vat_data, op_data, path_data, answer_data, target_data, descriptor_data, stamp_data, payload_data, kind_name, exception_data, outcome_by, origin_data, advanced_name, pair_data, counts_data};
 ghost use Rattle.trace_write.specs.Fits.{FitsAny, FitsU32, FitsOp, FitsPath, FitsAnswer, FitsTarget, FitsDescriptor, FitsPayload, FitsOutcome, FitsOrigin, FitsPair, FitsCounts};
-ghost use Rattle.trace_parts.specs.Reading.{Gives};
+ghost use Rattle.trace_parts.specs.Reading.{Gives, field_at};
 ghost use Rattle.trace_parts.specs.declared.fault.Fault.TheVariants as fault;
 ghost use Rattle.trace_parts.specs.ReadParts.{stands_for, FitsRaw, vat_at, reference_at, op_at, path_at, answer_at, target_at, tagged_descriptor, descriptor_at, stamp_at, raw_at, kind_at, exception_at, outcome_at, field_origin_at, origin_at, advanced_at, pair_at, counts_at};
 
@@ -38,16 +38,25 @@ pub fn no_payload(alloc: Global) -> Result<Payload, Fault>
 }
 
 /// The text and the number of capabilities that stand for a payload.
-#[tactic(auto, unfolding(crate::specs::ReadParts::raw_at, crate::specs::Reading::field_at))]
-pub fn raw_payload_of(alloc: Global, value: &Value) -> Result<RawPayload<'_>, Fault>
+#[tactic(auto, unfolding(crate::specs::ReadParts::raw_at))]
+fn raw_payload_of(alloc: Global, value: &Value) -> Result<RawPayload<'_>, Fault>
     ensures gives { Gives (λ r. (r.text.now, r.caps)) result (raw_at (view value.now)) }
     ensures ok { IfOk result (λ r. (view value.now ≡ payload_data (r.text.now, r.caps)) × FitsU32 r.caps) }
 {
     let mut fields = Fields::of(value)?;
-    let text = text_of(fields.next("bytes")?)?;
-    let caps = fields.read(alloc, "caps")?;
-    fields.end()?;
+    let text = fields.text("bytes")?;
+    let caps = fields.last(alloc, "caps")?;
     Ok(RawPayload { text, caps })
+}
+
+/// The text and the number of capabilities that stand for the payload of the next member.
+#[tactic(auto, unfolding(crate::specs::Reading::field_at))]
+pub fn next_payload<'v>(alloc: Global, fields: &mut Fields<'v>) -> Result<RawPayload<'v>, Fault>
+    ensures gives { Gives (λ r. ((r.text.now, r.caps), members_view fields.new.rest)) result (field_at raw_at (codes "payload") (members_view fields.old.rest)) }
+    ensures ok { IfOk result (λ r. (members_view fields.old.rest ≡ member (codes "payload") (payload_data (r.text.now, r.caps)) (members_view fields.new.rest)) × FitsU32 r.caps) }
+{
+    let value = fields.next("payload")?;
+    raw_payload_of(alloc, value)
 }
 
 impl Part for Vat {
@@ -122,8 +131,7 @@ fn answer_of(alloc: Global, value: &Value) -> Result<(QuestionId, Path), Fault>
 {
     let mut fields = Fields::of(value)?;
     let path = fields.read(alloc, "path")?;
-    let question = fields.read(alloc, "question")?;
-    fields.end()?;
+    let question = fields.last(alloc, "question")?;
     Ok((QuestionId(question), path))
 }
 
@@ -202,8 +210,7 @@ impl Part for Stamp {
         let mut fields = Fields::of(value)?;
         let index = fields.read(alloc, "index")?;
         let reference = fields.read(alloc, "ref")?;
-        let vat = fields.read(alloc, "vat")?;
-        fields.end()?;
+        let vat = fields.last(alloc, "vat")?;
         Ok(Stamp {
             vat,
             reference,
@@ -247,8 +254,7 @@ impl Part for Exception {
     fn read(alloc: Global, value: &Value) -> Result<Exception, Fault> {
         let mut fields = Fields::of(value)?;
         let kind = fields.read(alloc, "kind")?;
-        let reason = fields.read(alloc, "reason")?;
-        fields.end()?;
+        let reason = fields.last(alloc, "reason")?;
         Ok(Exception { kind, reason })
     }
 }
@@ -278,8 +284,7 @@ fn field_origin_of(alloc: Global, value: &Value) -> Result<Origin, Fault>
 {
     let mut fields = Fields::of(value)?;
     let call = fields.read(alloc, "call")?;
-    let path = fields.read(alloc, "path")?;
-    fields.end()?;
+    let path = fields.last(alloc, "path")?;
     Ok(Origin::Field(CallId(call), path))
 }
 
@@ -361,8 +366,7 @@ impl Part for Counts {
     fn read(alloc: Global, value: &Value) -> Result<Counts, Fault> {
         let mut fields = Fields::of(value)?;
         let exports = fields.read(alloc, "exports")?;
-        let imports = fields.read(alloc, "imports")?;
-        fields.end()?;
+        let imports = fields.last(alloc, "imports")?;
         Ok(Counts { exports, imports })
     }
 }
