@@ -1,7 +1,7 @@
 use crate::chart::{Arrow, Bar, Chart, Mark, Note};
 use crate::labels::{letter, write_embargo};
 use crate::text::write_label;
-use rpc_msg::Vat;
+use rpc_msg::{RefId, Vat};
 use std::alloc::{AllocError, Global};
 use std::fmt::Write;
 
@@ -22,6 +22,9 @@ const BEHIND_STUB: u64 = 48;
 
 /// The entries' numbers end there.
 const NUMBERS: u64 = 42;
+
+/// Vat A's notes begin there.
+const OUTER: u64 = NUMBERS + 8;
 
 /// The height above the first row, of a row, and below the last.
 const TOP: u64 = 104;
@@ -51,29 +54,43 @@ const DOWN: &str = "#b91c1c";
 /// The picture as SVG.
 pub(crate) fn picture(alloc: Global, chart: &Chart) -> Result<String, AllocError> {
     let mut svg = String::new(alloc);
+    write_picture(&mut svg, chart)?;
+    Ok(svg)
+}
+
+fn write_picture(svg: &mut String, chart: &Chart) -> Result<(), AllocError> {
     let height = end_of(chart).saturating_add(BOTTOM);
+    write_ground(svg, height)?;
+    write_title(svg, chart)?;
+    write_legend(svg, chart)?;
+    write_rows(svg, chart)?;
+    write_lifelines(svg, chart)?;
+    write_messages(svg, chart, height)?;
+    write_notes(svg, chart, height)?;
+    svg.push_str("</svg>\n")
+}
+
+/// What the picture lies on, and the heads of its arrows.
+fn write_ground(svg: &mut String, height: u64) -> Result<(), AllocError> {
     writeln!(
         svg,
         "<svg xmlns=\"http://www.w3.org/2000/svg\" width=\"{WIDTH}\" height=\"{height}\" viewBox=\"0 0 {WIDTH} {height}\" font-family=\"Helvetica, Arial, sans-serif\" font-size=\"12\">"
     )?;
-    write_heads(&mut svg)?;
+    write_heads(svg)?;
     writeln!(
         svg,
         "<rect width=\"{WIDTH}\" height=\"{height}\" fill=\"white\"/>"
-    )?;
-    write_title(&mut svg, chart)?;
-    write_legend(&mut svg, chart)?;
-    write_rows(&mut svg, chart)?;
-    write_lifelines(&mut svg, chart)?;
+    )
+}
+
+/// Embargoes, and what goes from vat to vat.
+fn write_messages(svg: &mut String, chart: &Chart, height: u64) -> Result<(), AllocError> {
     for bar in chart.bars.iter() {
-        write_bar(&mut svg, chart, bar)?;
+        write_bar(svg, chart, bar)?;
     }
-    write_arrows(&mut svg, chart)?;
-    write_again(&mut svg, chart)?;
-    write_labels(&mut svg, chart, height)?;
-    write_notes(&mut svg, chart, height)?;
-    svg.push_str("</svg>\n")?;
-    Ok(svg)
+    write_arrows(svg, chart)?;
+    write_again(svg, chart)?;
+    write_labels(svg, chart, height)
 }
 
 /// The height of a row's middle.
@@ -135,12 +152,7 @@ fn write_title(svg: &mut String, chart: &Chart) -> Result<(), AllocError> {
         svg,
         "<text x=\"12\" y=\"22\" font-size=\"13\" fill=\"{EVENT}\">"
     )?;
-    match (chart.rows.first(), chart.rows.last()) {
-        (Some(first), Some(last)) => {
-            write!(svg, "entries {first} to {last} of {}", chart.entries)?
-        }
-        _ => write!(svg, "none of {} entries", chart.entries)?,
-    }
+    write_extent(svg, chart)?;
     if chart.left_out > 0 {
         write!(
             svg,
@@ -151,8 +163,27 @@ fn write_title(svg: &mut String, chart: &Chart) -> Result<(), AllocError> {
     svg.push_str("</text>\n")
 }
 
+fn write_extent(svg: &mut String, chart: &Chart) -> Result<(), AllocError> {
+    match (chart.rows.first(), chart.rows.last()) {
+        (Some(first), Some(last)) => {
+            write!(svg, "entries {first} to {last} of {}", chart.entries)
+        }
+        _ => write!(svg, "none of {} entries", chart.entries),
+    }
+}
+
 /// What the signs say.
 fn write_legend(svg: &mut String, chart: &Chart) -> Result<(), AllocError> {
+    write_signs(svg)?;
+    write_dot(svg, (566, 43), "white", EVENT)?;
+    write_sign(svg, 576, "waits under an embargo")?;
+    match chart.options.reference {
+        Some((vat, reference)) => write_marked_sign(svg, vat, reference),
+        None => Ok(()),
+    }
+}
+
+fn write_signs(svg: &mut String) -> Result<(), AllocError> {
     writeln!(
         svg,
         "<rect x=\"12\" y=\"36\" width=\"8\" height=\"14\" fill=\"{EMBARGO}\"/>"
@@ -168,18 +199,16 @@ fn write_legend(svg: &mut String, chart: &Chart) -> Result<(), AllocError> {
         svg,
         222,
         "begins or ends outside the picture, or was not received",
-    )?;
-    write_dot(svg, (566, 43), "white", EVENT)?;
-    write_sign(svg, 576, "waits under an embargo")?;
-    if let Some((vat, reference)) = chart.options.reference {
-        let name = letter(vat);
-        writeln!(
-            svg,
-            "<line x1=\"730\" y1=\"43\" x2=\"760\" y2=\"43\" stroke=\"{MARKED}\" stroke-width=\"2\"/>\n<text x=\"766\" y=\"47\" fill=\"{MARKED}\">reference {name}/{}</text>",
-            reference.0
-        )?;
-    }
-    Ok(())
+    )
+}
+
+fn write_marked_sign(svg: &mut String, vat: Vat, reference: RefId) -> Result<(), AllocError> {
+    let name = letter(vat);
+    writeln!(
+        svg,
+        "<line x1=\"730\" y1=\"43\" x2=\"760\" y2=\"43\" stroke=\"{MARKED}\" stroke-width=\"2\"/>\n<text x=\"766\" y=\"47\" fill=\"{MARKED}\">reference {name}/{}</text>",
+        reference.0
+    )
 }
 
 fn write_sign(svg: &mut String, x: u64, says: &str) -> Result<(), AllocError> {
@@ -192,21 +221,25 @@ fn write_sign(svg: &mut String, x: u64, says: &str) -> Result<(), AllocError> {
 /// The number of each row's entry; every second row has a ground of its own, to lead the eye.
 fn write_rows(svg: &mut String, chart: &Chart) -> Result<(), AllocError> {
     for (row, number) in chart.rows.iter().enumerate() {
-        let y = y_of(row);
-        if row % 2 == 1 {
-            let top = y.saturating_sub(ROW / 2);
-            writeln!(
-                svg,
-                "<rect y=\"{top}\" width=\"{WIDTH}\" height=\"{ROW}\" fill=\"#f3f5f8\"/>"
-            )?;
-        }
-        writeln!(
-            svg,
-            "<text x=\"{NUMBERS}\" y=\"{}\" text-anchor=\"end\" font-size=\"11\" fill=\"{FAINT}\">{number}</text>",
-            y.saturating_add(4)
-        )?;
+        write_row(svg, row, *number)?;
     }
     Ok(())
+}
+
+fn write_row(svg: &mut String, row: usize, number: u64) -> Result<(), AllocError> {
+    let y = y_of(row);
+    if row % 2 == 1 {
+        let top = y.saturating_sub(ROW / 2);
+        writeln!(
+            svg,
+            "<rect y=\"{top}\" width=\"{WIDTH}\" height=\"{ROW}\" fill=\"#f3f5f8\"/>"
+        )?;
+    }
+    writeln!(
+        svg,
+        "<text x=\"{NUMBERS}\" y=\"{}\" text-anchor=\"end\" font-size=\"11\" fill=\"{FAINT}\">{number}</text>",
+        y.saturating_add(4)
+    )
 }
 
 fn write_lifelines(svg: &mut String, chart: &Chart) -> Result<(), AllocError> {
@@ -268,11 +301,15 @@ fn write_bar(svg: &mut String, chart: &Chart, bar: &Bar) -> Result<(), AllocErro
 
 /// Those that stand out lie on the others.
 fn write_arrows(svg: &mut String, chart: &Chart) -> Result<(), AllocError> {
-    for arrow in chart.arrows.iter().filter(|arrow| !arrow.marked) {
-        write_arrow(svg, arrow)?;
-    }
-    for arrow in chart.arrows.iter().filter(|arrow| arrow.marked) {
-        write_arrow(svg, arrow)?;
+    write_arrows_of(svg, chart, false)?;
+    write_arrows_of(svg, chart, true)
+}
+
+fn write_arrows_of(svg: &mut String, chart: &Chart, marked: bool) -> Result<(), AllocError> {
+    for arrow in chart.arrows.iter() {
+        if arrow.marked == marked {
+            write_arrow(svg, arrow)?;
+        }
     }
     Ok(())
 }
@@ -311,25 +348,46 @@ fn write_labels(svg: &mut String, chart: &Chart, height: u64) -> Result<(), Allo
     svg.push_str("</svg>\n")
 }
 
-/// Above an arrow's beginning; beside an arrow that is cut.
+/// Where an arrow's label begins: above the arrow's beginning, or beside an arrow that is cut. That far from a vat's lifeline,
+/// and at that height.
+fn place_of_label(arrow: &Arrow) -> Option<(Vat, u64, u64)> {
+    match (arrow.sent, arrow.got) {
+        (Some(sent), Some(_)) => Some((arrow.from, ASIDE, y_of(sent).saturating_sub(4))),
+        (Some(sent), None) => Some((arrow.from, BEHIND_STUB, y_of(sent).saturating_add(4))),
+        (None, Some(got)) => {
+            Some((arrow.from.other(), BEHIND_STUB, y_of(got).saturating_add(4)))
+        }
+        (None, None) => None,
+    }
+}
+
 fn write_arrow_label(svg: &mut String, arrow: &Arrow) -> Result<(), AllocError> {
-    let (vat, far, y) = match (arrow.sent, arrow.got) {
-        (Some(sent), Some(_)) => (arrow.from, ASIDE, y_of(sent).saturating_sub(4)),
-        (Some(sent), None) => (arrow.from, BEHIND_STUB, y_of(sent).saturating_add(4)),
-        (None, Some(got)) => (arrow.from.other(), BEHIND_STUB, y_of(got).saturating_add(4)),
-        (None, None) => return Ok(()),
+    let Some((vat, far, y)) = place_of_label(arrow) else {
+        return Ok(());
     };
-    let x = inside(vat, far);
     let anchor = match vat {
         Vat::A => "start",
         Vat::B => "end",
     };
     let fill = if arrow.marked { MARKED } else { MESSAGE };
+    let at = (inside(vat, far), y);
+    write_text(svg, at, anchor, fill, arrow.label.as_str())
+}
+
+/// A text that begins or ends there.
+fn write_text(
+    svg: &mut String,
+    at: (u64, u64),
+    anchor: &str,
+    fill: &str,
+    text: &str,
+) -> Result<(), AllocError> {
     write!(
         svg,
-        "<text x=\"{x}\" y=\"{y}\" text-anchor=\"{anchor}\" fill=\"{fill}\">"
+        "<text x=\"{}\" y=\"{}\" text-anchor=\"{anchor}\" fill=\"{fill}\">",
+        at.0, at.1
     )?;
-    write_label(svg, arrow.label.as_str())?;
+    write_label(svg, text)?;
     svg.push_str("</text>\n")
 }
 
@@ -339,20 +397,26 @@ fn write_line(
     from: (u64, u64),
     to: (u64, u64),
 ) -> Result<(), AllocError> {
-    let (stroke, width, head) = if arrow.marked {
-        (MARKED, 2, "marked")
+    let (stroke, width) = if arrow.marked {
+        (MARKED, 2)
     } else {
-        (MESSAGE, 1, "head")
+        (MESSAGE, 1)
     };
     write!(
         svg,
         "<line x1=\"{}\" y1=\"{}\" x2=\"{}\" y2=\"{}\" stroke=\"{stroke}\" stroke-width=\"{width}\"",
         from.0, from.1, to.0, to.1
     )?;
+    write_ends(svg, arrow)
+}
+
+/// Whether a line is broken, and its head.
+fn write_ends(svg: &mut String, arrow: &Arrow) -> Result<(), AllocError> {
     if arrow.sent.is_none() || arrow.got.is_none() {
         svg.push_str(" stroke-dasharray=\"4 3\"")?;
     }
     if arrow.got.is_some() {
+        let head = if arrow.marked { "marked" } else { "head" };
         write!(svg, " marker-end=\"url(#{head})\"")?;
     }
     svg.push_str("/>\n")
@@ -363,23 +427,28 @@ fn write_notes(svg: &mut String, chart: &Chart, height: u64) -> Result<(), Alloc
     for note in chart.notes.iter() {
         write_mark(svg, note)?;
     }
-    let left = NUMBERS + 8;
-    let width = LIFELINE_A - ASIDE - left;
+    write_column(svg, chart, Vat::A, height)?;
+    write_column(svg, chart, Vat::B, height)
+}
+
+/// A vat's notes, which end or begin at its lifeline.
+fn write_column(svg: &mut String, chart: &Chart, vat: Vat, height: u64) -> Result<(), AllocError> {
+    let (left, width) = match vat {
+        Vat::A => (OUTER, LIFELINE_A - ASIDE - OUTER),
+        Vat::B => (LIFELINE_B + ASIDE, WIDTH - LIFELINE_B - ASIDE),
+    };
+    let (x, anchor) = match vat {
+        Vat::A => (width, "end"),
+        Vat::B => (0, "start"),
+    };
     writeln!(
         svg,
         "<svg x=\"{left}\" width=\"{width}\" height=\"{height}\">"
     )?;
-    for note in chart.notes.iter().filter(|note| note.vat == Vat::A) {
-        write_note(svg, note, width, "end")?;
-    }
-    let left = LIFELINE_B + ASIDE;
-    let width = WIDTH - left;
-    writeln!(
-        svg,
-        "</svg>\n<svg x=\"{left}\" width=\"{width}\" height=\"{height}\">"
-    )?;
-    for note in chart.notes.iter().filter(|note| note.vat == Vat::B) {
-        write_note(svg, note, 0, "start")?;
+    for note in chart.notes.iter() {
+        if note.vat == vat {
+            write_note(svg, note, x, anchor)?;
+        }
     }
     svg.push_str("</svg>\n")
 }
@@ -414,7 +483,6 @@ fn write_cross(svg: &mut String, x: u64, y: u64) -> Result<(), AllocError> {
 }
 
 fn write_note(svg: &mut String, note: &Note, x: u64, anchor: &str) -> Result<(), AllocError> {
-    let y = y_of(note.row).saturating_add(4);
     let fill = match note.mark {
         Mark::Event => EVENT,
         Mark::Waiting => EVENT,
@@ -422,10 +490,6 @@ fn write_note(svg: &mut String, note: &Note, x: u64, anchor: &str) -> Result<(),
         Mark::Down => DOWN,
     };
     let fill = if note.marked { MARKED } else { fill };
-    write!(
-        svg,
-        "<text x=\"{x}\" y=\"{y}\" text-anchor=\"{anchor}\" fill=\"{fill}\">"
-    )?;
-    write_label(svg, note.label.as_str())?;
-    svg.push_str("</text>\n")
+    let at = (x, y_of(note.row).saturating_add(4));
+    write_text(svg, at, anchor, fill, note.label.as_str())
 }

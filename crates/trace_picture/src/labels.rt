@@ -11,14 +11,18 @@ use vat_journal::{Advanced, Counts, Delivery, JournalEntry, MadeCall, Origin, Ou
 /// What is said of a message, on its arrow.
 pub(crate) fn message_label(alloc: Global, message: &Message) -> Result<String, AllocError> {
     let mut text = String::new(alloc);
+    write_message(&mut text, message)?;
+    Ok(text)
+}
+
+fn write_message(text: &mut String, message: &Message) -> Result<(), AllocError> {
     match message {
-        Message::Plain(plain) => write_plain(&mut text, plain)?,
+        Message::Plain(plain) => write_plain(text, plain),
         Message::Unimplemented(plain) => {
             text.push_str("Unimplemented: ")?;
-            write_plain(&mut text, plain)?;
+            write_plain(text, plain)
         }
     }
-    Ok(text)
 }
 
 fn write_plain(text: &mut String, message: &PlainMessage) -> Result<(), AllocError> {
@@ -58,15 +62,19 @@ fn write_call(text: &mut String, call: &Call) -> Result<(), AllocError> {
 
 fn write_return(text: &mut String, answer: &Return) -> Result<(), AllocError> {
     write!(text, "Return, answer {}: ", answer.answer.0)?;
-    match &answer.body {
+    write_body(text, &answer.body)?;
+    write_flag(text, answer.release_param_caps)
+}
+
+fn write_body(text: &mut String, body: &ReturnBody) -> Result<(), AllocError> {
+    match body {
         ReturnBody::Results(_, descriptors) => {
             text.push_str("results")?;
-            write_descriptors(text, descriptors)?;
+            write_descriptors(text, descriptors)
         }
-        ReturnBody::Exception(exception) => write_exception(text, exception)?,
-        ReturnBody::Canceled => text.push_str("canceled")?,
+        ReturnBody::Exception(exception) => write_exception(text, exception),
+        ReturnBody::Canceled => text.push_str("canceled"),
     }
-    write_flag(text, answer.release_param_caps)
 }
 
 /// The capabilities of a payload, as the wire has them; nothing where there are none.
@@ -181,28 +189,38 @@ pub(crate) fn letter(vat: Vat) -> &'static str {
 /// What is said of an entry that is no message's; nothing of a message's, a head or counts.
 pub(crate) fn entry_label(alloc: Global, entry: &JournalEntry) -> Result<String, AllocError> {
     let mut text = String::new(alloc);
+    write_entry(&mut text, entry)?;
+    Ok(text)
+}
+
+fn write_entry(text: &mut String, entry: &JournalEntry) -> Result<(), AllocError> {
     match entry {
-        JournalEntry::Born(_, reference, origin) => write_born(&mut text, reference, origin)?,
-        JournalEntry::Asked(_, call) => write!(
-            text,
-            "asks for the bootstrap object, call {}",
-            call.0
-        )?,
-        JournalEntry::Made(vat, made) => write_made(&mut text, *vat, made)?,
-        JournalEntry::Delivered(_, delivery) => write_delivered(&mut text, delivery)?,
+        JournalEntry::Born(_, reference, origin) => write_born(text, reference, origin),
+        JournalEntry::Asked(_, call) => {
+            write!(text, "asks for the bootstrap object, call {}", call.0)
+        }
+        JournalEntry::Made(vat, made) => write_made(text, *vat, made),
+        JournalEntry::Delivered(_, delivery) => write_delivered(text, delivery),
         JournalEntry::Answered(_, task, outcome, references) => {
             write!(text, "answers task {}: ", task.0)?;
-            write_outcome(&mut text, outcome)?;
-            write_references(&mut text, "reference", references)?;
+            write_results(text, outcome, "reference", references)
         }
         JournalEntry::Ended(_, ended) => {
             write!(text, "call {} ends: ", ended.call.0)?;
-            write_outcome(&mut text, &ended.outcome)?;
-            write_references(&mut text, "new reference", &ended.refs)?;
+            write_results(text, &ended.outcome, "new reference", &ended.refs)
         }
-        _ => write_command(&mut text, entry)?,
+        _ => write_command(text, entry),
     }
-    Ok(text)
+}
+
+fn write_results(
+    text: &mut String,
+    outcome: &Outcome,
+    which: &str,
+    references: &Items<RefId>,
+) -> Result<(), AllocError> {
+    write_outcome(text, outcome)?;
+    write_references(text, which, references)
 }
 
 fn write_command(text: &mut String, entry: &JournalEntry) -> Result<(), AllocError> {
@@ -337,11 +355,15 @@ pub(crate) fn write_embargo(
 /// What is said of a vat's counts.
 pub(crate) fn counts_label(alloc: Global, counts: &Counts) -> Result<String, AllocError> {
     let mut text = String::new(alloc);
-    text.push_str("exports: ")?;
-    write_counts(&mut text, &counts.exports)?;
-    text.push_str("; imports: ")?;
-    write_counts(&mut text, &counts.imports)?;
+    write_tables(&mut text, counts)?;
     Ok(text)
+}
+
+fn write_tables(text: &mut String, counts: &Counts) -> Result<(), AllocError> {
+    text.push_str("exports: ")?;
+    write_counts(text, &counts.exports)?;
+    text.push_str("; imports: ")?;
+    write_counts(text, &counts.imports)
 }
 
 fn write_counts(text: &mut String, counts: &Items<(ExportId, u32)>) -> Result<(), AllocError> {

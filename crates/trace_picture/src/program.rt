@@ -94,9 +94,17 @@ fn svg_of(alloc: Global, trace: &str, options: Options) -> Result<String, Failur
     ensures fails { IfErr result (λ why. TextFails trace.now why) }
 {
     let mut chart = Chart::new(alloc, options);
-    follow(alloc, trace, &mut chart)?;
+    svg_by(alloc, trace, &mut chart)
+}
+
+/// The picture of a whole trace by a chart that has nothing yet, or the trace's first fault.
+fn svg_by(alloc: Global, trace: &str, chart: &mut Chart) -> Result<String, Failure>
+    ensures drawn { IfOk result (λ svg. IsSomeTrace trace.now) }
+    ensures fails { IfErr result (λ why. TextFails trace.now why) }
+{
+    follow(alloc, trace, chart)?;
     chart.finish(alloc)?;
-    let svg = picture(alloc, &chart)?;
+    let svg = picture(alloc, chart)?;
     Ok(svg)
 }
 
