@@ -11,7 +11,7 @@ use Rattle.wire_reading.specs.declared.layout.Layout.TheVariants as layout
 use Rattle.wire_reading.specs.Segments.{segment_of, word_at}
 use Rattle.wire_reading.specs.Pointers.{decoded}
 use Rattle.wire_reading.specs.Following.{◌>>=◌, visit, leads, followed}
-use Rattle.wire_reading.specs.Layouts.{laid, weight}
+use Rattle.wire_reading.specs.Layouts.{EndsIn, laid, weight}
 use Rattle.wire_trees.specs.Trees.{Tree, struct, list, tree, pointers, structs, struct_of}
 use Rattle.wire_reading.specs.Reading.{Reading, pointers_at, structs_at, content_of, shallow, deep, reading, visited_of}
 
@@ -198,3 +198,7 @@ module _ (m : List (List ℕ)) (read : ℕ → ℕ → ℕ → Reading Tree) (s 
       structs_skipped m read s d start count v
       ∙ ap (λ (q : ℕ). visited_of (structs_at m read s d q start count v)) (sym none)
       ∙ content_of-Structs start count d p words
+
+-- words that end no later
+pub ends_before : {size end sooner : ℕ} → EndsIn size end → sooner ≤ end → EndsIn size sooner
+ends_before h le = record { inside = let inside = h.inside in omega (arith, inside, le); small = let small = h.small in omega (arith, small, le) }

@@ -1,5 +1,5 @@
 -- Where a content lies, and of what it consists: "Structs" and "Lists" of the encoding specification.
-use Rattle.std.specs.Prelude.{ℕ, ◌+◌, ◌*◌, ◌≤◌, ◌==◌, if◌then◌else◌, nat_lt, List, length, Option, Some, None, Result, Ok, Err}
+use Rattle.std.specs.Prelude.{ℕ, ◌+◌, ◌*◌, ◌^◌, ◌≤◌, ◌==◌, if◌then◌else◌, nat_lt, List, length, Option, Some, None, Result, Ok, Err}
 use Rattle.wire_trees.specs.declared.faults.PayloadFault.{PayloadFault}
 use Rattle.wire_trees.specs.declared.faults.PayloadFault.TheVariants.{OutOfBounds, BadTag}
 use Rattle.wire_reading.specs.declared.pointer.Shape.{Shape}
@@ -44,9 +44,14 @@ weight (layout.Pointers start count) = count
 weight (layout.Structs start count data_words pointer_words words) =
     words + 1 + (if data_words + pointer_words == 0 then count else 0)
 
+-- the words before this one lie in a segment of that size, and in no more words than a message has
+pub record EndsIn (size end : ℕ) : Type 0 where
+  pub inside : end ≤ size
+  pub small : end ≤ 2 ^ 17
+
 -- a content, behind its tag, lies in a segment of that size
 abbrev pub IsWithin : ℕ → Layout → Type 0
-IsWithin size (layout.Struct start data_words pointer_words) = start + data_words + pointer_words ≤ size
-IsWithin size (layout.Packed start width count) = start + words_of (shape.Packed width count) ≤ size
-IsWithin size (layout.Pointers start count) = start + count ≤ size
-IsWithin size (layout.Structs start count data_words pointer_words words) = start + count * (data_words + pointer_words) ≤ size
+IsWithin size (layout.Struct start data_words pointer_words) = EndsIn size (start + data_words + pointer_words)
+IsWithin size (layout.Packed start width count) = EndsIn size (start + words_of (shape.Packed width count))
+IsWithin size (layout.Pointers start count) = EndsIn size (start + count)
+IsWithin size (layout.Structs start count data_words pointer_words words) = EndsIn size (start + count * (data_words + pointer_words))

@@ -2,7 +2,7 @@
 ghost use Rattle.std.specs.Prelude.{◌≡◌, ◌==◌, ◌+◌, ◌*◌, ◌^◌, ◌/◌, ◌%◌, ◌<◌, ◌≤◌, length, drop, map, replicate, take, Ok, IsOk, IfOk};
 ghost use Rattle.wire_trees.specs.Widths.{bits_of};
 ghost use Rattle.wire_reading.specs.Segments.{segment_of};
-ghost use Rattle.wire_reading.specs.Layouts.{IsWithin};
+ghost use Rattle.wire_reading.specs.Layouts.{EndsIn, IsWithin};
 ghost use Rattle.wire_trees.specs.Trees.{packed};
 ghost use Rattle.wire_reading.specs.Reading.{element, elements, pointers_at, structs_at, content_of, reading, root_of, tree_read};
 ghost use Rattle.wire_trees.specs.Views.{held, view, items_view, trees_view, structs_view};
@@ -24,8 +24,7 @@ fn words_at(
     start: u32,
     count: u16,
 ) -> Result<Vec<u64>, AllocError>
-    requires inside { start + count ≤ length (segment_of message.now segment) }
-    requires small { start + count ≤ 2 ^ 17 }
+    requires { EndsIn (length (segment_of message.now segment)) (start + count) }
     ensures { IfOk result (λ v. v.items ≡ take count (drop start (segment_of message.now segment))) }
 {
     let mut words = Vec::with_capacity(alloc, usize::from(count))?;
@@ -58,8 +57,7 @@ fn elements_at<E: Element + Drop>(
 ) -> Result<Items, AllocError>
     requires some { 0 < E.BITS }
     requires bits { E.BITS ≤ 64 }
-    requires inside { start + (count * E.BITS + 63) / 64 ≤ length (segment_of message.now segment) }
-    requires small { start + (count * E.BITS + 63) / 64 ≤ 2 ^ 17 }
+    requires within { EndsIn (length (segment_of message.now segment)) (start + (count * E.BITS + 63) / 64) }
     ensures { IfOk result (λ x. items_view x ≡ packed E.BITS (elements (drop start (segment_of message.now segment)) E.BITS 0 count)) }
 {
     let mut values = Vec::with_capacity(alloc, count as usize)?;
@@ -79,8 +77,7 @@ fn packed_items(
     width: Width,
     count: u32,
 ) -> Result<Items, AllocError>
-    requires inside { start + (count * bits_of width + 63) / 64 ≤ length (segment_of message.now segment) }
-    requires small { start + (count * bits_of width + 63) / 64 ≤ 2 ^ 17 }
+    requires { EndsIn (length (segment_of message.now segment)) (start + (count * bits_of width + 63) / 64) }
     ensures { IfOk result (λ x. items_view x ≡ packed (bits_of width) (elements (drop start (segment_of message.now segment)) (bits_of width) 0 count)) }
 {
     match width {
@@ -164,8 +161,7 @@ fn build_content(
     visited: u32,
 ) -> Result<(Tree, u32), AllocError>
     requires levels { levels ≤ 64 }
-    requires inside { IsWithin (length (segment_of message.now segment)) layout }
-    requires small { IsWithin (2 ^ 17) layout }
+    requires within { IsWithin (length (segment_of message.now segment)) layout }
     requires reads { IsOk (content_of message.now (reading message.now caps levels) segment layout visited) }
     ensures { IfOk result (λ x. content_of message.now (reading message.now caps levels) segment layout visited ≡ Ok (view x.0, x.1)) }
 {
@@ -230,8 +226,7 @@ fn build_structs(
     mut visited: u32,
 ) -> Result<(Vec<Fields>, u32), AllocError>
     requires levels { levels ≤ 64 }
-    requires inside { row.start + row.count * (row.data_words + row.pointer_words) ≤ length (segment_of message.now segment) }
-    requires small { row.start + row.count * (row.data_words + row.pointer_words) ≤ 2 ^ 17 }
+    requires within { EndsIn (length (segment_of message.now segment)) (row.start + row.count * (row.data_words + row.pointer_words)) }
     requires reads { IsOk (structs_at message.now (reading message.now caps levels) segment row.data_words row.pointer_words row.start row.count visited) }
     ensures { IfOk result (λ x. structs_at message.now (reading message.now caps levels) segment row.data_words row.pointer_words row.start row.count visited ≡ Ok (structs_view x.0.items, x.1)) }
 {
@@ -264,8 +259,7 @@ fn build_pointers(
     mut visited: u32,
 ) -> Result<(Pointers, u32), AllocError>
     requires levels { levels ≤ 64 }
-    requires inside { start + count ≤ length (segment_of message.now segment) }
-    requires small { start + count ≤ 2 ^ 17 }
+    requires within { EndsIn (length (segment_of message.now segment)) (start + count) }
     requires reads { IsOk (pointers_at (reading message.now caps levels) segment start count visited) }
     ensures { IfOk result (λ x. pointers_at (reading message.now caps levels) segment start count visited ≡ Ok (trees_view (held x.0), x.1)) }
 {

@@ -113,8 +113,7 @@ impl Layout {
 #[tactic(auto, unfolding(crate::specs::Layouts::laid))]
 pub fn lay_out(message: &Message, content: Content) -> Result<Layout, PayloadFault>
     ensures laid { result ≡ laid message.now content }
-    ensures inside { IfOk result (IsWithin (length (segment_of message.now content.segment))) }
-    ensures small { IfOk result (IsWithin (2 ^ 17)) }
+    ensures within { IfOk result (IsWithin (length (segment_of message.now content.segment))) }
 {
     let size = message.size(content.segment).unwrap_or(0);
     let start = place(content.start, content.shape.words(), size)?;

@@ -275,8 +275,7 @@ impl<'m> Place<'m> {
     fn layout(&self, content: Content) -> Layout
         requires { self.now.referent ≡ referent.Content content }
         ensures laid { Ok result ≡ laid self.now.message content }
-        ensures inside { IsWithin (length (segment_of self.now.message content.segment)) result }
-        ensures small { IsWithin (2 ^ 17) result }
+        ensures within { IsWithin (length (segment_of self.now.message content.segment)) result }
     {
         let Ok(layout) = lay_out(self.message, content) else {
             unreachable!()

@@ -1,7 +1,7 @@
 //! The walk over all that a pointer leads to. It counts the visited words, and builds nothing.
 ghost use Rattle.std.specs.Prelude.{◌≡◌, ◌+◌, ◌*◌, ◌^◌, ◌≤◌, ◌<◌, length};
 ghost use Rattle.wire_reading.specs.Segments.{segment_of};
-ghost use Rattle.wire_reading.specs.Layouts.{IsWithin};
+ghost use Rattle.wire_reading.specs.Layouts.{EndsIn, IsWithin};
 ghost use Rattle.wire_reading.specs.Reading.{pointers_at, structs_at, content_of, reading, message_of, visited_of};
 
 use crate::layout::{Layout, Row, lay_out};
@@ -58,8 +58,7 @@ fn walk_content(
     levels: u32,
     visited: u32,
 ) -> Result<u32, PayloadFault>
-    requires inside { IsWithin (length (segment_of message.now segment)) layout }
-    requires small { IsWithin (2 ^ 17) layout }
+    requires { IsWithin (length (segment_of message.now segment)) layout }
     ensures { result ≡ visited_of (content_of message.now (reading message.now caps levels) segment layout visited) }
 {
     match layout {
@@ -114,8 +113,7 @@ fn walk_structs(
     levels: u32,
     mut visited: u32,
 ) -> Result<u32, PayloadFault>
-    requires inside { row.start + row.count * (row.data_words + row.pointer_words) ≤ length (segment_of message.now segment) }
-    requires small { row.start + row.count * (row.data_words + row.pointer_words) ≤ 2 ^ 17 }
+    requires { EndsIn (length (segment_of message.now segment)) (row.start + row.count * (row.data_words + row.pointer_words)) }
     ensures { result ≡ visited_of (structs_at message.now (reading message.now caps levels) segment row.data_words row.pointer_words row.start row.count visited) }
 {
     let mut at = row.start;
@@ -146,8 +144,7 @@ fn walk_pointers(
     levels: u32,
     mut visited: u32,
 ) -> Result<u32, PayloadFault>
-    requires inside { start + count ≤ length (segment_of message.now segment) }
-    requires small { start + count ≤ 2 ^ 17 }
+    requires { EndsIn (length (segment_of message.now segment)) (start + count) }
     ensures { result ≡ visited_of (pointers_at (reading message.now caps levels) segment start count visited) }
 {
     for k in 0..count {

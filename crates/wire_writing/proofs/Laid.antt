@@ -1,15 +1,17 @@
 -- What the steps of placing leave.
-use Rattle.std.proofs.Common.{◌≡◌, ℕ, zero, suc, cond, eqb, ◌+◌, ◌*◌, ◌^◌, ◌<◌, ◌≤◌, Bool, true, false, List, [], ◌∷◌, ◌++◌, length, take, drop, sym, ap, ◌∙◌, append_assoc, arith}
+use Rattle.std.proofs.Common.{◌≡◌, ℕ, zero, suc, cond, eqb, ◌+◌, ◌*◌, ◌^◌, ◌<◌, ◌≤◌, Bool, true, false, List, [], ◌∷◌, ◌++◌, length, map, take, drop, refl, sym, ap, subst, ◌∙◌, append_assoc, arith}
 use Rattle.std.specs.Prelude.{replicate}
-use Rattle.std.proofs.lemmas.List.{length-append, length-drop, length-take-le, length-replicate}
+use Rattle.std.proofs.lemmas.List.{length-append, length-drop, length-map, length-take-le, length-replicate}
 use Rattle.wire_trees.specs.declared.tree.Tree as program
 use Rattle.wire_trees.specs.declared.tree.Fields.{Fields}
 use Rattle.wire_trees.specs.Views.{trees_view, structs_view}
-use Rattle.wire_trees.specs.Trees.{trees_count}
+use Rattle.wire_trees.specs.Trees as tree
+use Rattle.wire_trees.specs.Trees.{Elements, trees_count}
 use Rattle.wire_trees.specs.Widths.{packed_size}
 use Rattle.wire_writing.specs.Placing.{size_number, placed_all, placed_structs, content_then}
-use Rattle.wire_trees.specs.Writable.{are_even}
-use Rattle.wire_writing.specs.Laying.{filled}
+use Rattle.wire_trees.specs.Writable.{parts, are_even}
+use Rattle.wire_writing.specs.Laying.{HasRoom, AreNarrow, filled}
+use Rattle.wire_writing.proofs.Sized.{taken}
 use Rattle.wire_writing.proofs.Lengths.{length-placed_all, length-placed_structs}
 use Rattle.wire_writing.proofs.Filled.{filled_put, filled_zeros}
 use Rattle.wire_trees.proofs.Counts.{trees_counted, structs_counted}
@@ -96,3 +98,27 @@ small_either false x y lx ly = ly
 pub small_number : (bits : ℕ) → size_number bits < 8
 small_number bits =
     small_either (eqb bits 0) 0 _ (omega arith) (small_either (eqb bits 1) 1 _ (omega arith) (small_either (eqb bits 8) 2 _ (omega arith) (small_either (eqb bits 16) 3 _ (omega arith) (small_either (eqb bits 32) 4 5 (omega arith) (omega arith)))))
+
+pub narrow_1 : AreNarrow 1 1
+narrow_1 = record { fill = record { some = omega arith; whole = refl; most = omega arith }; is_size = refl }
+
+pub narrow_8 : AreNarrow 8 2
+narrow_8 = record { fill = record { some = omega arith; whole = refl; most = omega arith }; is_size = refl }
+
+pub narrow_16 : AreNarrow 16 3
+narrow_16 = record { fill = record { some = omega arith; whole = refl; most = omega arith }; is_size = refl }
+
+pub narrow_32 : AreNarrow 32 4
+narrow_32 = record { fill = record { some = omega arith; whole = refl; most = omega arith }; is_size = refl }
+
+-- room for what takes as many words
+pub room_for : {n k words room : ℕ} → HasRoom n words room → n ≡ k → HasRoom k words room
+room_for {n} {k} {words} {room} h e = subst (λ (i : ℕ). HasRoom i words room) e h
+
+pub packed_room : {A : Type 0} (bits : ℕ) (xs : List A) (f : A → ℕ) (es : Elements) (words room : ℕ) → es ≡ tree.packed bits (map f xs) → HasRoom (taken (parts (tree.list es) 0)) words room → HasRoom (packed_size bits (length xs)) words room
+packed_room bits xs f es words room e h =
+    let all : taken (parts (tree.list (tree.packed bits (map f xs))) 0) ≡ packed_size bits (length (map f xs)) = omega arith in
+    room_for (subst (λ (x : Elements). HasRoom (taken (parts (tree.list x) 0)) words room) e h) (all ∙ ap (packed_size bits) (length-map xs f))
+
+pub eights_room : (xs : List ℕ) (es : Elements) (words room : ℕ) → es ≡ tree.packed 64 xs → HasRoom (taken (parts (tree.list es) 0)) words room → HasRoom (packed_size 64 (length xs)) words room
+eights_room xs es words room e h = room_for (subst (λ (x : Elements). HasRoom (taken (parts (tree.list x) 0)) words room) e h) (omega arith)

@@ -3,11 +3,11 @@ ghost use Rattle.std.specs.Prelude.{◌≡◌, ℕ, List, true, ◌+◌, ◌*◌
 ghost use Rattle.std.specs.Vec.{vec_capacity};
 ghost use Rattle.wire_trees.specs.Trees.{struct, list, packed};
 ghost use Rattle.wire_trees.specs.Views.{view, fields_view, items_view, trees_view, structs_view};
-ghost use Rattle.wire_writing.specs.Placing.{joined, packed_words, struct_word, list_word, size_number, capability_word, struct_pointer, offset_of, content_then, placed, placed_all, placed_list, placed_structs, segment_for};
+ghost use Rattle.wire_writing.specs.Placing.{joined, packed_words, struct_word, list_word, capability_word, struct_pointer, offset_of, content_then, placed, placed_all, placed_list, placed_structs, segment_for};
 ghost use Rattle.wire_trees.specs.Widths.{AreOf, packed_size};
 ghost use Rattle.wire_writing.specs.Fitting.{Fits, FitsAll, FitsList, FitsStructs};
 ghost use Rattle.wire_trees.specs.Writable.{parts, parts_of_all, parts_of_structs, words_taken, all_words, are_even};
-ghost use Rattle.wire_writing.specs.Laying.{HaveSizes, filled};
+ghost use Rattle.wire_writing.specs.Laying.{HaveSizes, HasRoom, FillWords, AreNarrow, IsLaid, filled};
 
 use std::alloc::{AllocError, Global};
 use wire_trees::{Element, Fields, Items, Tree};
@@ -75,9 +75,7 @@ fn joined_word<E: Element>(elements: &[E]) -> u64
 
 /// Lays down elements, so many in each word.
 fn push_packed<E: Element>(words: &mut Vec<u64>, elements: &[E])
-    requires some { 0 < E.BITS }
-    requires whole { 64 / E.BITS * E.BITS ≡ 64 }
-    requires most { E.BITS < 64 }
+    requires fill { FillWords E.BITS }
     requires small { packed_size E.BITS (length elements.now) ≤ 65536 }
     requires spare { length words.old.items + packed_size E.BITS (length elements.now) ≤ vec_capacity words.old }
     ensures items { words.new.items ≡ words.old.items ++ packed_words E.BITS (packed_size E.BITS (length elements.now)) (map E.said elements.now) }
@@ -118,15 +116,9 @@ fn push_eights(eights: &[u64], words: &mut Vec<u64>)
 /// The pointer at word `at` to a list of elements, which are laid down behind all words.
 fn place_packed<E: Element>(elements: &[E], size: u64, at: usize, words: &mut Vec<u64>) -> u64
     requires ahead { at < length words.old.items }
-    requires some { 0 < E.BITS }
-    requires whole { 64 / E.BITS * E.BITS ≡ 64 }
-    requires most { E.BITS < 64 }
-    requires size { size ≡ size_number E.BITS }
-    requires room { length words.old.items + packed_size E.BITS (length elements.now) ≤ 65536 }
-    requires spare { length words.old.items + packed_size E.BITS (length elements.now) ≤ vec_capacity words.old }
-    ensures word { result ≡ (placed_list (packed E.BITS (map E.said elements.now)) at (length words.old.items)).0 }
-    ensures placed { words.new.items ≡ words.old.items ++ (placed_list (packed E.BITS (map E.said elements.now)) at (length words.old.items)).1 }
-    ensures capacity { vec_capacity words.old ≤ vec_capacity words.new }
+    requires narrow { AreNarrow E.BITS size }
+    requires room { HasRoom (packed_size E.BITS (length elements.now)) (length words.old.items) (vec_capacity words.old) }
+    ensures laid { IsLaid (placed_list (packed E.BITS (map E.said elements.now)) at (length words.old.items)) result words.old.items words.new.items (vec_capacity words.old) (vec_capacity words.new) }
     ensures fit { AreOf E.BITS (map E.said elements.now) }
 {
     let next = words.len();
@@ -137,11 +129,8 @@ fn place_packed<E: Element>(elements: &[E], size: u64, at: usize, words: &mut Ve
 /// The pointer at word `at` to a list of words, which are laid down behind all words.
 fn place_eights(eights: &[u64], at: usize, words: &mut Vec<u64>) -> u64
     requires ahead { at < length words.old.items }
-    requires room { length words.old.items + packed_size 64 (length eights.now) ≤ 65536 }
-    requires spare { length words.old.items + packed_size 64 (length eights.now) ≤ vec_capacity words.old }
-    ensures word { result ≡ (placed_list (packed 64 eights.now) at (length words.old.items)).0 }
-    ensures placed { words.new.items ≡ words.old.items ++ (placed_list (packed 64 eights.now) at (length words.old.items)).1 }
-    ensures capacity { vec_capacity words.old ≤ vec_capacity words.new }
+    requires room { HasRoom (packed_size 64 (length eights.now)) (length words.old.items) (vec_capacity words.old) }
+    ensures laid { IsLaid (placed_list (packed 64 eights.now) at (length words.old.items)) result words.old.items words.new.items (vec_capacity words.old) (vec_capacity words.new) }
     ensures fit { AreOf 64 eights.now }
 {
     let next = words.len();
@@ -163,11 +152,8 @@ fn put(words: &mut Vec<u64>, at: usize, others: &[u64])
 fn place_tree(tree: &Tree, at: usize, words: &mut Vec<u64>) -> u64
     requires ahead { at < length words.old.items }
     requires sizes { HaveSizes (parts (view tree.now) 0) }
-    requires room { length words.old.items + all_words words_taken (parts (view tree.now) 0) ≤ 65536 }
-    requires spare { length words.old.items + all_words words_taken (parts (view tree.now) 0) ≤ vec_capacity words.old }
-    ensures word { result ≡ (placed (view tree.now) at (length words.old.items)).0 }
-    ensures placed { words.new.items ≡ words.old.items ++ (placed (view tree.now) at (length words.old.items)).1 }
-    ensures capacity { vec_capacity words.old ≤ vec_capacity words.new }
+    requires room { HasRoom (all_words words_taken (parts (view tree.now) 0)) (length words.old.items) (vec_capacity words.old) }
+    ensures laid { IsLaid (placed (view tree.now) at (length words.old.items)) result words.old.items words.new.items (vec_capacity words.old) (vec_capacity words.new) }
     ensures fits { Fits (view tree.now) }
 {
     match tree {
@@ -192,11 +178,8 @@ fn place_tree(tree: &Tree, at: usize, words: &mut Vec<u64>) -> u64
 fn place_items(items: &Items, at: usize, words: &mut Vec<u64>) -> u64
     requires ahead { at < length words.old.items }
     requires sizes { HaveSizes (parts (list (items_view items.now)) 0) }
-    requires room { length words.old.items + all_words words_taken (parts (list (items_view items.now)) 0) ≤ 65536 }
-    requires spare { length words.old.items + all_words words_taken (parts (list (items_view items.now)) 0) ≤ vec_capacity words.old }
-    ensures word { result ≡ (placed_list (items_view items.now) at (length words.old.items)).0 }
-    ensures placed { words.new.items ≡ words.old.items ++ (placed_list (items_view items.now) at (length words.old.items)).1 }
-    ensures capacity { vec_capacity words.old ≤ vec_capacity words.new }
+    requires room { HasRoom (all_words words_taken (parts (list (items_view items.now)) 0)) (length words.old.items) (vec_capacity words.old) }
+    ensures laid { IsLaid (placed_list (items_view items.now) at (length words.old.items)) result words.old.items words.new.items (vec_capacity words.old) (vec_capacity words.new) }
     ensures fits { FitsList (items_view items.now) }
 {
     match items {
@@ -220,11 +203,11 @@ fn place_items(items: &Items, at: usize, words: &mut Vec<u64>) -> u64
 fn place_pointers(trees: &[Tree], at: usize, words: &mut Vec<u64>) -> u64
     requires ahead { at < length words.old.items }
     requires sizes { HaveSizes (parts_of_all (trees_view trees.now) 0) }
-    requires room { length words.old.items + (length trees.now + all_words words_taken (parts_of_all (trees_view trees.now) 0)) ≤ 65536 }
-    requires spare { length words.old.items + (length trees.now + all_words words_taken (parts_of_all (trees_view trees.now) 0)) ≤ vec_capacity words.old }
-    ensures word { result ≡ list_word (offset_of at (length words.old.items)) 6 (length trees.now) }
-    ensures placed { words.new.items ≡ words.old.items ++ content_then (placed_all (trees_view trees.now) (length words.old.items) (length words.old.items + length trees.now)) }
-    ensures capacity { vec_capacity words.old ≤ vec_capacity words.new }
+    requires room { HasRoom (length trees.now + all_words words_taken (parts_of_all (trees_view trees.now) 0)) (length words.old.items) (vec_capacity words.old) }
+    ensures laid { IsLaid (
+      list_word (offset_of at (length words.old.items)) 6 (length trees.now),
+      content_then (placed_all (trees_view trees.now) (length words.old.items) (length words.old.items + length trees.now)),
+    ) result words.old.items words.new.items (vec_capacity words.old) (vec_capacity words.new) }
     ensures fits { FitsAll (trees_view trees.now) }
 {
     let next = words.len();
@@ -247,12 +230,12 @@ fn place_list(
     requires even { are_even data_words pointer_words (structs_view items.now) ≡ true }
     requires sizes { HaveSizes (parts_of_structs (structs_view items.now) 0) }
     requires few { length items.now < 2 ^ 30 }
-    requires room { length words.old.items + (length items.now * (data_words + pointer_words) + 1 + all_words words_taken (parts_of_structs (structs_view items.now) 0)) ≤ 65536 }
-    requires spare { length words.old.items + (length items.now * (data_words + pointer_words) + 1 + all_words words_taken (parts_of_structs (structs_view items.now) 0)) ≤ vec_capacity words.old }
-    ensures word { result ≡ list_word (offset_of at (length words.old.items)) 7 (length items.now * (data_words + pointer_words)) }
-    ensures placed { words.new.items ≡ words.old.items ++ (struct_word (length items.now) data_words pointer_words
-        ∷ content_then (placed_structs (structs_view items.now) (length words.old.items + 1) (length words.old.items + 1 + length items.now * (data_words + pointer_words)))) }
-    ensures capacity { vec_capacity words.old ≤ vec_capacity words.new }
+    requires room { HasRoom (length items.now * (data_words + pointer_words) + 1 + all_words words_taken (parts_of_structs (structs_view items.now) 0)) (length words.old.items) (vec_capacity words.old) }
+    ensures laid { IsLaid (
+      list_word (offset_of at (length words.old.items)) 7 (length items.now * (data_words + pointer_words)),
+      struct_word (length items.now) data_words pointer_words
+          ∷ content_then (placed_structs (structs_view items.now) (length words.old.items + 1) (length words.old.items + 1 + length items.now * (data_words + pointer_words))),
+    ) result words.old.items words.new.items (vec_capacity words.old) (vec_capacity words.new) }
     ensures fits { FitsStructs (structs_view items.now) }
 {
     let next = words.len();
@@ -280,8 +263,7 @@ fn place_structs(
     requires even { are_even data_words pointer_words (structs_view items.now) ≡ true }
     requires inside { at + length items.now * (data_words + pointer_words) ≤ length words.old.items }
     requires sizes { HaveSizes (parts_of_structs (structs_view items.now) 0) }
-    requires room { length words.old.items + all_words words_taken (parts_of_structs (structs_view items.now) 0) ≤ 65536 }
-    requires spare { length words.old.items + all_words words_taken (parts_of_structs (structs_view items.now) 0) ≤ vec_capacity words.old }
+    requires room { HasRoom (all_words words_taken (parts_of_structs (structs_view items.now) 0)) (length words.old.items) (vec_capacity words.old) }
     ensures placed { words.new.items ≡ filled words.old.items at (placed_structs (structs_view items.now) at (length words.old.items)) }
     ensures capacity { vec_capacity words.old ≤ vec_capacity words.new }
     ensures fits { FitsStructs (structs_view items.now) }
@@ -298,8 +280,7 @@ fn place_structs(
 fn place_fields(pointers: &[Tree], section: &[u64], at: usize, words: &mut Vec<u64>)
     requires inside { at + length section.now + length pointers.now ≤ length words.old.items }
     requires sizes { HaveSizes (parts_of_all (trees_view pointers.now) 0) }
-    requires room { length words.old.items + all_words words_taken (parts_of_all (trees_view pointers.now) 0) ≤ 65536 }
-    requires spare { length words.old.items + all_words words_taken (parts_of_all (trees_view pointers.now) 0) ≤ vec_capacity words.old }
+    requires room { HasRoom (all_words words_taken (parts_of_all (trees_view pointers.now) 0)) (length words.old.items) (vec_capacity words.old) }
     ensures placed { words.new.items ≡ filled words.old.items at (
       section.now ++ (placed_all (trees_view pointers.now) (at + length section.now) (length words.old.items)).0,
       (placed_all (trees_view pointers.now) (at + length section.now) (length words.old.items)).1,
@@ -316,8 +297,7 @@ fn place_fields(pointers: &[Tree], section: &[u64], at: usize, words: &mut Vec<u
 fn place_trees(trees: &[Tree], at: usize, words: &mut Vec<u64>)
     requires inside { at + length trees.now ≤ length words.old.items }
     requires sizes { HaveSizes (parts_of_all (trees_view trees.now) 0) }
-    requires room { length words.old.items + all_words words_taken (parts_of_all (trees_view trees.now) 0) ≤ 65536 }
-    requires spare { length words.old.items + all_words words_taken (parts_of_all (trees_view trees.now) 0) ≤ vec_capacity words.old }
+    requires room { HasRoom (all_words words_taken (parts_of_all (trees_view trees.now) 0)) (length words.old.items) (vec_capacity words.old) }
     ensures placed { words.new.items ≡ filled words.old.items at (placed_all (trees_view trees.now) at (length words.old.items)) }
     ensures capacity { vec_capacity words.old ≤ vec_capacity words.new }
     ensures fits { FitsAll (trees_view trees.now) }

@@ -5,23 +5,24 @@ use Rattle.wire_trees.specs.Trees.{Tree}
 use Rattle.wire_reading.specs.Reading.{Reading, pointers_at, structs_at, reading}
 use Rattle.wire_trees.specs.Views.{held, view, trees_view, structs_view}
 use Rattle.wire_reading.proofs.Joining.{with_no_trees, with_no_structs, pointers_go_on, pointers_over, next_reads, structs_go_on, structs_over, next_struct_reads, trees_view_push, structs_view_push, struct_reads, pointers_read_ok, structs_read_ok, struct_is, packed_is, pointers_is, structs_is, reads_followed, reading_null, reading_capability, not_too_deep, deep_laid, deep_visited, deep_content}
+use Rattle.wire_reading.proofs.Steps.{ends_before}
 use Rattle.wire_reading.proofs.Depths.{pointers_shallow, reading_shallow}
 use Rattle.wire_reading.proofs.build.+build.Goals as goal
 
 pub build_content-build_pointers-requires : goal.build_content-build_pointers-requires
 build_content-build_pointers-requires t c =
     let reads = struct_reads c.args.message.now (reading c.args.message.now c.args.caps c.args.levels) c.args.segment c.args.visited c.in-Struct.start c.in-Struct.data_words c.in-Struct.pointer_words (rw c.in-Struct.is at c.requires.reads) in
-    rw (c.from.ensures, c.from-count.ensures) (search rules)
+    (search rules, (c.requires.levels, (ends_before (rw c.in-Struct.is at c.requires.within) (omega arith), rw (c.from.ensures, c.from-count.ensures) reads)))
 
 pub build_content-build_pointers-requires-in-Pointers : goal.build_content-build_pointers-requires-in-Pointers
 build_content-build_pointers-requires-in-Pointers t c =
     let reads = pointers_read_ok c.args.message.now (reading c.args.message.now c.args.caps c.args.levels) c.args.segment c.args.visited c.in-Pointers.start c.in-Pointers.count (rw c.in-Pointers.is at c.requires.reads) in
-    search rules
+    (search rules, (c.requires.levels, (rw c.in-Pointers.is at c.requires.within, reads)))
 
 pub build_content-build_structs-requires : goal.build_content-build_structs-requires
 build_content-build_structs-requires t c =
     let reads = structs_read_ok c.args.message.now (reading c.args.message.now c.args.caps c.args.levels) c.args.segment c.args.visited c.in-Structs.start c.in-Structs.count c.in-Structs.data_words c.in-Structs.pointer_words c.in-Structs.words (rw c.in-Structs.is at c.requires.reads) in
-    search rules
+    (search rules, (c.requires.levels, (rw c.in-Structs.is at c.requires.within, reads)))
 
 pub build_pointer-unreachable-requires : goal.build_pointer-unreachable-requires
 build_pointer-unreachable-requires t c =
@@ -54,7 +55,7 @@ pub build_pointer-build_content-requires : goal.build_pointer-build_content-requ
 build_pointer-build_content-requires t c =
     let e = deep_content c.args.message.now c.args.caps (c.args.levels - 1) c.args.levels c.args.segment c.args.index c.args.visited c.in-Content.content c.in-Ok.visited (rw c.in-Content.is at c.in-Ok.ensures) (omega arith) c.in-Ok-lay_out.layout c.in-Ok-visited_after.visited c.in-Ok-lay_out.ensures.laid (rw c.weight.ensures.weight at c.in-Ok-visited_after.ensures) in
     let reads = subst (λ (r : Reading Tree). IsOk r) (sym e) c.requires.reads in
-    search rules
+    (search rules, (omega arith, (c.in-Ok-lay_out.ensures.within, reads)))
 
 pub build_pointer-returns : goal.build_pointer-returns
 build_pointer-returns t c =
@@ -64,7 +65,8 @@ build_pointer-returns t c =
 pub build_pointers-build_pointer-requires : goal.build_pointers-build_pointer-requires
 build_pointers-build_pointer-requires t c =
     let reads = next_reads (reading c.args.message.now c.args.caps c.args.levels) c.args.segment c.args.start c.args.count c.loop-k.k c.loop-k.visited (trees_view c.loop-k.trees.items) _ c.loop-k-test.true c.requires.reads c.loop-k.invariant.same in
-    search rules
+    let inside = c.requires.within.inside in
+    (search rules, (c.requires.levels, (omega (arith, inside), reads)))
 
 pub build_pointers-loop-k-preserved : goal.build_pointers-loop-k-preserved
 build_pointers-loop-k-preserved t c =
@@ -116,7 +118,8 @@ pub build_structs-build_pointers-requires : goal.build_structs-build_pointers-re
 build_structs-build_pointers-requires t c =
     let reads = next_struct_reads c.args.message.now (reading c.args.message.now c.args.caps c.args.levels) c.args.segment c.args.row.data_words c.args.row.pointer_words c.loop.at c.args.row.count c.loop.counter c.loop.visited (structs_view c.loop.items.items) _ c.loop.invariant.same c.loop-test.true c.requires.reads in
     let room : (c.loop.counter + 1) * (c.args.row.data_words + c.args.row.pointer_words) ≤ c.args.row.count * (c.args.row.data_words + c.args.row.pointer_words) = mul-le-mul_right (c.args.row.data_words + c.args.row.pointer_words) (omega arith) in
-    rw (c.from.ensures, c.from-length.ensures) (search rules)
+    let place = c.loop.invariant.place in
+    (search rules, (c.requires.levels, (ends_before c.requires.within (omega (arith, room, place)), rw (c.from.ensures, c.from-length.ensures) reads)))
 
 pub build_structs-loop-preserved : goal.build_structs-loop-preserved
 build_structs-loop-preserved t c =
@@ -143,57 +146,23 @@ pub build_structs-returns : goal.build_structs-returns
 build_structs-returns t c =
     structs_over c.args.message.now (reading c.args.message.now c.args.caps c.args.levels) c.args.segment c.args.row.data_words c.args.row.pointer_words c.loop.at c.args.row.count c.loop.counter c.loop.visited (structs_view c.loop.items.items) _ c.loop.invariant.same c.loop-test.false
 
-pub build_content-words_at-requires-clause-inside : goal.build_content-words_at-requires-clause-inside
-build_content-words_at-requires-clause-inside t c =
-    let all = rw c.in-Struct.is at c.requires.inside in
-    omega (arith, all)
-
-pub build_content-words_at-requires-clause-small : goal.build_content-words_at-requires-clause-small
-build_content-words_at-requires-clause-small t c =
-    let all = rw c.in-Struct.is at c.requires.small in
-    omega (arith, all)
-
 pub build_content-overflow_add-first : goal.build_content-overflow_add-first
 build_content-overflow_add-first t c =
-    let all = rw c.in-Struct.is at c.requires.small in
+    let all = (rw c.in-Struct.is at c.requires.within).small in
     omega (arith, all)
-
-pub build_content-packed_items-requires-clause-inside : goal.build_content-packed_items-requires-clause-inside
-build_content-packed_items-requires-clause-inside t c =
-    let all = rw c.in-Packed.is at c.requires.inside in
-    omega (arith, all)
-
-pub build_content-packed_items-requires-clause-small : goal.build_content-packed_items-requires-clause-small
-build_content-packed_items-requires-clause-small t c =
-    let all = rw c.in-Packed.is at c.requires.small in
-    omega (arith, all)
-
-pub build_structs-words_at-requires-clause-inside : goal.build_structs-words_at-requires-clause-inside
-build_structs-words_at-requires-clause-inside t c =
-    let room : (c.loop.counter + 1) * (c.args.row.data_words + c.args.row.pointer_words) ≤ c.args.row.count * (c.args.row.data_words + c.args.row.pointer_words) = mul-le-mul_right (c.args.row.data_words + c.args.row.pointer_words) (omega arith) in
-    let place = c.loop.invariant.place in
-    let all = c.requires.inside in
-    omega (arith, room, place, all)
-
-pub build_structs-words_at-requires-clause-small : goal.build_structs-words_at-requires-clause-small
-build_structs-words_at-requires-clause-small t c =
-    let room : (c.loop.counter + 1) * (c.args.row.data_words + c.args.row.pointer_words) ≤ c.args.row.count * (c.args.row.data_words + c.args.row.pointer_words) = mul-le-mul_right (c.args.row.data_words + c.args.row.pointer_words) (omega arith) in
-    let place = c.loop.invariant.place in
-    let all = c.requires.small in
-    omega (arith, room, place, all)
 
 pub build_structs-overflow_add-first : goal.build_structs-overflow_add-first
 build_structs-overflow_add-first t c =
     let room : (c.loop.counter + 1) * (c.args.row.data_words + c.args.row.pointer_words) ≤ c.args.row.count * (c.args.row.data_words + c.args.row.pointer_words) = mul-le-mul_right (c.args.row.data_words + c.args.row.pointer_words) (omega arith) in
     let place = c.loop.invariant.place in
-    let all = c.requires.small in
+    let all = c.requires.within.small in
     omega (arith, room, place, all)
 
 pub build_structs-overflow_add-at : goal.build_structs-overflow_add-at
 build_structs-overflow_add-at t c =
     let room : (c.loop.counter + 1) * (c.args.row.data_words + c.args.row.pointer_words) ≤ c.args.row.count * (c.args.row.data_words + c.args.row.pointer_words) = mul-le-mul_right (c.args.row.data_words + c.args.row.pointer_words) (omega arith) in
     let place = c.loop.invariant.place in
-    let all = c.requires.small in
+    let all = c.requires.within.small in
     omega (arith, room, place, all)
 
 pub build_pointers-loop-k-init : goal.build_pointers-loop-k-init
@@ -221,3 +190,17 @@ build_structs-loop-init t c =
       count = c.in_ok-items.ensures.len;
       room = c.in_ok-items.ensures.exact;
     }
+
+pub build_content-words_at-requires : goal.build_content-words_at-requires
+build_content-words_at-requires t c =
+    ends_before (rw c.in-Struct.is at c.requires.within) (omega arith)
+
+pub build_content-packed_items-requires : goal.build_content-packed_items-requires
+build_content-packed_items-requires t c =
+    ends_before (rw c.in-Packed.is at c.requires.within) (omega arith)
+
+pub build_structs-words_at-requires : goal.build_structs-words_at-requires
+build_structs-words_at-requires t c =
+    let room : (c.loop.counter + 1) * (c.args.row.data_words + c.args.row.pointer_words) ≤ c.args.row.count * (c.args.row.data_words + c.args.row.pointer_words) = mul-le-mul_right (c.args.row.data_words + c.args.row.pointer_words) (omega arith) in
+    let place = c.loop.invariant.place in
+    ends_before c.requires.within (omega (arith, room, place))

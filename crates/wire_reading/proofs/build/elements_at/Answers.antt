@@ -28,11 +28,11 @@ returns g c =
 pub element_at-number-requires-clause-inside : goal.element_at-number-requires-clause-inside
 element_at-number-requires-clause-inside g c =
     let before = element_inside g.E.Element.BITS c.loop-k.k c.args.count c.requires.some c.loop-k-test.true in
-    let inside = c.requires.inside in
+    let inside = c.requires.within.inside in
     rw c.BITS.ensures (omega (arith, before, inside))
 
 pub element_at-number-requires-clause-small : goal.element_at-number-requires-clause-small
 element_at-number-requires-clause-small g c =
     let before = element_inside g.E.Element.BITS c.loop-k.k c.args.count c.requires.some c.loop-k-test.true in
-    let small = c.requires.small in
+    let small = c.requires.within.small in
     rw c.BITS.ensures (omega (arith, before, small))

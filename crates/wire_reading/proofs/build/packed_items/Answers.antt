@@ -21,3 +21,18 @@ returns-in-FourBytes c = rw c.in-FourBytes.is c.elements_at-in-FourBytes.ensures
 
 pub returns-in-EightBytes : goal.returns-in-EightBytes
 returns-in-EightBytes c = rw c.in-EightBytes.is c.elements_at-in-EightBytes.ensures
+
+pub elements_at-requires-clause-within : goal.elements_at-requires-clause-within
+elements_at-requires-clause-within c = rw c.in-Bit.is at c.requires
+
+pub elements_at-requires-in-Byte-clause-within : goal.elements_at-requires-in-Byte-clause-within
+elements_at-requires-in-Byte-clause-within c = rw c.in-Byte.is at c.requires
+
+pub elements_at-requires-in-TwoBytes-clause-within : goal.elements_at-requires-in-TwoBytes-clause-within
+elements_at-requires-in-TwoBytes-clause-within c = rw c.in-TwoBytes.is at c.requires
+
+pub elements_at-requires-in-FourBytes-clause-within : goal.elements_at-requires-in-FourBytes-clause-within
+elements_at-requires-in-FourBytes-clause-within c = rw c.in-FourBytes.is at c.requires
+
+pub elements_at-requires-in-EightBytes-clause-within : goal.elements_at-requires-in-EightBytes-clause-within
+elements_at-requires-in-EightBytes-clause-within c = rw c.in-EightBytes.is at c.requires

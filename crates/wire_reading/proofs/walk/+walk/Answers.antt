@@ -2,7 +2,7 @@ use Rattle.std.proofs.Common.{◌≡◌, ◌+◌, ◌-◌, ◌*◌, ◌≤◌, O
 use Rattle.std.proofs.Math.Nat.{mul-le-mul_right}
 use Rattle.std.proofs.lemmas.Result.{err_from_is_err_and}
 use Rattle.wire_reading.specs.Reading.{reading, pointers_at, visited_of}
-use Rattle.wire_reading.proofs.Steps.{pointers_more, pointers_stop, pointers_done, structs_more, structs_stop, structs_done, reading_stop, reading_null, reading_plain, reading_too_deep, reading_unlaid, reading_heavy, reading_content, content_of-Struct, content_of-Packed, content_of-Pointers, content_of-Structs, content_of-Structs_skipped}
+use Rattle.wire_reading.proofs.Steps.{ends_before, pointers_more, pointers_stop, pointers_done, structs_more, structs_stop, structs_done, reading_stop, reading_null, reading_plain, reading_too_deep, reading_unlaid, reading_heavy, reading_content, content_of-Struct, content_of-Packed, content_of-Pointers, content_of-Structs, content_of-Structs_skipped}
 use Rattle.wire_reading.proofs.walk.+walk.Goals as goal
 
 pub walk_pointer-returns-in_err-referent : goal.walk_pointer-returns-in_err-referent
@@ -98,24 +98,13 @@ pub walk_structs-walk_pointers-requires : goal.walk_structs-walk_pointers-requir
 walk_structs-walk_pointers-requires t c =
     let room : (c.loop.counter + 1) * (c.args.row.data_words + c.args.row.pointer_words) ≤ c.args.row.count * (c.args.row.data_words + c.args.row.pointer_words) = mul-le-mul_right (c.args.row.data_words + c.args.row.pointer_words) (omega arith) in
     let place = c.loop.invariant.place in
-    let inside = c.requires.inside in
-    let small = c.requires.small in
-    (search rules, (omega (arith, room, place, inside), omega (arith, room, place, small)))
+    (search rules, ends_before c.requires (omega (arith, room, place)))
 
 pub walk_content-walk_pointers-requires : goal.walk_content-walk_pointers-requires
-walk_content-walk_pointers-requires t c =
-    let inside = rw c.in-Struct.is at c.requires.inside in
-    let small = rw c.in-Struct.is at c.requires.small in
-    (search rules, (omega (arith, inside), omega (arith, small)))
+walk_content-walk_pointers-requires t c = (search rules, ends_before (rw c.in-Struct.is at c.requires) (omega arith))
 
 pub walk_content-walk_pointers-requires-in-Pointers : goal.walk_content-walk_pointers-requires-in-Pointers
-walk_content-walk_pointers-requires-in-Pointers t c =
-    let inside = rw c.in-Pointers.is at c.requires.inside in
-    let small = rw c.in-Pointers.is at c.requires.small in
-    (search rules, (inside, small))
+walk_content-walk_pointers-requires-in-Pointers t c = (search rules, rw c.in-Pointers.is at c.requires)
 
 pub walk_content-walk_structs-requires : goal.walk_content-walk_structs-requires
-walk_content-walk_structs-requires t c =
-    let inside = rw c.in-Structs.is at c.requires.inside in
-    let small = rw c.in-Structs.is at c.requires.small in
-    (search rules, (inside, small))
+walk_content-walk_structs-requires t c = (search rules, rw c.in-Structs.is at c.requires)

@@ -4,7 +4,7 @@ use Rattle.wire_trees.specs.Views.{trees_view, structs_view}
 use Rattle.wire_writing.specs.Placing.{placed_all, placed_structs}
 use Rattle.wire_writing.specs.Fitting.{FitsAll, FitsStructs}
 use Rattle.wire_trees.specs.Writable.{parts_of_all, parts_of_structs, are_even}
-use Rattle.wire_writing.specs.Laying.{HaveSizes, filled}
+use Rattle.wire_writing.specs.Laying.{HaveSizes, HasRoom, filled}
 use Rattle.wire_writing.proofs.Sized.{taken}
 use Rattle.wire_writing.proofs.place.+place.Given as goal
 
@@ -14,8 +14,7 @@ invariant-place_trees-loop-tree l = record {
   slot : l.slot ≡ l.at + l.tree-index;
   inside : l.slot + (length l.trees - l.tree-index) ≤ length l.words.items;
   sizes : HaveSizes (parts_of_all (trees_view (drop l.tree-index l.trees)) 0);
-  room : length l.words.items + taken (parts_of_all (trees_view (drop l.tree-index l.trees)) 0) ≤ 65536;
-  spare : length l.words.items + taken (parts_of_all (trees_view (drop l.tree-index l.trees)) 0) ≤ vec_capacity l.words;
+  room : HasRoom (taken (parts_of_all (trees_view (drop l.tree-index l.trees)) 0)) (length l.words.items) (vec_capacity l.words);
   capacity : vec_capacity l.fn.words ≤ vec_capacity l.words;
   same : filled l.words.items l.slot (placed_all (trees_view (drop l.tree-index l.trees)) l.slot (length l.words.items)) ≡ filled l.fn.words.items l.at (placed_all (trees_view l.trees) l.at (length l.fn.words.items));
   fits : FitsAll (trees_view (drop l.tree-index l.trees)) → FitsAll (trees_view l.trees);
@@ -26,8 +25,7 @@ invariant-place_structs-loop-item l = record {
   even : are_even l.data_words l.pointer_words (structs_view (drop l.item-index l.items)) ≡ true;
   inside : l.slot + (length l.items - l.item-index) * (l.data_words + l.pointer_words) ≤ length l.words.items;
   sizes : HaveSizes (parts_of_structs (structs_view (drop l.item-index l.items)) 0);
-  room : length l.words.items + taken (parts_of_structs (structs_view (drop l.item-index l.items)) 0) ≤ 65536;
-  spare : length l.words.items + taken (parts_of_structs (structs_view (drop l.item-index l.items)) 0) ≤ vec_capacity l.words;
+  room : HasRoom (taken (parts_of_structs (structs_view (drop l.item-index l.items)) 0)) (length l.words.items) (vec_capacity l.words);
   capacity : vec_capacity l.fn.words ≤ vec_capacity l.words;
   same : filled l.words.items l.slot (placed_structs (structs_view (drop l.item-index l.items)) l.slot (length l.words.items)) ≡ filled l.fn.words.items l.at (placed_structs (structs_view l.items) l.at (length l.fn.words.items));
   fits : FitsStructs (structs_view (drop l.item-index l.items)) → FitsStructs (structs_view l.items);

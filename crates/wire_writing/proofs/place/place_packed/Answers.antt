@@ -7,14 +7,14 @@ pub word_of_list-requires-clause-size : goal.word_of_list-requires-clause-size
 word_of_list-requires-clause-size g c = let h = small_number g.E.Element.BITS in omega (arith, h)
 
 pub word_of_list-requires-clause-count : goal.word_of_list-requires-clause-count
-word_of_list-requires-clause-count g c = let h = few_elements g.E.Element.BITS (length c.args.elements.now) c.requires.some (omega arith) in omega (arith, h)
+word_of_list-requires-clause-count g c = let h = few_elements g.E.Element.BITS (length c.args.elements.now) c.requires.narrow.fill.some (omega arith) in omega (arith, h)
 
-pub returns-clause-word : goal.returns-clause-word
-returns-clause-word g c =
+pub returns-clause-laid : goal.returns-clause-laid
+returns-clause-laid g c =
     let count = length-map c.args.elements.now g.E.Element.said in
     let is_next : c.len-next.result ≡ length c.args.words.now.items = omega arith in
-    c.word_of_list.ensures ∙ rw (c.distance.ensures, is_next, c.requires.size, count) refl
-
-pub returns-clause-placed : goal.returns-clause-placed
-returns-clause-placed g c =
-    rw (length-map c.args.elements.now g.E.Element.said) c.push_packed.ensures.items
+    record {
+      word = c.word_of_list.ensures ∙ rw (c.distance.ensures, is_next, c.requires.narrow.is_size, count) refl;
+      placed = rw count c.push_packed.ensures.items;
+      capacity = c.push_packed.ensures.capacity;
+    }

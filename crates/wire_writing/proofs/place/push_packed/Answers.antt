@@ -47,7 +47,7 @@ joined_word-requires-clause-few g c =
     let front = ap length c.split_at.ensures.front ∙ length-take c.min.result c.loop.rest.now in
     let most = c.min.ensures in
     let few : length c.split_at.result.0.now ≤ 64 / bits = omega (arith, fills, front, most) in
-    let whole = c.requires.whole in
+    let whole = c.requires.fill.whole in
     let room = mul-le-mul_right bits few in
     omega (arith, room, whole)
 
