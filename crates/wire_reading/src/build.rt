@@ -1,5 +1,5 @@
 //! The tree that a place in a message says.
-ghost use Rattle.std.specs.Prelude.{◌≡◌, ◌==◌, ◌+◌, ◌*◌, ◌^◌, ◌/◌, ◌%◌, ◌<◌, ◌≤◌, length, drop, map, replicate, take, Ok, IsOk, IfOk};
+ghost use Rattle.std.specs.Prelude.{◌≡◌, ◌==◌, ◌+◌, ◌*◌, ◌^◌, ◌/◌, ◌%◌, ◌<◌, ◌≤◌, length, drop, map, take, Ok, IsOk, IfOk};
 ghost use Rattle.wire_trees.specs.Widths.{bits_of};
 ghost use Rattle.wire_reading.specs.Segments.{segment_of};
 ghost use Rattle.wire_reading.specs.Layouts.{EndsIn, IsWithin};
@@ -81,19 +81,13 @@ fn packed_items(
     ensures { IfOk result (λ x. items_view x ≡ packed (bits_of width) (elements (drop start (segment_of message.now segment)) (bits_of width) 0 count)) }
 {
     match width {
-        Width::Void => Ok(void_items(count)),
+        Width::Void => Ok(Items::Void(count)),
         Width::Bit => elements_at::<bool>(alloc, message, segment, start, count),
         Width::Byte => elements_at::<u8>(alloc, message, segment, start, count),
         Width::TwoBytes => elements_at::<u16>(alloc, message, segment, start, count),
         Width::FourBytes => elements_at::<u32>(alloc, message, segment, start, count),
         Width::EightBytes => elements_at::<u64>(alloc, message, segment, start, count),
     }
-}
-
-fn void_items(count: u32) -> Items
-    ensures { items_view result ≡ packed 0 (replicate count 0) }
-{
-    Items::Void(count)
 }
 
 /// The tree of a message.

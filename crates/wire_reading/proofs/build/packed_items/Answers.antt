@@ -1,11 +1,12 @@
 use Rattle.std.proofs.Common.{ap, sym, ◌∙◌, drop}
 use Rattle.wire_trees.specs.Trees.{packed}
+use Rattle.wire_trees.proofs.Viewed.{view_void}
 use Rattle.wire_reading.specs.Segments.{segment_of}
 use Rattle.wire_reading.proofs.Building.{elements_void}
 use Rattle.wire_reading.proofs.build.packed_items.Goals as goal
 
 pub returns-in-Void : goal.returns-in-Void
-returns-in-Void c = rw c.in-Void.is (c.void_items.ensures ∙ ap (packed 0) (sym (elements_void (drop c.args.start (segment_of c.args.message.now c.args.segment)) 0 c.args.count)))
+returns-in-Void c = rw c.in-Void.is (view_void c.args.count ∙ ap (packed 0) (sym (elements_void (drop c.args.start (segment_of c.args.message.now c.args.segment)) 0 c.args.count)))
 
 pub returns-in-Bit : goal.returns-in-Bit
 returns-in-Bit c = rw c.in-Bit.is c.elements_at.ensures

@@ -77,7 +77,7 @@ of-requires c =
     let stands : At p t = subst (λ (q : Spot). At q t) c.self.view_is c.self.invariant.1 in
     let here : p.referent ≡ referent.Content c.in-Content.content = sym (ap (λ (q : Spot). q.referent) c.self.view_is) ∙ c.in-Content.is in
     let stood = subst (λ (r : Referent). StandsFor p.message p.caps r t) here stands in
-    let f = struct_item p.message p.caps c.in-Content.content t c.in-Structs.start c.in-Structs.count c.in-Structs.data_words c.in-Structs.pointer_words c.in-Structs.words c.args.number stood (rw c.in-Structs.is at c.layout.ensures.laid) (rw c.in-Structs.is at c.layout.ensures.inside) c.if-count-number-2.false in
+    let f = struct_item p.message p.caps c.in-Content.content t c.in-Structs.start c.in-Structs.count c.in-Structs.data_words c.in-Structs.pointer_words c.in-Structs.words c.args.number stood (rw c.in-Structs.is at c.layout.ensures.laid) (rw c.in-Structs.is at c.layout.ensures.within).inside c.if-count-number-2.false in
     rw (c.from-in-Structs-2.ensures, c.from-in-Structs-3.ensures, c.from.ensures, c.from-in-Structs.ensures)
     (f.0, subst (λ (q : Spot). StandsFor q.message q.caps (referent.Content (struct_content c.in-Content.content.segment (c.in-Structs.start + c.args.number * (c.in-Structs.data_words + c.in-Structs.pointer_words)) c.in-Structs.data_words c.in-Structs.pointer_words)) f.0) (sym c.self.view_is) f.2)
 
@@ -86,6 +86,6 @@ returns-else-count-number-2 c = λ t stands.
     let p = c.args.self.now in
     let here : p.referent ≡ referent.Content c.in-Content.content = sym (ap (λ (q : Spot). q.referent) c.self.view_is) ∙ c.in-Content.is in
     let stood = subst (λ (r : Referent). StandsFor p.message p.caps r t) here stands in
-    let f = struct_item p.message p.caps c.in-Content.content t c.in-Structs.start c.in-Structs.count c.in-Structs.data_words c.in-Structs.pointer_words c.in-Structs.words c.args.number stood (rw c.in-Structs.is at c.layout.ensures.laid) (rw c.in-Structs.is at c.layout.ensures.inside) c.if-count-number-2.false in
+    let f = struct_item p.message p.caps c.in-Content.content t c.in-Structs.start c.in-Structs.count c.in-Structs.data_words c.in-Structs.pointer_words c.in-Structs.words c.args.number stood (rw c.in-Structs.is at c.layout.ensures.laid) (rw c.in-Structs.is at c.layout.ensures.within).inside c.if-count-number-2.false in
     let made = rw (c.from-in-Structs-2.ensures, c.from-in-Structs-3.ensures, c.from.ensures, c.from-in-Structs.ensures) at c.of.ensures in
     (f.0, f.1, subst (λ (q : Spot). At q f.0) (sym made) (subst (λ (q : Spot). StandsFor q.message q.caps (referent.Content (struct_content c.in-Content.content.segment (c.in-Structs.start + c.args.number * (c.in-Structs.data_words + c.in-Structs.pointer_words)) c.in-Structs.data_words c.in-Structs.pointer_words)) f.0) (sym c.self.view_is) f.2))
