@@ -1,6 +1,6 @@
 use Rattle.std.proofs.Common.{ℕ, List, ◌*◌, ◌++◌, length, take, get_or, sym, ap, ◌∙◌, arith}
 use Rattle.std.specs.List.{flat_map}
-use Rattle.std.proofs.lemmas.List.{flat_map_more, length-append, take_more}
+use Rattle.std.proofs.lemmas.List.{flat_map_more, length-append, take_all, take_more}
 use Rattle.byteorder.specs.Endian.{little_bytes}
 use Rattle.wire_writing.proofs.Bytes.{upper_half}
 use Rattle.wire_writing.proofs.write.message_of.Goals as goal
@@ -35,3 +35,36 @@ loop-word-preserved c =
       count = omega (arith, long, count);
       spare = omega (arith, spare, kept);
     }
+
+pub overflow_mul-words : goal.overflow_mul-words
+overflow_mul-words c =
+    let few = c.requires in
+    omega (arith, few)
+
+pub overflow_add-words : goal.overflow_add-words
+overflow_add-words c =
+    let few = c.requires in
+    omega (arith, few)
+
+pub overflow_mul-words-2 : goal.overflow_mul-words-2
+overflow_mul-words-2 c =
+    let few = c.requires in
+    omega (arith, few)
+
+pub push_word-requires : goal.push_word-requires
+push_word-requires c =
+    let none = ap length c.in_ok-bytes.ensures.items in
+    let room = c.in_ok-bytes.ensures.exact in
+    omega (arith, none, room)
+
+pub push_word-requires-in-loop-word : goal.push_word-requires-in-loop-word
+push_word-requires-in-loop-word c =
+    let count = c.loop-word.invariant.count in
+    let spare = c.loop-word.invariant.spare in
+    let test = c.loop-word-test.true in
+    omega (arith, count, spare, test)
+
+pub returns-clause-bytes : goal.returns-clause-bytes
+returns-clause-bytes c =
+    let ws = c.args.words.now in
+    c.loop-word.invariant.bytes ∙ ap (λ (xs : List ℕ). little_bytes 4 0 ++ (little_bytes 4 (length ws) ++ flat_map (little_bytes 8) xs)) (take_all c.loop-word.word-index ws c.loop-word-test.false)
