@@ -12,10 +12,7 @@ use crate::message::Message;
 use crate::referent::{Referent, follow, visited_after};
 use std::alloc::{AllocError, Global};
 use wire_trees::limits::MOST_LEVELS;
-use wire_trees::{
-    Element, Fields, Items, Pointers, Tree, Width, capability_tree, list_tree, make_fields,
-    null_tree, pointers_tree, struct_tree, structs_tree,
-};
+use wire_trees::{Element, Fields, Items, Pointers, Tree, Width, make_fields};
 
 fn words_at(
     alloc: Global,
@@ -119,8 +116,8 @@ fn build_pointer(
         unreachable!()
     };
     let content = match referent {
-        Referent::Null => return Ok((null_tree(), visited)),
-        Referent::Capability(index) => return Ok((capability_tree(index), visited)),
+        Referent::Null => return Ok((Tree::Null, visited)),
+        Referent::Capability(index) => return Ok((Tree::Cap(index), visited)),
         Referent::Content(content) => content,
     };
     if levels == 0 {
@@ -171,7 +168,7 @@ fn build_content(
             let (pointers, visited) = build_pointers(
                 alloc, message, caps, segment, first, count, levels, visited,
             )?;
-            Ok((struct_tree(words, pointers), visited))
+            Ok((Tree::Struct { words, pointers }, visited))
         }
         Layout::Packed {
             start,
@@ -179,13 +176,13 @@ fn build_content(
             count,
         } => {
             let items = packed_items(alloc, message, segment, start, width, count)?;
-            Ok((list_tree(items), visited))
+            Ok((Tree::List(items), visited))
         }
         Layout::Pointers { start, count } => {
             let (pointers, visited) = build_pointers(
                 alloc, message, caps, segment, start, count, levels, visited,
             )?;
-            Ok((pointers_tree(pointers), visited))
+            Ok((Tree::List(Items::Pointers(pointers)), visited))
         }
         Layout::Structs {
             start,
@@ -203,7 +200,12 @@ fn build_content(
             let (items, visited) = build_structs(
                 alloc, message, caps, segment, row, levels, visited,
             )?;
-            Ok((structs_tree(data_words, pointer_words, items), visited))
+            let items = Items::Structs {
+                data_words,
+                pointer_words,
+                items,
+            };
+            Ok((Tree::List(items), visited))
         }
     }
 }

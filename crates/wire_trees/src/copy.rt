@@ -4,7 +4,7 @@ ghost use Rattle.wire_trees.specs.Trees.{list, packed};
 ghost use Rattle.wire_trees.specs.Views.{view, held, items_view, trees_view, structs_view};
 
 use crate::element::Element;
-use crate::tree::{Fields, Items, Pointers, Tree, pointers_tree, structs_tree};
+use crate::tree::{Fields, Items, Pointers, Tree};
 use std::alloc::{AllocError, Global};
 
 impl Tree {
@@ -52,7 +52,7 @@ fn copy_list(alloc: Global, items: &Items) -> Result<Tree, AllocError>
         Items::Eights(eights) => copy_elements(alloc, eights.as_slice()),
         Items::Pointers(pointers) => {
             let pointers = copy_pointers(alloc, pointers)?;
-            Ok(pointers_tree(pointers))
+            Ok(Tree::List(Items::Pointers(pointers)))
         }
         Items::Structs {
             data_words,
@@ -60,7 +60,11 @@ fn copy_list(alloc: Global, items: &Items) -> Result<Tree, AllocError>
             items,
         } => {
             let items = copy_structs(alloc, items.as_slice())?;
-            Ok(structs_tree(*data_words, *pointer_words, items))
+            Ok(Tree::List(Items::Structs {
+                data_words: *data_words,
+                pointer_words: *pointer_words,
+                items,
+            }))
         }
     }
 }

@@ -12,8 +12,5 @@ mod width;
 pub use element::Element;
 pub use faults::{PayloadFault, WriteFault};
 pub use measure::{Measure, measure_tree};
-pub use tree::{
-    Fields, Items, Pointers, Tree, capability_tree, list_tree, make_fields, null_tree,
-    pointers_tree, struct_tree, structs_tree,
-};
+pub use tree::{Fields, Items, Pointers, Tree, make_fields};
 pub use width::Width;

@@ -1,5 +1,5 @@
 //! What a tree would take, and what keeps it from being written, in one pass.
-ghost use Rattle.std.specs.Prelude.{◌≡◌, ◌==◌, ◌||◌, ℕ, List, false, if◌then◌else◌, length, nat_lt};
+ghost use Rattle.std.specs.Prelude.{◌≡◌, ◌==◌, ℕ, List, false, if◌then◌else◌, length};
 ghost use Rattle.wire_trees.specs.Trees.{struct, list, capability, packed, pointers as pointers_of, structs, trees_count, structs_count};
 ghost use Rattle.wire_trees.specs.Views.{view, held, items_view, trees_view, structs_view};
 ghost use Rattle.wire_trees.specs.Writable.{parts, parts_of_all, parts_of_structs, are_even};
@@ -81,13 +81,6 @@ fn capability_measure(index: u32, caps: u32) -> Measure
     }
 }
 
-/// Is a section of these lengths longer than its pointer can say?
-fn is_too_wide(data_words: usize, pointer_words: usize) -> bool
-    ensures { result ≡ nat_lt 65535 data_words || nat_lt 65535 pointer_words }
-{
-    MOST_SECTION < data_words || MOST_SECTION < pointer_words
-}
-
 /// How many elements of size zero there are.
 fn empty_elements(count: u128, step: u128) -> u128
     ensures { result ≡ (if step == 0 then count else 0) }
@@ -103,7 +96,7 @@ fn struct_measure(words: &[u64], pointers: &Pointers, levels: u32) -> Measure
     let size = capped_words(words.len() as u128 + pointers.trees.len() as u128);
     Measure {
         is_too_deep: levels == 0,
-        is_too_wide: is_too_wide(words.len(), pointers.trees.len()),
+        is_too_wide: MOST_SECTION < words.len() || MOST_SECTION < pointers.trees.len(),
         words: size,
         visited: size,
         ..Measure::start(0)

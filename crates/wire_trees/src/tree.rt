@@ -1,8 +1,8 @@
 //! What a payload says, as a value of its own.
 ghost use Rattle.std.specs.Prelude.{◌≡◌, [], ◌∷◌, ◌++◌, false, if◌then◌else◌, IfErr, IfOk, MatchResult, OnErr, OnOk};
 ghost use Rattle.wire_trees.specs.declared.faults.WriteFault.TheVariants as write_faults;
-ghost use Rattle.wire_trees.specs.Trees.{null, struct, list, packed, capability, pointers as pointers_of, structs};
-ghost use Rattle.wire_trees.specs.Views.{view, held, fields_view, items_view, trees_view, structs_view};
+ghost use Rattle.wire_trees.specs.Trees.{list, packed};
+ghost use Rattle.wire_trees.specs.Views.{view, held, fields_view, trees_view};
 ghost use Rattle.wire_trees.specs.Writable.{is_deeper, are_deeper};
 
 use crate::faults::WriteFault;
@@ -127,46 +127,4 @@ pub fn make_fields(words: Vec<u64>, pointers: Pointers) -> Fields
     ensures { fields_view result ≡ (words.items, trees_view (held pointers)) }
 {
     Fields { words, pointers }
-}
-
-/// A struct of these words and pointers.
-pub fn struct_tree(words: Vec<u64>, pointers: Pointers) -> Tree
-    ensures { view result ≡ struct words.items (trees_view (held pointers)) }
-{
-    Tree::Struct { words, pointers }
-}
-
-pub fn list_tree(items: Items) -> Tree
-    ensures { view result ≡ list (items_view items) }
-{
-    Tree::List(items)
-}
-
-pub fn pointers_tree(pointers: Pointers) -> Tree
-    ensures { view result ≡ list (pointers_of (trees_view (held pointers))) }
-{
-    Tree::List(Items::Pointers(pointers))
-}
-
-pub fn structs_tree(data_words: u16, pointer_words: u16, items: Vec<Fields>) -> Tree
-    ensures { view result ≡ list (structs data_words pointer_words (structs_view items.items)) }
-{
-    let items = Items::Structs {
-        data_words,
-        pointer_words,
-        items,
-    };
-    Tree::List(items)
-}
-
-pub fn capability_tree(index: u32) -> Tree
-    ensures { view result ≡ capability index }
-{
-    Tree::Cap(index)
-}
-
-pub fn null_tree() -> Tree
-    ensures { view result ≡ null }
-{
-    Tree::Null
 }

@@ -1,7 +1,10 @@
-use Rattle.std.proofs.Common.{◌≡◌, ℕ, ◌+◌, ◌-◌, ◌*◌, ◌≤◌, Ok, sym, ap, subst, ◌∙◌, arith, rules}
+use Rattle.std.proofs.Common.{◌≡◌, ℕ, List, ◌+◌, ◌-◌, ◌*◌, ◌≤◌, Ok, sym, ap, subst, ◌∙◌, arith, rules}
 use Rattle.std.specs.Prelude.{IfOk, IsOk}
 use Rattle.std.proofs.Math.Nat.{mul-le-mul_right}
+use Rattle.wire_trees.specs.Trees as tree
 use Rattle.wire_trees.specs.Trees.{Tree}
+use Rattle.wire_trees.proofs.Viewed.{view_null, view_capability, view_struct, view_list, view_pointers, view_structs}
+use Rattle.wire_reading.proofs.Rooted.{read_as}
 use Rattle.wire_reading.specs.Reading.{Reading, pointers_at, structs_at, reading}
 use Rattle.wire_trees.specs.Views.{held, view, trees_view, structs_view}
 use Rattle.wire_reading.proofs.Joining.{with_no_trees, with_no_structs, pointers_go_on, pointers_over, next_reads, structs_go_on, structs_over, next_struct_reads, trees_view_push, structs_view_push, struct_reads, pointers_read_ok, structs_read_ok, struct_is, packed_is, pointers_is, structs_is, reads_followed, reading_null, reading_capability, not_too_deep, deep_laid, deep_visited, deep_content}
@@ -31,11 +34,13 @@ build_pointer-unreachable-requires t c =
 
 pub build_pointer-returns-in-Null : goal.build_pointer-returns-in-Null
 build_pointer-returns-in-Null t c =
-    rw c.null_tree.ensures (reading_null c.args.message.now c.args.caps c.args.levels c.args.segment c.args.index c.args.visited c.in-Ok.visited (rw c.in-Null.is at c.in-Ok.ensures))
+    reading_null c.args.message.now c.args.caps c.args.levels c.args.segment c.args.index c.args.visited c.in-Ok.visited (rw c.in-Null.is at c.in-Ok.ensures)
+    ∙ ap (λ (u : Tree). read_as u c.in-Ok.visited) (sym view_null)
 
 pub build_pointer-returns-in-Capability : goal.build_pointer-returns-in-Capability
 build_pointer-returns-in-Capability t c =
-    rw c.capability_tree.ensures (reading_capability c.args.message.now c.args.caps c.args.levels c.args.segment c.args.index c.args.visited c.in-Capability.index c.in-Ok.visited (rw c.in-Capability.is at c.in-Ok.ensures))
+    reading_capability c.args.message.now c.args.caps c.args.levels c.args.segment c.args.index c.args.visited c.in-Capability.index c.in-Ok.visited (rw c.in-Capability.is at c.in-Ok.ensures)
+    ∙ ap (λ (u : Tree). read_as u c.in-Ok.visited) (sym (view_capability c.in-Capability.index))
 
 pub build_pointer-unreachable-requires-then-levels-eq0 : goal.build_pointer-unreachable-requires-then-levels-eq0
 build_pointer-unreachable-requires-then-levels-eq0 t c =
@@ -95,24 +100,28 @@ build_pointers-returns t c =
 
 pub build_content-returns-in_ok-pointers-in-Struct : goal.build_content-returns-in_ok-pointers-in-Struct
 build_content-returns-in_ok-pointers-in-Struct t c =
-    rw (c.in-Struct.is, c.struct_tree.ensures, c.in_ok-words-in-Struct.ensures)
-    (struct_is c.args.message.now (reading c.args.message.now c.args.caps c.args.levels) c.args.segment c.args.visited c.in-Struct.start c.in-Struct.data_words c.in-Struct.pointer_words (trees_view (held c.in_ok-pointers-in-Struct.pointers)) c.in_ok-pointers-in-Struct.visited
-    (rw (c.from.ensures, c.from-count.ensures) at c.in_ok-pointers-in-Struct.ensures))
+    rw c.in-Struct.is (
+    struct_is c.args.message.now (reading c.args.message.now c.args.caps c.args.levels) c.args.segment c.args.visited c.in-Struct.start c.in-Struct.data_words c.in-Struct.pointer_words (trees_view (held c.in_ok-pointers-in-Struct.pointers)) c.in_ok-pointers-in-Struct.visited
+    (rw (c.from.ensures, c.from-count.ensures) at c.in_ok-pointers-in-Struct.ensures)
+    ∙ ap (λ (u : Tree). read_as u c.in_ok-pointers-in-Struct.visited) (sym (view_struct c.in_ok-words-in-Struct.words c.in_ok-pointers-in-Struct.pointers ∙ ap (λ (ws : List ℕ). tree.struct ws (trees_view (held c.in_ok-pointers-in-Struct.pointers))) c.in_ok-words-in-Struct.ensures)))
 
 pub build_content-returns-in_ok-items-in-Packed : goal.build_content-returns-in_ok-items-in-Packed
 build_content-returns-in_ok-items-in-Packed t c =
-    rw (c.in-Packed.is, c.list_tree.ensures, c.in_ok-items-in-Packed.ensures)
-    (packed_is c.args.message.now (reading c.args.message.now c.args.caps c.args.levels) c.args.segment c.args.visited c.in-Packed.start c.in-Packed.width c.in-Packed.count)
+    rw c.in-Packed.is (
+    packed_is c.args.message.now (reading c.args.message.now c.args.caps c.args.levels) c.args.segment c.args.visited c.in-Packed.start c.in-Packed.width c.in-Packed.count
+    ∙ ap (λ (u : Tree). read_as u c.args.visited) (sym (view_list c.in_ok-items-in-Packed.items ∙ ap tree.list c.in_ok-items-in-Packed.ensures)))
 
 pub build_content-returns-in_ok-pointers-in-Pointers : goal.build_content-returns-in_ok-pointers-in-Pointers
 build_content-returns-in_ok-pointers-in-Pointers t c =
-    rw (c.in-Pointers.is, c.pointers_tree.ensures)
-    (pointers_is c.args.message.now (reading c.args.message.now c.args.caps c.args.levels) c.args.segment c.args.visited c.in-Pointers.start c.in-Pointers.count (trees_view (held c.in_ok-pointers-in-Pointers.pointers)) c.in_ok-pointers-in-Pointers.visited c.in_ok-pointers-in-Pointers.ensures)
+    rw c.in-Pointers.is (
+    pointers_is c.args.message.now (reading c.args.message.now c.args.caps c.args.levels) c.args.segment c.args.visited c.in-Pointers.start c.in-Pointers.count (trees_view (held c.in_ok-pointers-in-Pointers.pointers)) c.in_ok-pointers-in-Pointers.visited c.in_ok-pointers-in-Pointers.ensures
+    ∙ ap (λ (u : Tree). read_as u c.in_ok-pointers-in-Pointers.visited) (sym (view_list _ ∙ ap tree.list (view_pointers c.in_ok-pointers-in-Pointers.pointers))))
 
 pub build_content-returns-in_ok-items-in-Structs : goal.build_content-returns-in_ok-items-in-Structs
 build_content-returns-in_ok-items-in-Structs t c =
-    rw (c.in-Structs.is, c.structs_tree.ensures)
-    (structs_is c.args.message.now (reading c.args.message.now c.args.caps c.args.levels) c.args.segment c.args.visited c.in-Structs.start c.in-Structs.count c.in-Structs.data_words c.in-Structs.pointer_words c.in-Structs.words (structs_view c.in_ok-items-in-Structs.items.items) c.in_ok-items-in-Structs.visited c.in_ok-items-in-Structs.ensures)
+    rw c.in-Structs.is (
+    structs_is c.args.message.now (reading c.args.message.now c.args.caps c.args.levels) c.args.segment c.args.visited c.in-Structs.start c.in-Structs.count c.in-Structs.data_words c.in-Structs.pointer_words c.in-Structs.words (structs_view c.in_ok-items-in-Structs.items.items) c.in_ok-items-in-Structs.visited c.in_ok-items-in-Structs.ensures
+    ∙ ap (λ (u : Tree). read_as u c.in_ok-items-in-Structs.visited) (sym (view_list _ ∙ ap tree.list (view_structs c.in-Structs.data_words c.in-Structs.pointer_words c.in_ok-items-in-Structs.items))))
 
 pub build_structs-build_pointers-requires : goal.build_structs-build_pointers-requires
 build_structs-build_pointers-requires t c =
@@ -204,3 +213,17 @@ build_structs-words_at-requires t c =
     let room : (c.loop.counter + 1) * (c.args.row.data_words + c.args.row.pointer_words) ≤ c.args.row.count * (c.args.row.data_words + c.args.row.pointer_words) = mul-le-mul_right (c.args.row.data_words + c.args.row.pointer_words) (omega arith) in
     let place = c.loop.invariant.place in
     ends_before c.requires.within (omega (arith, room, place))
+
+pub build_pointer-follow-requires : goal.build_pointer-follow-requires
+build_pointer-follow-requires t c =
+    c.requires.there
+
+pub build_pointer-visited_after-requires : goal.build_pointer-visited_after-requires
+build_pointer-visited_after-requires t c =
+    let small = c.weight.ensures.small in
+    omega (arith, small)
+
+pub build_pointers-overflow_add-start : goal.build_pointers-overflow_add-start
+build_pointers-overflow_add-start t c =
+    let small = c.requires.within.small in
+    omega (arith, small)

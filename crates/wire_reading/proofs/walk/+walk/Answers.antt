@@ -108,3 +108,55 @@ walk_content-walk_pointers-requires-in-Pointers t c = (search rules, rw c.in-Poi
 
 pub walk_content-walk_structs-requires : goal.walk_content-walk_structs-requires
 walk_content-walk_structs-requires t c = (search rules, rw c.in-Structs.is at c.requires)
+
+pub walk_pointer-follow-requires : goal.walk_pointer-follow-requires
+walk_pointer-follow-requires t c =
+    c.requires
+
+pub walk_pointer-visited_after-requires : goal.walk_pointer-visited_after-requires
+walk_pointer-visited_after-requires t c =
+    let small = c.weight.ensures.small in
+    omega (arith, small)
+
+pub walk_pointer-walk_content-requires : goal.walk_pointer-walk_content-requires
+walk_pointer-walk_content-requires t c =
+    (search rules, c.in_ok-layout.ensures.within)
+
+pub walk_content-overflow_add-first : goal.walk_content-overflow_add-first
+walk_content-overflow_add-first t c =
+    let small = (rw c.in-Struct.is at c.requires).small in
+    omega (arith, small)
+
+pub walk_pointers-overflow_add-start : goal.walk_pointers-overflow_add-start
+walk_pointers-overflow_add-start t c =
+    let small = c.requires.small in
+    omega (arith, small)
+
+pub walk_pointers-word-requires : goal.walk_pointers-word-requires
+walk_pointers-word-requires t c =
+    let inside = c.requires.inside in
+    omega (arith, inside)
+
+pub walk_pointers-overflow_add-start-in-loop-k : goal.walk_pointers-overflow_add-start-in-loop-k
+walk_pointers-overflow_add-start-in-loop-k t c =
+    let small = c.requires.small in
+    omega (arith, small)
+
+pub walk_pointers-walk_pointer-requires : goal.walk_pointers-walk_pointer-requires
+walk_pointers-walk_pointer-requires t c =
+    let inside = c.requires.inside in
+    (search rules, omega (arith, inside))
+
+pub walk_structs-overflow_add-first : goal.walk_structs-overflow_add-first
+walk_structs-overflow_add-first t c =
+    let room : (c.loop.counter + 1) * (c.args.row.data_words + c.args.row.pointer_words) ≤ c.args.row.count * (c.args.row.data_words + c.args.row.pointer_words) = mul-le-mul_right (c.args.row.data_words + c.args.row.pointer_words) (omega arith) in
+    let place = c.loop.invariant.place in
+    let small = c.requires.small in
+    omega (arith, room, place, small)
+
+pub walk_structs-overflow_add-at : goal.walk_structs-overflow_add-at
+walk_structs-overflow_add-at t c =
+    let room : (c.loop.counter + 1) * (c.args.row.data_words + c.args.row.pointer_words) ≤ c.args.row.count * (c.args.row.data_words + c.args.row.pointer_words) = mul-le-mul_right (c.args.row.data_words + c.args.row.pointer_words) (omega arith) in
+    let place = c.loop.invariant.place in
+    let small = c.requires.small in
+    omega (arith, room, place, small)

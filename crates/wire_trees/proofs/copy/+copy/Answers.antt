@@ -93,11 +93,11 @@ copy_list-returns-in-Eights t c =
 
 pub copy_list-returns-in_ok-pointers-in-Pointers : goal.copy_list-returns-in_ok-pointers-in-Pointers
 copy_list-returns-in_ok-pointers-in-Pointers t c =
-    c.pointers_tree.ensures ∙ ap (λ (ts : Trees). list (pointers ts)) c.in_ok-pointers-in-Pointers.ensures ∙ ap list (sym (ap items_view c.in-Pointers.is ∙ view_pointers c.in-Pointers.pointers))
+    view_list _ ∙ ap list (view_pointers c.in_ok-pointers-in-Pointers.pointers) ∙ ap (λ (ts : Trees). list (pointers ts)) c.in_ok-pointers-in-Pointers.ensures ∙ ap list (sym (ap items_view c.in-Pointers.is ∙ view_pointers c.in-Pointers.pointers))
 
 pub copy_list-returns-in_ok-items-in-Structs : goal.copy_list-returns-in_ok-items-in-Structs
 copy_list-returns-in_ok-items-in-Structs t c =
-    c.structs_tree.ensures
+    view_list _ ∙ ap list (view_structs c.in-Structs.data_words c.in-Structs.pointer_words c.in_ok-items-in-Structs.items)
     ∙ ap (λ (ss : Structs). list (structs c.in-Structs.data_words c.in-Structs.pointer_words ss)) (c.in_ok-items-in-Structs.ensures ∙ ap structs_view c.as_slice-in-Structs.ensures.value)
     ∙ ap list (sym (ap items_view c.in-Structs.is ∙ view_structs c.in-Structs.data_words c.in-Structs.pointer_words c.in-Structs.items))
 

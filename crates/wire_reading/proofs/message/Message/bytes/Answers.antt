@@ -57,3 +57,47 @@ returns c =
     c.split_at-3.ensures.front ∙ ap (take c.args.count) (c.split_at-2.ensures.back ∙ ap (λ (i : ℕ). drop (8 * i) a.bytes.now) from)
     ∙ bytes_of_words a.bytes.now ws (span.start + c.args.start) c.args.count small stand (omega (arith, c.self.invariant.inside c.args.segment none there, size, inside))
     ∙ ap (λ (n : List (List ℕ)). elements (drop c.args.start (segment_of n c.args.segment)) 8 0 c.args.count) c.self.view_is
+
+pub offset_bounds-self-inside-segment : goal.offset_bounds-self-inside-segment
+offset_bounds-self-inside-segment c =
+    let a = c.self.inside in
+    let none : Span = record { start = 0; size = 0 } in
+    let m = spanned a.bytes.now a.count a.spans in
+    let inside : c.args.start + (c.args.count * 8 + 63) / 64 ≤ length (segment_of m c.args.segment) = subst (λ (n : List (List ℕ)). c.args.start + (c.args.count * 8 + 63) / 64 ≤ length (segment_of n c.args.segment)) (sym c.self.view_is) c.requires.inside in
+    let first : c.args.start < length (segment_of m c.args.segment) = omega (arith, inside, c.if-count-eq0.false) in
+    let there : c.args.segment < a.count = omega (arith, is_there m c.args.segment c.args.start first, length-spanned a.bytes.now a.count a.spans c.self.invariant.few) in
+    let few = c.self.invariant.few in
+    omega (arith, there, few)
+
+pub bounds-self-inside-segment : goal.bounds-self-inside-segment
+bounds-self-inside-segment c =
+    let a = c.self.inside in
+    let none : Span = record { start = 0; size = 0 } in
+    let m = spanned a.bytes.now a.count a.spans in
+    let inside : c.args.start + (c.args.count * 8 + 63) / 64 ≤ length (segment_of m c.args.segment) = subst (λ (n : List (List ℕ)). c.args.start + (c.args.count * 8 + 63) / 64 ≤ length (segment_of n c.args.segment)) (sym c.self.view_is) c.requires.inside in
+    let first : c.args.start < length (segment_of m c.args.segment) = omega (arith, inside, c.if-count-eq0.false) in
+    let there : c.args.segment < a.count = omega (arith, is_there m c.args.segment c.args.start first, length-spanned a.bytes.now a.count a.spans c.self.invariant.few) in
+    let few = c.self.invariant.few in
+    omega (arith, there, few)
+
+pub overflow_add-place : goal.overflow_add-place
+overflow_add-place c =
+    let a = c.self.inside in
+    let none : Span = record { start = 0; size = 0 } in
+    let m = spanned a.bytes.now a.count a.spans in
+    let inside : c.args.start + (c.args.count * 8 + 63) / 64 ≤ length (segment_of m c.args.segment) = subst (λ (n : List (List ℕ)). c.args.start + (c.args.count * 8 + 63) / 64 ≤ length (segment_of n c.args.segment)) (sym c.self.view_is) c.requires.inside in
+    let first : c.args.start < length (segment_of m c.args.segment) = omega (arith, inside, c.if-count-eq0.false) in
+    let there : c.args.segment < a.count = omega (arith, is_there m c.args.segment c.args.start first, length-spanned a.bytes.now a.count a.spans c.self.invariant.few) in
+    let size = size-spanned a.bytes.now a.count c.args.segment a.spans none c.self.invariant.few there in
+    omega (arith, c.self.invariant.inside c.args.segment none there, size, first)
+
+pub overflow_mul-place : goal.overflow_mul-place
+overflow_mul-place c =
+    let a = c.self.inside in
+    let none : Span = record { start = 0; size = 0 } in
+    let m = spanned a.bytes.now a.count a.spans in
+    let inside : c.args.start + (c.args.count * 8 + 63) / 64 ≤ length (segment_of m c.args.segment) = subst (λ (n : List (List ℕ)). c.args.start + (c.args.count * 8 + 63) / 64 ≤ length (segment_of n c.args.segment)) (sym c.self.view_is) c.requires.inside in
+    let first : c.args.start < length (segment_of m c.args.segment) = omega (arith, inside, c.if-count-eq0.false) in
+    let there : c.args.segment < a.count = omega (arith, is_there m c.args.segment c.args.start first, length-spanned a.bytes.now a.count a.spans c.self.invariant.few) in
+    let size = size-spanned a.bytes.now a.count c.args.segment a.spans none c.self.invariant.few there in
+    omega (arith, c.self.invariant.inside c.args.segment none there, size, first)
