@@ -11,7 +11,7 @@ use Rattle.wire_trees.specs.Trees as tree
 use Rattle.wire_trees.specs.Trees.{Tree, Elements, trees_count, structs_count}
 use Rattle.wire_trees.specs.Views.{bit, view, items_view, trees_view, structs_view}
 use Rattle.wire_writing.specs.Placing.{packed_words, placed, placed_all, placed_structs}
-use Rattle.wire_writing.specs.Fitting.{FitsList}
+use Rattle.wire_writing.specs.Fitting.{FitsAll, FitsList, FitsStructs}
 use Rattle.wire_trees.specs.Widths.{packed_size}
 use Rattle.wire_trees.specs.Writable.{parts, parts_of_all, parts_of_structs, are_even}
 use Rattle.wire_writing.specs.Laying.{HaveSizes, HasRoom, filled}
@@ -406,3 +406,171 @@ place_list-returns-clause-laid t c =
       placed = rw (← tag_is) (list_placed c.args.items.now c.args.data_words c.args.pointer_words c.args.words.now.items c.push_reserved.new.self.items c.push_zeros.new.words.items c.place_structs.new.words.items (c.len-next.result + 1) c.word_of_struct-tag.result c.requires.even c.push_reserved.ensures.items (c.push_zeros.ensures.items ∙ ap (λ (k : ℕ). c.push_reserved.new.self.items ++ replicate (length c.args.items.now * k) 0) (omega arith)) (omega arith) c.place_structs.ensures.placed);
       capacity = omega (arith, a, b, d);
     }
+
+pub place_fields-put-requires : goal.place_fields-put-requires
+place_fields-put-requires t c =
+    let inside = c.requires.inside in
+    omega (arith, inside)
+
+pub place_fields-overflow_add-at : goal.place_fields-overflow_add-at
+place_fields-overflow_add-at t c =
+    let inside = c.requires.inside in
+    let few = c.requires.room.few in
+    omega (arith, inside, few)
+
+pub place_fields-returns-clause-fits : goal.place_fields-returns-clause-fits
+place_fields-returns-clause-fits t c =
+    c.place_trees.ensures.fits
+
+pub place_items-distance-requires : goal.place_items-distance-requires
+place_items-distance-requires t c =
+    let ahead = c.requires.ahead in
+    omega (arith, ahead)
+
+pub place_items-word_of_list-requires-clause-offset : goal.place_items-word_of_list-requires-clause-offset
+place_items-word_of_list-requires-clause-offset t c =
+    let few = c.requires.room.few in
+    let apart = c.distance.ensures in
+    omega (arith, few, apart)
+
+pub place_items-word_of_list-requires-clause-size : goal.place_items-word_of_list-requires-clause-size
+place_items-word_of_list-requires-clause-size t c =
+    omega arith
+
+pub place_items-returns-in-Pointers-clause-fits : goal.place_items-returns-in-Pointers-clause-fits
+place_items-returns-in-Pointers-clause-fits t c =
+    let e = ap items_view c.in-Pointers.is ∙ view_pointers c.in-Pointers.pointers in
+    rw e (rw c.as_slice-in-Pointers.ensures at c.place_pointers.ensures.fits)
+
+pub place_list-overflow_add-size : goal.place_list-overflow_add-size
+place_list-overflow_add-size t c =
+    omega arith
+
+pub place_list-overflow_mul-size : goal.place_list-overflow_mul-size
+place_list-overflow_mul-size t c =
+    let step : c.from.result + c.from-2.result ≡ c.args.data_words + c.args.pointer_words = omega arith in
+    let same = ap (λ (k : ℕ). length c.args.items.now * k) step in
+    let few = c.requires.room.few in
+    omega (arith, same, few)
+
+pub place_list-word_of_struct-tag-requires-clause-offset : goal.place_list-word_of_struct-tag-requires-clause-offset
+place_list-word_of_struct-tag-requires-clause-offset t c =
+    let few = c.requires.few in
+    omega (arith, few)
+
+pub place_list-word_of_struct-tag-requires-clause-data_words : goal.place_list-word_of_struct-tag-requires-clause-data_words
+place_list-word_of_struct-tag-requires-clause-data_words t c =
+    omega arith
+
+pub place_list-word_of_struct-tag-requires-clause-pointer_words : goal.place_list-word_of_struct-tag-requires-clause-pointer_words
+place_list-word_of_struct-tag-requires-clause-pointer_words t c =
+    omega arith
+
+pub place_list-overflow_add-next : goal.place_list-overflow_add-next
+place_list-overflow_add-next t c =
+    let few = c.requires.room.few in
+    omega (arith, few)
+
+pub place_list-distance-requires : goal.place_list-distance-requires
+place_list-distance-requires t c =
+    let ahead = c.requires.ahead in
+    omega (arith, ahead)
+
+pub place_list-word_of_list-requires-clause-offset : goal.place_list-word_of_list-requires-clause-offset
+place_list-word_of_list-requires-clause-offset t c =
+    let few = c.requires.room.few in
+    let apart = c.distance.ensures in
+    omega (arith, few, apart)
+
+pub place_list-word_of_list-requires-clause-size : goal.place_list-word_of_list-requires-clause-size
+place_list-word_of_list-requires-clause-size t c =
+    omega arith
+
+pub place_list-word_of_list-requires-clause-count : goal.place_list-word_of_list-requires-clause-count
+place_list-word_of_list-requires-clause-count t c =
+    let step : c.from.result + c.from-2.result ≡ c.args.data_words + c.args.pointer_words = omega arith in
+    let same = ap (λ (k : ℕ). length c.args.items.now * k) step in
+    let few = c.requires.room.few in
+    omega (arith, same, few)
+
+pub place_list-returns-clause-fits : goal.place_list-returns-clause-fits
+place_list-returns-clause-fits t c =
+    c.place_structs.ensures.fits
+
+pub place_pointers-distance-requires : goal.place_pointers-distance-requires
+place_pointers-distance-requires t c =
+    let ahead = c.requires.ahead in
+    omega (arith, ahead)
+
+pub place_pointers-word_of_list-requires-clause-offset : goal.place_pointers-word_of_list-requires-clause-offset
+place_pointers-word_of_list-requires-clause-offset t c =
+    let few = c.requires.room.few in
+    let apart = c.distance.ensures in
+    omega (arith, few, apart)
+
+pub place_pointers-word_of_list-requires-clause-size : goal.place_pointers-word_of_list-requires-clause-size
+place_pointers-word_of_list-requires-clause-size t c =
+    omega arith
+
+pub place_pointers-word_of_list-requires-clause-count : goal.place_pointers-word_of_list-requires-clause-count
+place_pointers-word_of_list-requires-clause-count t c =
+    let few = c.requires.room.few in
+    omega (arith, few)
+
+pub place_pointers-returns-clause-fits : goal.place_pointers-returns-clause-fits
+place_pointers-returns-clause-fits t c =
+    c.place_trees.ensures.fits
+
+pub place_structs-overflow_add-slot : goal.place_structs-overflow_add-slot
+place_structs-overflow_add-slot t c =
+    let inside = c.loop-item.invariant.inside in
+    let few = c.loop-item.invariant.room.few in
+    omega (arith, inside, few)
+
+pub place_structs-overflow_add-slot-in-loop-item : goal.place_structs-overflow_add-slot-in-loop-item
+place_structs-overflow_add-slot-in-loop-item t c =
+    let inside = c.loop-item.invariant.inside in
+    let few = c.loop-item.invariant.room.few in
+    omega (arith, inside, few)
+
+pub place_structs-returns-clause-capacity : goal.place_structs-returns-clause-capacity
+place_structs-returns-clause-capacity t c =
+    c.loop-item.invariant.capacity
+
+pub place_structs-returns-clause-fits : goal.place_structs-returns-clause-fits
+place_structs-returns-clause-fits t c =
+    c.loop-item.invariant.fits (subst (λ (us : List Fields). FitsStructs (structs_view us)) (sym (drop_all c.loop-item.item-index c.args.items.now c.loop-item-test.false)) tt)
+
+pub place_tree-pointer_to_struct-requires-clause-ahead : goal.place_tree-pointer_to_struct-requires-clause-ahead
+place_tree-pointer_to_struct-requires-clause-ahead t c =
+    let ahead = c.requires.ahead in
+    omega (arith, ahead)
+
+pub place_tree-pointer_to_struct-requires-clause-small : goal.place_tree-pointer_to_struct-requires-clause-small
+place_tree-pointer_to_struct-requires-clause-small t c =
+    let few = c.requires.room.few in
+    omega (arith, few)
+
+pub place_tree-returns-in-Null-clause-fits : goal.place_tree-returns-in-Null-clause-fits
+place_tree-returns-in-Null-clause-fits t c =
+    rw (ap view c.in-Null.is ∙ view_null) tt
+
+pub place_tree-returns-in-Struct-clause-fits : goal.place_tree-returns-in-Struct-clause-fits
+place_tree-returns-in-Struct-clause-fits t c =
+    let e = ap view c.in-Struct.is ∙ view_struct c.in-Struct.«data» c.in-Struct.pointers in
+    rw e (rw c.as_slice-trees.ensures at c.place_fields.ensures.fits)
+
+pub place_trees-overflow_add-slot : goal.place_trees-overflow_add-slot
+place_trees-overflow_add-slot t c =
+    let inside = c.loop-tree.invariant.inside in
+    let few = c.loop-tree.invariant.room.few in
+    let test = c.loop-tree-test.true in
+    omega (arith, inside, few, test)
+
+pub place_trees-returns-clause-capacity : goal.place_trees-returns-clause-capacity
+place_trees-returns-clause-capacity t c =
+    c.loop-tree.invariant.capacity
+
+pub place_trees-returns-clause-fits : goal.place_trees-returns-clause-fits
+place_trees-returns-clause-fits t c =
+    c.loop-tree.invariant.fits (subst (λ (us : List program.Tree). FitsAll (trees_view us)) (sym (drop_all c.loop-tree.tree-index c.args.trees.now c.loop-tree-test.false)) tt)
