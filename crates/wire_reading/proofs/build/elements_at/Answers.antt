@@ -36,3 +36,13 @@ element_at-number-requires-clause-small g c =
     let before = element_inside g.E.Element.BITS c.loop-k.k c.args.count c.requires.some c.loop-k-test.true in
     let small = c.requires.within.small in
     rw c.BITS.ensures (omega (arith, before, small))
+
+pub element_at-number-requires-clause-bits : goal.element_at-number-requires-clause-bits
+element_at-number-requires-clause-bits g c =
+    let is = c.BITS.ensures in
+    let bits = c.requires.bits in
+    omega (arith, is, bits)
+
+pub of_number-requires : goal.of_number-requires
+of_number-requires g c =
+    rw c.BITS.ensures at c.element_at-number.ensures.fits

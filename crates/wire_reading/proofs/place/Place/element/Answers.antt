@@ -1,4 +1,4 @@
-use Rattle.std.proofs.Common.{◌≡◌, drop, sym, ap, subst, ◌∙◌}
+use Rattle.std.proofs.Common.{◌≡◌, ℕ, ◌+◌, ◌*◌, ◌/◌, length, drop, sym, ap, subst, ◌∙◌, arith}
 use Rattle.wire_trees.specs.Trees.{Tree}
 use Rattle.wire_trees.specs.Widths.{bits_of}
 use Rattle.wire_reading.specs.declared.referent.Referent.{Referent}
@@ -8,6 +8,7 @@ use Rattle.wire_reading.specs.Segments.{segment_of}
 use Rattle.wire_reading.specs.Reading.{element}
 use Rattle.wire_reading.specs.Looking.{Spot, StandsFor, element_of}
 use Rattle.wire_reading.proofs.Shown.{so, none_in_content, none_otherwise, packed_there, other_size, past_end, within}
+use Rattle.wire_reading.proofs.Building.{element_inside}
 use Rattle.wire_reading.proofs.place.Place.element.Goals as goal
 
 pub returns-in_default : goal.returns-in_default
@@ -54,3 +55,34 @@ returns g c = λ t stands.
     c.of_number.ensures ∙ (rw c.BITS-2.ensures at c.element_at-said.ensures.same) ∙ ap (λ (q : Spot). element (drop c.in-Packed.start (segment_of q.message c.in-Content.content.segment)) g.E.Element.BITS c.args.number) c.self.view_is in
     ap so read ∙ within ws (bits_of c.in-Packed.width) c.in-Packed.count g.E.Element.BITS c.args.number same c.if-count-number.false
     ∙ sym (ap (λ (u : Tree). element_of g.E.Element.BITS u c.args.number) is)
+
+pub layout-requires : goal.layout-requires
+layout-requires g c =
+    sym (ap (λ (q : Spot). q.referent) c.self.view_is) ∙ c.in-Content.is
+
+pub element_at-said-requires-clause-bits : goal.element_at-said-requires-clause-bits
+element_at-said-requires-clause-bits g c =
+    let is = c.BITS-2.ensures in
+    let bits = c.requires.bits in
+    omega (arith, is, bits)
+
+pub element_at-said-requires-clause-inside : goal.element_at-said-requires-clause-inside
+element_at-said-requires-clause-inside g c =
+    let size = ap (λ (q : Spot). length (segment_of q.message c.in-Content.content.segment)) c.self.view_is in
+    let same : bits_of c.in-Packed.width ≡ g.E.Element.BITS = sym c.bits.ensures.bits ∙ c.if-bits-BITS.false ∙ c.BITS.ensures in
+    let room = ap (λ (b : ℕ). (c.in-Packed.count * b + 63) / 64) same in
+    let before = element_inside g.E.Element.BITS c.args.number c.in-Packed.count c.requires.some c.if-count-number.false in
+    let all = (rw c.in-Packed.is at c.layout.ensures.within).inside in
+    rw c.BITS-2.ensures (omega (arith, all, size, room, before))
+
+pub element_at-said-requires-clause-small : goal.element_at-said-requires-clause-small
+element_at-said-requires-clause-small g c =
+    let same : bits_of c.in-Packed.width ≡ g.E.Element.BITS = sym c.bits.ensures.bits ∙ c.if-bits-BITS.false ∙ c.BITS.ensures in
+    let room = ap (λ (b : ℕ). (c.in-Packed.count * b + 63) / 64) same in
+    let before = element_inside g.E.Element.BITS c.args.number c.in-Packed.count c.requires.some c.if-count-number.false in
+    let all = (rw c.in-Packed.is at c.layout.ensures.within).small in
+    rw c.BITS-2.ensures (omega (arith, all, room, before))
+
+pub of_number-requires : goal.of_number-requires
+of_number-requires g c =
+    rw c.BITS-2.ensures at c.element_at-said.ensures.fits

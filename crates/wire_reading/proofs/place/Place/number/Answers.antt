@@ -1,4 +1,4 @@
-use Rattle.std.proofs.Common.{◌≡◌, ◌*◌, ◌/◌, ◌<◌, ◌≤◌, [], take, drop, sym, ap, subst, ◌∙◌}
+use Rattle.std.proofs.Common.{◌≡◌, ◌*◌, ◌/◌, ◌<◌, ◌≤◌, [], length, take, drop, sym, ap, subst, ◌∙◌, arith}
 use Rattle.wire_reading.specs.declared.referent.Referent.{Referent}
 use Rattle.wire_reading.specs.declared.referent.Referent.TheVariants as referent
 use Rattle.wire_reading.specs.Segments.{segment_of}
@@ -44,3 +44,30 @@ returns g c = λ t stands.
     let within : c.args.at * g.E.Element.BITS / 64 < c.in-Struct.data_words = rw (c.from.ensures, c.from-2.ensures, c.from-3.ensures, c.BITS.ensures) at c.if-from.false in
     let read : c.element_at-number.result ≡ element ws g.E.Element.BITS c.args.at = (rw c.BITS-2.ensures at c.element_at-number.ensures.same) ∙ ap (λ (q : Spot). element (drop c.in-Struct.start (segment_of q.message c.in-Content.content.segment)) g.E.Element.BITS c.args.at) c.self.view_is in
     (take c.in-Struct.data_words ws, words, c.of_number-2.ensures ∙ read ∙ element_within ws c.in-Struct.data_words g.E.Element.BITS c.args.at within)
+
+pub layout-requires : goal.layout-requires
+layout-requires g c =
+    sym (ap (λ (q : Spot). q.referent) c.self.view_is) ∙ c.in-Content.is
+
+pub element_at-number-requires-clause-bits : goal.element_at-number-requires-clause-bits
+element_at-number-requires-clause-bits g c =
+    let is = c.BITS-2.ensures in
+    let bits = c.requires.bits in
+    omega (arith, is, bits)
+
+pub element_at-number-requires-clause-inside : goal.element_at-number-requires-clause-inside
+element_at-number-requires-clause-inside g c =
+    let size = ap (λ (q : Spot). length (segment_of q.message c.in-Content.content.segment)) c.self.view_is in
+    let within : c.args.at * g.E.Element.BITS / 64 < c.in-Struct.data_words = rw (c.from.ensures, c.from-2.ensures, c.from-3.ensures, c.BITS.ensures) at c.if-from.false in
+    let all = (rw c.in-Struct.is at c.layout.ensures.within).inside in
+    rw c.BITS-2.ensures (omega (arith, all, size, within))
+
+pub element_at-number-requires-clause-small : goal.element_at-number-requires-clause-small
+element_at-number-requires-clause-small g c =
+    let within : c.args.at * g.E.Element.BITS / 64 < c.in-Struct.data_words = rw (c.from.ensures, c.from-2.ensures, c.from-3.ensures, c.BITS.ensures) at c.if-from.false in
+    let all = (rw c.in-Struct.is at c.layout.ensures.within).small in
+    rw c.BITS-2.ensures (omega (arith, all, within))
+
+pub of_number-requires-2 : goal.of_number-requires-2
+of_number-requires-2 g c =
+    rw c.BITS-2.ensures at c.element_at-number.ensures.fits
