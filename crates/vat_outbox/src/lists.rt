@@ -1,10 +1,8 @@
-ghost use Rattle.std.specs.Prelude.{◌≡◌, ◌+◌, ◌≤◌, ◌<◌, [], ◌∷◌, ◌++◌, length, vec_len, vec_capacity, false, IsOk, IsTrue, OnOk};
+ghost use Rattle.std.specs.Prelude.{◌≡◌, ◌+◌, ◌≤◌, ◌<◌, [], ◌∷◌, ◌++◌, length, vec_len, vec_capacity, IsOk, IsTrue, OnOk};
 ghost use Rattle.vat_outbox.specs.Outgoing.{finish_messages, release_messages};
 
-use crate::spare::Spare;
 use rpc_msg::{ExportId, Finish, Memory, Message, PlainMessage, QuestionId, Release};
 use std::alloc::Global;
-use std::mem;
 
 // What is reserved beyond what is asked of a list that is empty, so that growth is rare.
 const SPARE: usize = 64;
@@ -65,6 +63,25 @@ pub(crate) fn fits<Item>(list: &Vec<Item>, more: usize) -> bool
     more <= list.capacity() - list.len()
 }
 
+/// Whether a list has much memory.
+pub(crate) fn is_much<Item>(list: &Vec<Item>) -> bool {
+    KEPT < list.capacity()
+}
+
+/// Lets the memory of a list go that is empty, where it is much.
+#[cold]
+#[inline(never)]
+pub(crate) fn let_go<Item: Drop>(list: &mut Vec<Item>, alloc: Global)
+    requires none { list.old.items ≡ [] }
+    requires no_len { vec_len list.old ≡ 0 }
+    ensures items { list.new.items ≡ [] }
+    ensures len { vec_len list.new ≡ 0 }
+{
+    if is_much(list) {
+        *list = Vec::new(alloc);
+    }
+}
+
 /// Puts an item at the end, where there is room.
 pub(crate) fn push_kept<Item: Drop>(list: &mut Vec<Item>, item: Item)
     requires { vec_len list.old < vec_capacity list.old }
@@ -73,72 +90,6 @@ pub(crate) fn push_kept<Item: Drop>(list: &mut Vec<Item>, item: Item)
     ensures capacity { vec_capacity list.old ≤ vec_capacity list.new }
 {
     list.push_reserved(item);
-}
-
-/// The list. Where the spare memory is as much as the list's own, it takes its place, and nothing is copied. Else a few items
-/// go out in the spare memory, and the list then keeps its own, unless that is much; more go out in the list's memory. Not
-/// `kept` any more where the list has less memory than before.
-pub(crate) fn hand_out<Item: Drop>(
-    list: &mut Vec<Item>,
-    spare: &mut Spare<Item>,
-    alloc: Global,
-    kept: &mut bool,
-) -> Vec<Item>
-    ensures items { result.items ≡ list.old.items }
-    ensures left { list.new.items ≡ [] }
-    ensures len { vec_len list.new ≡ 0 }
-    ensures kept { IsTrue kept.new → IsTrue kept.old × (vec_capacity list.old ≤ vec_capacity list.new) }
-{
-    if list.is_empty() {
-        if KEPT < list.capacity() {
-            let_go(list, alloc, kept);
-        }
-        return Vec::new(alloc);
-    }
-    if list.capacity() <= spare.capacity() {
-        return mem::replace(list, spare.take(alloc));
-    }
-    hand_out_few(list, spare, alloc, kept)
-}
-
-// Lets the memory of a list go that is empty.
-fn let_go<Item: Drop>(list: &mut Vec<Item>, alloc: Global, kept: &mut bool)
-    requires { list.old.items ≡ [] }
-    ensures left { list.new.items ≡ [] }
-    ensures len { vec_len list.new ≡ 0 }
-    ensures kept { kept.new ≡ false }
-{
-    *list = Vec::new(alloc);
-    *kept = false;
-}
-
-fn hand_out_few<Item: Drop>(
-    list: &mut Vec<Item>,
-    spare: &mut Spare<Item>,
-    alloc: Global,
-    kept: &mut bool,
-) -> Vec<Item>
-    ensures items { result.items ≡ list.old.items }
-    ensures left { list.new.items ≡ [] }
-    ensures len { vec_len list.new ≡ 0 }
-    ensures kept { IsTrue kept.new → IsTrue kept.old × (vec_capacity list.old ≤ vec_capacity list.new) }
-{
-    if spare.capacity() < list.len() {
-        *kept = false;
-        return mem::replace(list, Vec::new(alloc));
-    }
-    let before = list.capacity();
-    let mut handed = spare.take(alloc);
-    let Ok(()) = handed.append(list) else {
-        unreachable!()
-    };
-    if KEPT < list.capacity() {
-        *list = Vec::new(alloc);
-    }
-    if list.capacity() < before {
-        *kept = false;
-    }
-    handed
 }
 
 /// Sends these Finishes, where there is room.

@@ -3,7 +3,7 @@ ghost use Rattle.std.specs.FinMap as map;
 ghost use Rattle.rpc_msg.specs.declared.message.Message.TheVariants.{Plain, Unimplemented};
 
 use crate::abort::AbortRoom;
-use crate::lists::{FEW, fits, grow, hand_out, push_finishes, push_kept, push_releases};
+use crate::lists::{FEW, fits, grow, is_much, let_go, push_finishes, push_kept, push_releases};
 use crate::rising::Rising;
 use crate::spare::Spare;
 use rpc_msg::{ExportId, Items, Memory, Message, PlainMessage, QuestionId};
@@ -30,6 +30,8 @@ pub struct Outbox {
     spare_answers: Spare<Ended>,
     // Whether such memory came back since room was last made.
     comes_back: bool,
+    // Whether a list has much memory, which is let go once nothing stands in it.
+    much: bool,
     // So many more of each need no more memory: of messages, deliveries and ended calls; of Finishes; of Releases.
     room: usize,
     finish_room: usize,
@@ -85,6 +87,7 @@ impl Outbox {
             spare_deliveries: Spare::new(alloc),
             spare_answers: Spare::new(alloc),
             comes_back: false,
+            much: false,
             room: 0,
             finish_room: 0,
             release_room: 0,
@@ -173,6 +176,7 @@ impl Outbox {
             grow(&mut self.sends, messages, self.alloc)?;
             grow(&mut self.deliveries, more, self.alloc)?;
             grow(&mut self.answers, more, self.alloc)?;
+            self.much = is_much(&self.sends) || is_much(&self.deliveries) || is_much(&self.answers);
         }
         self.room = more;
         Ok(())
@@ -199,6 +203,7 @@ impl Outbox {
             return Err(Memory);
         };
         grow(&mut self.sends, messages, self.alloc)?;
+        self.much = self.much || is_much(&self.sends);
         self.finishes.reserve(finishes)?;
         self.releases.reserve(releases)?;
         self.finish_room = finishes;
@@ -308,6 +313,7 @@ impl Outbox {
 
     /// The effects of the step: its messages, then its Finishes and its Releases, each by rising id. They go out in memory
     /// of their own, and the room stays; or else in that of the outbox, and then there is none left.
+    #[inline(always)]
     pub fn take(&mut self) -> Effects
         ensures effects { result ≡ effects_of self.old }
         ensures up { result.down ≡ None }
@@ -319,12 +325,20 @@ impl Outbox {
     }
 
     // The Finishes and the Releases, each by rising id, are said as messages.
+    #[inline(always)]
     fn say_ends(&mut self)
         ensures { self.new ≡ record self.old { said = effects_of self.old; finishes = map.empty; releases = map.empty } }
     {
         if self.finishes.is_empty() && self.releases.is_empty() {
             return;
         }
+        self.say_each_end();
+    }
+
+    #[inline(never)]
+    fn say_each_end(&mut self)
+        ensures { self.new ≡ record self.old { said = effects_of self.old; finishes = map.empty; releases = map.empty } }
+    {
         push_finishes(&mut self.sends, self.finishes.entries());
         push_releases(&mut self.sends, self.releases.entries());
         self.finishes.clear();
@@ -332,6 +346,7 @@ impl Outbox {
     }
 
     // What was said, where no Finish and no Release is left to say.
+    #[inline(always)]
     fn take_said(&mut self) -> Effects
         requires finishes { self.old.finishes ≡ map.empty }
         requires releases { self.old.releases ≡ map.empty }
@@ -339,26 +354,19 @@ impl Outbox {
         ensures up { result.down ≡ None }
         ensures left { self.new ≡ record (emptied self.old) { room = self.new.room; finish_room = self.new.finish_room; release_room = self.new.release_room } }
     {
-        let mut kept = true;
+        let sends = self.spare_sends.hand_out(&mut self.sends, self.alloc);
+        let deliveries = self
+            .spare_deliveries
+            .hand_out(&mut self.deliveries, self.alloc);
+        let answers = self.spare_answers.hand_out(&mut self.answers, self.alloc);
+        let kept = !self.much
+            && sends.capacity() <= self.sends.capacity()
+            && deliveries.capacity() <= self.deliveries.capacity()
+            && answers.capacity() <= self.answers.capacity();
         let effects = Effects {
-            sends: Items::from_vec(hand_out(
-                &mut self.sends,
-                &mut self.spare_sends,
-                self.alloc,
-                &mut kept,
-            )),
-            deliveries: Items::from_vec(hand_out(
-                &mut self.deliveries,
-                &mut self.spare_deliveries,
-                self.alloc,
-                &mut kept,
-            )),
-            answers: Items::from_vec(hand_out(
-                &mut self.answers,
-                &mut self.spare_answers,
-                self.alloc,
-                &mut kept,
-            )),
+            sends: Items::from_vec(sends),
+            deliveries: Items::from_vec(deliveries),
+            answers: Items::from_vec(answers),
             down: None,
         };
         if kept {
@@ -367,10 +375,15 @@ impl Outbox {
         self.room = 0;
         self.finish_room = 0;
         self.release_room = 0;
+        self.much = false;
+        let_go(&mut self.sends, self.alloc);
+        let_go(&mut self.deliveries, self.alloc);
+        let_go(&mut self.answers, self.alloc);
         effects
     }
 
     /// Takes back the memory of effects that were looked at, for those of later steps. What they still hold is dropped.
+    #[inline(always)]
     pub fn recycle(&mut self, effects: Effects)
         ensures { self.new ≡ self.old }
     {

@@ -1,4 +1,4 @@
-ghost use Rattle.std.specs.Prelude.{◌≡◌, ◌≤◌, [], vec_len, vec_capacity};
+ghost use Rattle.std.specs.Prelude.{◌≡◌, ◌<◌, ◌≤◌, [], vec_len, vec_capacity};
 
 use crate::lists::KEPT;
 use std::alloc::Global;
@@ -14,17 +14,12 @@ pub(crate) struct Spare<Item> {
 
 impl<Item: Drop> Spare<Item> {
     /// None.
-    pub(crate) fn new(alloc: Global) -> Self {
+    pub(crate) fn new(alloc: Global) -> Self
+        ensures { vec_capacity result.list ≡ 0 }
+    {
         Spare {
             list: Vec::new(alloc),
         }
-    }
-
-    /// For how many items it is.
-    pub(crate) fn capacity(&self) -> usize
-        ensures { result ≡ vec_capacity self.now.list }
-    {
-        self.list.capacity()
     }
 
     /// Makes memory for so many items, where some is found.
@@ -45,54 +40,89 @@ impl<Item: Drop> Spare<Item> {
     }
 
     /// Takes the memory of a list that came back, where it is more, and not much.
+    #[inline(always)]
     pub(crate) fn reuse(&mut self, list: Vec<Item>) {
         if list.capacity() == 0 {
             return mem::forget(list);
         }
-        if list.capacity() <= self.list.capacity() || KEPT < list.capacity() {
-            return mem::drop(list);
+        if list.is_empty() && self.list.capacity() == 0 && list.capacity() <= KEPT {
+            return mem::forget(mem::replace(self, Spare { list }));
         }
-        self.keep(list);
+        self.reuse_emptied(list);
     }
 
-    fn keep(&mut self, list: Vec<Item>) {
-        let before = mem::replace(
-            self,
-            Spare {
-                list: emptied(list),
-            },
-        );
+    // The same, where the list is to be emptied, or there is memory already, or too much came back.
+    #[inline(never)]
+    fn reuse_emptied(&mut self, mut list: Vec<Item>) {
+        list.clear();
+        if list.capacity() <= self.list.capacity() || KEPT < list.capacity() {
+            return list.destroy_empty();
+        }
+        let before = mem::replace(self, Spare { list });
         let Spare { list } = before;
-        let_go(list)
+        list.destroy_empty();
     }
 
-    /// The memory, as a list that is empty.
-    pub(crate) fn take(&mut self, alloc: Global) -> Vec<Item>
+    /// What stands in a list. Where the spare memory is as much as the list's own, it takes its place, and nothing is copied.
+    /// Else a few items go out in the spare memory, and the list then keeps its own, unless that is much; more go out in
+    /// the list's memory.
+    #[inline(always)]
+    pub(crate) fn hand_out(&mut self, list: &mut Vec<Item>, alloc: Global) -> Vec<Item>
+        ensures items { result.items ≡ list.old.items }
+        ensures left { list.new.items ≡ [] }
+        ensures len { vec_len list.new ≡ 0 }
+        ensures kept { vec_capacity result ≤ vec_capacity list.new → vec_capacity list.old ≤ vec_capacity list.new }
+    {
+        if list.is_empty() {
+            return Vec::new(alloc);
+        }
+        self.match_list(list, alloc);
+        mem::replace(list, self.take(alloc))
+    }
+
+    // Sees to it that the list goes out if the spare memory takes its place.
+    #[inline(always)]
+    fn match_list(&mut self, list: &mut Vec<Item>, alloc: Global)
+        requires { 0 < vec_len list.old }
+        ensures items { list.new.items ≡ list.old.items }
+        ensures kept { vec_capacity list.new ≤ vec_capacity self.new.list → vec_capacity list.old ≤ vec_capacity self.new.list }
+    {
+        if self.list.capacity() < list.capacity() {
+            self.set_apart(list, alloc);
+        }
+    }
+
+    // Sets a few items apart from the list's memory, which is spare memory then, unless it is much.
+    #[cold]
+    #[inline(never)]
+    fn set_apart(&mut self, list: &mut Vec<Item>, alloc: Global)
+        requires { 0 < vec_len list.old }
+        ensures items { list.new.items ≡ list.old.items }
+        ensures kept { vec_capacity list.new ≤ vec_capacity self.new.list → vec_capacity list.old ≤ vec_capacity self.new.list }
+    {
+        let before = list.capacity();
+        let mut few = self.take(alloc);
+        if few.capacity() < list.len() {
+            return few.destroy_empty();
+        }
+        let Ok(()) = few.append(list) else {
+            unreachable!()
+        };
+        let own = mem::replace(list, few);
+        if before <= own.capacity() && own.capacity() <= KEPT {
+            *self = Spare { list: own };
+        }
+    }
+
+    // The memory, as a list that is empty.
+    fn take(&mut self, alloc: Global) -> Vec<Item>
         ensures items { result.items ≡ [] }
         ensures len { vec_len result ≡ 0 }
         ensures capacity { vec_capacity result ≡ vec_capacity self.old.list }
+        ensures none { vec_capacity self.new.list ≡ 0 }
     {
         let spare = mem::replace(self, Spare::new(alloc));
         let Spare { list } = spare;
         list
     }
-}
-
-// Drops a list. One without memory has nothing to drop, and most have none.
-fn let_go<Item: Drop>(list: Vec<Item>) {
-    if list.capacity() == 0 {
-        mem::forget(list);
-    } else {
-        mem::drop(list);
-    }
-}
-
-fn emptied<Item: Drop>(mut list: Vec<Item>) -> Vec<Item>
-    ensures items { result.items ≡ [] }
-    ensures len { vec_len result ≡ 0 }
-{
-    if !list.is_empty() {
-        list.clear();
-    }
-    list
 }
