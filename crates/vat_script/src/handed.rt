@@ -4,12 +4,12 @@ ghost use Rattle.std.specs.FinMap as map;
 use rpc_msg::{Items, Memory, RefId};
 use std::alloc::Global;
 use std::marker::Model;
-use vat_tables::Numbered;
+use vat_tables::Rising;
 
 /// The references that were handed over with tasks, or with the outcomes of calls: seen by contracts as lists by number.
 #[derive(Drop)]
 pub(crate) struct Handed {
-    lists: Numbered<Items<RefId>>,
+    lists: Rising<Items<RefId>>,
 }
 
 impl Model for Handed {
@@ -33,7 +33,7 @@ impl Handed {
         ensures { result ≡ map.empty }
     {
         Handed {
-            lists: Numbered::new(alloc),
+            lists: Rising::new(alloc),
         }
     }
 
