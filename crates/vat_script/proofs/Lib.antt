@@ -3,5 +3,6 @@ pub mod Each
 pub mod Going
 pub mod Carrying
 pub mod NameKeys
-pub mod NameTree
+pub mod NameLetters
+pub mod NameMap
 pub mod LinesRead

@@ -1,7 +1,7 @@
 -- The places in which a name keeps its letters.
-use Rattle.std.specs.Prelude.{ℕ, ◌-◌, ◌≡◌, ◌≤◌, List, ◌++◌, length, reverse, take, replicate}
+use Rattle.std.specs.Prelude.{ℕ, ◌-◌, ◌≡◌, ◌≤◌, List, ◌++◌, length, take, replicate}
 use Rattle.std.proofs.Common.{arith, ◌∙◌, ap}
-use Rattle.std.proofs.lemmas.List.{length-take-le, length-reverse, reverse-reverse}
+use Rattle.std.proofs.lemmas.List.{length-take-le}
 
 -- The letters, and zeros behind them up to sixteen.
 abbrev pub padded : List ℕ → List ℕ
@@ -14,15 +14,7 @@ pub record IsPadded (len : ℕ) (places : List ℕ) : Type 0 where
   pub rest : padded (take len places) ≡ places
 
 -- What is put there gives its places and its number back.
-padded_take : {R : Type 0} (len : ℕ) (places : List ℕ) → IsPadded len places → (make : List ℕ → ℕ → R) → make (padded (take len places)) (length (take len places)) ≡ make places len
+pub padded_take : {R : Type 0} (len : ℕ) (places : List ℕ) → IsPadded len places → (make : List ℕ → ℕ → R) → make (padded (take len places)) (length (take len places)) ≡ make places len
 padded_take len places h make =
     let n : length (take len places) ≡ len = length-take-le len places (omega (arith, h.short, h.whole)) in
     ap (λ (letters : List ℕ). make letters (length (take len places))) h.rest ∙ ap (λ (k : ℕ). make places k) n
-
--- So do the letters, of which the last one stands first.
-pub turned_take : {R : Type 0} (len : ℕ) (places : List ℕ) → IsPadded len places → (make : List ℕ → ℕ → R) → make (padded (reverse (reverse (take len places)))) (length (reverse (take len places))) ≡ make places len
-turned_take len places h make =
-    let there = take len places in
-    ap (λ (letters : List ℕ). make (padded letters) (length (reverse there))) (reverse-reverse there)
-    ∙ ap (λ (k : ℕ). make (padded there) k) (length-reverse there)
-    ∙ padded_take len places h make

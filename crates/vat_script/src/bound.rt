@@ -4,13 +4,13 @@ ghost use Rattle.std.specs.FinMap as map;
 use crate::name::Name;
 use rpc_msg::Memory;
 use std::alloc::Global;
-use std::collections::BTreeMap;
+use std::collections::HashMap;
 use std::marker::Model;
 
 /// What names stand for: seen by contracts as the ids by name.
 #[derive(Drop)]
 pub(crate) struct Bound<Id> {
-    tree: BTreeMap<Name, Id>,
+    hashed: HashMap<Name, Id>,
 }
 
 impl<Id> Model for Bound<Id> {
@@ -23,7 +23,7 @@ impl<Id> Model for Bound<Id> {
 
     ghost coded = { map.code (coded_list coded_ℕ) Id.code };
 
-    ghost view = { λ a. map.from_entries a.tree.entries };
+    ghost view = { λ a. map.from_entries a.hashed.entries };
 }
 
 impl<Id: Copy> Bound<Id> {
@@ -32,15 +32,15 @@ impl<Id: Copy> Bound<Id> {
         ensures { result ≡ map.empty }
     {
         Bound {
-            tree: BTreeMap::new(alloc),
+            hashed: HashMap::new(alloc),
         }
     }
 
-    /// What the name stands for. The work grows with the logarithm of the number of names.
+    /// What the name stands for.
     pub(crate) fn get(&self, name: Name) -> Option<Id>
         ensures { result ≡ map.get self.now name }
     {
-        self.tree.get(&name).copied()
+        self.hashed.get(&name).copied()
     }
 
     /// Lets the name stand for that id, and for no other. `Memory` where a growth was refused; nothing is changed then.
@@ -50,7 +50,7 @@ impl<Id: Copy> Bound<Id> {
         ensures ok { OnOk result (self.new ≡ map.insert self.old name id) }
         ensures err { OnErr result (self.new ≡ self.old) }
     {
-        match self.tree.insert(name, id) {
+        match self.hashed.insert(name, id) {
             Ok(_) => return Ok(()),
             Err(_) => return Err(Memory),
         }

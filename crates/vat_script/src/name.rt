@@ -1,8 +1,9 @@
-ghost use Rattle.std.specs.Prelude.{◌≡◌, ◌≤◌, ◌<◌, ◌∷◌, ◌++◌, [], length};
+ghost use Rattle.std.specs.Prelude.{◌≡◌, ◌≤◌, ◌∷◌, [], length, if◌then◌else◌, Some, None};
 ghost use Rattle.std.specs.List.{list_all};
 ghost use Rattle.vat_script.specs.Words.{name_of, is_name_letter};
 
 use crate::fault::LineFault;
+use std::hash::{Hash, Hasher};
 use std::marker::Model;
 
 /// The most letters that a name may have.
@@ -11,26 +12,41 @@ const NAME_LIMIT: usize = 16;
 /// A name of a script: 1 to 16 lower case letters and digits. Seen by contracts as its letters. It takes no memory.
 #[derive(Clone, Copy, Debug, PartialEq, Eq, PartialOrd, Ord, Drop)]
 pub struct Name {
-    /// The letters from the last one on, and zeros behind them: names are compared from there, where those of one script
-    /// differ most.
+    /// The letters, and zeros behind them.
     places: [u8; NAME_LIMIT],
     len: usize,
 }
 
 impl Model for Name {
-    ghost use Rattle.std.specs.Prelude.{ℕ, List, length, reverse, take};
+    ghost use Rattle.std.specs.Prelude.{ℕ, List, length, take};
 
     ghost Value = { List ℕ };
 
-    ghost use Rattle.vat_script.specs.Letters.{padded, IsPadded, turned_take};
+    ghost use Rattle.vat_script.specs.Letters.{padded, IsPadded, padded_take};
 
-    ghost view = { λ a. reverse (take a.len a.places) };
+    ghost view = { λ a. take a.len a.places };
 
     ghost invariant = { λ a. IsPadded a.len a.places };
 
-    ghost inverse = { λ letters. record { places = padded (reverse letters); len = length letters } };
+    ghost inverse = { λ letters. record { places = padded letters; len = length letters } };
 
-    ghost inverse_ok = { λ a h. turned_take a.len a.places h (λ places len. record { places = places; len = len }) };
+    ghost inverse_ok = { λ a h. padded_take a.len a.places h (λ places len. record { places = places; len = len }) };
+}
+
+// By hand, so that all places are fed to the hasher at once.
+impl Hash for Name {
+    ghost use Rattle.std.specs.Prelude.{◌∷◌, []};
+    ghost use Rattle.vat_script.specs.Letters.{padded};
+    ghost use Rattle.std.proofs.Common.{rules};
+    ghost use Rattle.std.specs.Cmp.Rules.{hashing};
+
+    ghost hash_input = { λ name. padded name ∷ [] };
+
+    ghost respects_eq = { Prim.search (hashing, rules) };
+
+    fn hash<H: Hasher>(&self, state: &mut H) {
+        state.write(&self.places);
+    }
 }
 
 impl Name {
@@ -42,42 +58,37 @@ impl Name {
         if letters.len() > NAME_LIMIT {
             return Err(LineFault::LongName);
         }
-        if letters.is_empty() || !are_name_letters(letters) {
+        if letters.is_empty() {
             return Err(LineFault::Name);
         }
-        Ok(Name::of_letters(letters))
-    }
-
-    fn of_letters(letters: &[u8]) -> Self
-        requires { length letters.now ≤ 16 }
-        ensures { result ≡ letters.now }
-    {
-        let mut name = Name {
-            places: [0; NAME_LIMIT],
-            len: 0,
-        };
-        for i in (0..letters.len()).rev() {
-            name.put_first(letters[i]);
+        match Name::of_letters(letters) {
+            Some(name) => Ok(name),
+            None => Err(LineFault::Name),
         }
-        name
     }
 
-    fn put_first(&mut self, letter: u8)
-        requires { length self.old < 16 }
-        ensures { self.new ≡ letter ∷ self.old }
+    /// The name of these bytes, if each is a letter of names.
+    fn of_letters(letters: &[u8]) -> Option<Self>
+        requires { length letters.now ≤ 16 }
+        ensures { result ≡ (if list_all is_name_letter letters.now then Some letters.now else None) }
     {
-        self.places[self.len] = letter;
-        self.len += 1;
+        let mut places = [0; NAME_LIMIT];
+        for i in 0..letters.len() {
+            let letter = letters[i];
+            if !is_name_letter(letter) {
+                return None;
+            }
+            places[i] = letter;
+        }
+        Some(Name {
+            places,
+            len: letters.len(),
+        })
     }
 }
 
-fn are_name_letters(letters: &[u8]) -> bool
-    ensures { result ≡ list_all is_name_letter letters.now }
+fn is_name_letter(letter: u8) -> bool
+    ensures { result ≡ is_name_letter letter }
 {
-    for letter in letters {
-        if !(letter.is_ascii_lowercase() || letter.is_ascii_digit()) {
-            return false;
-        }
-    }
-    true
+    letter.is_ascii_lowercase() || letter.is_ascii_digit()
 }
