@@ -101,7 +101,7 @@ fn close_giving(store: &mut Store, q: QuestionId, flag: bool)
     let Some(question) = store.questions.get(q) else {
         return;
     };
-    if question.returned.is_none() {
+    if !flag || question.returned.is_none() {
         close(store, q);
         return;
     }

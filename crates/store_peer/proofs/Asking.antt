@@ -200,17 +200,17 @@ said_sound x q old said names n h there spent fits is =
     (each_inserted (λ k e. IsNotedAs s c.questions k e) s.questions q new (λ e. said_noted s x.names q old new old.role (before e)) (λ k apart. (covered_noted s x.names c notes h.covered).questions k))
     (omega (arith, len, b)) (omega (arith, spent, fits)) (omega (arith, spent)) (omega (arith, d, fits)) (omega (arith, a)))
 
-pub sound_returned : (x : Store) (q : ℕ) (found old : Question) (said : Returned) (after : Option Returned) (c d names : Names) (n : ℕ) → IsSound x → Some found ≡ map.get x.questions.entries q → Some old ≡ map.get x.questions.entries q
-    → after ≡ Some said → n ≡ length (named_by_returned (Some said)) + 1 → n ≤ x.slack
-    → c ≡ relay_noted x.names q found.role → d ≡ named_all c (named_by_returned (Some said)) → names ≡ unnamed_all d (named_by_returned old.returned)
-    → IsSound (record x { questions = with_entry x.questions q (record old { returned = after }); names = names; slack = x.slack - n; added = x.added + n })
-sound_returned x q found old said after c d names n h seen there then spent fits noted come gone =
+pub sound_returned : (x : Store) (q : ℕ) (found old : Question) (said : Returned) (c d names : Names) (n : ℕ) → IsSound x → Some found ≡ map.get x.questions.entries q → Some old ≡ map.get x.questions.entries q
+    → n ≡ length (named_by_returned (Some said)) + 1 → n ≤ x.slack
+    → c ≡ relay_noted x.names q found.role → d ≡ named_all c (named_by_returned (Some said)) → names ≡ unnamed_all d (named_by_returned found.returned)
+    → IsSound (record x { questions = with_entry x.questions q (record old { returned = Some said }); names = names; slack = x.slack - n; added = x.added + n })
+sound_returned x q found old said c d names n h seen there spent fits noted come gone =
     let both : ◌≡◌ {A = Option Question} (Some found) (Some old) = seen ∙ sym there in
     let same : found ≡ old = cc in
     let e : c ≡ relay_noted x.names q old.role = noted ∙ ap (λ (y : Question). relay_noted x.names q y.role) same in
-    subst (λ (o : Option Returned). IsSound (record x { questions = with_entry x.questions q (record old { returned = o }); names = names; slack = x.slack - n; added = x.added + n })) (sym then)
-    (said_sound x q old said names n h (sym there) spent fits
-    (gone ∙ ap (λ (m : Names). unnamed_all m (named_by_returned old.returned)) (come ∙ ap (λ (m : Names). named_all m (named_by_returned (Some said))) e)))
+    said_sound x q old said names n h (sym there) spent fits
+    (gone ∙ ap (λ (y : Question). unnamed_all d (named_by_returned y.returned)) same
+    ∙ ap (λ (m : Names). unnamed_all m (named_by_returned old.returned)) (come ∙ ap (λ (m : Names). named_all m (named_by_returned (Some said))) e))
 
 -- ---- A question goes
 

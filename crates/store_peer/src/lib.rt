@@ -10,4 +10,6 @@ mod questions;
 pub use answers::{finish_answer, open_answer, set_answer_returned};
 pub use exports::{exports_of_field, exports_of_promise, lower, name_export, obey};
 pub use imports::{give_one, receive, set_resolution, take_import};
-pub use questions::{ask_direct, ask_relay, close, forget_question, set_returned, waive};
+pub use questions::{
+    ask_direct, ask_relay, close, drop_question, forget_question, set_returned, waive,
+};

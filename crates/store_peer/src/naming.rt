@@ -21,7 +21,8 @@ fn name_beside(names: &mut Names, caps: &[(Descriptor, Node)])
     }
 }
 
-// Each of these capabilities is named once less.
+// Each of these capabilities is named once less. Apart, since a Return mostly names nothing.
+#[inline(never)]
 fn unname_beside(names: &mut Names, caps: &[(Descriptor, Node)])
     ensures { names.new ≡ unnamed_all names.old (nodes caps.now) }
 {
@@ -43,11 +44,16 @@ pub fn name_returned(names: &mut Names, said: &Returned)
 }
 
 /// What a Return said, if it came, is named once less.
+#[inline(always)]
 pub fn unname_returned(names: &mut Names, said: &Option<Returned>)
     ensures { names.new ≡ unnamed_all names.old (named_by_returned said.now) }
 {
     match said {
-        Some(Returned::Results(_, caps)) => unname_beside(names, caps.as_slice()),
+        Some(Returned::Results(_, caps)) => {
+            if !caps.is_empty() {
+                unname_beside(names, caps.as_slice());
+            }
+        }
         Some(Returned::Exception(_)) => {}
         None => {}
     }

@@ -13,7 +13,6 @@ ghost use Rattle.store_peer.specs.Peer.{NewQuestion, NewQuestionFor, question_sa
 
 use crate::naming::{count_returned, name_returned, note_relay, unname_returned};
 use rpc_msg::{CallId, ExportId, Items, QuestionId};
-use std::mem;
 use vat_machine::{Finishing, OwnCall, Question, Returned, Role};
 use vat_store::Store;
 use vat_tables::TableFault;
@@ -114,11 +113,11 @@ pub fn set_returned(store: &mut Store, q: QuestionId, said: Returned)
     };
     note_relay(&mut store.names, q, question.role);
     name_returned(&mut store.names, &said);
+    unname_returned(&mut store.names, &question.returned);
     let Some(question) = store.questions.get_mut(q) else {
         unreachable!()
     };
-    let before = mem::replace(&mut question.returned, Some(said));
-    unname_returned(&mut store.names, &before);
+    question.returned = Some(said);
 }
 
 /// No Finish is to be sent for the question any more, if one was still owed. Takes no memory.
@@ -146,6 +145,7 @@ fn without_finish(finish: Finishing) -> Finishing
 }
 
 /// The Finish of the question was sent: the question goes, with what its Return named, if that came. Takes no memory.
+#[inline(always)]
 pub fn close(store: &mut Store, q: QuestionId)
     requires { IsSound store.old }
     ensures state { state_of store.new ≡ close_question (state_of store.old) q.0 (map.get (state_of store.old).questions q.0) }
@@ -157,13 +157,29 @@ pub fn close(store: &mut Store, q: QuestionId)
         return;
     };
     if question.returned.is_some() {
-        forget_question(store, q);
+        drop_question(store, q);
         return;
     }
     let Some(question) = store.questions.get_mut(q) else {
         unreachable!()
     };
     question.finish = Finishing::Sent;
+}
+
+/// Drops a question, if it is there, with what its Return named, which is looked at where it stands. Takes no memory.
+#[inline(always)]
+pub fn drop_question(store: &mut Store, q: QuestionId)
+    requires { IsSound store.old }
+    ensures state { state_of store.new ≡ record (state_of store.old) { questions = map.remove (state_of store.old).questions q.0 } }
+    ensures left { store.new.slack ≡ store.old.slack }
+    ensures waits { store.new.waits ≡ store.old.waits }
+    ensures sound { IsSound store.new }
+{
+    let Some(question) = store.questions.get(q) else {
+        return;
+    };
+    unname_returned(&mut store.names, &question.returned);
+    let _ = store.questions.close(q);
 }
 
 /// Takes out a question, if it is there, with what its Return named. Takes no memory.

@@ -1,6 +1,6 @@
-use Rattle.std.proofs.Common.{ℕ, ◌+◌, ◌≤◌, Some, length, ap, ◌∙◌, arith}
+use Rattle.std.proofs.Common.{ℕ, ◌+◌, ◌≤◌, Some, length, ap, arith}
 use Rattle.vat_machine.specs.Places.{named_by_returned}
-use Rattle.vat_names.specs.Names.{Names, times_named, unnamed_all}
+use Rattle.vat_names.specs.Names.{Names, times_named}
 use Rattle.store_peer.specs.Peer.{relay_noted}
 use Rattle.store_peer.proofs.Beside.{fits_noted}
 use Rattle.store_peer.proofs.Asking.{relay_note, sound_returned}
@@ -17,7 +17,7 @@ name_returned-requires-clause-fits c n =
 
 pub returns-clause-sound : goal.returns-clause-sound
 returns-clause-sound c =
-    sound_returned c.args.store.now c.args.q.0 c.in-Some.question.now c.in-Some-get_mut.question.now c.args.said c.replace-before.new.dest
+    sound_returned c.args.store.now c.args.q.0 c.in-Some.question.now c.in-Some-get_mut.question.now c.args.said
     c.note_relay.new.names c.name_returned.new.names c.unname_returned.new.names (c.count_returned-spent.result + 1) c.requires.sound c.in-Some.ensures c.in-Some-get_mut.ensures.value
-    c.replace-before.ensures.after (ap (λ k. k + 1) c.count_returned-spent.ensures) (let a = c.requires.slack in let b = c.count_returned-spent.ensures in omega (arith, a, b))
-    c.note_relay.ensures c.name_returned.ensures (c.unname_returned.ensures ∙ ap (λ r. unnamed_all c.name_returned.new.names (named_by_returned r)) c.replace-before.ensures.value)
+    (ap (λ k. k + 1) c.count_returned-spent.ensures) (let a = c.requires.slack in let b = c.count_returned-spent.ensures in omega (arith, a, b))
+    c.note_relay.ensures c.name_returned.ensures c.unname_returned.ensures
