@@ -2,6 +2,7 @@ use Rattle.std.proofs.lemmas.Grind.{common_steps}
 use Rattle.wire_trees.specs.declared.tree.Items.TheFolds.{the_lemmas}
 use Rattle.std.proofs.Common.{◌≡◌, Bool, ℕ, ◌+◌, ◌<◌, ◌≤◌, arith, List, [], ◌∷◌, ◌++◌, length, map, take, get_or, sym, ap, subst, ◌∙◌}
 use Rattle.std.specs.Prelude.{IfOk}
+use Rattle.std.proofs.lemmas.Result.{err_from_is_err_and}
 use Rattle.std.proofs.lemmas.List.{map_push, map-id, take_all, take_more}
 use Rattle.wire_trees.specs.declared.tree.Fields.{Fields}
 use Rattle.wire_trees.specs.Trees.{Tree, Trees, Elements, Structs, struct, list, packed, pointers, structs}
@@ -125,3 +126,38 @@ copy_list-copy_structs-requires t c = grind (the_lemmas, arith, common_steps)
 
 pub copy_pointers-copy_tree-requires : goal.copy_pointers-copy_tree-requires
 copy_pointers-copy_tree-requires t c = grind (the_lemmas, arith, common_steps)
+
+pub copy_list-returns-in_err-pointers-in-Pointers : goal.copy_list-returns-in_err-pointers-in-Pointers
+copy_list-returns-in_err-pointers-in-Pointers t c = rw (err_from_is_err_and c.from_residual.result c.from_residual.ensures.1).1 tt
+
+pub copy_list-returns-in_err-items-in-Structs : goal.copy_list-returns-in_err-items-in-Structs
+copy_list-returns-in_err-items-in-Structs t c = rw (err_from_is_err_and c.from_residual-in_err-items-in-Structs.result c.from_residual-in_err-items-in-Structs.ensures.1).1 tt
+
+pub copy_pointers-returns-in_err-copies : goal.copy_pointers-returns-in_err-copies
+copy_pointers-returns-in_err-copies t c = rw (err_from_is_err_and c.from_residual.result c.from_residual.ensures.1).1 tt
+
+pub copy_pointers-returns-in_err-copy_tree : goal.copy_pointers-returns-in_err-copy_tree
+copy_pointers-returns-in_err-copy_tree t c = rw (err_from_is_err_and c.from_residual-in_err-copy_tree.result c.from_residual-in_err-copy_tree.ensures.1).1 tt
+
+pub copy_structs-returns-in_err-copies : goal.copy_structs-returns-in_err-copies
+copy_structs-returns-in_err-copies t c = rw (err_from_is_err_and c.from_residual.result c.from_residual.ensures.1).1 tt
+
+pub copy_structs-returns-in_err-words : goal.copy_structs-returns-in_err-words
+copy_structs-returns-in_err-words t c = rw (err_from_is_err_and c.from_residual-in_err-words.result c.from_residual-in_err-words.ensures.1).1 tt
+
+pub copy_structs-returns-in_err-pointers : goal.copy_structs-returns-in_err-pointers
+copy_structs-returns-in_err-pointers t c = rw (err_from_is_err_and c.from_residual-in_err-pointers.result c.from_residual-in_err-pointers.ensures.1).1 tt
+
+pub copy_tree-returns-in_err-words-in-Struct : goal.copy_tree-returns-in_err-words-in-Struct
+copy_tree-returns-in_err-words-in-Struct t c = rw (err_from_is_err_and c.from_residual.result c.from_residual.ensures.1).1 tt
+
+pub copy_tree-returns-in_err-pointers-in-Struct : goal.copy_tree-returns-in_err-pointers-in-Struct
+copy_tree-returns-in_err-pointers-in-Struct t c = rw (err_from_is_err_and c.from_residual-in_err-pointers-in-Struct.result c.from_residual-in_err-pointers-in-Struct.ensures.1).1 tt
+
+pub copy_pointers-loop-tree-init : goal.copy_pointers-loop-tree-init
+copy_pointers-loop-tree-init t c =
+    record { same = ap (map view) c.in_ok-copies.ensures.items; count = c.in_ok-copies.ensures.len; room = c.in_ok-copies.ensures.exact }
+
+pub copy_structs-loop-item-init : goal.copy_structs-loop-item-init
+copy_structs-loop-item-init t c =
+    record { same = ap (map fields_view) c.in_ok-copies.ensures.items; count = c.in_ok-copies.ensures.len; room = c.in_ok-copies.ensures.exact }

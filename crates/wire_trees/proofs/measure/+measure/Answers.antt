@@ -1,15 +1,17 @@
 use Rattle.std.proofs.lemmas.Grind.{common_steps}
 use Rattle.wire_trees.specs.declared.tree.Items.TheFolds.{the_lemmas}
-use Rattle.std.proofs.Common.{◌-◌, map, sym, ap, ◌∙◌, arith}
+use Rattle.std.proofs.Common.{◌-◌, List, map, sym, ap, ◌∙◌, arith}
 use Rattle.std.specs.Prelude.{replicate}
-use Rattle.std.proofs.lemmas.List.{length-map, length-replicate}
+use Rattle.std.proofs.lemmas.List.{length-map, length-replicate, drop_all}
+use Rattle.wire_trees.specs.declared.tree.Tree as program
+use Rattle.wire_trees.specs.declared.tree.Fields.{Fields}
 use Rattle.wire_trees.specs.declared.measure.Measure.{Measure}
 use Rattle.wire_trees.specs.Trees.{Tree, Elements, list}
 use Rattle.wire_trees.specs.Views.{bit, view, items_view, trees_view, structs_view}
 use Rattle.wire_trees.specs.Writable.{parts, parts_of_all, parts_of_structs}
 use Rattle.wire_trees.specs.Measuring.{together, measured}
 use Rattle.wire_trees.proofs.Counts.{trees_more, structs_more}
-use Rattle.wire_trees.proofs.Viewed.{view_capability, view_struct, view_void, view_bits, view_bytes, view_twos, view_fours, view_eights, view_pointers, view_structs}
+use Rattle.wire_trees.proofs.Viewed.{view_null, view_capability, view_list, view_struct, view_void, view_bits, view_bytes, view_twos, view_fours, view_eights, view_pointers, view_structs}
 use Rattle.wire_trees.proofs.measure.+measure.Goals as goal
 
 pub measure_items-returns-in-Void : goal.measure_items-returns-in-Void
@@ -90,3 +92,21 @@ measure_items-measure_structs-requires t c = grind (the_lemmas, arith, common_st
 
 pub measure_pointers-measure_tree-so_far-requires : goal.measure_pointers-measure_tree-so_far-requires
 measure_pointers-measure_tree-so_far-requires t c = grind (the_lemmas, arith, common_steps)
+
+pub measure_tree-returns-in-Null : goal.measure_tree-returns-in-Null
+measure_tree-returns-in-Null t c =
+    sym (ap (λ (u : Tree). measured c.args.caps c.args.so_far (parts u c.args.levels)) (ap view c.in-Null.is ∙ view_null))
+
+pub measure_tree-returns-in-List : goal.measure_tree-returns-in-List
+measure_tree-returns-in-List t c =
+    c.measure_items.ensures ∙ sym (ap (λ (u : Tree). measured c.args.caps c.args.so_far (parts u c.args.levels)) (ap view c.in-List.is ∙ view_list c.in-List.items))
+
+pub measure_pointers-returns : goal.measure_pointers-returns
+measure_pointers-returns t c =
+    sym (ap (λ (us : List program.Tree). measured c.args.caps c.loop-tree.so_far (parts_of_all (trees_view us) c.args.levels)) (drop_all c.loop-tree.tree-index c.as_slice-trees.result.now c.loop-tree-test.false))
+    ∙ c.loop-tree.invariant ∙ ap (λ (us : List program.Tree). measured c.args.caps c.args.so_far (parts_of_all (trees_view us) c.args.levels)) c.as_slice-trees.ensures
+
+pub measure_structs-returns : goal.measure_structs-returns
+measure_structs-returns t c =
+    sym (ap (λ (us : List Fields). measured c.args.caps c.loop-item.so_far (parts_of_structs (structs_view us) c.args.levels)) (drop_all c.loop-item.item-index c.args.items.now c.loop-item-test.false))
+    ∙ c.loop-item.invariant

@@ -1,7 +1,7 @@
 use Rattle.std.proofs.Common.{◌≡◌, ℕ, ◌+◌, ◌-◌, ◌*◌, ◌^◌, ◌<◌, ◌≤◌, ◌++◌, Bool, true, List, map, suc, ltb, length, set, refl, sym, ap, subst, ◌∙◌, arith, rules}
 use Rattle.std.specs.Prelude.{replicate}
 use Rattle.std.specs.Vec.{vec_capacity}
-use Rattle.std.proofs.lemmas.List.{length-set, length-map, length-replicate, length-append, length_push, drop_all, append-nil, map-id}
+use Rattle.std.proofs.lemmas.List.{length-set, length-replicate, length-append, length_push, drop_all, append-nil, map-id}
 use Rattle.std.proofs.lemmas.Bool.{not-false, or_parts, ltb-false}
 use Rattle.wire_trees.specs.declared.width.Width.TheVariants as width
 use Rattle.wire_trees.specs.declared.tree.Items.{the_lemmas}
