@@ -23,10 +23,24 @@ pub fn begin(step: &mut Step, more: usize) -> Result<(), Memory>
     ensures ok { OnOk result (more ≤ step.new.store.slack) }
     ensures idle { OnErr result (IsIdle step.new) }
 {
-    reserve_store(&mut step.store, more)?;
-    if has_room(step, step.store.slack) {
+    if more <= step.store.slack && has_room(step, step.store.slack) {
         return Ok(());
     }
+    begin_in_new_room(step, more)
+}
+
+// The same, where there is not enough room.
+#[cold]
+#[inline(never)]
+fn begin_in_new_room(step: &mut Step, more: usize) -> Result<(), Memory>
+    requires { IsIdle step.old }
+    ensures store { IsSameButRoom step.old.store step.new.store }
+    ensures begun { OnOk result (progress_of step.new ≡ begin (state_of step.old.store)) }
+    ensures ready { OnOk result (IsReady step.new) }
+    ensures ok { OnOk result (more ≤ step.new.store.slack) }
+    ensures idle { OnErr result (IsIdle step.new) }
+{
+    reserve_store(&mut step.store, more)?;
     make_room(step, step.store.slack)
 }
 
