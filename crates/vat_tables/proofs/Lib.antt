@@ -8,6 +8,7 @@ pub mod Lending
 pub mod NamingEach
 pub mod NodeKeys
 pub mod Options
+pub mod PlacedTable
 pub mod PoolLemmas
 pub mod RisingKeys
 pub mod RisingPlaces

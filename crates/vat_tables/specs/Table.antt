@@ -4,7 +4,6 @@ use Rattle.std.specs.Ordering.{nat_cmp}
 use Rattle.std.specs.FinMap as map
 use Rattle.std.specs.Coded.{Coded, code_by, coded×, coded_ℕ}
 use Rattle.slab.specs.Slab.{Slab, slab_len, entries, ContainsKey}
-use Rattle.std.specs.HashMap.{HashMap, spare}
 
 -- the entries by id, and how many new ones need no more memory
 pub record Table (Entry : Type 0) : Type 0 where
@@ -31,9 +30,6 @@ module _ {Entry : Type 0} where
 
   abbrev pub table_of_slab : Slab Entry → Table Entry
   table_of_slab s = record { entries = map.from_entries (entries s); room = slab_room s }
-
-  abbrev pub table_of_hash_map : {S : Type 0} → HashMap ℕ Entry S → Table Entry
-  table_of_hash_map m = record { entries = map.from_entries m.entries; room = spare m }
 
   -- the table with this entry under that id
   abbrev pub with_entry : Table Entry → ℕ → Entry → Table Entry

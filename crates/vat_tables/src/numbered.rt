@@ -1,28 +1,116 @@
-ghost use Rattle.std.specs.Prelude.{◌≡◌, ◌==◌, ◌≤◌, ◌<◌, ◌+◌, Some, None, IsOk, IsSome, OnOk, OnErr, IfErr, option_copied};
+ghost use Rattle.std.specs.Prelude.{◌≡◌, ◌==◌, ◌≤◌, ◌<◌, ◌+◌, Some, None, IsOk, IsSome, OnOk, OnErr, IfOk, IfErr, option_copied, nat_eq, set, slice_index_or, vec_len, vec_capacity};
 ghost use Rattle.std.specs.Option.{option_copied_mut};
 ghost use Rattle.std.specs.Borrow.{sem};
 ghost use Rattle.std.specs.FinMap as map;
+ghost use Rattle.std.specs.HashMap as hash;
+ghost use Rattle.std.specs.HashMap.{Updates, spare};
+ghost use Rattle.std.specs.Map.{keys_of};
+ghost use Rattle.slab.specs.Slab.{entries_from};
+ghost use Rattle.vat_tables.specs.Placed.{HasSamePlaces};
 
 use rpc_msg::Memory;
-use std::alloc::Global;
+use std::alloc::{AllocError, Global};
 use std::collections::HashMap;
 use std::marker::Model;
+use std::mem;
 
 /// Entries under numbers of 64 bits, as many as memory allows: seen by contracts as the entries by number, and how
 /// many new ones need no more memory. Each call is constant work, but where memory grows.
+///
+/// An entry whose number is low stands in the place of its number, and is found at once; the others are hashed.
 #[derive(Drop)]
 pub struct Numbered<Entry> {
+    places: Vec<Option<Entry>>,
+    // Those whose numbers have no place.
     hashed: HashMap<u64, Entry>,
+    len: usize,
 }
 
 impl<Entry> Model for Numbered<Entry> {
-    ghost use Rattle.vat_tables.specs.Table.{Table, table_code, table_of_hash_map};
+    ghost use Rattle.std.specs.Prelude.{◌≡◌};
+    ghost use Rattle.std.specs.FinMap as map;
+    ghost use Rattle.vat_tables.specs.Table.{Table, table_code};
+    ghost use Rattle.vat_tables.specs.Placed.{table_of_both, entries_both, IsApart};
 
     ghost Value = { Table Entry };
 
     ghost coded = { table_code Entry.code };
 
-    ghost view = { λ a. table_of_hash_map a.hashed };
+    ghost view = { λ a. table_of_both a.places.items a.hashed a.len };
+
+    ghost invariant = { λ a. IsApart a.places.items a.hashed × (a.len ≡ map.len (entries_both a.places.items a.hashed)) };
+}
+
+// The numbers of the places that have an entry.
+fn numbers_of_places<Entry>(places: &[Option<Entry>], alloc: Global) -> Result<Vec<u64>, Memory>
+    ensures { IfOk result (λ numbers. numbers.items ≡ keys_of (entries_from 0 places.now)) }
+{
+    let mut numbers = Vec::new(alloc);
+    for number in 0..places.len() {
+        if places[number].is_some() {
+            let Ok(()) = numbers.push(number as u64) else {
+                return Err(Memory);
+            };
+        }
+    }
+    Ok(numbers)
+}
+
+// So many more numbers have a place, where there is room.
+fn add_places<Entry>(places: &mut Vec<Option<Entry>>, more: usize)
+    requires { vec_len places.old + more ≤ vec_capacity places.old }
+    ensures { HasSamePlaces places.old.items places.new.items }
+{
+    for _ in 0..more {
+        places.push_reserved(None);
+    }
+}
+
+// Takes the entry out that stands at a place, if it has one.
+fn take_at<Entry: Drop>(places: &mut Vec<Option<Entry>>, at: usize) -> Option<Entry>
+    requires { at < vec_len places.old }
+    ensures entry { result ≡ slice_index_or places.old.items at None }
+    ensures items { places.new.items ≡ set places.old.items at None }
+{
+    mem::replace(&mut places[at], None)
+}
+
+// Few numbers are hashed, so what is done with these stands apart.
+#[cold]
+#[inline(never)]
+fn get_hashed<Entry>(hashed: &HashMap<u64, Entry>, number: u64) -> Option<&Entry>
+    ensures { option_copied result ≡ hash.get nat_eq hashed.now number }
+{
+    hashed.get(&number)
+}
+
+#[cold]
+#[inline(never)]
+fn add_hashed<Entry: Drop>(
+    hashed: &mut HashMap<u64, Entry>,
+    number: u64,
+    entry: Entry,
+) -> Result<(), Entry>
+    ensures updates { OnOk result (Updates nat_eq hashed.old hashed.new number (Some entry)) }
+    ensures succeeds { 0 < spare hashed.old → IsOk result }
+    ensures spare { spare hashed.old ≤ spare hashed.new + 1 }
+    ensures back { IfErr result (λ back. back ≡ entry) }
+    ensures same { OnErr result (hashed.new.entries ≡ hashed.old.entries) }
+{
+    match hashed.insert(number, entry) {
+        Ok(_) => Ok(()),
+        Err(refused) => Err(refused.value.1),
+    }
+}
+
+#[cold]
+#[inline(never)]
+fn remove_hashed<Entry>(hashed: &mut HashMap<u64, Entry>, number: u64) -> Option<Entry>
+    ensures value { result ≡ hash.get nat_eq hashed.old number }
+    ensures updates { Updates nat_eq hashed.old hashed.new number None }
+    ensures spare { spare hashed.old ≤ spare hashed.new }
+{
+    hashed.remove(&number)
 }
 
 impl<Entry> Numbered<Entry> {
@@ -33,7 +121,9 @@ impl<Entry> Numbered<Entry> {
         ensures { result.entries ≡ map.empty }
     {
         Numbered {
+            places: Vec::new(alloc),
             hashed: HashMap::new(alloc),
+            len: 0,
         }
     }
 
@@ -41,14 +131,30 @@ impl<Entry> Numbered<Entry> {
     pub fn is_empty(&self) -> bool
         ensures { result ≡ (map.len self.now.entries == 0) }
     {
-        self.hashed.len() == 0
+        self.len == 0
     }
 
     /// How many entries there are. Takes no memory.
     pub fn len(&self) -> usize
         ensures { result ≡ map.len self.now.entries }
     {
-        self.hashed.len()
+        self.len
+    }
+
+    /// The numbers, rising; in memory of their own.
+    pub fn numbers(&self, alloc: Global) -> Result<Vec<u64>, Memory>
+        ensures { IfOk result (λ numbers. numbers.items ≡ map.keys self.now.entries) }
+    {
+        let mut numbers = numbers_of_places(&self.places, alloc)?;
+        let hashed: Result<Vec<u64>, AllocError> = self.hashed.keys().copied().collect(alloc);
+        let Ok(mut hashed) = hashed else {
+            return Err(Memory);
+        };
+        let Ok(()) = numbers.append(&mut hashed) else {
+            return Err(Memory);
+        };
+        numbers.sort_unstable();
+        Ok(numbers)
     }
 
     /// Makes room, so that the next so many `add`s are not refused. `Err` where there was no room and the growth was
@@ -59,6 +165,39 @@ impl<Entry> Numbered<Entry> {
         ensures had_room { more ≤ self.old.room → IsOk result }
         ensures keeps_room { self.old.room ≤ self.new.room }
     {
+        self.widen(more);
+        self.reserve_hashed(more)
+    }
+
+    // Gives so many more numbers a place, where none is hashed and there is memory.
+    fn widen(&mut self, more: usize)
+        ensures { self.new ≡ self.old }
+    {
+        let Some(wanted) = self.len.checked_add(more) else {
+            return;
+        };
+        if wanted <= self.places.len() {
+            return;
+        }
+        if !self.hashed.is_empty() {
+            return;
+        }
+        let Ok(()) = self.places.reserve(more) else {
+            return;
+        };
+        add_places(&mut self.places, more);
+    }
+
+    // Makes room for entries whose numbers may have no place.
+    fn reserve_hashed(&mut self, more: usize) -> Result<(), Memory>
+        ensures same { self.new.entries ≡ self.old.entries }
+        ensures ok { OnOk result (more ≤ self.new.room) }
+        ensures had_room { more ≤ self.old.room → IsOk result }
+        ensures keeps_room { self.old.room ≤ self.new.room }
+    {
+        let Some(_) = self.len.checked_add(more) else {
+            return Err(Memory);
+        };
         match self.hashed.reserve(more) {
             Ok(()) => Ok(()),
             Err(_) => Err(Memory),
@@ -77,10 +216,17 @@ impl<Entry> Numbered<Entry> {
         ensures back { IfErr result (λ back. back ≡ entry) }
         ensures same { OnErr result (self.new.entries ≡ self.old.entries) }
     {
-        match self.hashed.insert(number, entry) {
-            Ok(_) => Ok(()),
-            Err(refused) => Err(refused.value.1),
+        let Some(len) = self.len.checked_add(1) else {
+            return Err(entry);
+        };
+        if number < self.places.len() as u64 {
+            self.places[number as usize] = Some(entry);
+            self.len = len;
+            return Ok(());
         }
+        add_hashed(&mut self.hashed, number, entry)?;
+        self.len = len;
+        Ok(())
     }
 
     /// The entry with that number. Takes no memory, as do `get_mut`, `set` and `remove`.
@@ -88,24 +234,27 @@ impl<Entry> Numbered<Entry> {
     pub fn get(&self, number: u64) -> Option<&Entry>
         ensures { option_copied result ≡ map.get self.now.entries number }
     {
-        if self.hashed.is_empty() {
-            return None;
+        if number < self.places.len() as u64 {
+            return self.places[number as usize].as_ref();
         }
-        // The first entry is tried before any is hashed: where there are few, it is often that one.
-        let mut entries = self.hashed.iter();
-        if let Some((first, entry)) = entries.next() {
-            if *first == number {
-                return Some(entry);
-            }
-        }
-        self.hashed.get(&number)
+        get_hashed(&self.hashed, number)
     }
 
     /// The entry with that number, to be changed in place.
+    #[inline(always)]
     pub fn get_mut(&mut self, number: u64) -> Option<&mut Entry>
         ensures* writes_back { sem 𝓛 (lends_number Entry.row self.entry number result) }
         ensures value { option_copied_mut result ≡ map.get self.old.entries number }
     {
+        if number < self.places.len() as u64 {
+            if self.places[number as usize].is_none() {
+                return None;
+            }
+            return self.places[number as usize].as_mut();
+        }
+        if get_hashed(&self.hashed, number).is_none() {
+            return None;
+        }
         self.hashed.get_mut(&number)
     }
 
@@ -124,10 +273,19 @@ impl<Entry> Numbered<Entry> {
 
     /// Takes the entry with that number out; the number is free then.
     pub fn remove(&mut self, number: u64) -> Option<Entry>
+    where
+        Entry: Drop,
         ensures value { result ≡ map.get self.old.entries number }
         ensures removed { self.new.entries ≡ map.remove self.old.entries number }
         ensures room { self.old.room ≤ self.new.room }
     {
-        self.hashed.remove(&number)
+        if number < self.places.len() as u64 {
+            let entry = take_at(&mut self.places, number as usize)?;
+            self.len -= 1;
+            return Some(entry);
+        }
+        let entry = remove_hashed(&mut self.hashed, number)?;
+        self.len -= 1;
+        Some(entry)
     }
 }
