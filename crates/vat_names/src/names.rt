@@ -171,6 +171,7 @@ impl Names {
 
     /// One more place names each of these nodes. `Err` where there was no room for so many and a growth was refused, or
     /// `can_add` says no; no count is changed then.
+    #[inline(always)]
     pub fn add_all(&mut self, nodes: &[Node]) -> Result<(), Memory>
         ensures ok { OnOk result (self.new ≡ named_all (all_roomier (length nodes.now) self.old) nodes.now) }
         ensures in_room { HasRoom (length nodes.now) self.old → OnOk result (self.new ≡ named_all self.old nodes.now) }
@@ -180,6 +181,16 @@ impl Names {
         if nodes.is_empty() {
             return Ok(());
         }
+        self.add_each(nodes)
+    }
+
+    // The same, also where there are none.
+    fn add_each(&mut self, nodes: &[Node]) -> Result<(), Memory>
+        ensures ok { OnOk result (self.new ≡ named_all (all_roomier (length nodes.now) self.old) nodes.now) }
+        ensures in_room { HasRoom (length nodes.now) self.old → OnOk result (self.new ≡ named_all self.old nodes.now) }
+        ensures had_room { HasRoom (length nodes.now) self.old → CanCount self.old nodes.now → IsOk result }
+        ensures same { OnErr result (self.new ≡ all_with_rooms self.old self.new) }
+    {
         if !self.can_add(nodes) {
             return Err(Memory);
         }

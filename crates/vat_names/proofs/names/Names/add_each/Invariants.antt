@@ -1,6 +1,6 @@
 use Rattle.std.proofs.Common.{◌≡◌, ◌-◌, take, length}
 use Rattle.vat_names.specs.Names.{named_all, all_roomier, HasRoom}
-use Rattle.vat_names.proofs.names.Names.add_all.Given as goal
+use Rattle.vat_names.proofs.names.Names.add_each.Given as goal
 
 abbrev pub invariant-loop-node : goal.invariant-loop-node
 invariant-loop-node l = record {

@@ -5,7 +5,7 @@ use Rattle.vat_machine.specs.declared.node.Node.{Node}
 use Rattle.vat_names.specs.Names.{Names, named, named_all, times_named, HasRoom, all_roomier}
 use Rattle.vat_names.proofs.Listing.{named_more}
 use Rattle.vat_names.proofs.Rooms.{room_fewer, room_named, times_fit}
-use Rattle.vat_names.proofs.names.Names.add_all.Goals as goal
+use Rattle.vat_names.proofs.names.Names.add_each.Goals as goal
 
 pub unreachable-requires : goal.unreachable-requires
 unreachable-requires c =
