@@ -1,5 +1,5 @@
 -- Links that are followed one after the other.
-use Rattle.std.proofs.Common.{◌≡◌, ℕ, zero, suc, None, refl, sym}
+use Rattle.std.proofs.Common.{◌≡◌, ℕ, zero, suc, true, false, None, Some, is_some, unwrap_or, refl, sym, ap, ◌∙◌}
 use Rattle.vat_machine.specs.declared.node.Node.{Node}
 use Rattle.vat_machine.specs.State.{State}
 use Rattle.vat_machine.specs.Nodes.{link, links, follow, settle}
@@ -14,3 +14,8 @@ stops_there s (suc k) n none = stays s (suc k) n none
 -- Nor does it settle elsewhere.
 pub settles_there : (s : State) (n : Node) → link s n ≡ None → n ≡ settle s n
 settles_there s n none = sym (stays s (links s) n none)
+
+-- A node that is led to, and has no link, is where the first one leads.
+pub ends_there : (s : State) (k : ℕ) (n m : Node) → link_within s k n ≡ Some m → link s m ≡ None → follow s k n ≡ m
+ends_there s zero n m next none = absurd (let e : false ≡ true = ap is_some next in cc)
+ends_there s (suc k) n m next none = ap (λ o. follow s k (unwrap_or o n)) next ∙ stays s k m none

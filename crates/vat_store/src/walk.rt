@@ -1,4 +1,5 @@
-ghost use Rattle.std.specs.Prelude.{◌≡◌};
+ghost use Rattle.std.specs.Prelude.{◌≡◌, None, IsTrue};
+ghost use Rattle.vat_machine.specs.State.{State};
 ghost use Rattle.vat_machine.specs.Nodes.{link, settle, field_of, node_of_cap};
 ghost use Rattle.vat_machine.specs.Payloads.{cap_at};
 ghost use Rattle.vat_store.specs.Holding.{state_of, IsSound};
@@ -51,6 +52,20 @@ pub fn settle(store: &Store, node: Node) -> Node
     }
 }
 
+// Whether a node is of a kind that has no links.
+fn has_no_link(node: &Node) -> bool
+    ensures { IsTrue result → (s : State) → link s node.now ≡ None }
+{
+    match *node {
+        Node::Promise(_) => false,
+        Node::Field(_, _) => false,
+        Node::Object(_) => true,
+        Node::Import(_) => true,
+        Node::Pipe(_, _) => true,
+        Node::Broken(_) => true,
+    }
+}
+
 // By its links, one after the other.
 fn follow(store: &Store, node: Node) -> Node
     requires { IsSound store.now }
@@ -60,6 +75,9 @@ fn follow(store: &Store, node: Node) -> Node
     let mut left = store.links;
     let mut next = link_within(store, node, left);
     while let Some(found) = next {
+        if has_no_link(&found) {
+            return found;
+        }
         at = found;
         left -= 1;
         next = link_within(store, found, left);
