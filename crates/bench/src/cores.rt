@@ -89,31 +89,20 @@ impl Pair {
         let reference = given(outcome.given)?;
         // it waits at the promise
         self.a.call(&mut self.b, reference)?.nothing()?;
-        let (comes_back, resolve) = self.b.resolve(promise, self.theirs)?;
-        let first = self.a.receive(comes_back)?.task()?;
-        self.a.receive(resolve)?.nothing()?;
-        self.embargo(reference, first)
+        let come_back = self.b.resolve(&mut self.a, promise, self.theirs)?;
+        self.embargo(reference, come_back.task()?)
     }
 
     fn embargo(&mut self, reference: RefId, first: Task) -> Result<(), Astray> {
-        let (disembargo, release) = self.a.advance(reference)?;
+        let echo = self.a.advance(&mut self.b, reference)?;
         self.a.call_later(reference)?;
-        let echo = self.b.reply(disembargo)?;
-        self.b.receive(release)?.nothing()?;
         let second = self.a.receive(echo)?.task()?;
         let outcome = self.a.answer_own(second)?;
         self.a.finish_own(outcome)?;
-        self.answer_first(first)?;
+        // Vat b, which passed the first call on, passes its answer back.
+        let outcome = self.a.answer_passed(&mut self.b, first)?.outcome()?;
+        self.a.finish(&mut self.b, outcome)?;
         self.a.let_go(reference)
-    }
-
-    /// Vat a answers the first call, which vat b passed on to it, and is told the same of its own.
-    fn answer_first(&mut self, first: Task) -> Result<(), Astray> {
-        let answer = self.a.answer_message(first)?;
-        let (results, finish) = self.b.reply_two(answer)?;
-        let outcome = self.a.receive(results)?.outcome()?;
-        self.a.receive(finish)?.nothing()?;
-        self.a.finish(&mut self.b, outcome)
     }
 }
 

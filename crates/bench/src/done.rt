@@ -29,6 +29,7 @@ pub(crate) enum Done {
 
 impl Done {
     /// What these effects are, where they are no others and no more.
+    #[inline(always)]
     pub(crate) fn of(effects: &Effects) -> Result<Done, Astray> {
         if let Some(number) = effects.down {
             return Err(Astray::Down(number));

@@ -4,6 +4,7 @@ use crate::astray::Astray;
 use crate::done::{Done, Outcome, Task};
 use rpc_msg::{Items, Message, ObjectId, Payload, PromiseId, RefId, Vat};
 use std::alloc::Global;
+use std::mem;
 use vat_core::Core;
 use vat_journal::Advanced;
 use vat_machine::{CallCommand, Effects, Level};
@@ -25,113 +26,67 @@ impl Side {
         Ok(Side { alloc, core, null })
     }
 
-    // Nothing was sent.
-    fn did(&mut self, effects: Effects) -> Result<Done, Astray> {
+    // What these effects are, where nothing was sent.
+    #[inline(always)]
+    fn look(&mut self, effects: Effects) -> Result<Done, Astray> {
         let done = Done::of(&effects);
         self.core.recycle(effects);
         done
     }
 
+    #[inline(never)]
+    fn did(&mut self, effects: Effects) -> Result<Done, Astray> {
+        self.look(effects)
+    }
+
     // A message alone was sent.
-    fn sent(&mut self, effects: Effects) -> Result<Message, Astray> {
-        let Effects {
-            sends,
-            deliveries,
-            answers,
-            down,
-        } = effects;
-        if let Some(number) = down {
-            return Err(Astray::Down(number));
-        }
-        let mut sends = sends.into_vec();
-        let ([_], [], []) = (sends.as_slice(), deliveries.as_slice(), answers.as_slice()) else {
+    fn sent(&mut self, mut effects: Effects) -> Result<Message, Astray> {
+        only_sends(&effects, 1)?;
+        let Some(message) = pop(&mut effects, self.alloc) else {
             return Err(Astray::Otherwise);
         };
-        let Some(message) = sends.pop() else {
-            return Err(Astray::Otherwise);
-        };
-        self.core.recycle(Effects {
-            sends: Items::from_vec(sends),
-            deliveries,
-            answers,
-            down: None,
-        });
+        self.core.recycle(effects);
         Ok(message)
     }
 
-    // Two messages were sent, in that order.
-    fn sent_two(&mut self, effects: Effects) -> Result<(Message, Message), Astray> {
-        let Effects {
-            sends,
-            deliveries,
-            answers,
-            down,
-        } = effects;
-        if let Some(number) = down {
-            return Err(Astray::Down(number));
-        }
-        let mut sends = sends.into_vec();
-        let ([_, _], [], []) = (sends.as_slice(), deliveries.as_slice(), answers.as_slice()) else {
+    // A message alone was sent, and goes straight there.
+    #[inline(never)]
+    fn send(&mut self, to: &mut Side, mut effects: Effects) -> Result<Done, Astray> {
+        only_sends(&effects, 1)?;
+        let Some(message) = pop(&mut effects, self.alloc) else {
             return Err(Astray::Otherwise);
         };
-        let (Some(second), Some(first)) = (sends.pop(), sends.pop()) else {
-            return Err(Astray::Otherwise);
-        };
-        self.core.recycle(Effects {
-            sends: Items::from_vec(sends),
-            deliveries,
-            answers,
-            down: None,
-        });
-        Ok((first, second))
+        self.core.recycle(effects);
+        let effects = to.core.receive(message);
+        to.look(effects)
     }
 
-    // As `sent`, and the message goes straight there.
-    fn send(&mut self, to: &mut Side, effects: Effects) -> Result<Done, Astray> {
-        let Effects {
-            sends,
-            deliveries,
-            answers,
-            down,
-        } = effects;
-        if let Some(number) = down {
-            return Err(Astray::Down(number));
-        }
-        let mut sends = sends.into_vec();
-        let ([_], [], []) = (sends.as_slice(), deliveries.as_slice(), answers.as_slice()) else {
+    // Two messages were sent, and go straight there, in that order. The second leads to nothing.
+    #[inline(never)]
+    fn send_two(&mut self, to: &mut Side, mut effects: Effects) -> Result<Done, Astray> {
+        only_sends(&effects, 2)?;
+        let Some(second) = pop(&mut effects, self.alloc) else {
             return Err(Astray::Otherwise);
         };
-        let Some(message) = sends.pop() else {
+        let Some(first) = pop(&mut effects, self.alloc) else {
             return Err(Astray::Otherwise);
         };
-        self.core.recycle(Effects {
-            sends: Items::from_vec(sends),
-            deliveries,
-            answers,
-            down: None,
-        });
-        let effects = to.core.receive(message);
-        let done = Done::of(&effects);
-        to.core.recycle(effects);
-        done
+        self.core.recycle(effects);
+        let done = to.receive(first)?;
+        to.receive(second)?.nothing()?;
+        Ok(done)
     }
 
     /// Takes a message, and sends nothing.
     pub(crate) fn receive(&mut self, message: Message) -> Result<Done, Astray> {
         let effects = self.core.receive(message);
-        self.did(effects)
+        self.look(effects)
     }
 
     /// Takes a message, and sends one.
     pub(crate) fn reply(&mut self, message: Message) -> Result<Message, Astray> {
         let effects = self.core.receive(message);
         self.sent(effects)
-    }
-
-    /// Takes a message, and sends two.
-    pub(crate) fn reply_two(&mut self, message: Message) -> Result<(Message, Message), Astray> {
-        let effects = self.core.receive(message);
-        self.sent_two(effects)
     }
 
     pub(crate) fn host(&mut self, object: ObjectId) -> Result<RefId, Astray> {
@@ -214,10 +169,12 @@ impl Side {
         }
     }
 
-    /// The answer to a task, as a message.
-    pub(crate) fn answer_message(&mut self, task: Task) -> Result<Message, Astray> {
+    /// The answer to a task that the other vat passed on from this one: it sends the answer back, and its end.
+    pub(crate) fn answer_passed(&mut self, to: &mut Side, task: Task) -> Result<Done, Astray> {
         let effects = self.answers(task)?;
-        self.sent(effects)
+        let answer = self.sent(effects)?;
+        let effects = to.core.receive(answer);
+        to.send_two(self, effects)
     }
 
     /// The answer to a task that is a call of this vat's own.
@@ -246,22 +203,34 @@ impl Side {
         self.did(effects)?.nothing()
     }
 
-    /// Resolves a promise for which one call waits, and which the other vat has.
+    /// Resolves a promise for which one call waits, and which the other vat has: the call goes there, and then the promise's
+    /// end.
     pub(crate) fn resolve(
         &mut self,
+        to: &mut Side,
         promise: PromiseId,
         reference: RefId,
-    ) -> Result<(Message, Message), Astray> {
+    ) -> Result<Done, Astray> {
         let effects = self.core.resolve(promise, reference)?;
-        self.sent_two(effects)
+        self.send_two(to, effects)
     }
 
-    /// Lets a reference take the shorter path, behind an embargo.
-    pub(crate) fn advance(&mut self, reference: RefId) -> Result<(Message, Message), Astray> {
-        match self.core.advance(reference)? {
-            (Advanced::Embargoed, effects) => self.sent_two(effects),
-            _ => Err(Astray::Otherwise),
-        }
+    /// Lets a reference take the shorter path, behind an embargo: the echo of the other vat.
+    pub(crate) fn advance(&mut self, to: &mut Side, reference: RefId) -> Result<Message, Astray> {
+        let (Advanced::Embargoed, mut effects) = self.core.advance(reference)? else {
+            return Err(Astray::Otherwise);
+        };
+        only_sends(&effects, 2)?;
+        let Some(release) = pop(&mut effects, self.alloc) else {
+            return Err(Astray::Otherwise);
+        };
+        let Some(disembargo) = pop(&mut effects, self.alloc) else {
+            return Err(Astray::Otherwise);
+        };
+        self.core.recycle(effects);
+        let echo = to.reply(disembargo)?;
+        to.receive(release)?.nothing()?;
+        Ok(echo)
     }
 
     pub(crate) fn let_go(&mut self, reference: RefId) -> Result<(), Astray> {
@@ -275,4 +244,27 @@ fn one(alloc: Global, reference: RefId) -> Result<Items<RefId>, Astray> {
         Ok(refs) => Ok(refs),
         Err(_) => Err(Astray::Memory),
     }
+}
+
+// These effects are so many messages alone.
+#[inline(always)]
+fn only_sends(effects: &Effects, count: usize) -> Result<(), Astray> {
+    if let Some(number) = effects.down {
+        return Err(Astray::Down(number));
+    }
+    if effects.sends.len() == count && effects.deliveries.is_empty() && effects.answers.is_empty() {
+        Ok(())
+    } else {
+        Err(Astray::Otherwise)
+    }
+}
+
+// The last message, which goes out of its list.
+#[inline(always)]
+fn pop(effects: &mut Effects, alloc: Global) -> Option<Message> {
+    let mut sends = mem::replace(&mut effects.sends, Items::new(alloc)).into_vec();
+    let message = sends.pop();
+    // Nothing is there to be dropped.
+    mem::forget(mem::replace(&mut effects.sends, Items::from_vec(sends)));
+    message
 }

@@ -99,6 +99,7 @@ impl Core {
     /// Takes back the memory of effects that were looked at, for those of later steps; what they still hold is dropped. Nothing
     /// else changes, and no memory is taken. It saves each later step the memory that it would else take for what it says:
     /// take the lists apart with `into_vec`, empty them, and hand them back by `Items::from_vec`.
+    #[inline(always)]
     pub fn recycle(&mut self, effects: Effects)
         ensures { self.new ≡ self.old }
     {
