@@ -1,6 +1,7 @@
 use Rattle.std.proofs.Common.{◌≡◌, ℕ, List, ◌+◌, ◌-◌, ◌*◌, ◌≤◌, Ok, sym, ap, subst, ◌∙◌, arith, rules}
 use Rattle.std.specs.Prelude.{IfOk, IsOk}
 use Rattle.std.proofs.Math.Nat.{mul-le-mul_right}
+use Rattle.std.proofs.lemmas.Result.{err_from_is_err_and}
 use Rattle.wire_trees.specs.Trees as tree
 use Rattle.wire_trees.specs.Trees.{Tree}
 use Rattle.wire_trees.proofs.Viewed.{view_null, view_capability, view_struct, view_list, view_pointers, view_structs}
@@ -227,3 +228,33 @@ pub build_pointers-overflow_add-start : goal.build_pointers-overflow_add-start
 build_pointers-overflow_add-start t c =
     let small = c.requires.within.small in
     omega (arith, small)
+
+pub build_content-returns-in_err-words-in-Struct : goal.build_content-returns-in_err-words-in-Struct
+build_content-returns-in_err-words-in-Struct t c = rw (err_from_is_err_and c.from_residual.result c.from_residual.ensures.1).1 tt
+
+pub build_content-returns-in_err-pointers-in-Struct : goal.build_content-returns-in_err-pointers-in-Struct
+build_content-returns-in_err-pointers-in-Struct t c = rw (err_from_is_err_and c.from_residual-in_err-pointers-in-Struct.result c.from_residual-in_err-pointers-in-Struct.ensures.1).1 tt
+
+pub build_content-returns-in_err-items-in-Packed : goal.build_content-returns-in_err-items-in-Packed
+build_content-returns-in_err-items-in-Packed t c = rw (err_from_is_err_and c.from_residual-in_err-items-in-Packed.result c.from_residual-in_err-items-in-Packed.ensures.1).1 tt
+
+pub build_content-returns-in_err-pointers-in-Pointers : goal.build_content-returns-in_err-pointers-in-Pointers
+build_content-returns-in_err-pointers-in-Pointers t c = rw (err_from_is_err_and c.from_residual-in_err-pointers-in-Pointers.result c.from_residual-in_err-pointers-in-Pointers.ensures.1).1 tt
+
+pub build_content-returns-in_err-items-in-Structs : goal.build_content-returns-in_err-items-in-Structs
+build_content-returns-in_err-items-in-Structs t c = rw (err_from_is_err_and c.from_residual-in_err-items-in-Structs.result c.from_residual-in_err-items-in-Structs.ensures.1).1 tt
+
+pub build_pointers-returns-in_err-trees : goal.build_pointers-returns-in_err-trees
+build_pointers-returns-in_err-trees t c = rw (err_from_is_err_and c.from_residual.result c.from_residual.ensures.1).1 tt
+
+pub build_pointers-returns-in_err-tree : goal.build_pointers-returns-in_err-tree
+build_pointers-returns-in_err-tree t c = rw (err_from_is_err_and c.from_residual-in_err-tree.result c.from_residual-in_err-tree.ensures.1).1 tt
+
+pub build_structs-returns-in_err-items : goal.build_structs-returns-in_err-items
+build_structs-returns-in_err-items t c = rw (err_from_is_err_and c.from_residual.result c.from_residual.ensures.1).1 tt
+
+pub build_structs-returns-in_err-words : goal.build_structs-returns-in_err-words
+build_structs-returns-in_err-words t c = rw (err_from_is_err_and c.from_residual-in_err-words.result c.from_residual-in_err-words.ensures.1).1 tt
+
+pub build_structs-returns-in_err-pointers : goal.build_structs-returns-in_err-pointers
+build_structs-returns-in_err-pointers t c = rw (err_from_is_err_and c.from_residual-in_err-pointers.result c.from_residual-in_err-pointers.ensures.1).1 tt
