@@ -55,6 +55,36 @@ fn report(step: &mut Step, alloc: Global, call: CallId, value: Value) -> Result<
     ensures ready { OnOk result (IsReady step.new) }
 {
     let (outcome, caps) = split(alloc, value);
+    if caps.is_empty() {
+        step_base::reserve(step, 1)?;
+        let refs = Items::new(alloc);
+        step_base::tell_ended(
+            step,
+            Ended {
+                call,
+                outcome,
+                refs,
+            },
+        );
+        return Ok(());
+    }
+    report_caps(step, alloc, call, outcome, caps)
+}
+
+// The same, where there are capabilities.
+#[inline(never)]
+fn report_caps(
+    step: &mut Step,
+    alloc: Global,
+    call: CallId,
+    outcome: Outcome,
+    caps: Items<Node>,
+) -> Result<(), Memory>
+    requires ready { IsReady step.old }
+    ensures told { OnOk result ((v : Value) → outcome ≡ outcome_of v → caps ≡ caps_of v → progress_of step.new ≡ report (progress_of step.old) call.0 v) }
+    ensures taken { OnOk result (step.new.store.waits.taken ≡ step.old.store.waits.taken) }
+    ensures ready { OnOk result (IsReady step.new) }
+{
     let count = caps.len();
     let Some(_) = step.store.next_ref.checked_add(count as u64) else {
         return Err(Memory);

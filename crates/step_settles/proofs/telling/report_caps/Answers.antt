@@ -1,6 +1,6 @@
 use Rattle.std.proofs.Common.{arith}
 use Rattle.step_settles.proofs.Told.{ready_referred}
-use Rattle.step_settles.proofs.telling.report.Goals as goal
+use Rattle.step_settles.proofs.telling.report_caps.Goals as goal
 
 pub tell_ended-requires-clause-ready : goal.tell_ended-requires-clause-ready
 tell_ended-requires-clause-ready c =
