@@ -3,6 +3,7 @@ pub mod Each
 pub mod Going
 pub mod Carrying
 pub mod NameKeys
+pub mod LineWords
 pub mod NameLetters
 pub mod NameMap
 pub mod LinesRead

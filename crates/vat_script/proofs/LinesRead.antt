@@ -1,7 +1,7 @@
 -- The lines of a script, read one after the other.
-use Rattle.std.proofs.Common.{◌≡◌, ◌==◌, All, false, ℕ, ◌+◌, List, [], ◌∷◌, ◌++◌, length, Result, Ok, Err, refl, sym, ap, subst, ◌∙◌, append_assoc, append-nil}
+use Rattle.std.proofs.Common.{◌≡◌, ℕ, ◌+◌, List, [], ◌∷◌, ◌++◌, length, Option, Some, None, Result, Ok, Err, refl, sym, ap, subst, ◌∙◌, append_assoc, append-nil}
+use Rattle.std.specs.Prelude.{IfSome, IfNone}
 use Rattle.std.proofs.lemmas.List.{length-append}
-use Rattle.std.proofs.lemmas.List.Splits.{slice_split_at, slice_split_none}
 use Rattle.vat_script.specs.declared.line.Line.{Line}
 use Rattle.vat_script.specs.declared.line.Program.{Program}
 use Rattle.vat_script.specs.declared.fault.LineFault.{LineFault}
@@ -50,14 +50,13 @@ pub fails : (p : Program) (before : List Line) (text : List ℕ) (rest : List (L
     → behind before (lines_from p (length before + 1) (text ∷ rest)) ≡ all → ReadsLines all (Err f)
 fails p before text rest all f g h = at_fault (line_of p text) before (length before + 1) (lines_from p (length before + 1 + 1) rest) all f g h
 
--- What stands before the first newline, and the rest behind it.
-pub parted : (p : Program) (before : List Line) (script text rest : List ℕ) (all : Said) → script ≡ text ++ 10 ∷ rest → All (λ c. (c == 10) ≡ false) text
-    → behind before (lines_from p (length before + 1) (texts_of script)) ≡ all → behind before (lines_from p (length before + 1) (text ∷ texts_of rest)) ≡ all
-parted p before script text rest all e none h =
-    sym (ap (λ (texts : List (List ℕ)). behind before (lines_from p (length before + 1) texts)) (ap texts_of e ∙ slice_split_at (λ c. c == 10) text 10 rest none refl)) ∙ h
+-- The first line, and those behind it.
+pub parted : (p : Program) (before : List Line) (script text : List ℕ) (rest : List (List ℕ)) (all : Said) → texts_of script ≡ text ∷ rest
+    → behind before (lines_from p (length before + 1) (texts_of script)) ≡ all → behind before (lines_from p (length before + 1) (text ∷ rest)) ≡ all
+parted p before script text rest all e h = sym (ap (λ (texts : List (List ℕ)). behind before (lines_from p (length before + 1) texts)) e) ∙ h
 
--- A text without a newline.
-pub alone : (p : Program) (before : List Line) (script : List ℕ) (all : Said) → All (λ c. (c == 10) ≡ false) script
-    → behind before (lines_from p (length before + 1) (texts_of script)) ≡ all → behind before (lines_from p (length before + 1) (script ∷ [])) ≡ all
-alone p before script all none h =
-    sym (ap (λ (texts : List (List ℕ)). behind before (lines_from p (length before + 1) texts)) (slice_split_none (λ c. c == 10) script none)) ∙ h
+pub of_some : {X : Type 0} (P : X → Type 0) (o : Option X) (x : X) → IfSome o P → o ≡ Some x → P x
+of_some P o x h e = subst (λ o. IfSome o P) e h
+
+pub of_none : {X : Type 0} (P : Type 0) (o : Option X) → IfNone o P → o ≡ None → P
+of_none P o h e = subst (λ o. IfNone o P) e h

@@ -1,35 +1,36 @@
--- What `parse` answers of a word of digits.
-use Rattle.std.proofs.Common.{◌≡◌, ◌≢◌, ℕ, ◌<◌, ◌^◌, ◌&&◌, Bool, true, false, List, [], ◌∷◌, length, Result, Ok, Err, sym, ap, ◌∙◌, arith}
-use lib.ListN.{get_or}
-use Rattle.std.specs.Char.{is_ascii_digit}
-use Rattle.std.specs.Result.{OkIff}
+-- The number that digits say.
+use Rattle.std.proofs.Common.{◌≡◌, ℕ, ◌+◌, ◌-◌, ◌*◌, ◌&&◌, ◌≤◌, ◌<◌, ◌^◌, nat_lt, true, false, Option, Some, None, if◌then◌else◌, List, [], ◌∷◌, length, drop, slice_index_or, sym, ap, ◌∙◌, arith}
+use Rattle.std.specs.Char.{digit_value, is_ascii_digit}
 use Rattle.std.specs.Str.{all_ascii_digits}
-use Rattle.std.specs.Str.Parse.{ParsesUnsigned, digits_value}
+use Rattle.std.specs.Str.Parse.{digits_value, digits_value_after}
+use Rattle.std.proofs.lemmas.Bool.{and_parts}
 use Rattle.std.proofs.lemmas.Bool.Decides.{nat_tests}
-use Rattle.std.proofs.lemmas.Str.Parse.{IsNumeralModel, numerals_by_value, tells_all_ascii_digits, parse_plain}
-use Rattle.vat_script.specs.declared.fault.LineFault.{LineFault}
-use Rattle.vat_script.specs.declared.fault.LineFault.TheVariants as fault
-use Rattle.vat_script.specs.Words.{number_of}
+use Rattle.std.proofs.lemmas.List.{at_drop_more}
 
-own : IsNumeralModel (λ ds. all_ascii_digits ds ≡ true) (digits_value 10)
-own = numerals_by_value _ tells_all_ascii_digits
+abbrev pub fitting : ℕ → Option ℕ
+fitting n = if nat_lt n (2 ^ 64) then Some n else None
 
-plus_ends : (b : Bool) → is_ascii_digit 43 && b ≡ true → ◌≡◌ {A = Bool} true false
-plus_ends b h = sym h
+pub fits : (n : ℕ) → n < 2 ^ 64 → Some n ≡ fitting n
+fits n h = let is : nat_lt n (2 ^ 64) ≡ true = grind (arith, nat_tests) in ap (λ b. if b then Some n else None) (sym is)
 
--- Digits have no plus in front.
-unsigned : (bs : List ℕ) → all_ascii_digits bs ≡ true → get_or bs 0 0 ≢ 43
-unsigned [] digits is = omega (arith, is)
-unsigned (c ∷ cs) digits is = let e : ◌≡◌ {A = Bool} true false = plus_ends (all_ascii_digits cs) (ap (λ d. is_ascii_digit d && all_ascii_digits cs) (sym is) ∙ digits) in cc
+too_large : (n : ℕ) → 2 ^ 64 ≤ n → None ≡ fitting n
+too_large n h = let is : nat_lt n (2 ^ 64) ≡ false = grind (arith, nat_tests) in ap (λ b. if b then Some n else None) (sym is)
 
--- The number, or that it is too large.
-abbrev pub read_as : {E : Type 0} → Result ℕ E → Result ℕ LineFault
-read_as (Ok n) = Ok n
-read_as (Err e) = Err fault.LargeNumber
+grows : (n : ℕ) (ds : List ℕ) → n ≤ digits_value_after 10 n ds
+grows n [] = omega arith
+grows n (d ∷ ds) = let more = grows (n * 10 + digit_value d) ds in omega (arith, more)
 
-told : {E : Type 0} (bits : ℕ) (bs : List ℕ) (r : Result ℕ E) → all_ascii_digits bs ≡ true → 0 < length bs → OkIff r ((all_ascii_digits bs ≡ true) × (0 < length bs) × (digits_value 10 bs < 2 ^ bits)) (digits_value 10 bs) → read_as r ≡ number_of bits bs
-told bits bs (Ok n) d l h = let s = h.0.2 in let v = h.1 in grind (arith, nat_tests)
-told bits bs (Err e) d l h = grind (arith, nat_tests, h)
+-- Once a digit more makes the number too large, it stays so.
+pub grown : (n i : ℕ) (ds : List ℕ) → i < length ds → digits_value_after 10 n (drop i ds) ≡ digits_value 10 ds → 2 ^ 64 ≤ n * 10 + digit_value (slice_index_or ds i 0) → None ≡ fitting (digits_value 10 ds)
+grown n i ds inside value large =
+    let next = at_drop_more (digits_value_after 10 n) ds i 0 inside in
+    let more = grows (n * 10 + digit_value (slice_index_or ds i 0)) (drop (i + 1) ds) in
+    too_large (digits_value 10 ds) (omega (arith, next, value, more, large))
 
-pub parsed : {E : Type 0} (bits : ℕ) (bs : List ℕ) (r : Result ℕ E) → all_ascii_digits bs ≡ true → 0 < length bs → ParsesUnsigned bits 10 bs r → read_as r ≡ number_of bits bs
-parsed bits bs r d l h = told bits bs r d l (parse_plain own bits bs r h (unsigned bs d))
+-- What a digit says.
+pub digit_of : (i : ℕ) (ds : List ℕ) → i < length ds → all_ascii_digits (drop i ds) ≡ true → digit_value (slice_index_or ds i 0) ≡ slice_index_or ds i 0 - 48
+digit_of i ds inside digits =
+    let d = slice_index_or ds i 0 in
+    let split : (is_ascii_digit d && all_ascii_digits (drop (i + 1) ds)) ≡ true = sym (at_drop_more all_ascii_digits ds i 0 inside) ∙ digits in
+    let is = (and_parts (is_ascii_digit d) (all_ascii_digits (drop (i + 1) ds)) split).0 in
+    grind (arith, nat_tests, is)

@@ -1,5 +1,5 @@
 -- What the lines of a script say, or the first thing that is wrong with them (docs/script.md, "Lines").
-use Rattle.std.specs.Prelude.{ℕ, ◌≡◌, ◌-◌, ◌==◌, Bool, true, false, ◌&&◌, if◌then◌else◌, List, [], ◌∷◌, length, Option, Some, None, Result, Ok, Err, codes, slice_get}
+use Rattle.std.specs.Prelude.{ℕ, ◌≡◌, ◌-◌, ◌==◌, Bool, true, false, ◌&&◌, ◌||◌, if◌then◌else◌, List, [], ◌∷◌, length, Option, Some, None, Result, Ok, Err, codes, slice_get}
 use Rattle.std.specs.List.{slice_split}
 use Rattle.rpc_msg.specs.declared.ids.Vat.{Vat}
 use Rattle.vat_script.specs.declared.line.Line.{Line}
@@ -170,6 +170,14 @@ line_for program.Run (line.Turn v) = Err fault.OtherProgram
 line_for program.Pair (line.Deliver v) = Err fault.OtherProgram
 line_for program.Pair line.Tables = Err fault.OtherProgram
 line_for p l = Ok l
+
+-- What stands behind a word: a space, or the newline that ends the line.
+abbrev pub is_gap : ℕ → Bool
+is_gap c = c == 32 || c == 10
+
+abbrev pub is_comment : List ℕ → Bool
+is_comment [] = false
+is_comment (c ∷ cs) = c == 35
 
 -- A line that says nothing: it is empty, or a comment, which begins with `#`.
 abbrev pub is_skipped : List ℕ → Bool

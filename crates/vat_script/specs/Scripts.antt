@@ -1,5 +1,5 @@
 -- The lines of a whole script (docs/script.md, "Lines").
-use Rattle.std.specs.Prelude.{ℕ, ◌≡◌, ◌+◌, ◌==◌, Result, Ok, Err, List, [], ◌∷◌, ◌++◌}
+use Rattle.std.specs.Prelude.{ℕ, ◌≡◌, ◌+◌, ◌==◌, false, Result, Ok, Err, List, [], ◌∷◌, ◌++◌}
 use Rattle.std.specs.List.{slice_split}
 use Rattle.std.specs.Str.{IsUtf8}
 use Rattle.vat_script.specs.declared.line.Line.{Line}
@@ -7,7 +7,7 @@ use Rattle.vat_script.specs.declared.line.Program.{Program}
 use Rattle.vat_script.specs.declared.fault.LineFault.{LineFault}
 use Rattle.vat_script.specs.declared.fault.ScriptFault.{ScriptFault}
 use Rattle.vat_script.specs.declared.fault.ScriptFault.TheVariants as fault
-use Rattle.vat_script.specs.Lines.{line_of}
+use Rattle.vat_script.specs.Lines.{line_of, is_skipped}
 
 -- A line with that number, and those behind it; the fault of the first that is at fault, with its number.
 abbrev pub line_and : Result Line LineFault → ℕ → Result (List Line) (ℕ × LineFault) → Result (List Line) (ℕ × LineFault)
@@ -23,6 +23,10 @@ lines_from p n (text ∷ texts) = line_and (line_of p text) n (lines_from p (n +
 -- The texts of a script's lines, which newlines part.
 abbrev pub texts_of : List ℕ → List (List ℕ)
 texts_of script = slice_split (λ c. c == 10) script
+
+-- The words of a line, where it says anything.
+abbrev pub AreWordsOf : List ℕ → List (List ℕ) → Type 0
+AreWordsOf line words = is_skipped line ≡ false → words ≡ slice_split (λ c. c == 32) line
 
 -- What a reader answers of texts that say this: the same, unless memory runs out.
 abbrev pub ReadsLines : Result (List Line) (ℕ × LineFault) → Result (List Line) ScriptFault → Type 0

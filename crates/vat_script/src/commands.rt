@@ -11,8 +11,8 @@ use std::alloc::Global;
 /// The word that says what is asked of a vat, and what follows it.
 pub(crate) fn read_command(
     alloc: Global,
-    word: &str,
-    rest: &[&str],
+    word: &[u8],
+    rest: &[&[u8]],
 ) -> Result<LineCommand, ReadFault>
     ensures { Reads (command_of word.now (map (λ word. word.now) rest.now)) result }
 {
@@ -29,7 +29,7 @@ pub(crate) fn read_command(
     Ok(command)
 }
 
-fn read_field(alloc: Global, rest: &[&str]) -> Result<LineCommand, ReadFault>
+fn read_field(alloc: Global, rest: &[&[u8]]) -> Result<LineCommand, ReadFault>
     ensures { Reads (field_of (map (λ word. word.now) rest.now)) result }
 {
     match rest {
@@ -40,19 +40,19 @@ fn read_field(alloc: Global, rest: &[&str]) -> Result<LineCommand, ReadFault>
 
 fn read_field_line(
     alloc: Global,
-    name: &str,
-    call: &str,
-    path: &str,
+    name: &[u8],
+    call: &[u8],
+    path: &[u8],
 ) -> Result<LineCommand, ReadFault>
     ensures { Reads (field_line name.now call.now path.now) result }
 {
-    let name = Name::read(name)?;
-    let call = Name::read(call)?;
+    let name = Name::of_word(name)?;
+    let call = Name::of_word(call)?;
     let path = read_path(alloc, path)?;
     Ok(LineCommand::Field(FieldLine { name, call, path }))
 }
 
-fn read_call(alloc: Global, rest: &[&str]) -> Result<LineCommand, ReadFault>
+fn read_call(alloc: Global, rest: &[&[u8]]) -> Result<LineCommand, ReadFault>
     ensures { Reads (call_of (map (λ word. word.now) rest.now)) result }
 {
     match rest {
@@ -65,16 +65,16 @@ fn read_call(alloc: Global, rest: &[&str]) -> Result<LineCommand, ReadFault>
 
 fn read_call_line(
     alloc: Global,
-    call: &str,
-    reference: &str,
-    interface: &str,
-    method: &str,
-    caps: &str,
+    call: &[u8],
+    reference: &[u8],
+    interface: &[u8],
+    method: &[u8],
+    caps: &[u8],
 ) -> Result<LineCommand, ReadFault>
     ensures { Reads (call_line call.now reference.now interface.now method.now caps.now) result }
 {
-    let call = Name::read(call)?;
-    let reference = Name::read(reference)?;
+    let call = Name::of_word(call)?;
+    let reference = Name::of_word(reference)?;
     let interface = read_u64(interface)?;
     let method = read_u16(method)?;
     let caps = read_caps(alloc, caps)?;
@@ -87,7 +87,7 @@ fn read_call_line(
     }))
 }
 
-fn read_answer(alloc: Global, rest: &[&str]) -> Result<LineCommand, ReadFault>
+fn read_answer(alloc: Global, rest: &[&[u8]]) -> Result<LineCommand, ReadFault>
     ensures { Reads (answer_of (map (λ word. word.now) rest.now)) result }
 {
     let [task, caps] = rest else {
@@ -99,7 +99,7 @@ fn read_answer(alloc: Global, rest: &[&str]) -> Result<LineCommand, ReadFault>
 }
 
 /// The commands whose words are names and numbers.
-fn read_plain(word: &str, rest: &[&str]) -> Result<LineCommand, LineFault>
+fn read_plain(word: &[u8], rest: &[&[u8]]) -> Result<LineCommand, LineFault>
     ensures { result ≡ plain_of word.now (map (λ word. word.now) rest.now) }
 {
     if is_word("host", word) {
@@ -118,7 +118,7 @@ fn read_plain(word: &str, rest: &[&str]) -> Result<LineCommand, LineFault>
 }
 
 /// Those of them that end something, or change what a reference leads to.
-fn read_ending(word: &str, rest: &[&str]) -> Result<LineCommand, LineFault>
+fn read_ending(word: &[u8], rest: &[&[u8]]) -> Result<LineCommand, LineFault>
     ensures { result ≡ ending_of word.now (map (λ word. word.now) rest.now) }
 {
     if is_word("fail", word) {
@@ -142,50 +142,50 @@ fn read_ending(word: &str, rest: &[&str]) -> Result<LineCommand, LineFault>
     Err(LineFault::Word)
 }
 
-fn read_bootstrap(rest: &[&str]) -> Result<LineCommand, LineFault>
+fn read_bootstrap(rest: &[&[u8]]) -> Result<LineCommand, LineFault>
     ensures { result ≡ bootstrap_of (map (λ word. word.now) rest.now) }
 {
     let [call] = rest else {
         return Err(LineFault::Count);
     };
-    let call = Name::read(call)?;
+    let call = Name::of_word(call)?;
     Ok(LineCommand::Bootstrap(call))
 }
 
-fn read_host(rest: &[&str]) -> Result<LineCommand, LineFault>
+fn read_host(rest: &[&[u8]]) -> Result<LineCommand, LineFault>
     ensures { result ≡ host_of (map (λ word. word.now) rest.now) }
 {
     let [name, object] = rest else {
         return Err(LineFault::Count);
     };
-    let name = Name::read(name)?;
+    let name = Name::of_word(name)?;
     let object = read_u64(object)?;
     Ok(LineCommand::Host(name, ObjectId(object)))
 }
 
-fn read_promise(rest: &[&str]) -> Result<LineCommand, LineFault>
+fn read_promise(rest: &[&[u8]]) -> Result<LineCommand, LineFault>
     ensures { result ≡ promise_of (map (λ word. word.now) rest.now) }
 {
     let [promise, name] = rest else {
         return Err(LineFault::Count);
     };
-    let promise = Name::read(promise)?;
-    let name = Name::read(name)?;
+    let promise = Name::of_word(promise)?;
+    let name = Name::of_word(name)?;
     Ok(LineCommand::Promise(promise, name))
 }
 
-fn read_clone(rest: &[&str]) -> Result<LineCommand, LineFault>
+fn read_clone(rest: &[&[u8]]) -> Result<LineCommand, LineFault>
     ensures { result ≡ clone_of (map (λ word. word.now) rest.now) }
 {
     let [name, from] = rest else {
         return Err(LineFault::Count);
     };
-    let name = Name::read(name)?;
-    let from = Name::read(from)?;
+    let name = Name::of_word(name)?;
+    let from = Name::of_word(from)?;
     Ok(LineCommand::CloneRef(name, from))
 }
 
-fn read_fail(rest: &[&str]) -> Result<LineCommand, LineFault>
+fn read_fail(rest: &[&[u8]]) -> Result<LineCommand, LineFault>
     ensures { result ≡ fail_of (map (λ word. word.now) rest.now) }
 {
     let [task] = rest else {
@@ -195,53 +195,53 @@ fn read_fail(rest: &[&str]) -> Result<LineCommand, LineFault>
     Ok(LineCommand::Fail(TaskId(task)))
 }
 
-fn read_resolve(rest: &[&str]) -> Result<LineCommand, LineFault>
+fn read_resolve(rest: &[&[u8]]) -> Result<LineCommand, LineFault>
     ensures { result ≡ resolve_of (map (λ word. word.now) rest.now) }
 {
     let [promise, name] = rest else {
         return Err(LineFault::Count);
     };
-    let promise = Name::read(promise)?;
-    let name = Name::read(name)?;
+    let promise = Name::of_word(promise)?;
+    let name = Name::of_word(name)?;
     Ok(LineCommand::Resolve(promise, name))
 }
 
-fn read_reject(rest: &[&str]) -> Result<LineCommand, LineFault>
+fn read_reject(rest: &[&[u8]]) -> Result<LineCommand, LineFault>
     ensures { result ≡ reject_of (map (λ word. word.now) rest.now) }
 {
     let [promise] = rest else {
         return Err(LineFault::Count);
     };
-    let promise = Name::read(promise)?;
+    let promise = Name::of_word(promise)?;
     Ok(LineCommand::Reject(promise))
 }
 
-fn read_drop(rest: &[&str]) -> Result<LineCommand, LineFault>
+fn read_drop(rest: &[&[u8]]) -> Result<LineCommand, LineFault>
     ensures { result ≡ drop_of (map (λ word. word.now) rest.now) }
 {
     let [name] = rest else {
         return Err(LineFault::Count);
     };
-    let name = Name::read(name)?;
+    let name = Name::of_word(name)?;
     Ok(LineCommand::DropRef(name))
 }
 
-fn read_finish(rest: &[&str]) -> Result<LineCommand, LineFault>
+fn read_finish(rest: &[&[u8]]) -> Result<LineCommand, LineFault>
     ensures { result ≡ finish_of (map (λ word. word.now) rest.now) }
 {
     let [call] = rest else {
         return Err(LineFault::Count);
     };
-    let call = Name::read(call)?;
+    let call = Name::of_word(call)?;
     Ok(LineCommand::Finish(call))
 }
 
-fn read_advance(rest: &[&str]) -> Result<LineCommand, LineFault>
+fn read_advance(rest: &[&[u8]]) -> Result<LineCommand, LineFault>
     ensures { result ≡ advance_of (map (λ word. word.now) rest.now) }
 {
     let [name] = rest else {
         return Err(LineFault::Count);
     };
-    let name = Name::read(name)?;
+    let name = Name::of_word(name)?;
     Ok(LineCommand::Advance(name))
 }

@@ -1,5 +1,6 @@
 ghost use Rattle.std.specs.Prelude.{◌≡◌, map};
 ghost use Rattle.vat_script.specs.Lines.{line_of, line_for, is_marked, is_skipped, words_for, Reads};
+ghost use Rattle.vat_script.specs.Scripts.{AreWordsOf};
 
 use crate::fault::{LineFault, ReadFault};
 use crate::name::Name;
@@ -115,30 +116,31 @@ impl Line {
         ensures { Reads (line_of program text.now) result }
     {
         let mut words = Vec::new(alloc);
-        Line::read_by(alloc, program, text, &mut words)
+        let text = text.as_bytes();
+        split_into(&mut words, text, b' ')?;
+        Line::of_words(alloc, program, text, words.as_slice())
     }
 
-    /// The same; the words of the line stand in that list then.
-    pub(crate) fn read_by<'t>(
+    /// The same of a line whose words these are.
+    pub(crate) fn of_words(
         alloc: Global,
         program: Program,
-        text: &'t str,
-        words: &mut Vec<&'t str>,
+        text: &[u8],
+        words: &[&[u8]],
     ) -> Result<Line, ReadFault>
+        requires { AreWordsOf text.now (map (λ word. word.now) words.now) }
         ensures { Reads (line_of program text.now) result }
     {
-        let bytes = text.as_bytes();
-        if is_skipped(bytes) {
+        if is_skipped(text) {
             return Ok(Line::Skip);
         }
-        if is_marked(bytes) {
+        if is_marked(text) {
             return Err(ReadFault::Line(LineFault::ByteOrderMark));
         }
-        if bytes.last() == Some(&b'\r') {
+        if text.last() == Some(&b'\r') {
             return Err(ReadFault::Line(LineFault::CarriageReturn));
         }
-        split_into(words, text, b' ')?;
-        read_for(alloc, program, words.as_slice())
+        read_for(alloc, program, words)
     }
 
     /// The line, where it is one of that program.
@@ -154,7 +156,7 @@ impl Line {
     }
 }
 
-fn read_for(alloc: Global, program: Program, words: &[&str]) -> Result<Line, ReadFault>
+fn read_for(alloc: Global, program: Program, words: &[&[u8]]) -> Result<Line, ReadFault>
     ensures { Reads (words_for program (map (λ word. word.now) words.now)) result }
 {
     let line = read_words(alloc, words)?;

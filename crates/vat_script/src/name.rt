@@ -54,7 +54,13 @@ impl Name {
     pub fn read(word: &str) -> Result<Self, LineFault>
         ensures { result ≡ name_of word.now }
     {
-        let letters = word.as_bytes();
+        Name::of_word(word.as_bytes())
+    }
+
+    /// The same of a word's bytes.
+    pub(crate) fn of_word(letters: &[u8]) -> Result<Self, LineFault>
+        ensures { result ≡ name_of letters.now }
+    {
         if letters.len() > NAME_LIMIT {
             return Err(LineFault::LongName);
         }

@@ -10,7 +10,7 @@ use rpc_msg::{TaskId, Vat};
 use std::alloc::Global;
 
 /// What the words of a line say together.
-pub(crate) fn read_words(alloc: Global, words: &[&str]) -> Result<Line, ReadFault>
+pub(crate) fn read_words(alloc: Global, words: &[&[u8]]) -> Result<Line, ReadFault>
     ensures { Reads (line_of_words (map (λ word. word.now) words.now)) result }
 {
     let [first, rest @ ..] = words else {
@@ -28,7 +28,7 @@ pub(crate) fn read_words(alloc: Global, words: &[&str]) -> Result<Line, ReadFaul
     read_vat_line(alloc, vat, rest)
 }
 
-fn read_deliver(rest: &[&str]) -> Result<Line, LineFault>
+fn read_deliver(rest: &[&[u8]]) -> Result<Line, LineFault>
     ensures { result ≡ deliver_of (map (λ word. word.now) rest.now) }
 {
     let [vat] = rest else {
@@ -39,7 +39,7 @@ fn read_deliver(rest: &[&str]) -> Result<Line, LineFault>
 }
 
 /// The line, where no word follows.
-fn read_alone(line: Line, rest: &[&str]) -> Result<Line, LineFault>
+fn read_alone(line: Line, rest: &[&[u8]]) -> Result<Line, LineFault>
     ensures { result ≡ alone line (map (λ word. word.now) rest.now) }
 {
     match rest {
@@ -48,7 +48,7 @@ fn read_alone(line: Line, rest: &[&str]) -> Result<Line, LineFault>
     }
 }
 
-fn read_vat_line(alloc: Global, vat: Vat, rest: &[&str]) -> Result<Line, ReadFault>
+fn read_vat_line(alloc: Global, vat: Vat, rest: &[&[u8]]) -> Result<Line, ReadFault>
     ensures { Reads (vat_line vat (map (λ word. word.now) rest.now)) result }
 {
     let [word, rest @ ..] = rest else {
@@ -58,7 +58,7 @@ fn read_vat_line(alloc: Global, vat: Vat, rest: &[&str]) -> Result<Line, ReadFau
 }
 
 /// The word that says what a vat does, and what follows it.
-fn read_act(alloc: Global, vat: Vat, word: &str, rest: &[&str]) -> Result<Line, ReadFault>
+fn read_act(alloc: Global, vat: Vat, word: &[u8], rest: &[&[u8]]) -> Result<Line, ReadFault>
     ensures { Reads (act_of vat word.now (map (λ word. word.now) rest.now)) result }
 {
     if is_word("take", word) {
@@ -77,7 +77,7 @@ fn read_act(alloc: Global, vat: Vat, word: &str, rest: &[&str]) -> Result<Line, 
     Ok(Line::Command(vat, command))
 }
 
-fn read_take(vat: Vat, rest: &[&str]) -> Result<Line, LineFault>
+fn read_take(vat: Vat, rest: &[&[u8]]) -> Result<Line, LineFault>
     ensures { result ≡ take_of vat (map (λ word. word.now) rest.now) }
 {
     match rest {
@@ -86,17 +86,17 @@ fn read_take(vat: Vat, rest: &[&str]) -> Result<Line, LineFault>
     }
 }
 
-fn read_take_line(vat: Vat, name: &str, task: &str, index: &str) -> Result<Line, LineFault>
+fn read_take_line(vat: Vat, name: &[u8], task: &[u8], index: &[u8]) -> Result<Line, LineFault>
     ensures { result ≡ take_line vat name.now task.now index.now }
 {
-    let name = Name::read(name)?;
+    let name = Name::of_word(name)?;
     let task = read_u64(task)?;
     let index = read_u32(index)?;
     let task = TaskId(task);
     Ok(Line::Take(vat, TakeLine { name, task, index }))
 }
 
-fn read_got(vat: Vat, rest: &[&str]) -> Result<Line, LineFault>
+fn read_got(vat: Vat, rest: &[&[u8]]) -> Result<Line, LineFault>
     ensures { result ≡ got_of vat (map (λ word. word.now) rest.now) }
 {
     match rest {
@@ -105,11 +105,11 @@ fn read_got(vat: Vat, rest: &[&str]) -> Result<Line, LineFault>
     }
 }
 
-fn read_got_line(vat: Vat, name: &str, call: &str, index: &str) -> Result<Line, LineFault>
+fn read_got_line(vat: Vat, name: &[u8], call: &[u8], index: &[u8]) -> Result<Line, LineFault>
     ensures { result ≡ got_line vat name.now call.now index.now }
 {
-    let name = Name::read(name)?;
-    let call = Name::read(call)?;
+    let name = Name::of_word(name)?;
+    let call = Name::of_word(call)?;
     let index = read_u32(index)?;
     Ok(Line::Got(vat, GotLine { name, call, index }))
 }

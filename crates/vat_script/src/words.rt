@@ -1,4 +1,5 @@
-ghost use Rattle.std.specs.Prelude.{◌≡◌, ◌==◌, ◌<◌, ◌≢◌, ◌^◌, nat_lt, IfOk, map, drop};
+ghost use Rattle.std.specs.Prelude.{◌≡◌, ◌==◌, ◌<◌, ◌≢◌, ◌^◌, nat_lt, true, if◌then◌else◌, Some, None, IfOk, map, drop};
+ghost use Rattle.std.specs.Str.Parse.{digits_value};
 ghost use Rattle.std.specs.Str.{all_ascii_digits};
 ghost use Rattle.vat_script.specs.Lines.{Reads};
 ghost use Rattle.vat_script.specs.Words.{is_text, vat_of, name_of, number_of, field_number, each_of, path_of, caps_of, caps_of_parts};
@@ -14,28 +15,60 @@ const CAPS_LIMIT: usize = 65_535;
 
 /// Whether the word is that text. Most words have another length or another first letter, which is seen at once.
 #[inline(always)]
-pub(crate) fn is_word(text: &str, word: &str) -> bool
+pub(crate) fn is_word(text: &str, word: &[u8]) -> bool
     ensures { result ≡ is_text text.now word.now }
 {
+    let text = text.as_bytes();
     if word.len() != text.len() {
         return false;
     }
-    if let ([first, ..], [letter, ..]) = (text.as_bytes(), word.as_bytes()) {
-        if *first != *letter {
+    for i in 0..text.len() {
+        if word[i] != text[i] {
             return false;
         }
     }
-    word == text
+    true
 }
 
-pub(crate) fn read_vat(word: &str) -> Result<Vat, LineFault>
+pub(crate) fn read_vat(word: &[u8]) -> Result<Vat, LineFault>
     ensures { result ≡ vat_of word.now }
 {
-    match word.as_bytes() {
+    match word {
         [b'a'] => Ok(Vat::A),
         [b'b'] => Ok(Vat::B),
         _ => Err(LineFault::Vat),
     }
+}
+
+/// A decimal number. A sign is none of its digits.
+pub(crate) fn read_u64(word: &[u8]) -> Result<u64, LineFault>
+    ensures { result ≡ number_of 64 word.now }
+{
+    if word.is_empty() || !are_digits(word) {
+        return Err(LineFault::Number);
+    }
+    match number(word) {
+        Some(number) => Ok(number),
+        None => Err(LineFault::LargeNumber),
+    }
+}
+
+/// The number that digits say, where it has no more than 64 bits.
+fn number(digits: &[u8]) -> Option<u64>
+    requires { all_ascii_digits digits.now ≡ true }
+    ensures { result ≡ (if nat_lt (digits_value 10 digits.now) (2 ^ 64) then Some (digits_value 10 digits.now) else None) }
+{
+    let mut number: u64 = 0;
+    for digit in digits {
+        let Some(tens) = number.checked_mul(10) else {
+            return None;
+        };
+        match tens.checked_add(u64::from(*digit - b'0')) {
+            Some(more) => number = more,
+            None => return None,
+        }
+    }
+    Some(number)
 }
 
 fn are_digits(digits: &[u8]) -> bool
@@ -49,21 +82,8 @@ fn are_digits(digits: &[u8]) -> bool
     true
 }
 
-/// A decimal number. A sign is none of its digits.
-pub(crate) fn read_u64(word: &str) -> Result<u64, LineFault>
-    ensures { result ≡ number_of 64 word.now }
-{
-    if word.is_empty() || !are_digits(word.as_bytes()) {
-        return Err(LineFault::Number);
-    }
-    match word.parse::<u64>() {
-        Ok(number) => Ok(number),
-        Err(_) => Err(LineFault::LargeNumber),
-    }
-}
-
 /// The same of 32 bits.
-pub(crate) fn read_u32(word: &str) -> Result<u32, LineFault>
+pub(crate) fn read_u32(word: &[u8]) -> Result<u32, LineFault>
     ensures { result ≡ number_of 32 word.now }
 {
     let number = read_u64(word)?;
@@ -74,7 +94,7 @@ pub(crate) fn read_u32(word: &str) -> Result<u32, LineFault>
 }
 
 /// The same of 16 bits.
-pub(crate) fn read_u16(word: &str) -> Result<u16, LineFault>
+pub(crate) fn read_u16(word: &[u8]) -> Result<u16, LineFault>
     ensures { result ≡ number_of 16 word.now }
 {
     let number = read_u64(word)?;
@@ -84,24 +104,24 @@ pub(crate) fn read_u16(word: &str) -> Result<u16, LineFault>
     }
 }
 
-fn read_field(word: &str) -> Result<Op, LineFault>
+fn read_field(word: &[u8]) -> Result<Op, LineFault>
     ensures { result ≡ field_number word.now }
 {
     let number = read_u16(word)?;
     Ok(Op::Field(number))
 }
 
-pub(crate) fn read_path(alloc: Global, word: &str) -> Result<Items<Op>, ReadFault>
+pub(crate) fn read_path(alloc: Global, word: &[u8]) -> Result<Items<Op>, ReadFault>
     ensures { Reads (path_of word.now) result }
 {
-    if word == "-" {
+    if let [b'-'] = word {
         return Ok(Items::new(alloc));
     }
     let parts = split_at_each(alloc, word, b'.')?;
     read_fields(alloc, parts.as_slice())
 }
 
-fn read_fields(alloc: Global, parts: &[&str]) -> Result<Items<Op>, ReadFault>
+fn read_fields(alloc: Global, parts: &[&[u8]]) -> Result<Items<Op>, ReadFault>
     ensures { Reads (each_of field_number (map (λ part. part.now) parts.now)) result }
 {
     let mut path = Items::new(alloc);
@@ -115,10 +135,10 @@ fn read_fields(alloc: Global, parts: &[&str]) -> Result<Items<Op>, ReadFault>
     Ok(path)
 }
 
-pub(crate) fn read_caps(alloc: Global, word: &str) -> Result<Items<Name>, ReadFault>
+pub(crate) fn read_caps(alloc: Global, word: &[u8]) -> Result<Items<Name>, ReadFault>
     ensures { Reads (caps_of word.now) result }
 {
-    if word == "-" {
+    if let [b'-'] = word {
         return Ok(Items::new(alloc));
     }
     let parts = split_at_each(alloc, word, b',')?;
@@ -128,12 +148,12 @@ pub(crate) fn read_caps(alloc: Global, word: &str) -> Result<Items<Name>, ReadFa
     read_names(alloc, parts.as_slice())
 }
 
-fn read_names(alloc: Global, parts: &[&str]) -> Result<Items<Name>, ReadFault>
+fn read_names(alloc: Global, parts: &[&[u8]]) -> Result<Items<Name>, ReadFault>
     ensures { Reads (each_of name_of (map (λ part. part.now) parts.now)) result }
 {
     let mut names = Items::new(alloc);
     for part in parts {
-        let name = Name::read(part)?;
+        let name = Name::of_word(part)?;
         match names.push(name) {
             Ok(()) => {}
             Err(_) => return Err(ReadFault::Memory),

@@ -11,15 +11,11 @@ loop-part-preserved c =
     let part = c.in-Some.part.now in
     let behind = c.in-Some.behind.now in
     let found = c.in-Some.ensures.found in
-    record {
-      parts =
-          ap (λ parts. map (λ part. part.now) parts ++ split behind) c.in_ok-push.ensures.items
-          ∙ ap (λ parts. parts ++ split behind) (map-append (λ part. part.now) c.loop-part.parts.items (c.in-Some.part ∷ []))
-          ∙ append_assoc said (part ∷ []) (split behind)
-          ∙ ap (λ parts. said ++ parts) (sym (ap split found.0 ∙ slice_split_at (λ x. x == c.args.mark) part c.args.mark behind found.1 (search rules)))
-          ∙ c.loop-part.invariant.parts;
-      text = search rules;
-    }
+    ap (λ parts. map (λ part. part.now) parts ++ split behind) c.in_ok-push.ensures.items
+    ∙ ap (λ parts. parts ++ split behind) (map-append (λ part. part.now) c.loop-part.parts.items (c.in-Some.part ∷ []))
+    ∙ append_assoc said (part ∷ []) (split behind)
+    ∙ ap (λ parts. said ++ parts) (sym (ap split found.0 ∙ slice_split_at (λ x. x == c.args.mark) part c.args.mark behind found.1 (search rules)))
+    ∙ c.loop-part.invariant
 
 pub returns : goal.returns
 returns c =
@@ -27,4 +23,4 @@ returns c =
     ap (map (λ part. part.now)) c.in_ok-push-2.ensures.items
     ∙ map-append (λ part. part.now) c.loop-part.parts.items (c.loop-part.rest ∷ [])
     ∙ ap (λ parts. said ++ parts) (sym (slice_split_none (λ x. x == c.args.mark) c.loop-part.rest.now c.in_default.ensures.none))
-    ∙ c.loop-part.invariant.parts
+    ∙ c.loop-part.invariant
