@@ -102,6 +102,7 @@ impl Side {
         self.sent(effects)
     }
 
+    #[inline(always)]
     pub(crate) fn call(&mut self, to: &mut Side, reference: RefId) -> Result<Done, Astray> {
         let payload = self.null.copy(self.alloc)?;
         let refs = Items::new(self.alloc);
@@ -149,6 +150,7 @@ impl Side {
         }
     }
 
+    #[inline(always)]
     pub(crate) fn answer(&mut self, to: &mut Side, task: Task) -> Result<Done, Astray> {
         let effects = self.answers(task)?;
         self.send(to, effects)
@@ -192,6 +194,7 @@ impl Side {
         }
     }
 
+    #[inline(always)]
     pub(crate) fn finish(&mut self, to: &mut Side, outcome: Outcome) -> Result<(), Astray> {
         let effects = self.core.finish(outcome.call)?;
         self.send(to, effects)?.nothing()
