@@ -111,6 +111,10 @@ short s (command.Shut n) g x t k = tt
 abbrev pub IsNoteOf : ℕ → Command → Result Note Memory → Type 0
 IsNoteOf i c note = IfOk note (λ n. (v : Vat) → IsShort c → (answer : Granted) → note_entries v n answer ≡ granted_by i v c answer)
 
+pub is_note : (i : ℕ) (c : Command) (note : Result Note Memory) (m : Note) → IfOk note (λ n. n ≡ m) → ((v : Vat) (answer : Granted) → note_entries v m answer ≡ granted_by i v c answer) → IsNoteOf i c note
+is_note i c (Ok n) m e h = λ v short answer. ap (λ (x : Note). note_entries v x answer) e ∙ h v answer
+is_note i c (Err x) m e h = tt
+
 -- Where there was room, what the note gives is the command's own.
 pub own_so : (v : Vat) (h : List JournalEntry) (s : State) (c : Command) (g : Granted) (x : Effects) (t : State) (i : ℕ) (note : Result Note Memory)
     → NumbersItsCalls v s h → Obeys s c (Ok g) x t → i ≡ index_of s c → IsNoteOf i c note → HadNote true note → noted_entries v note g ≡ granted_entries h v c g

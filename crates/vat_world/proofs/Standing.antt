@@ -9,11 +9,9 @@ use Rattle.vat_journal.specs.declared.entry.Counts.{Counts}
 use Rattle.vat_machine.specs.Queries.{counts_of}
 use Rattle.vat_machine.specs.declared.event.Event.TheVariants as event
 use Rattle.laws_runs.specs.MadeCalls.{NumbersItsCalls, RunsCount}
-use Rattle.vat_core.specs.declared.obey.Answer.{Answer}
 use Rattle.vat_world.specs.declared.side.Side as kept
 use Rattle.vat_world.specs.declared.answer.StepAnswer.{StepAnswer as Given}
-use Rattle.vat_world.specs.declared.answer.StepAnswer.TheVariants as given
-use Rattle.vat_world.specs.Stages.{takes_down, ObeysBy, DeliversBy}
+use Rattle.vat_world.specs.Stages.{takes_down, ObeysSo, DeliversBy}
 use Rattle.vat_world.specs.Rooms.{stage_of, seen_of, owed, HasRoom}
 use Rattle.vat_world.specs.World.{Steps, IsReached}
 use Rattle.vat_world.proofs.Reaching.{counts_so, reached_noted}
@@ -33,13 +31,13 @@ pub counts_b : (v : Vat) (a b : kept.Side) (j : Entries) → v ≡ B → RunsCou
 counts_b A a b j e law r up = absurd (let f : A ≡ B = e in cc)
 counts_b B a b j e law r up = counts_so (seen_of a b j) B law r up
 
-pub command_a : (v : Vat) (a b a' b' : kept.Side) (j j' : Entries) (c : Command) (answer : Answer) → v ≡ A → ObeysBy a.core.down v (stage_of a b j) c answer (stage_of a' b' j') → a'.was_shut ≡ (a.was_shut || takes_down a.core.down c a'.core.down) → b'.was_shut ≡ b.was_shut → Steps (seen_of a b j) (event.Command v c) (given.Answered answer) (seen_of a' b' j')
-command_a A a b a' b' j j' c answer e h s t = command_steps A (seen_of a b j) (seen_of a' b' j') c answer h (s, t)
+pub command_a : (v : Vat) (a b a' b' : kept.Side) (j j' : Entries) (c : Command) (answer : Given) → v ≡ A → ObeysSo a.core.down v (stage_of a b j) c answer (stage_of a' b' j') → a'.was_shut ≡ (a.was_shut || takes_down a.core.down c a'.core.down) → b'.was_shut ≡ b.was_shut → Steps (seen_of a b j) (event.Command v c) answer (seen_of a' b' j')
+command_a A a b a' b' j j' c answer e h s t = subst (λ (x : Given). Steps (seen_of a b j) (event.Command A c) x (seen_of a' b' j')) (sym h.1) (command_steps A (seen_of a b j) (seen_of a' b' j') c h.0 h.2 (s, t))
 command_a B a b a' b' j j' c answer e h s t = absurd (let f : B ≡ A = e in cc)
 
-pub command_b : (v : Vat) (a b a' b' : kept.Side) (j j' : Entries) (c : Command) (answer : Answer) → v ≡ B → ObeysBy b.core.down v (stage_of b a j) c answer (stage_of b' a' j') → b'.was_shut ≡ (b.was_shut || takes_down b.core.down c b'.core.down) → a'.was_shut ≡ a.was_shut → Steps (seen_of a b j) (event.Command v c) (given.Answered answer) (seen_of a' b' j')
+pub command_b : (v : Vat) (a b a' b' : kept.Side) (j j' : Entries) (c : Command) (answer : Given) → v ≡ B → ObeysSo b.core.down v (stage_of b a j) c answer (stage_of b' a' j') → b'.was_shut ≡ (b.was_shut || takes_down b.core.down c b'.core.down) → a'.was_shut ≡ a.was_shut → Steps (seen_of a b j) (event.Command v c) answer (seen_of a' b' j')
 command_b A a b a' b' j j' c answer e h s t = absurd (let f : A ≡ B = e in cc)
-command_b B a b a' b' j j' c answer e h s t = command_steps B (seen_of a b j) (seen_of a' b' j') c answer h (s, t)
+command_b B a b a' b' j j' c answer e h s t = subst (λ (x : Given). Steps (seen_of a b j) (event.Command B c) x (seen_of a' b' j')) (sym h.1) (command_steps B (seen_of a b j) (seen_of a' b' j') c h.0 h.2 (s, t))
 
 pub deliver_a : (v : Vat) (a b a' b' : kept.Side) (j j' : Entries) (answer : Given) → v ≡ A → DeliversBy a.inbox.0 a.core.down v (stage_of a b j) answer (stage_of a' b' j') → a'.was_shut ≡ a.was_shut → b'.was_shut ≡ b.was_shut → Steps (seen_of a b j) (event.Deliver v) answer (seen_of a' b' j')
 deliver_a A a b a' b' j j' answer e h s t = deliver_steps A (seen_of a b j) (seen_of a' b' j') answer h (s, t)

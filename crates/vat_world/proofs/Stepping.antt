@@ -1,5 +1,5 @@
 -- The step of one vat, from its core's step and how that was told.
-use Rattle.std.proofs.Common.{◌≡◌, inl, inr, ℕ, Bool, true, false, cond, Option, None, Some, is_some, IfSome, Result, Ok, Err, List, [], ◌∷◌, ◌++◌, length, append-nil, append_assoc, refl, sym, ap, subst, ◌∙◌}
+use Rattle.std.proofs.Common.{◌≡◌, inl, inr, ℕ, Bool, true, false, cond, Option, None, Some, is_some, ◌||◌, ◌&&◌, IfSome, Result, Ok, Err, List, [], ◌∷◌, ◌++◌, length, append-nil, append_assoc, refl, sym, ap, subst, ◌∙◌}
 use Rattle.rpc_msg.specs.Memory.{Memory}
 use Rattle.rpc_msg.specs.declared.ids.Vat.{Vat}
 use Rattle.rpc_msg.specs.declared.message.PlainMessage.TheVariants as plain
@@ -15,6 +15,7 @@ use Rattle.vat_machine.specs.State.{State}
 use Rattle.vat_machine.specs.Progress.{quiet}
 use Rattle.vat_machine.specs.Down.{falling_by, IsUnchanged, Falls, ShutsFrom}
 use Rattle.vat_machine.specs.Steps.{Obeys, Refuses, LacksMemory, GoesDown, Shuts, IsDone, Receives, WasDown, FaultsBy, LacksRoom, IsHandled}
+use Rattle.vat_machine.specs.Refusals.{is_shut}
 use Rattle.vat_machine.specs.World.{given_up}
 use Rattle.vat_machine.specs.Journal.{own_entries, effect_entries}
 use Rattle.vat_machine.proofs.StaysDown.{command_down}
@@ -25,7 +26,8 @@ use Rattle.vat_core.specs.declared.obey.Answer.TheVariants.{Done, Refused}
 use Rattle.vat_core.specs.Answers.{AnswersTo, answer_in, effects_in}
 use Rattle.vat_world.specs.declared.notes.Note.{Note}
 use Rattle.vat_world.specs.Notes.{index_of}
-use Rattle.vat_world.specs.Stages.{Stage, stepped, without_sends, given_of, noted_entries, IsFall, HadNote, Logs, TellsDone, TellsRefused, ObeysUp, ObeysDown, ObeysBy, HandlesUp}
+use Rattle.vat_world.specs.declared.answer.StepAnswer.{StepAnswer}
+use Rattle.vat_world.specs.Stages.{Stage, stepped, without_sends, given_of, noted_entries, takes_down, IsFall, HadNote, Logs, TellsDone, TellsRefused, ObeysUp, ObeysUpSo, ObeysDown, ObeysBy, ObeysSo, HandlesUp}
 use Rattle.vat_world.proofs.Noting.{IsNoteOf, own_so}
 
 -- ---- A step that takes a vat down says no more than an Abort
@@ -43,7 +45,7 @@ shuts : (s : State) (n : ℕ) (o : Option ℕ) (x : Effects) (t : State) → s.d
 shuts s n None x t up h = falls s n x t h
 shuts s n (Some m) x t up h = unchanged s x t up h
 
-obeys_fall : (s : State) (c : Command) (a : Result Granted Refusal) (x : Effects) (t : State) → s.down ≡ None → Obeys s c a x t → IfSome t.down (IsFall x)
+pub obeys_fall : (s : State) (c : Command) (a : Result Granted Refusal) (x : Effects) (t : State) → s.down ≡ None → Obeys s c a x t → IfSome t.down (IsFall x)
 obeys_fall s c a x t up (Refuses r f g u) = unchanged s x t up u
 obeys_fall s c a x t up (LacksMemory f g k u) = unchanged s x t up u
 obeys_fall s c a x t up (GoesDown f g k u) = falls s _ x t u
@@ -125,6 +127,17 @@ done_by v g c a granted left x t i note given new counts e h is_index noted tell
       given_is = ap (λ (y : Effects). Done left y) l.given_is ∙ ap (λ (b : Result Granted Refusal). given_of c b l.told) tells.left_is;
     }
 
+-- The same from the core's call of a command's name.
+pub refused_as : (v : Vat) (g : Stage) (c : Command) (r : Refusal) (back : Command) (t : State) (new : Stage)
+    → Obeys g.acting.core c (Err r) quiet t → back ≡ c → TellsRefused v (record g { acting = record (g.acting) { core = t } }) r new → ObeysUp v g c (Refused r back) new
+refused_as v g c r back t new o e tells = refused_by v g c (Refused r back) r back t new refl (record { obeys = o; handed_back = e }) tells
+
+pub done_as : (v : Vat) (g : Stage) (c : Command) (granted left : Granted) (x : Effects) (t : State) (i : ℕ) (note : Result Note Memory) (given : Effects) (new : Stage)
+    → NumbersItsCalls v g.acting.core g.journal → Obeys g.acting.core c (Ok granted) x t → i ≡ index_of g.acting.core c → IsNoteOf i c note
+    → TellsDone v (record g { acting = record (g.acting) { core = t } }) note granted x left given new → ObeysUp v g c (Done left given) new
+done_as v g c granted left x t i note given new counts o is_index noted tells =
+    done_by v g c (Done granted x) granted left x t i note given new counts refl (record { obeys = o; handed_back = tt }) is_index noted tells
+
 -- At a vat that is down.
 down_by : (g : Stage) (c : Command) (a : Answer) (t : State) → is_some g.acting.core.down ≡ true → AnswersTo g.acting.core c a t → ObeysDown g c a (record g { acting = record (g.acting) { core = t } })
 down_by g c (Done granted x) t d h =
@@ -153,3 +166,19 @@ some_down v g c a t (Some n) e h = h
 
 pub when_down : (v : Vat) (g : Stage) (c : Command) (a : Answer) (t : State) → is_some g.acting.core.down ≡ true → AnswersTo g.acting.core c a t → Remains v g c a t g.acting.core.down
 when_down v g c a t d h = some_down v g c a t g.acting.core.down d (down_by g c a t d h)
+
+-- ---- A command of a kind
+
+pub up_so : (o : Option ℕ) (v : Vat) (g : Stage) (c d : Command) (given : StepAnswer) (new : Stage) → is_some o ≡ false → c ≡ d → ObeysUpSo v g d given new → ObeysSo o v g c given new
+up_so None v g c d given new up e h = subst (λ (x : Command). ObeysSo None v g x given new) (sym e) h
+up_so (Some n) v g c d given new up e h = absurd (let f : true ≡ false = up in cc)
+
+-- It takes no vat down by a shut, if it is none.
+pub no_shut : (o p : Option ℕ) (c d : Command) (old new : Bool) → is_some o ≡ false → c ≡ d → is_shut d ≡ false → new ≡ old → new ≡ (old || takes_down o c p)
+no_shut None p c d old new up e f g =
+    subst (λ (x : Command). new ≡ (old || takes_down None x p)) (sym e) (g ∙ or_false old ∙ ap (λ (b : Bool). old || (b && is_some p)) (sym f))
+  where
+    or_false : (b : Bool) → b ≡ (b || false)
+    or_false true = refl
+    or_false false = refl
+no_shut (Some n) p c d old new up e f g = absurd (let h : true ≡ false = up in cc)

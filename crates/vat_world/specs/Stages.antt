@@ -16,6 +16,7 @@ use Rattle.vat_machine.specs.Steps.{Obeys}
 use Rattle.vat_machine.specs.World.{Side, Tells, CommandTold, MessageTold, given_up}
 use Rattle.vat_machine.specs.Progress.{quiet}
 use Rattle.vat_machine.specs.Journal.{effect_entries, own_entries, refused_entries}
+use Rattle.vat_core.specs.Answers.{AnswersTo}
 use Rattle.vat_core.specs.declared.obey.Answer.{Answer}
 use Rattle.vat_core.specs.declared.obey.Answer.TheVariants.{Done, Refused}
 use Rattle.vat_world.specs.declared.notes.Note.{Note}
@@ -68,6 +69,17 @@ pub record ObeysDown (g : Stage) (c : Command) (given : Answer) (new : Stage) : 
 abbrev pub ObeysBy : Option ℕ → Vat → Stage → Command → Answer → Stage → Type 0
 ObeysBy None v g c given new = ObeysUp v g c given new
 ObeysBy (Some n) v g c given new = ObeysDown g c given new
+
+-- What a step answers to a command.
+abbrev pub ObeysSo : Option ℕ → Vat → Stage → Command → StepAnswer → Stage → Type 0
+ObeysSo down v g c given new = (answer : Answer) × (given ≡ step.Answered answer) × ObeysBy down v g c answer new
+
+abbrev pub ObeysUpSo : Vat → Stage → Command → StepAnswer → Stage → Type 0
+ObeysUpSo v g c given new = (answer : Answer) × (given ≡ step.Answered answer) × ObeysUp v g c answer new
+
+-- What the core alone answers to it.
+abbrev pub AnswersSo : State → Command → StepAnswer → State → Type 0
+AnswersSo old c given new = (answer : Answer) × (given ≡ step.Answered answer) × AnswersTo old c answer new
 
 -- A message at a vat that is up.
 pub record HandlesUp (v : Vat) (g : Stage) (m : Message) (given : Effects) (new : Stage) : Type 0 where

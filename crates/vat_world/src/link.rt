@@ -58,6 +58,7 @@ impl Link {
     }
 
     /// Puts these messages at the end, where there is room, and gives back their list, which is empty. Takes no memory.
+    #[inline(always)]
     pub(crate) fn append(&mut self, more: Items<Message>) -> Items<Message>
         requires { length more ≤ self.old.1 }
         ensures messages { self.new.0 ≡ self.old.0 ++ more }
@@ -74,6 +75,8 @@ impl Link {
         self.append_all(VecDeque::from(more))
     }
 
+    #[cold]
+    #[inline(never)]
     fn append_all(&mut self, mut more: VecDeque<Message>) -> Items<Message>
         requires { length more.items ≤ self.old.1 }
         ensures messages { self.new.0 ≡ self.old.0 ++ more.items }

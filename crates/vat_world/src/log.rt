@@ -51,6 +51,7 @@ pub(crate) fn log_step(
 
 /// Tells a step for whose entries there is no room.
 #[cold]
+#[inline(never)]
 pub(crate) fn log_overflow(
     alloc: Global,
     vat: Vat,
@@ -78,6 +79,7 @@ pub(crate) fn log_overflow(
 
 // Tells, in the room that is kept, a step that took the vat down.
 #[cold]
+#[inline(never)]
 fn log_fall(
     alloc: Global,
     vat: Vat,
@@ -121,6 +123,7 @@ fn write_fall(vat: Vat, spare: &mut Outbox, journal: &mut Journal, number: u16, 
 }
 
 // Puts the messages of a step on the link, where there is room.
+#[inline(always)]
 fn send(alloc: Global, inbox: &mut Link, effects: &mut Effects)
     requires { length effects.old.sends ≤ inbox.old.1 }
     ensures messages { inbox.new.0 ≡ inbox.old.0 ++ effects.old.sends }
@@ -130,6 +133,16 @@ fn send(alloc: Global, inbox: &mut Link, effects: &mut Effects)
     if effects.sends.is_empty() {
         return;
     }
+    send_all(alloc, inbox, effects);
+}
+
+#[inline(never)]
+fn send_all(alloc: Global, inbox: &mut Link, effects: &mut Effects)
+    requires { length effects.old.sends ≤ inbox.old.1 }
+    ensures messages { inbox.new.0 ≡ inbox.old.0 ++ effects.old.sends }
+    ensures room { inbox.old.1 ≤ inbox.new.1 + length effects.old.sends }
+    ensures rest { effects.new ≡ without_sends effects.old }
+{
     let sends = mem::replace(&mut effects.sends, Items::new(alloc));
     effects.sends = inbox.append(sends);
 }

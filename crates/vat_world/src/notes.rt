@@ -2,7 +2,8 @@ ghost use Rattle.std.specs.Prelude.{◌≡◌, ◌<◌, ◌≤◌, ◌+◌, [], 
 ghost use Rattle.std.specs.FinMap as map;
 ghost use Rattle.vat_machine.specs.declared.command.Granted.{Granted};
 ghost use Rattle.vat_machine.specs.Journal.{born, born_promise, asked_entries, advanced_entries, refused_entries};
-ghost use Rattle.vat_world.specs.Notes.{index_of, made_of, made_entries, granted_by, note_entries, IsShort};
+ghost use Rattle.vat_core.specs.Counting.{made_of as count_of};
+ghost use Rattle.vat_world.specs.Notes.{or_zero, index_of, made_of, made_entries, granted_by, note_entries, IsShort};
 ghost use Rattle.vat_journal.specs.declared.report.Outcome.TheVariants as outcome;
 ghost use Rattle.vat_journal.specs.declared.entry.JournalEntry.TheVariants as entry;
 ghost use Rattle.vat_world.specs.declared.notes.Note.TheVariants.{Made, Answered};
@@ -69,7 +70,9 @@ pub(crate) fn note_of(alloc: Global, index: u64, command: &Command) -> Result<No
     }
 }
 
-fn note_call(alloc: Global, index: u64, call: &CallCommand) -> Result<Note, Memory>
+/// Notes a call.
+#[inline(always)]
+pub(crate) fn note_call(alloc: Global, index: u64, call: &CallCommand) -> Result<Note, Memory>
     ensures { IfOk result (λ note. note ≡ Made (made_of index call.now)) }
 {
     let payload = call.payload.copy(alloc)?;
@@ -85,7 +88,9 @@ fn note_call(alloc: Global, index: u64, call: &CallCommand) -> Result<Note, Memo
     }))
 }
 
-fn note_answer(
+/// Notes the results of a task.
+#[inline(always)]
+pub(crate) fn note_answer(
     alloc: Global,
     task: TaskId,
     payload: &Payload,
@@ -107,6 +112,7 @@ fn note_fail(alloc: Global, task: TaskId, exception: &Exception) -> Result<Note,
 }
 
 /// Writes the entry of a command that was noted so and answered this, if it has one, where there is room.
+#[inline(always)]
 pub(crate) fn write_note(vat: Vat, journal: &mut Journal, note: Note, answer: Granted)
     requires { 0 < journal.old.1 }
     ensures entries { journal.new.0 ≡ journal.old.0 ++ note_entries vat note answer }
@@ -166,6 +172,7 @@ fn write_asked(vat: Vat, journal: &mut Journal, answer: Granted)
     }
 }
 
+#[inline(always)]
 fn write_made(vat: Vat, journal: &mut Journal, made: MadeCall, answer: Granted)
     requires { 0 < journal.old.1 }
     ensures entries { journal.new.0 ≡ journal.old.0 ++ made_entries vat made answer }
@@ -190,6 +197,7 @@ fn write_advanced(vat: Vat, journal: &mut Journal, reference: RefId, answer: Gra
     }
 }
 
+#[inline(always)]
 fn write_answered(
     vat: Vat,
     journal: &mut Journal,
@@ -204,6 +212,7 @@ fn write_answered(
     journal.push(JournalEntry::Answered(vat, task, outcome, refs));
 }
 
+#[inline(always)]
 fn write_finished(vat: Vat, journal: &mut Journal, call: CallId)
     requires { 0 < journal.old.1 }
     ensures entries { journal.new.0 ≡ journal.old.0 ++ entry.Finished vat call ∷ [] }
@@ -229,10 +238,18 @@ pub(crate) fn write_refused(vat: Vat, journal: &mut Journal, refusal: Refusal)
 pub(crate) fn index_of_call(core: &Core, command: &Command) -> u64
     ensures { result ≡ index_of core.now command.now }
 {
-    let Command::Call(call) = command else {
-        return 0;
-    };
-    match core.calls_made(call.reference) {
+    match command {
+        Command::Call(call) => calls_before(core, call.reference),
+        _ => 0,
+    }
+}
+
+/// How many calls were made before through a reference; 0 where there is none.
+#[inline(always)]
+pub(crate) fn calls_before(core: &Core, reference: RefId) -> u64
+    ensures { result ≡ or_zero (count_of (map.get core.now.refs reference.0)) }
+{
+    match core.calls_made(reference) {
         Some(made) => made,
         None => 0,
     }

@@ -1,24 +1,27 @@
-ghost use Rattle.std.specs.Prelude.{◌≡◌, ◌≤◌, ◌+◌, ◌||◌, None, Ok, IfSome, cond, length};
+ghost use Rattle.std.specs.Prelude.{◌≡◌, ◌≤◌, ◌+◌, ◌||◌, ◌&&◌, is_some, None, Ok, IfSome, cond, length};
+ghost use Rattle.vat_machine.specs.declared.command.Command.TheVariants as command;
 ghost use Rattle.laws_runs.specs.MadeCalls.{NumbersItsCalls};
 ghost use Rattle.vat_machine.specs.Refusals.{is_shut};
 ghost use Rattle.vat_world.specs.Rooms.{stage_of, owed, CanAbort, CanFall, HasRoom};
-ghost use Rattle.vat_world.specs.Stages.{ObeysUp, ObeysBy, DeliversBy, HandlesUp, IsFall, TellsDone, TellsRefused, takes_down};
+ghost use Rattle.vat_world.specs.Stages.{ObeysSo, ObeysUp, ObeysUpSo, AnswersSo, DeliversBy, HandlesUp, IsFall, TellsDone, TellsRefused, takes_down};
 ghost use Rattle.vat_machine.specs.Progress.{quiet};
 ghost use Rattle.vat_machine.specs.World.{given_up};
 
 use crate::answer::StepAnswer;
 use crate::journal::Journal;
 use crate::log::{log_overflow, log_step};
-use crate::notes::{Note, index_of_call, note_of, write_note, write_refused};
+use crate::notes::{
+    Note, calls_before, index_of_call, note_answer, note_call, note_of, write_note, write_refused,
+};
 use crate::side::Side;
-use rpc_msg::{Items, Memory, Message, Vat};
+use rpc_msg::{CallId, Items, Memory, Message, Payload, RefId, TaskId, Vat};
 use std::alloc::Global;
-use vat_core::Answer;
+use vat_core::{Answer, Core};
 use vat_journal::{Advanced, JournalEntry};
-use vat_machine::{Command, Effects, Granted, Refusal};
+use vat_machine::{CallCommand, Command, Effects, Granted, Refusal};
 
 /// A command at a vat. Answers what its core answers, with the effects of going down where the link or the journal could
-/// not grow.
+/// not grow. The commands of a call that takes its usual course go to the core's call of their name at once.
 pub(crate) fn obey(
     alloc: Global,
     vat: Vat,
@@ -26,21 +29,183 @@ pub(crate) fn obey(
     peer: &mut Side,
     journal: &mut Journal,
     command: Command,
-) -> Answer
+) -> StepAnswer
     requires room { HasRoom acting.old peer.old journal.old }
     requires counts { acting.old.core.down ≡ None → NumbersItsCalls vat acting.old.core journal.old.0 }
-    ensures obeys { ObeysBy acting.old.core.down vat (stage_of acting.old peer.old journal.old) command result (stage_of acting.new peer.new journal.new) }
+    ensures obeys { ObeysSo acting.old.core.down vat (stage_of acting.old peer.old journal.old) command result (stage_of acting.new peer.new journal.new) }
     ensures was_shut { acting.new.was_shut ≡ (acting.old.was_shut || takes_down acting.old.core.down command acting.new.core.down) }
     ensures peer_shut { peer.new.was_shut ≡ peer.old.was_shut }
     ensures room { HasRoom acting.new peer.new journal.new }
 {
     if acting.core.down().is_some() {
-        return acting.core.obey(command);
+        return obey_down(&mut acting.core, command);
     }
+    match command {
+        Command::Call(call) => return obey_call(alloc, vat, acting, peer, journal, call),
+        Command::Answer(task, payload, refs) => {
+            return obey_answer(alloc, vat, acting, peer, journal, task, payload, refs);
+        }
+        Command::Finish(call) => return obey_finish(alloc, vat, acting, peer, journal, call),
+        other => return obey_other(alloc, vat, acting, peer, journal, other),
+    }
+}
+
+#[cold]
+#[inline(never)]
+fn obey_down(core: &mut Core, command: Command) -> StepAnswer
+    ensures { AnswersSo core.old command result core.new }
+{
+    StepAnswer::Answered(core.obey(command))
+}
+
+#[inline(always)]
+fn obey_call(
+    alloc: Global,
+    vat: Vat,
+    acting: &mut Side,
+    peer: &mut Side,
+    journal: &mut Journal,
+    call: CallCommand,
+) -> StepAnswer
+    requires up { acting.old.core.down ≡ None }
+    requires room { HasRoom acting.old peer.old journal.old }
+    requires counts { NumbersItsCalls vat acting.old.core journal.old.0 }
+    ensures obeys { ObeysUpSo vat (stage_of acting.old peer.old journal.old) (command.Call call) result (stage_of acting.new peer.new journal.new) }
+    ensures was_shut { acting.new.was_shut ≡ acting.old.was_shut }
+    ensures peer_shut { peer.new.was_shut ≡ peer.old.was_shut }
+    ensures room { HasRoom acting.new peer.new journal.new }
+{
+    let start = journal.len();
+    let index = calls_before(&acting.core, call.reference);
+    let note = note_call(alloc, index, &call);
+    match acting.core.call(call) {
+        Ok((id, mut effects)) => {
+            let granted = Granted::Call(id);
+            let left = tell_done(
+                alloc,
+                vat,
+                acting,
+                peer,
+                journal,
+                start,
+                note,
+                granted,
+                &mut effects,
+            );
+            return StepAnswer::Answered(Answer::Done(left, effects));
+        }
+        Err((refusal, call)) => {
+            tell_refused(alloc, vat, acting, peer, journal, start, refusal);
+            return StepAnswer::Answered(Answer::Refused(refusal, Command::Call(call)));
+        }
+    }
+}
+
+#[inline(always)]
+fn obey_answer(
+    alloc: Global,
+    vat: Vat,
+    acting: &mut Side,
+    peer: &mut Side,
+    journal: &mut Journal,
+    task: TaskId,
+    payload: Payload,
+    refs: Items<RefId>,
+) -> StepAnswer
+    requires up { acting.old.core.down ≡ None }
+    requires room { HasRoom acting.old peer.old journal.old }
+    requires counts { NumbersItsCalls vat acting.old.core journal.old.0 }
+    ensures obeys { ObeysUpSo vat (stage_of acting.old peer.old journal.old) (command.Answer task payload refs) result (stage_of acting.new peer.new journal.new) }
+    ensures was_shut { acting.new.was_shut ≡ acting.old.was_shut }
+    ensures peer_shut { peer.new.was_shut ≡ peer.old.was_shut }
+    ensures room { HasRoom acting.new peer.new journal.new }
+{
+    let start = journal.len();
+    let note = note_answer(alloc, task, &payload, &refs);
+    match acting.core.answer(task, payload, refs) {
+        Ok(mut effects) => {
+            let left = tell_done(
+                alloc,
+                vat,
+                acting,
+                peer,
+                journal,
+                start,
+                note,
+                Granted::Done,
+                &mut effects,
+            );
+            return StepAnswer::Answered(Answer::Done(left, effects));
+        }
+        Err((refusal, payload, refs)) => {
+            tell_refused(alloc, vat, acting, peer, journal, start, refusal);
+            let back = Command::Answer(task, payload, refs);
+            return StepAnswer::Answered(Answer::Refused(refusal, back));
+        }
+    }
+}
+
+#[inline(always)]
+fn obey_finish(
+    alloc: Global,
+    vat: Vat,
+    acting: &mut Side,
+    peer: &mut Side,
+    journal: &mut Journal,
+    call: CallId,
+) -> StepAnswer
+    requires up { acting.old.core.down ≡ None }
+    requires room { HasRoom acting.old peer.old journal.old }
+    requires counts { NumbersItsCalls vat acting.old.core journal.old.0 }
+    ensures obeys { ObeysUpSo vat (stage_of acting.old peer.old journal.old) (command.Finish call) result (stage_of acting.new peer.new journal.new) }
+    ensures was_shut { acting.new.was_shut ≡ acting.old.was_shut }
+    ensures peer_shut { peer.new.was_shut ≡ peer.old.was_shut }
+    ensures room { HasRoom acting.new peer.new journal.new }
+{
+    let start = journal.len();
+    match acting.core.finish(call) {
+        Ok(mut effects) => {
+            let left = tell_done(
+                alloc,
+                vat,
+                acting,
+                peer,
+                journal,
+                start,
+                Ok(Note::Finished(call)),
+                Granted::Done,
+                &mut effects,
+            );
+            return StepAnswer::Answered(Answer::Done(left, effects));
+        }
+        Err(refusal) => {
+            tell_refused(alloc, vat, acting, peer, journal, start, refusal);
+            return StepAnswer::Answered(Answer::Refused(refusal, Command::Finish(call)));
+        }
+    }
+}
+
+#[inline(never)]
+fn obey_other(
+    alloc: Global,
+    vat: Vat,
+    acting: &mut Side,
+    peer: &mut Side,
+    journal: &mut Journal,
+    command: Command,
+) -> StepAnswer
+    requires up { acting.old.core.down ≡ None }
+    requires room { HasRoom acting.old peer.old journal.old }
+    requires counts { NumbersItsCalls vat acting.old.core journal.old.0 }
+    ensures obeys { ObeysUpSo vat (stage_of acting.old peer.old journal.old) (command) result (stage_of acting.new peer.new journal.new) }
+    ensures was_shut { acting.new.was_shut ≡ (acting.old.was_shut || (is_shut command && is_some acting.new.core.down)) }
+    ensures peer_shut { peer.new.was_shut ≡ peer.old.was_shut }
+    ensures room { HasRoom acting.new peer.new journal.new }
+{
     let shuts = is_shut(&command);
     let answer = obey_up(alloc, vat, acting, peer, journal, command);
     acting.was_shut = acting.was_shut || (shuts && acting.core.down().is_some());
-    answer
+    StepAnswer::Answered(answer)
 }
 
 fn is_shut(command: &Command) -> bool
@@ -87,6 +252,7 @@ fn obey_up(
 }
 
 // Tells a step that was done, and gives what is left of what it granted.
+#[inline(always)]
 fn tell_done(
     alloc: Global,
     vat: Vat,
@@ -123,6 +289,7 @@ fn tell_done(
 
 // Tells a step that was refused.
 #[cold]
+#[inline(never)]
 fn tell_refused(
     alloc: Global,
     vat: Vat,

@@ -4,7 +4,6 @@ ghost use Rattle.vat_machine.specs.World.{tables_entry};
 ghost use Rattle.vat_machine.specs.Pending.{is_idle, pending};
 ghost use Rattle.vat_machine.specs.Claims.{AreNumbered, CountsAgree, EndsAreSo, IsInFull, IsInOrder, IsInTime, IsQuietWhenDown, IsToOne, MeansOne};
 ghost use Rattle.vat_machine.specs.declared.event.Event.TheVariants as event;
-ghost use Rattle.vat_world.specs.declared.answer.StepAnswer.TheVariants as given;
 ghost use Rattle.laws_sound.specs.Promised.{AreEachAtOne, AreInFull, DownsAreKnown, DownsAreTold, RefusesNothing, history_of};
 ghost use Rattle.vat_world.specs.World.{AllCame, IsReached, KeepsBootstraps, KeepsPromises, Steps, Runs, new_seen, shut};
 
@@ -92,26 +91,19 @@ impl World {
         ensures bootstraps { KeepsBootstraps self.old self.new }
     {
         bootstraps_stay();
-        let answer = self.happen(event);
-        self.promises();
-        answer
-    }
-
-    fn happen(&mut self, event: Event) -> StepAnswer
-        ensures { Steps self.old event result self.new }
-    {
         match event {
-            Event::Command(vat, command) => {
-                return StepAnswer::Answered(self.command(vat, command));
-            }
+            Event::Command(vat, command) => return self.command(vat, command),
             Event::Deliver(vat) => return self.deliver(vat),
         }
     }
 
-    fn command(&mut self, vat: Vat, command: Command) -> Answer
-        ensures { Steps self.old (event.Command vat command) (given.Answered result) self.new }
+    #[inline(always)]
+    fn command(&mut self, vat: Vat, command: Command) -> StepAnswer
+        ensures steps { Steps self.old (event.Command vat command) result self.new }
+        ensures promised { KeepsPromises self.new }
     {
         calls_are_counted();
+        worlds_keep_promises();
         match vat {
             Vat::A => return obey(
                 self.alloc,
@@ -132,9 +124,12 @@ impl World {
         }
     }
 
+    #[inline(always)]
     fn deliver(&mut self, vat: Vat) -> StepAnswer
-        ensures { Steps self.old (event.Deliver vat) result self.new }
+        ensures steps { Steps self.old (event.Deliver vat) result self.new }
+        ensures promised { KeepsPromises self.new }
     {
+        worlds_keep_promises();
         match vat {
             Vat::A => return deliver(self.alloc, vat, &mut self.a, &mut self.b, &mut self.journal),
             Vat::B => return deliver(self.alloc, vat, &mut self.b, &mut self.a, &mut self.journal),
@@ -150,7 +145,7 @@ impl World {
         bootstraps_stay();
         for event in events {
             let vat = acting(&event);
-            let answer = self.happen(event);
+            let answer = self.step(event);
             self.give_back(vat, answer);
         }
         self.promises();

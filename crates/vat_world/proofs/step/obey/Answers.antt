@@ -9,4 +9,5 @@ returns-then-is_some-clause-obeys c =
     let b = c.down.ensures in
     let d = c.if-is_some.ensures in
     let e : is_some c.args.acting.now.core.down ≡ true = cc in
-    when_down c.args.vat (stage_of c.args.acting.now c.args.peer.now c.args.journal.now) c.args.command _ _ e c.obey.ensures
+    let h = c.obey_down.ensures in
+    (h.0, h.1, when_down c.args.vat (stage_of c.args.acting.now c.args.peer.now c.args.journal.now) c.args.command _ _ e h.2)
