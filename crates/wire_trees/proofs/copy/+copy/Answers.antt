@@ -161,3 +161,24 @@ copy_pointers-loop-tree-init t c =
 pub copy_structs-loop-item-init : goal.copy_structs-loop-item-init
 copy_structs-loop-item-init t c =
     record { same = ap (map fields_view) c.in_ok-copies.ensures.items; count = c.in_ok-copies.ensures.len; room = c.in_ok-copies.ensures.exact }
+
+pub copy_list-copy_pointers-requires : goal.copy_list-copy_pointers-requires
+copy_list-copy_pointers-requires t c = grind (the_lemmas, arith, common_steps)
+
+pub copy_structs-copy_pointers-requires : goal.copy_structs-copy_pointers-requires
+copy_structs-copy_pointers-requires t c = grind (the_lemmas, arith, common_steps)
+
+pub copy_tree-copy_pointers-requires : goal.copy_tree-copy_pointers-requires
+copy_tree-copy_pointers-requires t c = grind (the_lemmas, arith, common_steps)
+
+pub copy_pointers-bounds-trees-tree-index : goal.copy_pointers-bounds-trees-tree-index
+copy_pointers-bounds-trees-tree-index t c = c.loop-tree-test.true
+
+pub copy_structs-bounds-items-item-index : goal.copy_structs-bounds-items-item-index
+copy_structs-bounds-items-item-index t c = c.loop-item-test.true
+
+pub copy_pointers-loop-tree-smaller : goal.copy_pointers-loop-tree-smaller
+copy_pointers-loop-tree-smaller t c = omega arith
+
+pub copy_structs-loop-item-smaller : goal.copy_structs-loop-item-smaller
+copy_structs-loop-item-smaller t c = omega arith

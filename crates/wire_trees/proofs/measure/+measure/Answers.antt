@@ -1,6 +1,6 @@
 use Rattle.std.proofs.lemmas.Grind.{common_steps}
 use Rattle.wire_trees.specs.declared.tree.Items.TheFolds.{the_lemmas}
-use Rattle.std.proofs.Common.{◌-◌, List, map, sym, ap, ◌∙◌, arith}
+use Rattle.std.proofs.Common.{◌-◌, List, map, refl, sym, ap, ◌∙◌, arith}
 use Rattle.std.specs.Prelude.{replicate}
 use Rattle.std.proofs.lemmas.List.{length-map, length-replicate, drop_all}
 use Rattle.wire_trees.specs.declared.tree.Tree as program
@@ -110,3 +110,32 @@ pub measure_structs-returns : goal.measure_structs-returns
 measure_structs-returns t c =
     sym (ap (λ (us : List Fields). measured c.args.caps c.loop-item.so_far (parts_of_structs (structs_view us) c.args.levels)) (drop_all c.loop-item.item-index c.args.items.now c.loop-item-test.false))
     ∙ c.loop-item.invariant
+
+pub measure_items-measure_pointers-requires : goal.measure_items-measure_pointers-requires
+measure_items-measure_pointers-requires t c = grind (the_lemmas, arith, common_steps)
+
+pub measure_structs-measure_pointers-so_far-requires : goal.measure_structs-measure_pointers-so_far-requires
+measure_structs-measure_pointers-so_far-requires t c = grind (the_lemmas, arith, common_steps)
+
+pub measure_tree-measure_pointers-requires : goal.measure_tree-measure_pointers-requires
+measure_tree-measure_pointers-requires t c = grind (the_lemmas, arith, common_steps)
+
+pub measure_pointers-loop-tree-init : goal.measure_pointers-loop-tree-init
+measure_pointers-loop-tree-init t c = refl
+
+pub measure_structs-loop-item-init : goal.measure_structs-loop-item-init
+measure_structs-loop-item-init t c = refl
+
+pub measure_pointers-loop-tree-smaller-in-Null : goal.measure_pointers-loop-tree-smaller-in-Null
+measure_pointers-loop-tree-smaller-in-Null t c = omega arith
+
+pub measure_pointers-loop-tree-smaller : goal.measure_pointers-loop-tree-smaller
+measure_pointers-loop-tree-smaller t c = omega arith
+
+pub measure_structs-loop-item-smaller : goal.measure_structs-loop-item-smaller
+measure_structs-loop-item-smaller t c = omega arith
+
+pub measure_pointers-loop-tree-preserved-in-Null : goal.measure_pointers-loop-tree-preserved-in-Null
+measure_pointers-loop-tree-preserved-in-Null t c =
+    trees_more c.args.caps c.args.levels c.loop-tree.so_far c.loop-tree.so_far c.as_slice-trees.result.now c.loop-tree.tree-index c.tree-item.result _ c.loop-tree-test.true c.tree-item.is
+    (sym (ap (λ (u : Tree). measured c.args.caps c.loop-tree.so_far (parts u c.args.levels)) (ap view c.in-Null.is ∙ view_null))) c.loop-tree.invariant
