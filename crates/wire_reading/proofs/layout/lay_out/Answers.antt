@@ -1,14 +1,17 @@
 use Rattle.std.proofs.Common.{◌≡◌, ℕ, ◌+◌, ◌^◌, ◌<◌, ◌≤◌, Bool, true, false, cond, ltb, List, length, Option, Some, None, Result, Ok, Err, refl, sym, ap, subst, ◌∙◌, arith}
 use Rattle.std.specs.Option.{IfSome, unwrap_or}
+use Rattle.std.specs.Prelude.{◌*◌, IfOk}
 use Rattle.std.proofs.lemmas.Bool.{ltb-false}
 use Rattle.std.proofs.lemmas.List.{get_or_past}
+use Rattle.std.proofs.lemmas.Result.{err_from_is_err_and}
 use Rattle.wire_trees.specs.declared.faults.PayloadFault.{PayloadFault}
 use Rattle.wire_trees.specs.declared.faults.PayloadFault.TheVariants.{OutOfBounds}
+use Rattle.wire_reading.specs.declared.pointer.Tag.{Tag}
 use Rattle.wire_reading.specs.declared.referent.Content.{Content}
 use Rattle.wire_reading.specs.Pointers.{words_of, tag_of}
 use Rattle.wire_reading.specs.Segments.{segment_of, size_of}
 use Rattle.wire_reading.specs.Following.{◌>>=◌}
-use Rattle.wire_reading.specs.Layouts.{EndsIn, placed, shaped, tagged, laid}
+use Rattle.wire_reading.specs.Layouts.{EndsIn, placed, shaped, tagged, laid, IsWithin}
 use Rattle.wire_reading.proofs.Steps.{ends_before}
 use Rattle.wire_reading.proofs.layout.lay_out.Goals as goal
 
@@ -43,6 +46,31 @@ lies m c o size words n p is_o few is_size is_words is_p ok =
     let ends = placed_ends c.start (words_of c.shape) (length (segment_of m c.segment)) n found in
     (record { inside = ends; small = omega (arith, ends, whole, short) }, ap (λ (r : Result ℕ PayloadFault). r >>= λ i. shaped m c.segment i c.shape) found)
 
+-- what keeps a content from being placed
+unlaid : (m : List (List ℕ)) (c : Content) (o : Option ℕ) (size words : ℕ) (e : PayloadFault) → o ≡ size_of m c.segment → size ≡ unwrap_or o 0 → words ≡ words_of c.shape
+    → Err e ≡ placed c.start words size → Err e ≡ laid m c
+unfolding laid
+unlaid m c o size words e is_o is_size is_words is_e =
+    let whole : size ≡ length (segment_of m c.segment) = is_size ∙ ap (λ (x : Option ℕ). unwrap_or x 0) is_o ∙ size_by m c.segment (ltb c.segment (length m)) refl in
+    ap (λ (r : Result ℕ PayloadFault). r >>= λ i. shaped m c.segment i c.shape) (is_e ∙ ap (λ (w : ℕ). placed c.start w size) is_words ∙ ap (placed c.start (words_of c.shape)) whole)
+
+-- structs that a tag promises lie where their words do
+promised : (n size count d p words : ℕ) (b : Bool) → ltb words (count * (d + p)) ≡ b → EndsIn size (n + (words + 1)) → IfOk (tagged n words (Some (record { count = count; data_words = d; pointer_words = p }))) (IsWithin size)
+promised n size count d p words true e ends = rw e tt
+promised n size count d p words false e ends = let room = ltb-false words (count * (d + p)) e in rw e (ends_before ends (omega (arith, room)))
+
+tag_within : (n size words : ℕ) (t : Option Tag) → EndsIn size (n + (words + 1)) → IfOk (tagged n words t) (IsWithin size)
+tag_within n size words None ends = tt
+tag_within n size words (Some t) ends = promised n size t.count t.data_words t.pointer_words words (ltb words (t.count * (t.data_words + t.pointer_words))) refl ends
+
+pub returns-in_err-start : goal.returns-in_err-start
+returns-in_err-start c =
+    let p = err_from_is_err_and c.from_residual.result c.from_residual.ensures.1 in
+    record {
+      laid = rw (p.1, p.2) (unlaid c.args.message.now c.args.content c.size.result c.unwrap_or-size.result c.words.result c.in_err-start.field-0.0 c.size.ensures.size c.unwrap_or-size.ensures c.words.ensures c.in_err-start.ensures);
+      within = rw p.1 tt;
+    }
+
 pub returns-in-Struct : goal.returns-in-Struct
 returns-in-Struct c =
     let l = lies c.args.message.now c.args.content c.size.result c.unwrap_or-size.result c.words.result c.in_ok-start.start c.place.result c.size.ensures.size c.size.ensures.short c.unwrap_or-size.ensures c.words.ensures c.place.ensures c.in_ok-start.was in
@@ -72,3 +100,20 @@ returns-in-Composite-clause-laid c =
     let l = lies c.args.message.now c.args.content c.size.result c.unwrap_or-size.result c.words.result c.in_ok-start.start c.place.result c.size.ensures.size c.size.ensures.short c.unwrap_or-size.ensures c.words.ensures c.place.ensures c.in_ok-start.was in
     c.tagged_at.ensures ∙ ap (tagged c.in_ok-start.start c.in-Composite.words) (c.decode-tag.ensures ∙ ap tag_of c.word.ensures)
     ∙ sym (l.1 ∙ ap (shaped c.args.message.now c.args.content.segment c.in_ok-start.start) c.in-Composite.is)
+
+pub returns-in-Composite-clause-within : goal.returns-in-Composite-clause-within
+returns-in-Composite-clause-within c =
+    let l = lies c.args.message.now c.args.content c.size.result c.unwrap_or-size.result c.words.result c.in_ok-start.start c.place.result c.size.ensures.size c.size.ensures.short c.unwrap_or-size.ensures c.words.ensures c.place.ensures c.in_ok-start.was in
+    rw c.tagged_at.ensures (tag_within c.in_ok-start.start (length (segment_of c.args.message.now c.args.content.segment)) c.in-Composite.words c.decode-tag.result (rw c.in-Composite.is at l.0))
+
+pub word-requires : goal.word-requires
+word-requires c =
+    let l = lies c.args.message.now c.args.content c.size.result c.unwrap_or-size.result c.words.result c.in_ok-start.start c.place.result c.size.ensures.size c.size.ensures.short c.unwrap_or-size.ensures c.words.ensures c.place.ensures c.in_ok-start.was in
+    let inside = (rw c.in-Composite.is at l.0).inside in
+    omega (arith, inside)
+
+pub tagged_at-requires : goal.tagged_at-requires
+tagged_at-requires c =
+    let l = lies c.args.message.now c.args.content c.size.result c.unwrap_or-size.result c.words.result c.in_ok-start.start c.place.result c.size.ensures.size c.size.ensures.short c.unwrap_or-size.ensures c.words.ensures c.place.ensures c.in_ok-start.was in
+    let small = (rw c.in-Composite.is at l.0).small in
+    omega (arith, small)
