@@ -1,8 +1,10 @@
 -- Bytes are a message that says a tree exactly where they read to that tree.
-use Rattle.std.proofs.Common.{◌≡◌, ℕ, List, Result, Ok, Err, refl, sym, ap, subst, ◌∙◌}
-use Rattle.std.specs.Prelude.{IsOk, IfOk, IfErr, MatchResult}
+use Rattle.std.proofs.Common.{◌≡◌, ℕ, List, Option, Some, None, Result, Ok, Err, refl, sym, ap, subst, ◌∙◌, inl, inr}
+use Rattle.std.specs.Prelude.{◌⊎◌, IsOk, IfOk, IfErr, MatchOption, MatchResult}
 use Rattle.wire_trees.specs.declared.faults.PayloadFault.{PayloadFault}
 use Rattle.wire_trees.specs.declared.faults.PayloadFault.TheVariants as faults
+use Rattle.wire_trees.specs.declared.faults.WriteFault.{WriteFault}
+use Rattle.wire_trees.specs.declared.faults.WriteFault.TheVariants as write_faults
 use Rattle.wire_reading.specs.Following.{◌>>=◌}
 use Rattle.wire_reading.specs.Framing.{framing}
 use Rattle.wire_trees.specs.Trees.{Tree}
@@ -44,3 +46,44 @@ only_read p (Err e) m t says found only = only (says_encoded p m t says)
 pub tree_found : (p : Contents) (r : Result Contents PayloadFault) → IsBytes p.bytes → IfOk r (λ q. (q ≡ p) × IsEncoded q) → IfOk r (λ q. (m : List (List ℕ)) × Says q m (tree_of q))
 tree_found p (Ok q) fits found = encoded_says q (subst (λ (x : Contents). IsBytes x.bytes) (sym found.0) fits) found.1
 tree_found p (Err e) fits found = tt
+
+-- what was written is read again
+module _ (p q w : Contents) (r : Result Contents PayloadFault) (same : q ≡ p) (is_w : p ≡ w) (encoded : IsEncoded p) (found : IfOk r (λ x. (x ≡ q) × IsEncoded x)) where
+  pub read_again : IfErr r (λ e. (e ≡ faults.Memory) ⊎ (message_of q.bytes q.caps ≡ Err e)) → MatchResult r (λ x. x ≡ w) (λ e. e ≡ faults.Memory)
+  read_again first = again r found first
+    where
+      again : (x : Result Contents PayloadFault) → IfOk x (λ y. (y ≡ q) × IsEncoded y) → IfErr x (λ e. (e ≡ faults.Memory) ⊎ (message_of q.bytes q.caps ≡ Err e)) → MatchResult x (λ y. y ≡ w) (λ e. e ≡ faults.Memory)
+      again (Ok y) there first = there.0 ∙ same ∙ is_w
+      again (Err e) there first =
+          elim first [
+            | inl memory ↦ memory
+            | inr bad ↦ absurd (let no = subst (λ (x : Contents). IsOk (message_of x.bytes x.caps)) (sym same) encoded in cc)
+          ]
+
+  pub tree_again : (t : Tree) → tree_of p ≡ t → IfOk r (λ x. tree_of x ≡ t)
+  tree_again t is_t = again r found
+    where
+      again : (x : Result Contents PayloadFault) → IfOk x (λ y. (y ≡ q) × IsEncoded y) → IfOk x (λ y. tree_of y ≡ t)
+      again (Ok y) there = ap tree_of (there.0 ∙ same) ∙ is_t
+      again (Err e) there = tt
+
+pub contents_are : (p : Contents) (bytes : List ℕ) (caps : ℕ) → bytes ≡ p.bytes → caps ≡ p.caps → record { bytes = bytes; caps = caps } ≡ p
+contents_are p bytes caps is_bytes is_caps = rw (is_bytes, is_caps) refl
+
+-- a refusal passed on, and none
+abbrev pub IsRefused : {T : Type 0} → Option WriteFault → Result T WriteFault → Type 0
+IsRefused why r = MatchOption why (IfErr r (λ e. e ≡ write_faults.Memory)) (λ fault. r ≡ Err fault)
+
+abbrev refused_as : (T : Type 0) → WriteFault → Result T WriteFault
+refused_as T e = Err e
+
+pub refused_again : (T U : Type 0) (why : Option WriteFault) (e : WriteFault) → IsRefused why (refused_as T e) → IsRefused why (refused_as U e)
+refused_again T U None e h = h
+refused_again T U (Some f) e h = let same : e ≡ f = cc in ap (refused_as U) same
+
+abbrev given : {T : Type 0} → T → Result T WriteFault
+given x = Ok x
+
+pub not_refused : {T U : Type 0} (why : Option WriteFault) (x : T) (y : U) → IsRefused why (given x) → IsRefused why (given y)
+not_refused None x y h = tt
+not_refused (Some f) x y h = absurd (let no : given x ≡ Err f = h in cc)
