@@ -574,3 +574,60 @@ place_trees-returns-clause-capacity t c =
 pub place_trees-returns-clause-fits : goal.place_trees-returns-clause-fits
 place_trees-returns-clause-fits t c =
     c.loop-tree.invariant.fits (subst (λ (us : List program.Tree). FitsAll (trees_view us)) (sym (drop_all c.loop-tree.tree-index c.args.trees.now c.loop-tree-test.false)) tt)
+
+pub place_items-word_of_list-requires-clause-count : goal.place_items-word_of_list-requires-clause-count
+place_items-word_of_list-requires-clause-count t c =
+    let e = ap items_view c.in-Void.is ∙ view_void c.in-Void.count in
+    let sizes = subst (λ (es : Elements). HaveSizes (parts (tree.list es) 0)) e c.requires.sizes in
+    let most = ltb-false 536870911 (length (replicate {A = ℕ} c.in-Void.count 0)) sizes.0.0.1 in
+    let n = length-replicate {A = ℕ} c.in-Void.count 0 in
+    omega (arith, most, n)
+
+pub place_items-returns-in-Structs-clause-fits : goal.place_items-returns-in-Structs-clause-fits
+place_items-returns-in-Structs-clause-fits t c =
+    let e = ap items_view c.in-Structs.is ∙ view_structs c.in-Structs.data_words c.in-Structs.pointer_words c.in-Structs.items in
+    rw e ((omega arith, omega arith), rw c.deref.ensures.value at c.place_list.ensures.fits)
+
+pub place_tree-returns-in-Cap-clause-fits : goal.place_tree-returns-in-Cap-clause-fits
+place_tree-returns-in-Cap-clause-fits t c =
+    rw (ap view c.in-Cap.is ∙ view_capability c.in-Cap.index) (omega arith)
+
+pub place_tree-overflow_add-len : goal.place_tree-overflow_add-len
+place_tree-overflow_add-len t c =
+    let e = ap view c.in-Struct.is ∙ view_struct c.in-Struct.«data» c.in-Struct.pointers in
+    let few = (subst (λ (u : Tree). HasRoom (taken (parts u 0)) (length c.args.words.now.items) (vec_capacity c.args.words.now)) e c.requires.room).few in
+    let k = ap length c.as_slice-trees.ensures in
+    let n = trees_counted c.in-Struct.pointers.trees.items in
+    omega (arith, few, n, k)
+
+pub place_trees-loop-tree-init : goal.place_trees-loop-tree-init
+place_trees-loop-tree-init t c =
+    let inside = c.requires.inside in
+    record {
+      slot = omega arith;
+      inside = omega (arith, inside);
+      sizes = c.requires.sizes;
+      room = c.requires.room;
+      capacity = omega arith;
+      same = refl;
+      fits = λ all. all;
+    }
+
+pub place_structs-loop-item-init : goal.place_structs-loop-item-init
+place_structs-loop-item-init t c =
+    let all : length c.args.items.now - 0 ≡ length c.args.items.now = omega arith in
+    record {
+      even = c.requires.even;
+      inside = rw all c.requires.inside;
+      sizes = c.requires.sizes;
+      room = c.requires.room;
+      capacity = omega arith;
+      same = refl;
+      fits = λ all. all;
+    }
+
+pub place_trees-loop-tree-smaller : goal.place_trees-loop-tree-smaller
+place_trees-loop-tree-smaller t c = omega arith
+
+pub place_structs-loop-item-smaller : goal.place_structs-loop-item-smaller
+place_structs-loop-item-smaller t c = omega arith
