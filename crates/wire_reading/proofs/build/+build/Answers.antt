@@ -258,3 +258,15 @@ build_structs-returns-in_err-words t c = rw (err_from_is_err_and c.from_residual
 
 pub build_structs-returns-in_err-pointers : goal.build_structs-returns-in_err-pointers
 build_structs-returns-in_err-pointers t c = rw (err_from_is_err_and c.from_residual-in_err-pointers.result c.from_residual-in_err-pointers.ensures.1).1 tt
+
+pub build_pointer-overflow_sub-levels : goal.build_pointer-overflow_sub-levels
+build_pointer-overflow_sub-levels t c = omega arith
+
+pub build_pointers-loop-k-smaller : goal.build_pointers-loop-k-smaller
+build_pointers-loop-k-smaller t c = omega arith
+
+pub build_structs-loop-smaller : goal.build_structs-loop-smaller
+build_structs-loop-smaller t c = omega arith
+
+pub build_structs-overflow_cast-row : goal.build_structs-overflow_cast-row
+build_structs-overflow_cast-row t c = omega arith
