@@ -1,4 +1,3 @@
-use Rattle.std.proofs.Common.{◌≡◌, refl}
 use Rattle.std.proofs.lemmas.Result.{err_from_is_err_and}
 use Rattle.wire_trees.specs.Views.{view}
 use Rattle.wire_trees.specs.Writable.{refusal}
