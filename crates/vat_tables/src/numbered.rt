@@ -15,7 +15,7 @@ use std::marker::Model;
 use std::mem;
 
 /// Entries under numbers of 64 bits, as many as memory allows: seen by contracts as the entries by number, and how
-/// many new ones need no more memory. Each call is constant work, but where memory grows.
+/// many new ones need no more memory. Each call but `numbers` is constant work, but where memory grows.
 ///
 /// An entry whose number is low stands in the place of its number, and is found at once; the others are hashed.
 #[derive(Drop)]
