@@ -10,7 +10,7 @@ const SPARE: usize = 64;
 /// So many items go out of a list in memory of their own.
 pub(crate) const FEW: usize = 4;
 
-/// A list that is empty keeps memory for so many items at most.
+/// A list that is empty keeps memory for so many items at most, but for the room of what is said at the end of a step.
 pub(crate) const KEPT: usize = 512;
 
 /// Makes room for so many more. Refused only where the growth was. Memory in which nothing stands is not copied.
@@ -63,9 +63,9 @@ pub(crate) fn fits<Item>(list: &Vec<Item>, more: usize) -> bool
     more <= list.capacity() - list.len()
 }
 
-/// Whether a list has much memory.
-pub(crate) fn is_much<Item>(list: &Vec<Item>) -> bool {
-    KEPT < list.capacity()
+/// Whether a list has memory for more than so many items.
+pub(crate) fn is_more<Item>(list: &Vec<Item>, kept: usize) -> bool {
+    kept < list.capacity()
 }
 
 /// Lets the memory of a list go that is empty, where it is much.
@@ -77,7 +77,7 @@ pub(crate) fn let_go<Item: Drop>(list: &mut Vec<Item>, alloc: Global)
     ensures items { list.new.items ≡ [] }
     ensures len { vec_len list.new ≡ 0 }
 {
-    if is_much(list) {
+    if is_more(list, KEPT) {
         *list = Vec::new(alloc);
     }
 }

@@ -3,7 +3,9 @@ ghost use Rattle.std.specs.FinMap as map;
 ghost use Rattle.rpc_msg.specs.declared.message.Message.TheVariants.{Plain, Unimplemented};
 
 use crate::abort::AbortRoom;
-use crate::lists::{FEW, fits, grow, is_much, let_go, push_finishes, push_kept, push_releases};
+use crate::lists::{
+    FEW, KEPT, fits, grow, is_more, let_go, push_finishes, push_kept, push_releases,
+};
 use crate::rising::Rising;
 use crate::spare::Spare;
 use rpc_msg::{ExportId, Items, Memory, Message, PlainMessage, QuestionId};
@@ -32,6 +34,8 @@ pub struct Outbox {
     comes_back: bool,
     // Whether a list has much memory, which is let go once nothing stands in it.
     much: bool,
+    // So many messages may have memory without its being much: few steps say ends, but the room for them stays.
+    kept: usize,
     // So many more of each need no more memory: of messages, deliveries and ended calls; of Finishes; of Releases.
     room: usize,
     finish_room: usize,
@@ -88,6 +92,7 @@ impl Outbox {
             spare_answers: Spare::new(alloc),
             comes_back: false,
             much: false,
+            kept: KEPT,
             room: 0,
             finish_room: 0,
             release_room: 0,
@@ -176,7 +181,7 @@ impl Outbox {
             grow(&mut self.sends, messages, self.alloc)?;
             grow(&mut self.deliveries, more, self.alloc)?;
             grow(&mut self.answers, more, self.alloc)?;
-            self.much = is_much(&self.sends) || is_much(&self.deliveries) || is_much(&self.answers);
+            self.much = self.has_much();
         }
         self.room = more;
         Ok(())
@@ -203,12 +208,20 @@ impl Outbox {
             return Err(Memory);
         };
         grow(&mut self.sends, messages, self.alloc)?;
-        self.much = self.much || is_much(&self.sends);
         self.finishes.reserve(finishes)?;
         self.releases.reserve(releases)?;
         self.finish_room = finishes;
         self.release_room = releases;
+        self.kept = ends.saturating_add(KEPT);
+        self.much = self.has_much();
         Ok(())
+    }
+
+    // Whether a list has much memory.
+    fn has_much(&self) -> bool {
+        is_more(&self.sends, self.kept)
+            || is_more(&self.deliveries, KEPT)
+            || is_more(&self.answers, KEPT)
     }
 
     // So many messages the Finishes and Releases are in the end, with so many more of each.
@@ -354,11 +367,15 @@ impl Outbox {
         ensures up { result.down ≡ None }
         ensures left { self.new ≡ record (emptied self.old) { room = self.new.room; finish_room = self.new.finish_room; release_room = self.new.release_room } }
     {
-        let sends = self.spare_sends.hand_out(&mut self.sends, self.alloc);
+        let sends = self
+            .spare_sends
+            .hand_out(&mut self.sends, self.kept, self.alloc);
         let deliveries = self
             .spare_deliveries
-            .hand_out(&mut self.deliveries, self.alloc);
-        let answers = self.spare_answers.hand_out(&mut self.answers, self.alloc);
+            .hand_out(&mut self.deliveries, KEPT, self.alloc);
+        let answers = self
+            .spare_answers
+            .hand_out(&mut self.answers, KEPT, self.alloc);
         let kept = !self.much
             && sends.capacity() <= self.sends.capacity()
             && deliveries.capacity() <= self.deliveries.capacity()
@@ -375,6 +392,7 @@ impl Outbox {
         self.room = 0;
         self.finish_room = 0;
         self.release_room = 0;
+        self.kept = KEPT;
         self.much = false;
         let_go(&mut self.sends, self.alloc);
         let_go(&mut self.deliveries, self.alloc);

@@ -64,10 +64,10 @@ impl<Item: Drop> Spare<Item> {
     }
 
     /// What stands in a list. Where the spare memory is as much as the list's own, it takes its place, and nothing is copied.
-    /// Else a few items go out in the spare memory, and the list then keeps its own, unless that is much; more go out in
-    /// the list's memory.
+    /// Else a few items go out in the spare memory, and the list then keeps its own, unless that is for more than `kept`;
+    /// more go out in the list's memory.
     #[inline(always)]
-    pub(crate) fn hand_out(&mut self, list: &mut Vec<Item>, alloc: Global) -> Vec<Item>
+    pub(crate) fn hand_out(&mut self, list: &mut Vec<Item>, kept: usize, alloc: Global) -> Vec<Item>
         ensures items { result.items ≡ list.old.items }
         ensures left { list.new.items ≡ [] }
         ensures len { vec_len list.new ≡ 0 }
@@ -76,26 +76,26 @@ impl<Item: Drop> Spare<Item> {
         if list.is_empty() {
             return Vec::new(alloc);
         }
-        self.match_list(list, alloc);
+        self.match_list(list, kept, alloc);
         mem::replace(list, self.take(alloc))
     }
 
     // Sees to it that the list goes out if the spare memory takes its place.
     #[inline(always)]
-    fn match_list(&mut self, list: &mut Vec<Item>, alloc: Global)
+    fn match_list(&mut self, list: &mut Vec<Item>, kept: usize, alloc: Global)
         requires { 0 < vec_len list.old }
         ensures items { list.new.items ≡ list.old.items }
         ensures kept { vec_capacity list.new ≤ vec_capacity self.new.list → vec_capacity list.old ≤ vec_capacity self.new.list }
     {
         if self.list.capacity() < list.capacity() {
-            self.set_apart(list, alloc);
+            self.set_apart(list, kept, alloc);
         }
     }
 
-    // Sets a few items apart from the list's memory, which is spare memory then, unless it is much.
+    // Sets a few items apart from the list's memory, which is spare memory then, unless it is for more than `kept`.
     #[cold]
     #[inline(never)]
-    fn set_apart(&mut self, list: &mut Vec<Item>, alloc: Global)
+    fn set_apart(&mut self, list: &mut Vec<Item>, kept: usize, alloc: Global)
         requires { 0 < vec_len list.old }
         ensures items { list.new.items ≡ list.old.items }
         ensures kept { vec_capacity list.new ≤ vec_capacity self.new.list → vec_capacity list.old ≤ vec_capacity self.new.list }
@@ -109,7 +109,7 @@ impl<Item: Drop> Spare<Item> {
             unreachable!()
         };
         let own = mem::replace(list, few);
-        if before <= own.capacity() && own.capacity() <= KEPT {
+        if before <= own.capacity() && own.capacity() <= kept {
             *self = Spare { list: own };
         }
     }
