@@ -4,6 +4,7 @@
 mod answers;
 mod exports;
 mod fault;
+mod growth;
 mod held_pool;
 mod imports;
 mod keyed;

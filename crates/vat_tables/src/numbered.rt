@@ -8,6 +8,7 @@ ghost use Rattle.std.specs.Map.{keys_of};
 ghost use Rattle.slab.specs.Slab.{entries_from};
 ghost use Rattle.vat_tables.specs.Placed.{HasSamePlaces};
 
+use crate::growth::grow;
 use rpc_msg::Memory;
 use std::alloc::{AllocError, Global};
 use std::collections::HashMap;
@@ -182,7 +183,7 @@ impl<Entry> Numbered<Entry> {
         if !self.hashed.is_empty() {
             return;
         }
-        let Ok(()) = self.places.reserve(more) else {
+        let Ok(()) = grow(&mut self.places, more) else {
             return;
         };
         add_places(&mut self.places, more);

@@ -3,6 +3,7 @@ ghost use Rattle.std.specs.Option.{option_copied_mut};
 ghost use Rattle.std.specs.Borrow.{sem};
 ghost use Rattle.std.specs.FinMap as map;
 
+use crate::growth::growth;
 use rpc_msg::Memory;
 use slab::Slab;
 use std::alloc::Global;
@@ -75,9 +76,12 @@ impl<Entry> Picked<Entry> {
         if more == 0 {
             return Ok(());
         }
-        let Ok(()) = self.slab.reserve(more) else {
-            return Err(Memory);
-        };
+        let len = self.slab.len();
+        if self.slab.capacity() - len < more {
+            let Ok(()) = self.slab.reserve_exact(growth(len, more)) else {
+                return Err(Memory);
+            };
+        }
         if self.slab.capacity() > KEY_LIMIT {
             return Err(Memory);
         }

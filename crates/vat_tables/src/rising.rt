@@ -6,6 +6,7 @@ ghost use Rattle.std.specs.FinMap.{put};
 ghost use Rattle.std.specs.Ordering.{nat_cmp};
 ghost use Rattle.vat_tables.specs.Rising.{IsRising, IsAt, IsGapFor, IsAbsent, AllBelow, present, number_at, entry_at};
 
+use crate::growth::grow;
 use rpc_msg::Memory;
 use std::alloc::Global;
 use std::marker::Model;
@@ -215,10 +216,7 @@ impl<Entry> Rising<Entry> {
         if self.len <= self.places.len() / 2 {
             forget_gone(&mut self.places);
         }
-        match self.places.reserve(more) {
-            Ok(()) => Ok(()),
-            Err(_) => Err(Memory),
-        }
+        grow(&mut self.places, more)
     }
 
     /// Puts an entry under a number, which no entry may have. An entry that is refused, since there was no room and the

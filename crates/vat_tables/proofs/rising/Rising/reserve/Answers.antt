@@ -9,21 +9,21 @@ use Rattle.vat_tables.proofs.rising.Rising.reserve.Goals.{then-self-len, else-se
 pub invariant_of-self : goal.invariant_of-self
 invariant_of-self g c = elim c.if-self-len.branch [
   | then-self-len w ↦
-      let kept = c.reserve.ensures.items ∙ ap (λ s. s.places.items) w.self-inside-is ∙ w.forget_gone.ensures.items in (
+      let kept = c.grow.ensures.items ∙ ap (λ s. s.places.items) w.self-inside-is ∙ w.forget_gone.ensures.items in (
         subst IsRising (sym kept) (kept_sorted (λ place. is_some place.1) c.self.inside.places.items c.self.invariant.0),
         ap (λ s. s.len) w.self-inside-is ∙ c.self.invariant.1 ∙ sym (ap map.len (entries_kept c.self.inside.places.items _ kept)),
       )
   | else-self-len w ↦
-      let same = c.reserve.ensures.items ∙ ap (λ s. s.places.items) w.self-inside-is in
+      let same = c.grow.ensures.items ∙ ap (λ s. s.places.items) w.self-inside-is in
       (subst IsRising (sym same) c.self.invariant.0, ap (λ s. s.len) w.self-inside-is ∙ c.self.invariant.1 ∙ sym (ap (λ places. map.len (entries_of places)) same))
 ]
 
 pub returns-clause-same : goal.returns-clause-same
 returns-clause-same g c = elim c.if-self-len.branch [
   | then-self-len w ↦
-      let kept = c.reserve.ensures.items ∙ ap (λ s. s.places.items) w.self-inside-is ∙ w.forget_gone.ensures.items in
+      let kept = c.grow.ensures.items ∙ ap (λ s. s.places.items) w.self-inside-is ∙ w.forget_gone.ensures.items in
       entries_kept c.self.inside.places.items _ kept ∙ seen c.self.inside.places.items _ _ c.self.view_is
   | else-self-len w ↦
-      let same = c.reserve.ensures.items ∙ ap (λ s. s.places.items) w.self-inside-is in
+      let same = c.grow.ensures.items ∙ ap (λ s. s.places.items) w.self-inside-is in
       ap (λ places. entries_of places) same ∙ seen c.self.inside.places.items _ _ c.self.view_is
 ]
