@@ -3,6 +3,7 @@ pub mod ExportLemmas
 pub mod Foreseeing
 pub mod HashTable
 pub mod ImportLemmas
+pub mod Indexing
 pub mod Keys
 pub mod Lending
 pub mod NamingEach

@@ -2,8 +2,6 @@
 use Rattle.std.proofs.Common.{◌≡◌, ◌≢◌, ℕ, ◌+◌, ◌-◌, ◌<◌, ◌==◌, ◌||◌, inl, inr, Bool, true, false, cond, nat_le, List, [], ◌∷◌, ◌++◌, Option, Some, None, if◌then◌else◌, refl, sym, ap, subst, ◌∙◌, arith}
 use Rattle.std.proofs.lemmas.Bool.{cases_eq, eq-eqb, ne_eqb}
 use Rattle.std.specs.Option.{option_map}
-use Rattle.std.specs.HashMap as hash
-use Rattle.std.specs.HashMap.{HashMap}
 use Rattle.std.specs.FinMap as map
 use Rattle.finite_maps.proofs.Gets.{get-insert_same, get-insert_other, insert_again, insert_same, remove_inserted, each_inserted}
 use Rattle.finite_maps.proofs.Lens.{len_new, len_same}
@@ -200,16 +198,15 @@ abbrev pub count_at : Exported → Option ℕ → Option ℕ
 count_at exports None = None
 count_at exports (Some id) = option_map (λ (x : Export). x.count) (map.get exports id)
 
-module _ {S : Type 0} where
-  tells_at : (exports : Exported) (index : HashMap Node ℕ S) → IsIndex exports index → (node : Node) (o : Option ℕ) → hash.get node_eq index node ≡ o → HasCount exports node (count_at exports o)
-  tells_at exports index is node None e = λ id. by id (map.get exports id) refl
-    where
-      by : (id : ℕ) (o : Option Export) → map.get exports id ≡ o → IsOther node o
-      by id None at = tt
-      by id (Some x) at = λ same. not_none (hash.get node_eq index node) (ap (hash.get node_eq index) (sym same) ∙ is.found id x at) e
-  tells_at exports index is node (Some id) e =
-      let there = is.named node id e in
-      subst (λ (o : Option Export). HasCount exports node (option_map (λ (x : Export). x.count) o)) (sym there.1) (id, there.1)
+tells_at : (exports : Exported) (index : Node → Option ℕ) → IsIndex exports index → (node : Node) (o : Option ℕ) → index node ≡ o → HasCount exports node (count_at exports o)
+tells_at exports index is node None e = λ id. by id (map.get exports id) refl
+  where
+    by : (id : ℕ) (o : Option Export) → map.get exports id ≡ o → IsOther node o
+    by id None at = tt
+    by id (Some x) at = λ same. not_none (index node) (ap index (sym same) ∙ is.found id x at) e
+tells_at exports index is node (Some id) e =
+    let there = is.named node id e in
+    subst (λ (o : Option Export). HasCount exports node (option_map (λ (x : Export). x.count) o)) (sym there.1) (id, there.1)
 
-  pub tells_index : (exports : Exported) (index : HashMap Node ℕ S) → IsIndex exports index → Tells exports (λ node. count_at exports (hash.get node_eq index node))
-  tells_index exports index is node = tells_at exports index is node (hash.get node_eq index node) refl
+pub tells_index : (exports : Exported) (index : Node → Option ℕ) → IsIndex exports index → Tells exports (λ node. count_at exports (index node))
+tells_index exports index is node = tells_at exports index is node (index node) refl

@@ -7,6 +7,7 @@ mod fault;
 mod growth;
 mod held_pool;
 mod imports;
+mod index;
 mod keyed;
 mod numbered;
 mod picked;
