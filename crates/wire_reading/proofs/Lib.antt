@@ -11,3 +11,4 @@ pub mod Shown
 pub mod Spanned
 pub mod Steps
 pub mod Tables
+pub mod Uncounted

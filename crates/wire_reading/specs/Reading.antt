@@ -1,6 +1,6 @@
 -- The tree that a pointer leads to, with the visited words after it, or the first check that fails. The
 -- pointers of a content are taken in their order, each from the visited words that the one before left.
-use Rattle.std.specs.Prelude.{ℕ, zero, suc, ◌+◌, ◌*◌, ◌/◌, ◌%◌, ◌^◌, ◌==◌, if◌then◌else◌, List, [], ◌∷◌, length, take, drop, slice_index, Result, Ok, Err}
+use Rattle.std.specs.Prelude.{◌≡◌, ℕ, zero, suc, ◌+◌, ◌*◌, ◌/◌, ◌%◌, ◌^◌, ◌==◌, if◌then◌else◌, List, [], ◌∷◌, length, take, drop, slice_index, Result, Ok, Err, IsOk}
 use Rattle.wire_trees.specs.declared.faults.PayloadFault.{PayloadFault}
 use Rattle.wire_trees.specs.declared.faults.PayloadFault.TheVariants.{OutOfBounds, Depth}
 use Rattle.wire_reading.specs.declared.referent.Referent.{Referent}
@@ -81,6 +81,14 @@ reading m caps zero s i visited = do
 reading m caps (suc levels) s i visited = do
   found ← followed m caps s i visited
   deep m (reading m caps levels) found.0 found.1
+
+-- something is read, from some number of visited words on
+abbrev pub Reads : {X : Type 0} → (ℕ → Reading X) → Type 0
+Reads read = (visited : ℕ) × IsOk (read visited)
+
+-- this is what is read, from whatever number of visited words on
+abbrev pub ReadsTo : {X : Type 0} → (ℕ → Reading X) → X → Type 0
+ReadsTo read x = (visited : ℕ) → IsOk (read visited) → (after : ℕ) × (read visited ≡ Ok (x, after))
 
 -- what the root pointer leads to. It is the first word of segment 0.
 unfoldable pub root_of : List (List ℕ) → ℕ → Reading Tree

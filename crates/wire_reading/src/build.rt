@@ -1,15 +1,15 @@
 //! The tree that a place in a message says.
-ghost use Rattle.std.specs.Prelude.{◌≡◌, ◌==◌, ◌+◌, ◌*◌, ◌^◌, ◌/◌, ◌%◌, ◌<◌, ◌≤◌, length, drop, map, take, Ok, IsOk, IfOk};
+ghost use Rattle.std.specs.Prelude.{◌≡◌, ◌==◌, ◌+◌, ◌*◌, ◌^◌, ◌/◌, ◌%◌, ◌<◌, ◌≤◌, length, drop, map, take, IsOk, IfOk};
 ghost use Rattle.wire_trees.specs.Widths.{bits_of};
 ghost use Rattle.wire_reading.specs.Segments.{segment_of};
 ghost use Rattle.wire_reading.specs.Layouts.{EndsIn, IsWithin};
 ghost use Rattle.wire_trees.specs.Trees.{packed};
-ghost use Rattle.wire_reading.specs.Reading.{element, elements, pointers_at, structs_at, content_of, reading, root_of, tree_read};
+ghost use Rattle.wire_reading.specs.Reading.{element, elements, pointers_at, structs_at, content_of, reading, Reads, ReadsTo, root_of, tree_read};
 ghost use Rattle.wire_trees.specs.Views.{held, view, items_view, trees_view, structs_view};
 
 use crate::layout::{Layout, Row, lay_out};
 use crate::message::Message;
-use crate::referent::{Referent, follow, visited_after};
+use crate::referent::{Referent, follow};
 use std::alloc::{AllocError, Global};
 use wire_trees::limits::MOST_LEVELS;
 use wire_trees::{Element, Fields, Items, Pointers, Tree, Width, make_fields};
@@ -92,11 +92,10 @@ pub fn build_tree(alloc: Global, message: &Message, caps: u32) -> Result<Tree, A
     requires { IsOk (root_of message.now caps) }
     ensures { IfOk result (λ t. view t ≡ tree_read (root_of message.now caps)) }
 {
-    let (tree, _) = build_pointer(alloc, message, caps, 0, 0, MOST_LEVELS, 0)?;
-    Ok(tree)
+    build_pointer(alloc, message, caps, 0, 0, MOST_LEVELS)
 }
 
-/// The pointer at a place, which reads to a tree.
+/// The pointer at a place, which reads to a tree. The words that reading visits were counted when the message was read.
 #[cycle(build)]
 fn build_pointer(
     alloc: Global,
@@ -105,19 +104,18 @@ fn build_pointer(
     segment: u32,
     index: u32,
     levels: u32,
-    visited: u32,
-) -> Result<(Tree, u32), AllocError>
+) -> Result<Tree, AllocError>
     requires levels { levels ≤ 64 }
     requires there { index < length (segment_of message.now segment) }
-    requires reads { IsOk (reading message.now caps levels segment index visited) }
-    ensures { IfOk result (λ x. reading message.now caps levels segment index visited ≡ Ok (view x.0, x.1)) }
+    requires reads { Reads (reading message.now caps levels segment index) }
+    ensures { IfOk result (λ t. ReadsTo (reading message.now caps levels segment index) (view t)) }
 {
-    let Ok((referent, visited)) = follow(message, caps, segment, index, visited) else {
+    let Ok((referent, _)) = follow(message, caps, segment, index, 0) else {
         unreachable!()
     };
     let content = match referent {
-        Referent::Null => return Ok((Tree::Null, visited)),
-        Referent::Capability(index) => return Ok((Tree::Cap(index), visited)),
+        Referent::Null => return Ok(Tree::Null),
+        Referent::Capability(index) => return Ok(Tree::Cap(index)),
         Referent::Content(content) => content,
     };
     if levels == 0 {
@@ -126,18 +124,7 @@ fn build_pointer(
     let Ok(layout) = lay_out(message, content) else {
         unreachable!()
     };
-    let Ok(visited) = visited_after(visited, layout.weight()) else {
-        unreachable!()
-    };
-    build_content(
-        alloc,
-        message,
-        caps,
-        content.segment,
-        layout,
-        levels - 1,
-        visited,
-    )
+    build_content(alloc, message, caps, content.segment, layout, levels - 1)
 }
 
 /// A content, which reads to a tree.
@@ -149,12 +136,11 @@ fn build_content(
     segment: u32,
     layout: Layout,
     levels: u32,
-    visited: u32,
-) -> Result<(Tree, u32), AllocError>
+) -> Result<Tree, AllocError>
     requires levels { levels ≤ 64 }
     requires within { IsWithin (length (segment_of message.now segment)) layout }
-    requires reads { IsOk (content_of message.now (reading message.now caps levels) segment layout visited) }
-    ensures { IfOk result (λ x. content_of message.now (reading message.now caps levels) segment layout visited ≡ Ok (view x.0, x.1)) }
+    requires reads { Reads (content_of message.now (reading message.now caps levels) segment layout) }
+    ensures { IfOk result (λ t. ReadsTo (content_of message.now (reading message.now caps levels) segment layout) (view t)) }
 {
     match layout {
         Layout::Struct {
@@ -165,10 +151,8 @@ fn build_content(
             let words = words_at(alloc, message, segment, start, data_words)?;
             let first = start + u32::from(data_words);
             let count = u32::from(pointer_words);
-            let (pointers, visited) = build_pointers(
-                alloc, message, caps, segment, first, count, levels, visited,
-            )?;
-            Ok((Tree::Struct { words, pointers }, visited))
+            let pointers = build_pointers(alloc, message, caps, segment, first, count, levels)?;
+            Ok(Tree::Struct { words, pointers })
         }
         Layout::Packed {
             start,
@@ -176,13 +160,11 @@ fn build_content(
             count,
         } => {
             let items = packed_items(alloc, message, segment, start, width, count)?;
-            Ok((Tree::List(items), visited))
+            Ok(Tree::List(items))
         }
         Layout::Pointers { start, count } => {
-            let (pointers, visited) = build_pointers(
-                alloc, message, caps, segment, start, count, levels, visited,
-            )?;
-            Ok((Tree::List(Items::Pointers(pointers)), visited))
+            let pointers = build_pointers(alloc, message, caps, segment, start, count, levels)?;
+            Ok(Tree::List(Items::Pointers(pointers)))
         }
         Layout::Structs {
             start,
@@ -197,15 +179,12 @@ fn build_content(
                 data_words,
                 pointer_words,
             };
-            let (items, visited) = build_structs(
-                alloc, message, caps, segment, row, levels, visited,
-            )?;
-            let items = Items::Structs {
+            let items = build_structs(alloc, message, caps, segment, row, levels)?;
+            Ok(Tree::List(Items::Structs {
                 data_words,
                 pointer_words,
                 items,
-            };
-            Ok((Tree::List(items), visited))
+            }))
         }
     }
 }
@@ -219,12 +198,11 @@ fn build_structs(
     segment: u32,
     row: Row,
     levels: u32,
-    mut visited: u32,
-) -> Result<(Vec<Fields>, u32), AllocError>
+) -> Result<Vec<Fields>, AllocError>
     requires levels { levels ≤ 64 }
     requires within { EndsIn (length (segment_of message.now segment)) (row.start + row.count * (row.data_words + row.pointer_words)) }
-    requires reads { IsOk (structs_at message.now (reading message.now caps levels) segment row.data_words row.pointer_words row.start row.count visited) }
-    ensures { IfOk result (λ x. structs_at message.now (reading message.now caps levels) segment row.data_words row.pointer_words row.start row.count visited ≡ Ok (structs_view x.0.items, x.1)) }
+    requires reads { Reads (structs_at message.now (reading message.now caps levels) segment row.data_words row.pointer_words row.start row.count) }
+    ensures { IfOk result (λ items. ReadsTo (structs_at message.now (reading message.now caps levels) segment row.data_words row.pointer_words row.start row.count) (structs_view items.items)) }
 {
     let mut items = Vec::with_capacity(alloc, row.count as usize)?;
     let mut at = row.start;
@@ -232,14 +210,11 @@ fn build_structs(
         let words = words_at(alloc, message, segment, at, row.data_words)?;
         let first = at + u32::from(row.data_words);
         let length = u32::from(row.pointer_words);
-        let (pointers, after) = build_pointers(
-            alloc, message, caps, segment, first, length, levels, visited,
-        )?;
+        let pointers = build_pointers(alloc, message, caps, segment, first, length, levels)?;
         items.push_reserved(make_fields(words, pointers));
-        visited = after;
         at = first + length;
     }
-    Ok((items, visited))
+    Ok(items)
 }
 
 /// So many pointers, one behind the other, which read to trees.
@@ -252,26 +227,16 @@ fn build_pointers(
     start: u32,
     count: u32,
     levels: u32,
-    mut visited: u32,
-) -> Result<(Pointers, u32), AllocError>
+) -> Result<Pointers, AllocError>
     requires levels { levels ≤ 64 }
     requires within { EndsIn (length (segment_of message.now segment)) (start + count) }
-    requires reads { IsOk (pointers_at (reading message.now caps levels) segment start count visited) }
-    ensures { IfOk result (λ x. pointers_at (reading message.now caps levels) segment start count visited ≡ Ok (trees_view (held x.0), x.1)) }
+    requires reads { Reads (pointers_at (reading message.now caps levels) segment start count) }
+    ensures { IfOk result (λ pointers. ReadsTo (pointers_at (reading message.now caps levels) segment start count) (trees_view (held pointers))) }
 {
     let mut trees = Vec::with_capacity(alloc, count as usize)?;
     for k in 0..count {
-        let (tree, after) = build_pointer(
-            alloc,
-            message,
-            caps,
-            segment,
-            start + k,
-            levels,
-            visited,
-        )?;
+        let tree = build_pointer(alloc, message, caps, segment, start + k, levels)?;
         trees.push_reserved(tree);
-        visited = after;
     }
-    Ok((Pointers::of(trees), visited))
+    Ok(Pointers::of(trees))
 }
