@@ -98,16 +98,16 @@ pub walk_structs-walk_pointers-requires : goal.walk_structs-walk_pointers-requir
 walk_structs-walk_pointers-requires t c =
     let room : (c.loop.counter + 1) * (c.args.row.data_words + c.args.row.pointer_words) ≤ c.args.row.count * (c.args.row.data_words + c.args.row.pointer_words) = mul-le-mul_right (c.args.row.data_words + c.args.row.pointer_words) (omega arith) in
     let place = c.loop.invariant.place in
-    (search rules, ends_before c.requires (omega (arith, room, place)))
+    (omega arith, ends_before c.requires (omega (arith, room, place)))
 
 pub walk_content-walk_pointers-requires : goal.walk_content-walk_pointers-requires
-walk_content-walk_pointers-requires t c = (search rules, ends_before (rw c.in-Struct.is at c.requires) (omega arith))
+walk_content-walk_pointers-requires t c = (omega arith, ends_before (rw c.in-Struct.is at c.requires) (omega arith))
 
 pub walk_content-walk_pointers-requires-in-Pointers : goal.walk_content-walk_pointers-requires-in-Pointers
-walk_content-walk_pointers-requires-in-Pointers t c = (search rules, rw c.in-Pointers.is at c.requires)
+walk_content-walk_pointers-requires-in-Pointers t c = (omega arith, rw c.in-Pointers.is at c.requires)
 
 pub walk_content-walk_structs-requires : goal.walk_content-walk_structs-requires
-walk_content-walk_structs-requires t c = (search rules, rw c.in-Structs.is at c.requires)
+walk_content-walk_structs-requires t c = (omega arith, rw c.in-Structs.is at c.requires)
 
 pub walk_pointer-follow-requires : goal.walk_pointer-follow-requires
 walk_pointer-follow-requires t c =
@@ -120,7 +120,7 @@ walk_pointer-visited_after-requires t c =
 
 pub walk_pointer-walk_content-requires : goal.walk_pointer-walk_content-requires
 walk_pointer-walk_content-requires t c =
-    (search rules, c.in_ok-layout.ensures.within)
+    (omega arith, c.in_ok-layout.ensures.within)
 
 pub walk_content-overflow_add-first : goal.walk_content-overflow_add-first
 walk_content-overflow_add-first t c =
@@ -145,7 +145,7 @@ walk_pointers-overflow_add-start-in-loop-k t c =
 pub walk_pointers-walk_pointer-requires : goal.walk_pointers-walk_pointer-requires
 walk_pointers-walk_pointer-requires t c =
     let inside = c.requires.inside in
-    (search rules, omega (arith, inside))
+    (omega arith, omega (arith, inside))
 
 pub walk_structs-overflow_add-first : goal.walk_structs-overflow_add-first
 walk_structs-overflow_add-first t c =
