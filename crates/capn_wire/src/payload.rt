@@ -168,6 +168,7 @@ impl Payload {
     }
 
     /// The same payload again. It shares the bytes, unless there are too many owners to count.
+    #[inline(never)]
     pub fn copy(&self, alloc: Global) -> Result<Payload, Memory>
         ensures { IfOk result (λ p. p ≡ self.now) }
     {
@@ -175,7 +176,17 @@ impl Payload {
         if let Ok(bytes) = Arc::try_clone(&self.bytes) {
             return Ok(Payload { bytes, caps });
         }
-        let payload = Payload::of_bytes(alloc, self.bytes.as_slice(), caps)?;
+        let payload = self.copy_bytes(alloc)?;
+        Ok(payload)
+    }
+
+    // Apart, so that `copy` stays short.
+    #[cold]
+    #[inline(never)]
+    fn copy_bytes(&self, alloc: Global) -> Result<Payload, Memory>
+        ensures { IfOk result (λ p. p ≡ self.now) }
+    {
+        let payload = Payload::of_bytes(alloc, self.bytes.as_slice(), self.caps)?;
         Ok(payload)
     }
 }
