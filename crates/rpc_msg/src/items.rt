@@ -96,6 +96,9 @@ impl<T: Copy> Items<T> {
     pub fn copy(&self, alloc: Global) -> Result<Self, Memory>
         ensures { IfOk result (λ copy. copy ≡ self.now) }
     {
+        if self.items.is_empty() {
+            return Ok(Items::new(alloc));
+        }
         let items = Vec::from_slice(alloc, self.items.as_slice())?;
         Ok(Items { items })
     }
