@@ -31,6 +31,7 @@ pub struct Call {
 
 impl Call {
     /// The same Call, in memory of its own.
+    #[inline(always)]
     pub fn copy(&self, alloc: Global) -> Result<Self, Memory>
         ensures { IfOk result (λ copy. copy ≡ self.now) }
     {
@@ -101,6 +102,7 @@ pub struct Return {
 
 impl Return {
     /// The same Return, in memory of its own.
+    #[inline(always)]
     pub fn copy(&self, alloc: Global) -> Result<Self, Memory>
         ensures { IfOk result (λ copy. copy ≡ self.now) }
     {
