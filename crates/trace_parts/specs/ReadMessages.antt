@@ -25,26 +25,24 @@ use Rattle.rpc_msg.specs.declared.message.Message.TheVariants as message
 use Rattle.trace_parts.specs.declared.fault.Fault.TheVariants as fault
 use Rattle.trace_write.specs.declared.version.TraceVersion.{TraceVersion}
 use Rattle.trace_write.specs.Messages.{param_caps_key, result_caps_key}
-use Rattle.trace_parts.specs.Reading.{Read, ◌>>=◌, members_at, nat_at, u64_at, flag_at, end_at, last_at, field_at, only_at, list_at}
+use Rattle.trace_parts.specs.Reading.{Read, ◌>>=◌, members_at, nat_at, u64_at, flag_at, end_at, last_at, field_at, two_at, last_two_at, both_at, only_at, list_at}
 use Rattle.trace_parts.specs.ReadParts.{Raw, descriptor_at, target_at, stamp_at, raw_at, exception_at}
 
 -- what follows the payload
 unfoldable pub call_rest : Members → Read (QuestionId × Stamp × Target)
 call_rest ms = do
   question ← field_at (nat_at (2 ^ 32)) (codes "question") ms
-  stamp ← field_at stamp_at (codes "stamp") question.1
-  target ← last_at target_at (codes "target") stamp.1
-  Ok (record { 0 = question.0 }, stamp.0, target)
+  call ← last_two_at stamp_at target_at (codes "stamp") (codes "target") question.1
+  Ok (record { 0 = question.0 }, call.0, call.1)
 
 unfoldable pub call_at : Data → Read (Call × Raw)
 call_at d = do
   ms ← members_at d
-  caps ← field_at (list_at descriptor_at) (codes "caps") ms
-  interface ← field_at u64_at (codes "interface") caps.1
-  method ← field_at (nat_at (2 ^ 16)) (codes "method") interface.1
+  caps ← two_at (list_at descriptor_at) u64_at (codes "caps") (codes "interface") ms
+  method ← field_at (nat_at (2 ^ 16)) (codes "method") caps.2
   raw ← field_at raw_at (codes "payload") method.1
   rest ← call_rest raw.1
-  Ok (record { question = rest.0; target = rest.2; interface = interface.0; method = method.0; payload = null_payload; descriptors = caps.0; stamp = rest.1 }, Some raw.0)
+  Ok (record { question = rest.0; target = rest.2; interface = caps.1; method = method.0; payload = null_payload; descriptors = caps.0; stamp = rest.1 }, Some raw.0)
 
 unfoldable pub results_at : Data → Read (ReturnBody × Raw)
 results_at d = do
@@ -96,18 +94,10 @@ unfoldable pub resolved_at : Data → Read ResolvedTo
 resolved_at d = only_at d >>= λ m. resolved_under m.0 m.1
 
 unfoldable pub resolve_at : Data → Read Resolve
-resolve_at d = do
-  ms ← members_at d
-  promise ← field_at (nat_at (2 ^ 32)) (codes "promise") ms
-  to ← last_at resolved_at (codes "to") promise.1
-  Ok (record { promise = record { 0 = promise.0 }; to = to })
+resolve_at d = both_at (nat_at (2 ^ 32)) resolved_at (codes "promise") (codes "to") d >>= λ r. Ok (record { promise = record { 0 = r.0 }; to = r.1 })
 
 unfoldable pub release_at : Data → Read Release
-release_at d = do
-  ms ← members_at d
-  count ← field_at (nat_at (2 ^ 32)) (codes "count") ms
-  id ← last_at (nat_at (2 ^ 32)) (codes "id") count.1
-  Ok (record { export = record { 0 = id }; count = count.0 })
+release_at d = both_at (nat_at (2 ^ 32)) (nat_at (2 ^ 32)) (codes "count") (codes "id") d >>= λ r. Ok (record { export = record { 0 = r.1 }; count = r.0 })
 
 abbrev pub context_under : List ℕ → Data → Read DisembargoContext
 context_under key d =
@@ -119,11 +109,7 @@ unfoldable pub context_at : Data → Read DisembargoContext
 context_at d = only_at d >>= λ m. context_under m.0 m.1
 
 unfoldable pub disembargo_at : Data → Read Disembargo
-disembargo_at d = do
-  ms ← members_at d
-  context ← field_at context_at (codes "context") ms
-  target ← last_at target_at (codes "target") context.1
-  Ok (record { target = target; context = context.0 })
+disembargo_at d = both_at context_at target_at (codes "context") (codes "target") d >>= λ e. Ok (record { target = e.1; context = e.0 })
 
 unfoldable pub bootstrap_at : Data → Read QuestionId
 bootstrap_at d = do

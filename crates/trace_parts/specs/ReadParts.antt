@@ -28,7 +28,7 @@ use Rattle.vat_journal.specs.declared.report.Advanced.TheVariants as advanced
 use Rattle.trace_parts.specs.declared.fault.Fault.TheVariants as fault
 use Rattle.trace_write.specs.Parts.{in_base64}
 use Rattle.trace_write.specs.Fits.{FitsU32}
-use Rattle.trace_parts.specs.Reading.{Read, ◌>>=◌, members_at, nat_at, u64_at, text_at, last_at, field_at, only_at, list_at}
+use Rattle.trace_parts.specs.Reading.{Read, ◌>>=◌, members_at, nat_at, u64_at, text_at, last_at, field_at, last_two_at, both_at, only_at, list_at}
 
 -- What stands for a payload on a line, where there is one: a text and a number.
 abbrev pub Raw : Type 0
@@ -66,11 +66,7 @@ unfoldable pub path_at : Data → Read (List Op)
 path_at d = list_at op_at d >>= short
 
 unfoldable pub answer_at : Data → Read (QuestionId × List Op)
-answer_at d = do
-  ms ← members_at d
-  path ← field_at path_at (codes "path") ms
-  question ← last_at (nat_at (2 ^ 32)) (codes "question") path.1
-  Ok (record { 0 = question }, path.0)
+answer_at d = both_at path_at (nat_at (2 ^ 32)) (codes "path") (codes "question") d >>= λ a. Ok (record { 0 = a.1 }, a.0)
 
 abbrev pub target_under : List ℕ → Data → Read Target
 target_under key d =
@@ -104,9 +100,8 @@ unfoldable pub stamp_at : Data → Read Stamp
 stamp_at d = do
   ms ← members_at d
   index ← field_at u64_at (codes "index") ms
-  reference ← field_at reference_at (codes "ref") index.1
-  vat ← last_at vat_at (codes "vat") reference.1
-  Ok (record { vat = vat; reference = reference.0; index = index.0 })
+  of ← last_two_at reference_at vat_at (codes "ref") (codes "vat") index.1
+  Ok (record { vat = of.1; reference = of.0; index = index.0 })
 
 -- What stands for a payload: it is decoded once the whole line has its shape.
 unfoldable pub raw_at : Data → Read (List ℕ × ℕ)
@@ -128,11 +123,7 @@ unfoldable pub kind_at : Data → Read ExceptionKind
 kind_at d = text_at d >>= kind_named
 
 unfoldable pub exception_at : Data → Read Exception
-exception_at d = do
-  ms ← members_at d
-  kind ← field_at kind_at (codes "kind") ms
-  reason ← last_at text_at (codes "reason") kind.1
-  Ok (record { kind = kind.0; reason = reason })
+exception_at d = both_at kind_at text_at (codes "kind") (codes "reason") d >>= λ e. Ok (record { kind = e.0; reason = e.1 })
 
 abbrev pub outcome_under : List ℕ → Data → Read (Outcome × Raw)
 outcome_under key d =
@@ -144,11 +135,7 @@ unfoldable pub outcome_at : Data → Read (Outcome × Raw)
 outcome_at d = only_at d >>= λ m. outcome_under m.0 m.1
 
 unfoldable pub field_origin_at : Data → Read Origin
-field_origin_at d = do
-  ms ← members_at d
-  call ← field_at u64_at (codes "call") ms
-  path ← last_at path_at (codes "path") call.1
-  Ok (origin.Field (record { 0 = call.0 }) path)
+field_origin_at d = both_at u64_at path_at (codes "call") (codes "path") d >>= λ f. Ok (origin.Field (record { 0 = f.0 }) f.1)
 
 abbrev pub origin_under : List ℕ → Data → Read Origin
 origin_under key d =
@@ -179,8 +166,4 @@ unfoldable pub pair_at : Data → Read (ExportId × ℕ)
 pair_at d = list_at (nat_at (2 ^ 32)) d >>= two
 
 unfoldable pub counts_at : Data → Read Counts
-counts_at d = do
-  ms ← members_at d
-  exports ← field_at (list_at pair_at) (codes "exports") ms
-  imports ← last_at (list_at pair_at) (codes "imports") exports.1
-  Ok (record { exports = exports.0; imports = imports })
+counts_at d = both_at (list_at pair_at) (list_at pair_at) (codes "exports") (codes "imports") d >>= λ c. Ok (record { exports = c.0; imports = c.1 })

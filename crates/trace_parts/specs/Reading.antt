@@ -111,12 +111,29 @@ last_value_at key ms = do
 unfoldable pub last_at : {A : Type 0} → (Data → Read A) → List ℕ → Members → Read A
 last_at f key ms = last_value_at key ms >>= f
 
+-- two members, read by f and g
+unfoldable pub two_at : {A B : Type 0} → (Data → Read A) → (Data → Read B) → List ℕ → List ℕ → Members → Read (A × B × Members)
+two_at f g first second ms = do
+  x ← field_at f first ms
+  y ← field_at g second x.1
+  Ok (x.0, y.0, y.1)
+
+-- the last two members, read by f and g
+unfoldable pub last_two_at : {A B : Type 0} → (Data → Read A) → (Data → Read B) → List ℕ → List ℕ → Members → Read (A × B)
+last_two_at f g first second ms = do
+  x ← field_at f first ms
+  y ← last_at g second x.1
+  Ok (x.0, y)
+
+-- an object of two members, read by f and g
+unfoldable pub both_at : {A B : Type 0} → (Data → Read A) → (Data → Read B) → List ℕ → List ℕ → Data → Read (A × B)
+both_at f g first second d = members_at d >>= last_two_at f g first second
+
 -- a member that is the text `word`
 unfoldable pub word_at : List ℕ → List ℕ → Members → Read Members
 word_at word key ms = do
-  m ← next_at key ms
-  s ← text_at m.0
-  if bytes_eq s word then Ok m.1 else Err fault.WrongShape
+  s ← field_at text_at key ms
+  if bytes_eq s.0 word then Ok s.1 else Err fault.WrongShape
 
 -- the only member
 abbrev pub alone : Members → Read (List ℕ × Data)

@@ -3,7 +3,7 @@ ghost use Rattle.serde_json.specs.Data.{Data, boolean, string, object, member, n
 ghost use Rattle.serde_json.specs.View.{view, members_view};
 ghost use Rattle.trace_write.specs.Parts.{nat, list, only};
 ghost use Rattle.trace_write.specs.Fits.{FitsAny, FitsU32, FitsU16, FitsAll, FitsFlag};
-ghost use Rattle.trace_parts.specs.Reading.{Read, Gives, members_at, next_at, end_at, last_value_at, last_at, field_at, nat_at, u64_at, text_at, word_at, only_at, list_at, flag_at};
+ghost use Rattle.trace_parts.specs.Reading.{Read, Gives, members_at, next_at, end_at, last_value_at, last_at, field_at, two_at, last_two_at, both_at, nat_at, u64_at, text_at, word_at, only_at, list_at, flag_at};
 
 use crate::fault::Fault;
 use rpc_msg::{Items, Text};
@@ -70,6 +70,38 @@ impl<'v> Fields<'v> {
         T::read(alloc, value)
     }
 
+    /// The parts that the next two members are, which have to have these keys.
+    #[tactic(auto, unfolding(crate::specs::Reading::two_at))]
+    pub fn two<A: Part + Drop, B: Part>(
+        &mut self,
+        alloc: Global,
+        first: &str,
+        second: &str,
+    ) -> Result<(A, B), Fault>
+        ensures gives { Gives (λ x. (x.0, x.1, members_view self.new.rest)) result (two_at A.at B.at first.now second.now (members_view self.old.rest)) }
+        ensures ok { IfOk result (λ x. (members_view self.old.rest ≡ member first.now (A.shown x.0) (member second.now (B.shown x.1) (members_view self.new.rest))) × A.fits x.0 × B.fits x.1) }
+    {
+        let one = self.read(alloc, first)?;
+        let other = self.read(alloc, second)?;
+        Ok((one, other))
+    }
+
+    /// The parts that the last two members are, which have to have these keys.
+    #[tactic(auto, unfolding(crate::specs::Reading::last_two_at))]
+    pub fn last_two<A: Part + Drop, B: Part>(
+        mut self,
+        alloc: Global,
+        first: &str,
+        second: &str,
+    ) -> Result<(A, B), Fault>
+        ensures gives { Gives (λ x. x) result (last_two_at A.at B.at first.now second.now (members_view self.entry.rest)) }
+        ensures ok { IfOk result (λ x. (members_view self.entry.rest ≡ member first.now (A.shown x.0) (member second.now (B.shown x.1) no_members)) × A.fits x.0 × B.fits x.1) }
+    {
+        let one = self.read(alloc, first)?;
+        let other = self.last(alloc, second)?;
+        Ok((one, other))
+    }
+
     /// The text that the next member is, which has to have that key.
     #[tactic(auto, unfolding(crate::specs::Reading::field_at))]
     pub(crate) fn text(&mut self, key: &str) -> Result<&'v str, Fault>
@@ -86,8 +118,7 @@ impl<'v> Fields<'v> {
         ensures gives { Gives (λ u. members_view self.new.rest) result (word_at word.now key.now (members_view self.old.rest)) }
         ensures ok { OnOk result (members_view self.old.rest ≡ member key.now (string word.now) (members_view self.new.rest)) }
     {
-        let value = self.next(key)?;
-        if text_of(value)? == word {
+        if self.text(key)? == word {
             Ok(())
         } else {
             Err(Fault::WrongShape)
@@ -135,6 +166,21 @@ impl<'v> Fields<'v> {
             None => Ok(()),
         }
     }
+}
+
+/// The parts that the two members of an object are, which have to have these keys.
+#[tactic(auto, unfolding(crate::specs::Reading::both_at))]
+pub(crate) fn both<A: Part + Drop, B: Part>(
+    alloc: Global,
+    value: &Value,
+    first: &str,
+    second: &str,
+) -> Result<(A, B), Fault>
+    ensures gives { Gives (λ x. x) result (both_at A.at B.at first.now second.now (view value.now)) }
+    ensures ok { IfOk result (λ x. (view value.now ≡ object (member first.now (A.shown x.0) (member second.now (B.shown x.1) no_members))) × A.fits x.0 × B.fits x.1) }
+{
+    let fields = Fields::of(value)?;
+    fields.last_two(alloc, first, second)
 }
 
 /// The only member of an object.

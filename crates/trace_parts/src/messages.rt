@@ -9,7 +9,7 @@ ghost use Rattle.trace_parts.specs.ReadParts.{stands_for, FitsRaw};
 ghost use Rattle.trace_parts.specs.ReadMessages.{call_rest, call_at, results_at, tagged_body, body_at, return_at, finish_at, resolved_at, resolve_at, release_at, context_at, disembargo_at, bootstrap_at, bare_under, plain_under, plain_at, message_at};
 
 use crate::fault::Fault;
-use crate::fields::{Fields, Part, only_member};
+use crate::fields::{Fields, Part, both, only_member};
 use crate::parts::{RawPayload, next_payload, no_payload};
 use rpc_msg::{
     Call, Disembargo, DisembargoContext, EmbargoId, ExportId, Finish, Message, PlainMessage,
@@ -46,8 +46,7 @@ fn rest_of_call(alloc: Global, mut fields: Fields<'_>) -> Result<(QuestionId, St
         member (codes "target") (target_data r.2) no_members))) × FitsU32 r.0.0 × FitsTarget r.2) }
 {
     let question = fields.read(alloc, "question")?;
-    let stamp = fields.read(alloc, "stamp")?;
-    let target = fields.last(alloc, "target")?;
+    let (stamp, target) = fields.last_two(alloc, "stamp", "target")?;
     Ok((QuestionId(question), stamp, target))
 }
 
@@ -58,8 +57,7 @@ fn call_of(alloc: Global, value: &Value) -> Result<(Call, Option<RawPayload<'_>>
         × FitsCall c.0 × FitsRaw (option_map (λ r. (r.text.now, r.caps)) c.1)) }
 {
     let mut fields = Fields::of(value)?;
-    let descriptors = fields.read(alloc, "caps")?;
-    let interface = fields.read(alloc, "interface")?;
+    let (descriptors, interface) = fields.two(alloc, "caps", "interface")?;
     let method = fields.read(alloc, "method")?;
     let raw = next_payload(alloc, &mut fields)?;
     let (question, stamp, target) = rest_of_call(alloc, fields)?;
@@ -205,9 +203,7 @@ impl Part for Resolve {
 
     #[tactic(auto, unfolding(crate::specs::ReadMessages::resolve_at))]
     fn read(alloc: Global, value: &Value) -> Result<Resolve, Fault> {
-        let mut fields = Fields::of(value)?;
-        let promise = fields.read(alloc, "promise")?;
-        let to = fields.last(alloc, "to")?;
+        let (promise, to) = both(alloc, value, "promise", "to")?;
         Ok(Resolve {
             promise: ExportId(promise),
             to,
@@ -224,9 +220,7 @@ impl Part for Release {
 
     #[tactic(auto, unfolding(crate::specs::ReadMessages::release_at))]
     fn read(alloc: Global, value: &Value) -> Result<Release, Fault> {
-        let mut fields = Fields::of(value)?;
-        let count = fields.read(alloc, "count")?;
-        let id = fields.last(alloc, "id")?;
+        let (count, id) = both(alloc, value, "count", "id")?;
         Ok(Release {
             export: ExportId(id),
             count,
@@ -263,9 +257,7 @@ impl Part for Disembargo {
 
     #[tactic(auto, unfolding(crate::specs::ReadMessages::disembargo_at))]
     fn read(alloc: Global, value: &Value) -> Result<Disembargo, Fault> {
-        let mut fields = Fields::of(value)?;
-        let context = fields.read(alloc, "context")?;
-        let target = fields.last(alloc, "target")?;
+        let (context, target) = both(alloc, value, "context", "target")?;
         Ok(Disembargo { target, context })
     }
 }

@@ -9,7 +9,7 @@ ghost use Rattle.trace_parts.specs.declared.fault.Fault.TheVariants as fault;
 ghost use Rattle.trace_parts.specs.ReadParts.{stands_for, FitsRaw, vat_at, reference_at, op_at, path_at, answer_at, target_at, tagged_descriptor, descriptor_at, stamp_at, raw_at, kind_at, exception_at, outcome_at, field_origin_at, origin_at, advanced_at, pair_at, counts_at};
 
 use crate::fault::Fault;
-use crate::fields::{Fields, Part, only_member, read_items, text_of};
+use crate::fields::{Fields, Part, both, only_member, read_items, text_of};
 use rpc_msg::{
     CallId, Descriptor, Exception, ExceptionKind, ExportId, ObjectId, Op, Path, Payload, PromiseId,
     QuestionId, RefId, Stamp, Target, Vat,
@@ -129,9 +129,7 @@ fn answer_of(alloc: Global, value: &Value) -> Result<(QuestionId, Path), Fault>
     ensures gives { Gives (λ a. a) result (answer_at (view value.now)) }
     ensures ok { IfOk result (λ a. (view value.now ≡ answer_data a.0 a.1) × FitsAnswer a) }
 {
-    let mut fields = Fields::of(value)?;
-    let path = fields.read(alloc, "path")?;
-    let question = fields.last(alloc, "question")?;
+    let (path, question) = both(alloc, value, "path", "question")?;
     Ok((QuestionId(question), path))
 }
 
@@ -209,8 +207,7 @@ impl Part for Stamp {
     fn read(alloc: Global, value: &Value) -> Result<Stamp, Fault> {
         let mut fields = Fields::of(value)?;
         let index = fields.read(alloc, "index")?;
-        let reference = fields.read(alloc, "ref")?;
-        let vat = fields.last(alloc, "vat")?;
+        let (reference, vat) = fields.last_two(alloc, "ref", "vat")?;
         Ok(Stamp {
             vat,
             reference,
@@ -252,9 +249,7 @@ impl Part for Exception {
 
     #[tactic(auto, unfolding(crate::specs::ReadParts::exception_at))]
     fn read(alloc: Global, value: &Value) -> Result<Exception, Fault> {
-        let mut fields = Fields::of(value)?;
-        let kind = fields.read(alloc, "kind")?;
-        let reason = fields.last(alloc, "reason")?;
+        let (kind, reason) = both(alloc, value, "kind", "reason")?;
         Ok(Exception { kind, reason })
     }
 }
@@ -282,9 +277,7 @@ fn field_origin_of(alloc: Global, value: &Value) -> Result<Origin, Fault>
     ensures gives { Gives (λ o. o) result (field_origin_at (view value.now)) }
     ensures ok { IfOk result (λ o. (only (codes "field") (view value.now) ≡ origin_data o) × FitsOrigin o) }
 {
-    let mut fields = Fields::of(value)?;
-    let call = fields.read(alloc, "call")?;
-    let path = fields.last(alloc, "path")?;
+    let (call, path) = both(alloc, value, "call", "path")?;
     Ok(Origin::Field(CallId(call), path))
 }
 
@@ -364,9 +357,7 @@ impl Part for Counts {
 
     #[tactic(auto, unfolding(crate::specs::ReadParts::counts_at))]
     fn read(alloc: Global, value: &Value) -> Result<Counts, Fault> {
-        let mut fields = Fields::of(value)?;
-        let exports = fields.read(alloc, "exports")?;
-        let imports = fields.last(alloc, "imports")?;
+        let (exports, imports) = both(alloc, value, "exports", "imports")?;
         Ok(Counts { exports, imports })
     }
 }
