@@ -97,12 +97,10 @@ fn tagged_body_of(
         × FitsBody b.0 × FitsRaw (option_map (λ r. (r.text.now, r.caps)) b.1)) }
 {
     let (key, inner) = only_member(value)?;
-    if key == "results" {
-        results_of(alloc, inner)
-    } else if key == "exception" {
-        Ok((ReturnBody::Exception(Part::read(alloc, inner)?), None))
-    } else {
-        Err(Fault::WrongShape)
+    match key {
+        "results" => results_of(alloc, inner),
+        "exception" => Ok((ReturnBody::Exception(Part::read(alloc, inner)?), None)),
+        _ => Err(Fault::WrongShape),
     }
 }
 
@@ -112,13 +110,10 @@ fn body_of(alloc: Global, value: &Value) -> Result<(ReturnBody, Option<RawPayloa
         × FitsBody b.0 × FitsRaw (option_map (λ r. (r.text.now, r.caps)) b.1)) }
 {
     match value {
-        Value::String(name) => {
-            if name.as_str() == "canceled" {
-                Ok((ReturnBody::Canceled, None))
-            } else {
-                Err(Fault::WrongShape)
-            }
-        }
+        Value::String(name) => match name.as_str() {
+            "canceled" => Ok((ReturnBody::Canceled, None)),
+            _ => Err(Fault::WrongShape),
+        },
         Value::Object(_) => tagged_body_of(alloc, value),
         _ => Err(Fault::WrongShape),
     }
@@ -184,12 +179,10 @@ impl Part for ResolvedTo {
     #[tactic(auto, unfolding(crate::specs::ReadMessages::resolved_at))]
     fn read(alloc: Global, value: &Value) -> Result<ResolvedTo, Fault> {
         let (key, inner) = only_member(value)?;
-        if key == "cap" {
-            Ok(ResolvedTo::Cap(Part::read(alloc, inner)?))
-        } else if key == "exception" {
-            Ok(ResolvedTo::Exception(Part::read(alloc, inner)?))
-        } else {
-            Err(Fault::WrongShape)
+        match key {
+            "cap" => Ok(ResolvedTo::Cap(Part::read(alloc, inner)?)),
+            "exception" => Ok(ResolvedTo::Exception(Part::read(alloc, inner)?)),
+            _ => Err(Fault::WrongShape),
         }
     }
 }
@@ -238,12 +231,14 @@ impl Part for DisembargoContext {
     #[tactic(auto, unfolding(crate::specs::ReadMessages::context_at))]
     fn read(alloc: Global, value: &Value) -> Result<DisembargoContext, Fault> {
         let (key, inner) = only_member(value)?;
-        if key == "senderLoopback" {
-            Ok(DisembargoContext::SenderLoopback(EmbargoId(u32::read(alloc, inner)?)))
-        } else if key == "receiverLoopback" {
-            Ok(DisembargoContext::ReceiverLoopback(EmbargoId(u32::read(alloc, inner)?)))
-        } else {
-            Err(Fault::WrongShape)
+        match key {
+            "senderLoopback" => {
+                Ok(DisembargoContext::SenderLoopback(EmbargoId(u32::read(alloc, inner)?)))
+            }
+            "receiverLoopback" => {
+                Ok(DisembargoContext::ReceiverLoopback(EmbargoId(u32::read(alloc, inner)?)))
+            }
+            _ => Err(Fault::WrongShape),
         }
     }
 }
@@ -282,22 +277,15 @@ fn bare_message_of(
     ensures gives { Gives (λ m. m) result (bare_under version key.now (view inner.now)) }
     ensures ok { IfOk result (λ m. (only key.now (view inner.now) ≡ plain_by version in_base64 m) × FitsPlain version m) }
 {
-    if key == "abort" {
-        Ok(PlainMessage::Abort(Part::read(alloc, inner)?))
-    } else if key == "bootstrap" {
-        Ok(PlainMessage::Bootstrap(bootstrap_of(alloc, inner)?))
-    } else if key == "finish" {
-        Ok(PlainMessage::Finish(finish_of(alloc, inner, version)?))
-    } else if key == "resolve" {
-        Ok(PlainMessage::Resolve(Part::read(alloc, inner)?))
-    } else if key == "release" {
-        Ok(PlainMessage::Release(Part::read(alloc, inner)?))
-    } else if key == "disembargo" {
-        Ok(PlainMessage::Disembargo(Part::read(alloc, inner)?))
-    } else if key == "other" {
-        Ok(PlainMessage::Other(u16::read(alloc, inner)?))
-    } else {
-        Err(Fault::WrongShape)
+    match key {
+        "abort" => Ok(PlainMessage::Abort(Part::read(alloc, inner)?)),
+        "bootstrap" => Ok(PlainMessage::Bootstrap(bootstrap_of(alloc, inner)?)),
+        "finish" => Ok(PlainMessage::Finish(finish_of(alloc, inner, version)?)),
+        "resolve" => Ok(PlainMessage::Resolve(Part::read(alloc, inner)?)),
+        "release" => Ok(PlainMessage::Release(Part::read(alloc, inner)?)),
+        "disembargo" => Ok(PlainMessage::Disembargo(Part::read(alloc, inner)?)),
+        "other" => Ok(PlainMessage::Other(u16::read(alloc, inner)?)),
+        _ => Err(Fault::WrongShape),
     }
 }
 
@@ -312,14 +300,16 @@ fn plain_of<'v>(
     ensures ok { IfOk result (λ m. (only key.now (view inner.now) ≡ plain_by version (stands_for (option_map (λ r. (r.text.now, r.caps)) m.1)) m.0)
         × FitsPlain version m.0 × FitsRaw (option_map (λ r. (r.text.now, r.caps)) m.1)) }
 {
-    if key == "call" {
-        let (call, raw) = call_of(alloc, inner)?;
-        Ok((PlainMessage::Call(call), raw))
-    } else if key == "return" {
-        let (said, raw) = return_of(alloc, inner, version)?;
-        Ok((PlainMessage::Return(said), raw))
-    } else {
-        Ok((bare_message_of(alloc, key, inner, version)?, None))
+    match key {
+        "call" => {
+            let (call, raw) = call_of(alloc, inner)?;
+            Ok((PlainMessage::Call(call), raw))
+        }
+        "return" => {
+            let (said, raw) = return_of(alloc, inner, version)?;
+            Ok((PlainMessage::Return(said), raw))
+        }
+        _ => Ok((bare_message_of(alloc, key, inner, version)?, None)),
     }
 }
 
@@ -335,12 +325,15 @@ pub fn message_of(
         × FitsMessage version m.0 × FitsRaw (option_map (λ r. (r.text.now, r.caps)) m.1)) }
 {
     let (key, inner) = only_member(value)?;
-    if key == "unimplemented" {
-        let (key, inner) = only_member(inner)?;
-        let (plain, raw) = plain_of(alloc, key, inner, version)?;
-        Ok((Message::Unimplemented(plain), raw))
-    } else {
-        let (plain, raw) = plain_of(alloc, key, inner, version)?;
-        Ok((Message::Plain(plain), raw))
+    match key {
+        "unimplemented" => {
+            let (key, inner) = only_member(inner)?;
+            let (plain, raw) = plain_of(alloc, key, inner, version)?;
+            Ok((Message::Unimplemented(plain), raw))
+        }
+        _ => {
+            let (plain, raw) = plain_of(alloc, key, inner, version)?;
+            Ok((Message::Plain(plain), raw))
+        }
     }
 }

@@ -69,12 +69,10 @@ impl Part for Vat {
     #[tactic(auto, unfolding(crate::specs::ReadParts::vat_at))]
     fn read(_alloc: Global, value: &Value) -> Result<Vat, Fault> {
         let name = text_of(value)?;
-        if name == "a" {
-            Ok(Vat::A)
-        } else if name == "b" {
-            Ok(Vat::B)
-        } else {
-            Err(Fault::WrongShape)
+        match name {
+            "a" => Ok(Vat::A),
+            "b" => Ok(Vat::B),
+            _ => Err(Fault::WrongShape),
         }
     }
 }
@@ -143,13 +141,13 @@ impl Part for Target {
     #[tactic(auto, unfolding(crate::specs::ReadParts::target_at))]
     fn read(alloc: Global, value: &Value) -> Result<Target, Fault> {
         let (key, inner) = only_member(value)?;
-        if key == "import" {
-            Ok(Target::ImportedCap(ExportId(u32::read(alloc, inner)?)))
-        } else if key == "answer" {
-            let (question, path) = answer_of(alloc, inner)?;
-            Ok(Target::PromisedAnswer(question, path))
-        } else {
-            Err(Fault::WrongShape)
+        match key {
+            "import" => Ok(Target::ImportedCap(ExportId(u32::read(alloc, inner)?))),
+            "answer" => {
+                let (question, path) = answer_of(alloc, inner)?;
+                Ok(Target::PromisedAnswer(question, path))
+            }
+            _ => Err(Fault::WrongShape),
         }
     }
 }
@@ -160,17 +158,15 @@ fn tagged_descriptor_of(alloc: Global, value: &Value) -> Result<Descriptor, Faul
     ensures ok { IfOk result (λ d. (view value.now ≡ descriptor_data d) × FitsDescriptor d) }
 {
     let (key, inner) = only_member(value)?;
-    if key == "senderHosted" {
-        Ok(Descriptor::SenderHosted(ExportId(u32::read(alloc, inner)?)))
-    } else if key == "senderPromise" {
-        Ok(Descriptor::SenderPromise(ExportId(u32::read(alloc, inner)?)))
-    } else if key == "receiverHosted" {
-        Ok(Descriptor::ReceiverHosted(ExportId(u32::read(alloc, inner)?)))
-    } else if key == "receiverAnswer" {
-        let (question, path) = answer_of(alloc, inner)?;
-        Ok(Descriptor::ReceiverAnswer(question, path))
-    } else {
-        Err(Fault::WrongShape)
+    match key {
+        "senderHosted" => Ok(Descriptor::SenderHosted(ExportId(u32::read(alloc, inner)?))),
+        "senderPromise" => Ok(Descriptor::SenderPromise(ExportId(u32::read(alloc, inner)?))),
+        "receiverHosted" => Ok(Descriptor::ReceiverHosted(ExportId(u32::read(alloc, inner)?))),
+        "receiverAnswer" => {
+            let (question, path) = answer_of(alloc, inner)?;
+            Ok(Descriptor::ReceiverAnswer(question, path))
+        }
+        _ => Err(Fault::WrongShape),
     }
 }
 
@@ -183,13 +179,10 @@ impl Part for Descriptor {
 
     fn read(alloc: Global, value: &Value) -> Result<Descriptor, Fault> {
         match value {
-            Value::String(name) => {
-                if name.as_str() == "none" {
-                    Ok(Descriptor::None)
-                } else {
-                    Err(Fault::WrongShape)
-                }
-            }
+            Value::String(name) => match name.as_str() {
+                "none" => Ok(Descriptor::None),
+                _ => Err(Fault::WrongShape),
+            },
             Value::Object(_) => tagged_descriptor_of(alloc, value),
             _ => Err(Fault::WrongShape),
         }
@@ -226,16 +219,12 @@ impl Part for ExceptionKind {
     #[tactic(auto, unfolding(crate::specs::ReadParts::kind_at))]
     fn read(_alloc: Global, value: &Value) -> Result<ExceptionKind, Fault> {
         let name = text_of(value)?;
-        if name == "failed" {
-            Ok(ExceptionKind::Failed)
-        } else if name == "overloaded" {
-            Ok(ExceptionKind::Overloaded)
-        } else if name == "disconnected" {
-            Ok(ExceptionKind::Disconnected)
-        } else if name == "unimplemented" {
-            Ok(ExceptionKind::Unimplemented)
-        } else {
-            Err(Fault::WrongShape)
+        match name {
+            "failed" => Ok(ExceptionKind::Failed),
+            "overloaded" => Ok(ExceptionKind::Overloaded),
+            "disconnected" => Ok(ExceptionKind::Disconnected),
+            "unimplemented" => Ok(ExceptionKind::Unimplemented),
+            _ => Err(Fault::WrongShape),
         }
     }
 }
@@ -262,13 +251,13 @@ pub fn outcome_of(alloc: Global, value: &Value) -> Result<(Outcome, Option<RawPa
         × FitsOutcome o.0 × FitsRaw (option_map (λ r. (r.text.now, r.caps)) o.1)) }
 {
     let (key, inner) = only_member(value)?;
-    if key == "results" {
-        let raw = raw_payload_of(alloc, inner)?;
-        Ok((Outcome::Results(no_payload(alloc)?), Some(raw)))
-    } else if key == "exception" {
-        Ok((Outcome::Exception(Part::read(alloc, inner)?), None))
-    } else {
-        Err(Fault::WrongShape)
+    match key {
+        "results" => {
+            let raw = raw_payload_of(alloc, inner)?;
+            Ok((Outcome::Results(no_payload(alloc)?), Some(raw)))
+        }
+        "exception" => Ok((Outcome::Exception(Part::read(alloc, inner)?), None)),
+        _ => Err(Fault::WrongShape),
     }
 }
 
@@ -291,16 +280,12 @@ impl Part for Origin {
     #[tactic(auto, unfolding(crate::specs::ReadParts::origin_at))]
     fn read(alloc: Global, value: &Value) -> Result<Origin, Fault> {
         let (key, inner) = only_member(value)?;
-        if key == "object" {
-            Ok(Origin::Object(ObjectId(u64::read(alloc, inner)?)))
-        } else if key == "promise" {
-            Ok(Origin::Promise(PromiseId(u64::read(alloc, inner)?)))
-        } else if key == "clone" {
-            Ok(Origin::Clone(RefId(u64::read(alloc, inner)?)))
-        } else if key == "field" {
-            field_origin_of(alloc, inner)
-        } else {
-            Err(Fault::WrongShape)
+        match key {
+            "object" => Ok(Origin::Object(ObjectId(u64::read(alloc, inner)?))),
+            "promise" => Ok(Origin::Promise(PromiseId(u64::read(alloc, inner)?))),
+            "clone" => Ok(Origin::Clone(RefId(u64::read(alloc, inner)?))),
+            "field" => field_origin_of(alloc, inner),
+            _ => Err(Fault::WrongShape),
         }
     }
 }
@@ -315,16 +300,12 @@ impl Part for Advanced {
     #[tactic(auto, unfolding(crate::specs::ReadParts::advanced_at))]
     fn read(_alloc: Global, value: &Value) -> Result<Advanced, Fault> {
         let name = text_of(value)?;
-        if name == "nothing" {
-            Ok(Advanced::Nothing)
-        } else if name == "switched" {
-            Ok(Advanced::Switched)
-        } else if name == "embargoed" {
-            Ok(Advanced::Embargoed)
-        } else if name == "broke" {
-            Ok(Advanced::Broke)
-        } else {
-            Err(Fault::WrongShape)
+        match name {
+            "nothing" => Ok(Advanced::Nothing),
+            "switched" => Ok(Advanced::Switched),
+            "embargoed" => Ok(Advanced::Embargoed),
+            "broke" => Ok(Advanced::Broke),
+            _ => Err(Fault::WrongShape),
         }
     }
 }
