@@ -57,6 +57,19 @@ pub fn reserve(step: &mut Step, more: usize) -> Result<(), Memory>
     if more <= step.store.slack {
         return Ok(());
     }
+    reserve_more(step, more)
+}
+
+// The same, where there is not enough room.
+#[cold]
+#[inline(never)]
+fn reserve_more(step: &mut Step, more: usize) -> Result<(), Memory>
+    requires { IsReady step.old }
+    ensures same { progress_of step.new ≡ progress_of step.old }
+    ensures store { IsSameButRoom step.old.store step.new.store }
+    ensures ready { IsReady step.new }
+    ensures ok { OnOk result (more ≤ step.new.store.slack) }
+{
     let made = reserve_store(&mut step.store, more);
     let room = step.store.slack;
     step.store.slack = 0;
