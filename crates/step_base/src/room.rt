@@ -9,7 +9,7 @@ use rpc_msg::Memory;
 use vat_store::Store;
 
 // What is reserved beyond what is asked, so that room is seldom made.
-const SPARE: usize = 20;
+const SPARE: usize = 52;
 
 /// Begins a step, with room for so many entries of every kind, names, messages, deliveries, ends and outcomes, and for the
 /// Finish of each question and the Release of each import. `Err` where a growth was refused; no step is begun then, and at
