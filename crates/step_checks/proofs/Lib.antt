@@ -3,4 +3,5 @@ pub mod FaultParts
 pub mod InTurn
 pub mod OneMore
 pub mod Outgoing
+pub mod Turning
 pub mod Wires

@@ -68,7 +68,23 @@ fn has_room_from(store: &Store, wire: &Node) -> Result<(), Refusal>
     has_room_knowing(store, *wire, &known)
 }
 
+// An advance takes one embargo at most.
+#[tactic(auto, using(crate::proofs::Turning::advance_has))]
 fn has_advance_room(store: &Store, id: RefId) -> Result<(), Refusal>
+    requires { IsSound store.now }
+    ensures ok { OnOk result (advance_lacks_room (state_of store.now) (map.get store.now.refs.entries id.0) ≡ false) }
+    ensures err { IfErr result (λ r. (r ≡ refusal.Full) × (advance_lacks_room (state_of store.now) (map.get store.now.refs.entries id.0) ≡ true)) }
+{
+    match has_embargo_room(store) {
+        Ok(()) => Ok(()),
+        Err(_) => needs_no_embargo(store, id),
+    }
+}
+
+// Whether it takes none.
+#[cold]
+#[inline(never)]
+fn needs_no_embargo(store: &Store, id: RefId) -> Result<(), Refusal>
     requires { IsSound store.now }
     ensures ok { OnOk result (advance_lacks_room (state_of store.now) (map.get store.now.refs.entries id.0) ≡ false) }
     ensures err { IfErr result (λ r. (r ≡ refusal.Full) × (advance_lacks_room (state_of store.now) (map.get store.now.refs.entries id.0) ≡ true)) }
