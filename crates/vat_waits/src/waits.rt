@@ -221,6 +221,13 @@ impl Waits {
         self.promises.get(key)?.to
     }
 
+    /// The same, where it stands.
+    pub fn promise_to(&self, key: u64) -> Option<&Node>
+        ensures { option_copied result ≡ promise_link (map.get self.now.promises key) }
+    {
+        self.promises.get(key)?.to.as_ref()
+    }
+
     /// Opens an outcome that is not known yet, of which that caller is to be told, and gives its key, which was free.
     /// `Err` where there was no room and the growth was refused; nothing is changed then.
     pub fn new_outcome(&mut self, caller: Caller) -> Result<u64, Memory>
