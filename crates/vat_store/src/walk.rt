@@ -1,5 +1,6 @@
 ghost use Rattle.std.specs.Prelude.{◌≡◌, None, IsTrue};
 ghost use Rattle.vat_machine.specs.State.{State};
+ghost use Rattle.vat_machine.specs.declared.node.Node.TheVariants as nodes;
 ghost use Rattle.vat_machine.specs.Nodes.{link, settle, field_of, node_of_cap};
 ghost use Rattle.vat_machine.specs.Payloads.{cap_at};
 ghost use Rattle.vat_store.specs.Holding.{state_of, IsSound};
@@ -43,7 +44,7 @@ pub fn settle(store: &Store, node: Node) -> Node
     ensures { result ≡ settle (state_of store.now) node }
 {
     match node {
-        Node::Promise(_) => follow(store, node),
+        Node::Promise(key) => follow_promise(store, key),
         Node::Field(_, _) => follow(store, node),
         Node::Object(_) => node,
         Node::Import(_) => node,
@@ -66,7 +67,22 @@ fn has_no_link(node: &Node) -> bool
     }
 }
 
+// A promise mostly leads nowhere yet, or to a node without links.
+fn follow_promise(store: &Store, key: u64) -> Node
+    requires { IsSound store.now }
+    ensures { result ≡ settle (state_of store.now) (nodes.Promise key) }
+{
+    let Some(found) = store.waits.promise_to(key) else {
+        return Node::Promise(key);
+    };
+    if has_no_link(found) {
+        return *found;
+    }
+    follow(store, Node::Promise(key))
+}
+
 // By its links, one after the other.
+#[inline(never)]
 fn follow(store: &Store, node: Node) -> Node
     requires { IsSound store.now }
     ensures { result ≡ settle (state_of store.now) node }
