@@ -5,46 +5,35 @@ ghost use Rattle.wire_trees.specs.declared.faults.PayloadFault.TheVariants as fa
 ghost use Rattle.wire_trees.specs.declared.faults.WriteFault.TheVariants as write_faults;
 
 use std::alloc::AllocError;
+use std::fmt;
 use thiserror::Error;
 
 /// The first check of a payload's encoding that fails.
 #[derive(Clone, Copy, Debug, PartialEq, Eq, Drop, Error)]
 pub enum PayloadFault {
     /// Memory ran out. The bytes are well formed.
-    #[error("out of memory")]
     Memory,
     /// The bytes end before the segment table, its padding or the segments do.
-    #[error("the message is cut short")]
     Short,
     /// More than 16 segments.
-    #[error("too many segments")]
     TooManySegments,
     /// More than 65,536 words in all segments.
-    #[error("too many words")]
     TooLarge,
     /// Bytes after the last segment, or padding that is not zero.
-    #[error("trailing bytes")]
     Trailing,
     /// A pointer leads out of its segment or to no segment, or there is no root pointer.
-    #[error("a pointer out of bounds")]
     OutOfBounds,
     /// A landing pad that is none.
-    #[error("a bad far pointer")]
     BadFar,
     /// A composite list whose tag is no struct pointer or promises more than there is.
-    #[error("a bad tag word")]
     BadTag,
     /// A pointer of the fourth kind that is no capability.
-    #[error("an unknown kind of pointer")]
     BadOther,
     /// A capability that is not in the table.
-    #[error("a capability index out of range")]
     CapIndex,
     /// Contents nested more than 64 deep.
-    #[error("nested too deep")]
     Depth,
     /// More than 65,536 words visited.
-    #[error("too many words visited")]
     Traversal,
 }
 
@@ -68,29 +57,47 @@ impl PayloadFault {
             PayloadFault::Traversal => 12,
         }
     }
+
+    /// The fault in words.
+    fn words(self) -> &'static str {
+        match self {
+            PayloadFault::Memory => "out of memory",
+            PayloadFault::Short => "the message is cut short",
+            PayloadFault::TooManySegments => "too many segments",
+            PayloadFault::TooLarge => "too many words",
+            PayloadFault::Trailing => "trailing bytes",
+            PayloadFault::OutOfBounds => "a pointer out of bounds",
+            PayloadFault::BadFar => "a bad far pointer",
+            PayloadFault::BadTag => "a bad tag word",
+            PayloadFault::BadOther => "an unknown kind of pointer",
+            PayloadFault::CapIndex => "a capability index out of range",
+            PayloadFault::Depth => "nested too deep",
+            PayloadFault::Traversal => "too many words visited",
+        }
+    }
+}
+
+impl fmt::Display for PayloadFault {
+    fn fmt<W: fmt::Write>(&self, f: &mut fmt::Formatter<W>) -> fmt::Result {
+        f.write_str(self.words())
+    }
 }
 
 /// Why a tree can't be written. The numbers are those of `PayloadFault`.
 #[derive(Clone, Copy, Debug, PartialEq, Eq, Drop, Error)]
 pub enum WriteFault {
     /// Memory ran out. The tree can be written.
-    #[error("out of memory")]
     Memory,
     /// More than 65,536 words, a section of more than 65,535, or a list of more than 536,870,911
     /// elements without content.
-    #[error("too many words")]
     TooLarge,
     /// A struct in a list that has other lengths than the list says.
-    #[error("structs of different sizes in a list")]
     BadTag,
     /// A capability that is not in the table.
-    #[error("a capability index out of range")]
     CapIndex,
     /// Contents nested more than 64 deep.
-    #[error("nested too deep")]
     Depth,
     /// More than 65,536 words would be visited.
-    #[error("too many words visited")]
     Traversal,
 }
 
@@ -107,6 +114,24 @@ impl WriteFault {
             WriteFault::Depth => 11,
             WriteFault::Traversal => 12,
         }
+    }
+
+    /// The fault in words.
+    fn words(self) -> &'static str {
+        match self {
+            WriteFault::Memory => "out of memory",
+            WriteFault::TooLarge => "too many words",
+            WriteFault::BadTag => "structs of different sizes in a list",
+            WriteFault::CapIndex => "a capability index out of range",
+            WriteFault::Depth => "nested too deep",
+            WriteFault::Traversal => "too many words visited",
+        }
+    }
+}
+
+impl fmt::Display for WriteFault {
+    fn fmt<W: fmt::Write>(&self, f: &mut fmt::Formatter<W>) -> fmt::Result {
+        f.write_str(self.words())
     }
 }
 
