@@ -52,10 +52,10 @@ use Rattle.trace_write.specs.Messages.{call_by, body_by, return_by, finish_data,
 use Rattle.trace_write.specs.Values.{head_of, value_by}
 use Rattle.trace_write.specs.Fits.{FitsU32, FitsFlag, FitsOp, FitsPath, FitsAnswer, FitsDescriptor, FitsTarget, FitsOrigin, FitsPair, FitsCounts, FitsCall, FitsBody, FitsReturn, FitsFinish, FitsResolved, FitsResolve, FitsRelease, FitsContext, FitsDisembargo, FitsPlain, FitsMessage, Fits}
 use Rattle.trace_json.specs.Filled.{payload_of_outcome, filled_outcome, payload_of_body, filled_body, payload_of_plain, filled_plain, payload_of_message, filled_message, payload_in, filled}
-use Rattle.trace_parts.specs.Reading.{Read, nat_at, flag_at, field_at, last_value_at, last_at, word_at, only_at, items_at}
+use Rattle.trace_parts.specs.Reading.{Read, nat_at, flag_at, field_at, last_value_at, last_at, two_at, last_two_at, both_at, word_at, only_at, items_at}
 use Rattle.trace_parts.specs.ReadParts.{vat_at, reference_at, op_at, path_at, answer_at, target_at, tagged_descriptor, descriptor_at, stamp_at, raw_at, kind_at, exception_at, outcome_at, field_origin_at, origin_at, advanced_at, pair_at, counts_at}
 use Rattle.trace_parts.specs.ReadMessages.{call_rest, call_at, results_at, tagged_body, body_at, return_at, finish_at, resolved_at, resolve_at, release_at, context_at, disembargo_at, bootstrap_at, plain_at, message_at}
-use Rattle.trace_json.specs.ReadEntries.{members_of_kind, kind_and_vat, head_at, born_at, asked_at, made_rest, made_at, delivered_rest, delivered_at, answered_rest, answered_at, ended_at, resolved_promise_at, rejected_at, dropped_at, finished_at, entry_advanced_at, refused_at, sent_at, got_at, down_at, tables_at, entry_at}
+use Rattle.trace_json.specs.ReadEntries.{members_of_kind, kind_and_vat, before_kind, behind_kind, around_kind, head_at, born_at, asked_at, made_rest, made_at, delivered_rest, delivered_at, answered_at, ended_at, resolved_promise_at, rejected_at, dropped_at, finished_at, entry_advanced_at, refused_at, sent_at, got_at, down_at, tables_at, entry_at}
 
 nat_again : (b n : ℕ) → n < b → nat_at b (nat n) ≡ Ok n
 nat_again b n h = rw (lt-ltb n b h) refl
@@ -92,7 +92,7 @@ unfolding path_at
 path_again path fits = rw (items_again op_at op_data FitsOp op_again path fits.0, le-ltb 16 (length path) fits.1) refl
 
 answer_again : (q : QuestionId) (path : List Op) → FitsAnswer (q, path) → answer_at (answer_data q path) ≡ Ok (q, path)
-unfolding answer_at field_at last_at last_value_at
+unfolding both_at last_two_at answer_at field_at last_at last_value_at
 answer_again q path fits = rw (path_again path fits.1, nat_again (2 ^ 32) q.0 fits.0) refl
 
 target_again : (t : Target) → FitsTarget t → target_at (target_data t) ≡ Ok t
@@ -109,7 +109,7 @@ descriptor_again (descriptor.ReceiverHosted id) fits = rw (nat_again (2 ^ 32) id
 descriptor_again (descriptor.ReceiverAnswer q path) fits = rw (answer_again q path fits) refl
 
 stamp_again : (s : Stamp) → stamp_at (stamp_data s) ≡ Ok s
-unfolding stamp_at field_at last_at last_value_at
+unfolding last_two_at stamp_at field_at last_at last_value_at
 stamp_again s = rw (reference_again s.reference, vat_again s.vat) refl
 
 raw_again : (raw : List ℕ × ℕ) → FitsU32 raw.1 → raw_at (payload_data raw) ≡ Ok raw
@@ -124,7 +124,7 @@ kind_again kind.Disconnected = refl
 kind_again kind.Unimplemented = refl
 
 exception_again : (e : Exception) → exception_at (exception_data e) ≡ Ok e
-unfolding exception_at field_at last_at last_value_at
+unfolding both_at last_two_at exception_at field_at last_at last_value_at
 exception_again e = rw (kind_again e.kind) refl
 
 outcome_again : (raw : List ℕ × ℕ) → FitsU32 raw.1 → (o : Outcome) → outcome_at (outcome_by (λ p. raw) o) ≡ Ok (filled_outcome null_payload o, option_map (λ p. raw) (payload_of_outcome o))
@@ -133,7 +133,7 @@ outcome_again raw caps (outcome.Results p) = rw (raw_again raw caps) refl
 outcome_again raw caps (outcome.Exception e) = rw (exception_again e) refl
 
 origin_again : (o : Origin) → FitsOrigin o → origin_at (origin_data o) ≡ Ok o
-unfolding origin_at only_at field_origin_at field_at last_at last_value_at
+unfolding both_at last_two_at origin_at only_at field_origin_at field_at last_at last_value_at
 origin_again (origin.Object o) fits = refl
 origin_again (origin.Promise p) fits = refl
 origin_again (origin.Clone r) fits = refl
@@ -151,13 +151,13 @@ unfolding pair_at
 pair_again p fits = rw (nat_again (2 ^ 32) p.0.0 fits.0, nat_again (2 ^ 32) p.1 fits.1) refl
 
 counts_again : (c : Counts) → FitsCounts c → counts_at (counts_data c) ≡ Ok c
-unfolding counts_at field_at last_at last_value_at
+unfolding both_at last_two_at counts_at field_at last_at last_value_at
 counts_again c fits = rw (items_again pair_at pair_data FitsPair pair_again c.exports fits.0, items_again pair_at pair_data FitsPair pair_again c.imports fits.1) refl
 
 -- ---- messages
 
 call_again : (raw : List ℕ × ℕ) → FitsU32 raw.1 → (c : Call) → FitsCall c → call_at (call_by (λ p. raw) c) ≡ Ok (record c { payload = null_payload }, Some raw)
-unfolding call_at call_rest field_at last_at last_value_at
+unfolding two_at last_two_at call_at call_rest field_at last_at last_value_at
 call_again raw caps c fits =
     rw (items_again descriptor_at descriptor_data FitsDescriptor descriptor_again c.descriptors fits.caps, nat_again (2 ^ 16) c.method fits.method, raw_again raw caps, nat_again (2 ^ 32) c.question.0 fits.question, stamp_again c.stamp, target_again c.target fits.target) refl
 
@@ -183,11 +183,11 @@ resolved_again (to.Cap d) fits = rw (descriptor_again d fits) refl
 resolved_again (to.Exception e) fits = rw (exception_again e) refl
 
 resolve_again : (r : Resolve) → FitsResolve r → resolve_at (resolve_data r) ≡ Ok r
-unfolding resolve_at field_at last_at last_value_at
+unfolding both_at last_two_at resolve_at field_at last_at last_value_at
 resolve_again r fits = rw (nat_again (2 ^ 32) r.promise.0 fits.0, resolved_again r.to fits.1) refl
 
 release_again : (r : Release) → FitsRelease r → release_at (release_data r) ≡ Ok r
-unfolding release_at field_at last_at last_value_at
+unfolding both_at last_two_at release_at field_at last_at last_value_at
 release_again r fits = rw (nat_again (2 ^ 32) r.count fits.0, nat_again (2 ^ 32) r.export.0 fits.1) refl
 
 context_again : (c : DisembargoContext) → FitsContext c → context_at (context_data c) ≡ Ok c
@@ -196,7 +196,7 @@ context_again (SenderLoopback id) fits = rw (nat_again (2 ^ 32) id.0 fits) refl
 context_again (ReceiverLoopback id) fits = rw (nat_again (2 ^ 32) id.0 fits) refl
 
 disembargo_again : (d : Disembargo) → FitsDisembargo d → disembargo_at (disembargo_data d) ≡ Ok d
-unfolding disembargo_at field_at last_at last_value_at
+unfolding both_at last_two_at disembargo_at field_at last_at last_value_at
 disembargo_again d fits = rw (context_again d.context fits.0, target_again d.target fits.1) refl
 
 bootstrap_again : (q : QuestionId) → FitsU32 q.0 → bootstrap_at (only (codes "question") (nat q.0)) ≡ Ok q
@@ -241,7 +241,7 @@ head_again Two raw = refl
 
 -- The value of an entry reads as the entry without its payload.
 pub entry_again : (version : TraceVersion) (raw : List ℕ × ℕ) → FitsU32 raw.1 → (e : JournalEntry) → Fits version e → entry_at version (value_by version (λ p. raw) e) ≡ Ok (filled null_payload e, option_map (λ p. raw) (payload_in e))
-unfolding entry_at members_of_kind kind_and_vat made_rest field_at last_at last_value_at word_at born_at asked_at made_at delivered_rest delivered_at answered_rest answered_at ended_at resolved_promise_at rejected_at dropped_at finished_at entry_advanced_at refused_at sent_at got_at down_at tables_at
+unfolding two_at last_two_at before_kind behind_kind around_kind entry_at members_of_kind kind_and_vat made_rest field_at last_at last_value_at word_at born_at asked_at made_at delivered_rest delivered_at answered_at ended_at resolved_promise_at rejected_at dropped_at finished_at entry_advanced_at refused_at sent_at got_at down_at tables_at
 entry_again version raw caps entry.Head fits = head_again version raw
 entry_again version raw caps (entry.Born v r o) fits = rw (origin_again o fits, reference_again r, vat_again v) refl
 entry_again version raw caps (entry.Asked v call) fits = rw (vat_again v) refl

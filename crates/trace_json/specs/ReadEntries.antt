@@ -24,7 +24,7 @@ use Rattle.vat_journal.specs.declared.report.Advanced.{Advanced}
 use Rattle.trace_parts.specs.declared.fault.Fault.TheVariants as fault
 use Rattle.trace_write.specs.declared.version.TraceVersion.{TraceVersion}
 use Rattle.trace_write.specs.Values.{version_number}
-use Rattle.trace_parts.specs.Reading.{Read, ◌>>=◌, members_at, nat_at, u64_at, next_at, end_at, last_at, field_at, word_at, list_at}
+use Rattle.trace_parts.specs.Reading.{Read, ◌>>=◌, members_at, nat_at, u64_at, next_at, end_at, last_at, field_at, two_at, last_two_at, word_at, list_at}
 use Rattle.trace_parts.specs.ReadParts.{Raw, vat_at, reference_at, stamp_at, raw_at, exception_at, outcome_at, origin_at, advanced_at, counts_at}
 use Rattle.trace_parts.specs.ReadMessages.{message_at}
 
@@ -36,6 +36,31 @@ members_of_kind kind d = members_at d >>= word_at kind (codes "k")
 unfoldable pub kind_and_vat : List ℕ → Members → Read Vat
 kind_and_vat kind ms = word_at kind (codes "k") ms >>= last_at vat_at (codes "vat")
 
+-- a member, the kind and the vat
+unfoldable pub before_kind : {A : Type 0} → (Data → Read A) → List ℕ → List ℕ → Data → Read (A × Vat)
+before_kind f key kind d = do
+  ms ← members_at d
+  x ← field_at f key ms
+  vat ← kind_and_vat kind x.1
+  Ok (x.0, vat)
+
+-- the kind, two members and the vat
+unfoldable pub behind_kind : {A B : Type 0} → (Data → Read A) → (Data → Read B) → List ℕ → List ℕ → List ℕ → Data → Read (A × B × Vat)
+behind_kind f g kind first second d = do
+  k ← members_of_kind kind d
+  x ← field_at f first k
+  y ← last_two_at g vat_at second (codes "vat") x.1
+  Ok (x.0, y.0, y.1)
+
+-- a member, the kind, another member and the vat
+unfoldable pub around_kind : {A B : Type 0} → (Data → Read A) → (Data → Read B) → List ℕ → List ℕ → List ℕ → Data → Read (A × B × Vat)
+around_kind f g first kind second d = do
+  ms ← members_at d
+  x ← field_at f first ms
+  k ← word_at kind (codes "k") x.1
+  y ← last_two_at g vat_at second (codes "vat") k
+  Ok (x.0, y.0, y.1)
+
 -- the number of a head
 unfoldable pub head_at : Data → Read ℕ
 head_at d = do
@@ -43,74 +68,53 @@ head_at d = do
   last_at u64_at (codes "version") k
 
 unfoldable pub born_at : Data → Read JournalEntry
-born_at d = do
-  k ← members_of_kind (codes "born") d
-  origin ← field_at origin_at (codes "origin") k
-  reference ← field_at reference_at (codes "ref") origin.1
-  vat ← last_at vat_at (codes "vat") reference.1
-  Ok (entry.Born vat reference.0 origin.0)
+born_at d = behind_kind origin_at reference_at (codes "born") (codes "origin") (codes "ref") d >>= λ e. Ok (entry.Born e.2 e.1 e.0)
 
 unfoldable pub asked_at : Data → Read JournalEntry
-asked_at d = do
-  ms ← members_at d
-  call ← field_at u64_at (codes "call") ms
-  vat ← kind_and_vat (codes "asked") call.1
-  Ok (entry.Asked vat (record { 0 = call.0 }))
+asked_at d = before_kind u64_at (codes "call") (codes "asked") d >>= λ e. Ok (entry.Asked e.1 (record { 0 = e.0 }))
 
 -- the payload and what follows it
 unfoldable pub made_rest : Members → Read ((List ℕ × ℕ) × RefId × List RefId × Vat)
 made_rest ms = do
   raw ← field_at raw_at (codes "payload") ms
   reference ← field_at reference_at (codes "ref") raw.1
-  refs ← field_at (list_at reference_at) (codes "refs") reference.1
-  vat ← last_at vat_at (codes "vat") refs.1
-  Ok (raw.0, reference.0, refs.0, vat)
+  of ← last_two_at (list_at reference_at) vat_at (codes "refs") (codes "vat") reference.1
+  Ok (raw.0, reference.0, of.0, of.1)
 
 unfoldable pub made_at : Data → Read (JournalEntry × Raw)
 made_at d = do
   ms ← members_at d
-  call ← field_at u64_at (codes "call") ms
-  index ← field_at u64_at (codes "index") call.1
-  interface ← field_at u64_at (codes "interface") index.1
+  call ← two_at u64_at u64_at (codes "call") (codes "index") ms
+  interface ← field_at u64_at (codes "interface") call.2
   k ← word_at (codes "made") (codes "k") interface.1
   method ← field_at (nat_at (2 ^ 16)) (codes "method") k
   rest ← made_rest method.1
-  Ok (entry.Made rest.3 (record { reference = rest.1; index = index.0; call = record { 0 = call.0 }; interface = interface.0; method = method.0; payload = null_payload; refs = rest.2 }), Some rest.0)
+  Ok (entry.Made rest.3 (record { reference = rest.1; index = call.1; call = record { 0 = call.0 }; interface = interface.0; method = method.0; payload = null_payload; refs = rest.2 }), Some rest.0)
 
 -- what follows the payload
 unfoldable pub delivered_rest : Members → Read (List RefId × Stamp × ℕ × Vat)
 delivered_rest ms = do
-  refs ← field_at (list_at reference_at) (codes "refs") ms
-  stamp ← field_at stamp_at (codes "stamp") refs.1
-  task ← field_at u64_at (codes "task") stamp.1
-  vat ← last_at vat_at (codes "vat") task.1
-  Ok (refs.0, stamp.0, task.0, vat)
+  refs ← two_at (list_at reference_at) stamp_at (codes "refs") (codes "stamp") ms
+  of ← last_two_at u64_at vat_at (codes "task") (codes "vat") refs.2
+  Ok (refs.0, refs.1, of.0, of.1)
 
 unfoldable pub delivered_at : Data → Read (JournalEntry × Raw)
 delivered_at d = do
   ms ← members_at d
   interface ← field_at u64_at (codes "interface") ms
   k ← word_at (codes "delivered") (codes "k") interface.1
-  method ← field_at (nat_at (2 ^ 16)) (codes "method") k
-  object ← field_at u64_at (codes "object") method.1
-  raw ← field_at raw_at (codes "payload") object.1
+  method ← two_at (nat_at (2 ^ 16)) u64_at (codes "method") (codes "object") k
+  raw ← field_at raw_at (codes "payload") method.2
   rest ← delivered_rest raw.1
-  Ok (entry.Delivered rest.3 (record { task = record { 0 = rest.2 }; object = record { 0 = object.0 }; stamp = rest.1; interface = interface.0; method = method.0; payload = null_payload; refs = rest.0 }), Some raw.0)
-
--- what follows the outcome
-unfoldable pub answered_rest : Members → Read (List RefId × ℕ × Vat)
-answered_rest ms = do
-  refs ← field_at (list_at reference_at) (codes "refs") ms
-  task ← field_at u64_at (codes "task") refs.1
-  vat ← last_at vat_at (codes "vat") task.1
-  Ok (refs.0, task.0, vat)
+  Ok (entry.Delivered rest.3 (record { task = record { 0 = rest.2 }; object = record { 0 = method.1 }; stamp = rest.1; interface = interface.0; method = method.0; payload = null_payload; refs = rest.0 }), Some raw.0)
 
 unfoldable pub answered_at : Data → Read (JournalEntry × Raw)
 answered_at d = do
   k ← members_of_kind (codes "answered") d
   outcome ← field_at outcome_at (codes "outcome") k
-  rest ← answered_rest outcome.1
-  Ok (entry.Answered rest.2 (record { 0 = rest.1 }) outcome.0.0 rest.0, outcome.0.1)
+  refs ← field_at (list_at reference_at) (codes "refs") outcome.1
+  of ← last_two_at u64_at vat_at (codes "task") (codes "vat") refs.1
+  Ok (entry.Answered of.1 (record { 0 = of.0 }) outcome.0.0 refs.0, outcome.0.1)
 
 unfoldable pub ended_at : Data → Read (JournalEntry × Raw)
 ended_at d = do
@@ -118,56 +122,29 @@ ended_at d = do
   call ← field_at u64_at (codes "call") ms
   k ← word_at (codes "ended") (codes "k") call.1
   outcome ← field_at outcome_at (codes "outcome") k
-  refs ← field_at (list_at reference_at) (codes "refs") outcome.1
-  vat ← last_at vat_at (codes "vat") refs.1
-  Ok (entry.Ended vat (record { call = record { 0 = call.0 }; outcome = outcome.0.0; refs = refs.0 }), outcome.0.1)
+  of ← last_two_at (list_at reference_at) vat_at (codes "refs") (codes "vat") outcome.1
+  Ok (entry.Ended of.1 (record { call = record { 0 = call.0 }; outcome = outcome.0.0; refs = of.0 }), outcome.0.1)
 
 unfoldable pub resolved_promise_at : Data → Read JournalEntry
-resolved_promise_at d = do
-  k ← members_of_kind (codes "resolved") d
-  promise ← field_at u64_at (codes "promise") k
-  reference ← field_at reference_at (codes "ref") promise.1
-  vat ← last_at vat_at (codes "vat") reference.1
-  Ok (entry.Resolved vat (record { 0 = promise.0 }) reference.0)
+resolved_promise_at d = behind_kind u64_at reference_at (codes "resolved") (codes "promise") (codes "ref") d >>= λ e. Ok (entry.Resolved e.2 (record { 0 = e.0 }) e.1)
 
 unfoldable pub rejected_at : Data → Read JournalEntry
-rejected_at d = do
-  ms ← members_at d
-  exception ← field_at exception_at (codes "exception") ms
-  k ← word_at (codes "rejected") (codes "k") exception.1
-  promise ← field_at u64_at (codes "promise") k
-  vat ← last_at vat_at (codes "vat") promise.1
-  Ok (entry.Rejected vat (record { 0 = promise.0 }) exception.0)
+rejected_at d = around_kind exception_at u64_at (codes "exception") (codes "rejected") (codes "promise") d >>= λ e. Ok (entry.Rejected e.2 (record { 0 = e.1 }) e.0)
 
 unfoldable pub dropped_at : Data → Read JournalEntry
 dropped_at d = do
   k ← members_of_kind (codes "dropped") d
-  reference ← field_at reference_at (codes "ref") k
-  vat ← last_at vat_at (codes "vat") reference.1
-  Ok (entry.Dropped vat reference.0)
+  of ← last_two_at reference_at vat_at (codes "ref") (codes "vat") k
+  Ok (entry.Dropped of.1 of.0)
 
 unfoldable pub finished_at : Data → Read JournalEntry
-finished_at d = do
-  ms ← members_at d
-  call ← field_at u64_at (codes "call") ms
-  vat ← kind_and_vat (codes "finished") call.1
-  Ok (entry.Finished vat (record { 0 = call.0 }))
+finished_at d = before_kind u64_at (codes "call") (codes "finished") d >>= λ e. Ok (entry.Finished e.1 (record { 0 = e.0 }))
 
 unfoldable pub entry_advanced_at : Data → Read JournalEntry
-entry_advanced_at d = do
-  ms ← members_at d
-  answer ← field_at advanced_at (codes "answer") ms
-  k ← word_at (codes "advanced") (codes "k") answer.1
-  reference ← field_at reference_at (codes "ref") k
-  vat ← last_at vat_at (codes "vat") reference.1
-  Ok (entry.Advanced vat reference.0 answer.0)
+entry_advanced_at d = around_kind advanced_at reference_at (codes "answer") (codes "advanced") (codes "ref") d >>= λ e. Ok (entry.Advanced e.2 e.1 e.0)
 
 unfoldable pub refused_at : Data → Read JournalEntry
-refused_at d = do
-  ms ← members_at d
-  code ← field_at (nat_at (2 ^ 16)) (codes "code") ms
-  vat ← kind_and_vat (codes "refused") code.1
-  Ok (entry.Refused vat code.0)
+refused_at d = before_kind (nat_at (2 ^ 16)) (codes "code") (codes "refused") d >>= λ e. Ok (entry.Refused e.1 e.0)
 
 unfoldable pub sent_at : TraceVersion → Data → Read (JournalEntry × Raw)
 sent_at version d = do
@@ -184,20 +161,15 @@ got_at d = do
   Ok (entry.Got vat)
 
 unfoldable pub down_at : Data → Read JournalEntry
-down_at d = do
-  ms ← members_at d
-  fault ← field_at (nat_at (2 ^ 16)) (codes "fault") ms
-  vat ← kind_and_vat (codes "down") fault.1
-  Ok (entry.Down vat fault.0)
+down_at d = before_kind (nat_at (2 ^ 16)) (codes "fault") (codes "down") d >>= λ e. Ok (entry.Down e.1 e.0)
 
 unfoldable pub tables_at : Data → Read JournalEntry
 tables_at d = do
   ms ← members_at d
-  a ← field_at counts_at (codes "a") ms
-  b ← field_at counts_at (codes "b") a.1
-  k ← word_at (codes "tables") (codes "k") b.1
+  of ← two_at counts_at counts_at (codes "a") (codes "b") ms
+  k ← word_at (codes "tables") (codes "k") of.2
   end ← end_at k
-  Ok (entry.Tables a.0 b.0)
+  Ok (entry.Tables of.0 of.1)
 
 -- what an application did at a reference, a promise or a call
 abbrev pub command_under : List ℕ → Data → Read JournalEntry

@@ -6,7 +6,7 @@ ghost use Rattle.trace_write.specs.Values.{head_of, value_by, value as value_of_
 ghost use Rattle.trace_write.specs.Fits.{FitsU32, FitsOutcome, Fits};
 ghost use Rattle.trace_parts.specs.Reading.{Gives, field_at};
 ghost use Rattle.trace_parts.specs.ReadParts.{stands_for, FitsRaw, outcome_at};
-ghost use Rattle.trace_json.specs.ReadEntries.{members_of_kind, kind_and_vat, head_at, born_at, asked_at, made_rest, made_at, delivered_rest, delivered_at, answered_rest, answered_at, ended_at, resolved_promise_at, rejected_at, dropped_at, finished_at, entry_advanced_at, refused_at, sent_at, got_at, down_at, tables_at, command_under, bare_entry_under, entry_under, entry_at};
+ghost use Rattle.trace_json.specs.ReadEntries.{members_of_kind, kind_and_vat, before_kind, behind_kind, around_kind, head_at, born_at, asked_at, made_rest, made_at, delivered_rest, delivered_at, answered_at, ended_at, resolved_promise_at, rejected_at, dropped_at, finished_at, entry_advanced_at, refused_at, sent_at, got_at, down_at, tables_at, command_under, bare_entry_under, entry_under, entry_at};
 
 use rpc_msg::{CallId, Items, ObjectId, PromiseId, RefId, Stamp, TaskId, Vat};
 use serde_json::Value;
@@ -39,6 +39,68 @@ fn vat_behind_kind(alloc: Global, mut fields: Fields<'_>, kind: &str) -> Result<
     fields.last(alloc, "vat")
 }
 
+/// The part that the first member is, behind which there are the kind and the vat.
+#[tactic(auto, unfolding(crate::specs::ReadEntries::before_kind))]
+fn before_kind<T: Part + Drop>(
+    alloc: Global,
+    value: &Value,
+    key: &str,
+    kind: &str,
+) -> Result<(T, Vat), Fault>
+    ensures gives { Gives (λ x. x) result (before_kind T.at key.now kind.now (view value.now)) }
+    ensures ok { IfOk result (λ x. (view value.now ≡ object (member key.now (T.shown x.0) (
+        member (codes "k") (string kind.now) (
+        member (codes "vat") (vat_data x.1) no_members)))) × T.fits x.0) }
+{
+    let mut fields = Fields::of(value)?;
+    let part = fields.read(alloc, key)?;
+    let vat = vat_behind_kind(alloc, fields, kind)?;
+    Ok((part, vat))
+}
+
+/// The parts that the two members behind the kind are, and the vat behind them.
+#[tactic(auto, unfolding(crate::specs::ReadEntries::behind_kind))]
+fn behind_kind<A: Part + Drop, B: Part + Drop>(
+    alloc: Global,
+    value: &Value,
+    kind: &str,
+    first: &str,
+    second: &str,
+) -> Result<(A, B, Vat), Fault>
+    ensures gives { Gives (λ x. x) result (behind_kind A.at B.at kind.now first.now second.now (view value.now)) }
+    ensures ok { IfOk result (λ x. (view value.now ≡ object (member (codes "k") (string kind.now) (
+        member first.now (A.shown x.0) (
+        member second.now (B.shown x.1) (
+        member (codes "vat") (vat_data x.2) no_members))))) × A.fits x.0 × B.fits x.1) }
+{
+    let mut fields = fields_of_kind(value, kind)?;
+    let one = fields.read(alloc, first)?;
+    let (other, vat) = fields.last_two(alloc, second, "vat")?;
+    Ok((one, other, vat))
+}
+
+/// The parts between which the kind stands, and the vat behind them.
+#[tactic(auto, unfolding(crate::specs::ReadEntries::around_kind))]
+fn around_kind<A: Part + Drop, B: Part + Drop>(
+    alloc: Global,
+    value: &Value,
+    first: &str,
+    kind: &str,
+    second: &str,
+) -> Result<(A, B, Vat), Fault>
+    ensures gives { Gives (λ x. x) result (around_kind A.at B.at first.now kind.now second.now (view value.now)) }
+    ensures ok { IfOk result (λ x. (view value.now ≡ object (member first.now (A.shown x.0) (
+        member (codes "k") (string kind.now) (
+        member second.now (B.shown x.1) (
+        member (codes "vat") (vat_data x.2) no_members))))) × A.fits x.0 × B.fits x.1) }
+{
+    let mut fields = Fields::of(value)?;
+    let one = fields.read(alloc, first)?;
+    fields.word("k", kind)?;
+    let (other, vat) = fields.last_two(alloc, second, "vat")?;
+    Ok((one, other, vat))
+}
+
 /// The number that a head says.
 #[tactic(auto, unfolding(crate::specs::ReadEntries::head_at))]
 pub(crate) fn head_number(alloc: Global, value: &Value) -> Result<u64, Fault>
@@ -54,10 +116,7 @@ fn born_of(alloc: Global, value: &Value) -> Result<JournalEntry, Fault>
     ensures gives { Gives (λ e. e) result (born_at (view value.now)) }
     ensures ok { (version : TraceVersion) → IfOk result (λ e. (view value.now ≡ value_of_entry version e) × Fits version e) }
 {
-    let mut fields = fields_of_kind(value, "born")?;
-    let origin = fields.read(alloc, "origin")?;
-    let reference = fields.read(alloc, "ref")?;
-    let vat = fields.last(alloc, "vat")?;
+    let (origin, reference, vat) = behind_kind(alloc, value, "born", "origin", "ref")?;
     Ok(JournalEntry::Born(vat, reference, origin))
 }
 
@@ -66,9 +125,7 @@ fn asked_of(alloc: Global, value: &Value) -> Result<JournalEntry, Fault>
     ensures gives { Gives (λ e. e) result (asked_at (view value.now)) }
     ensures ok { (version : TraceVersion) → IfOk result (λ e. (view value.now ≡ value_of_entry version e) × Fits version e) }
 {
-    let mut fields = Fields::of(value)?;
-    let call = fields.read(alloc, "call")?;
-    let vat = vat_behind_kind(alloc, fields, "asked")?;
+    let (call, vat) = before_kind(alloc, value, "call", "asked")?;
     Ok(JournalEntry::Asked(vat, CallId(call)))
 }
 
@@ -77,10 +134,7 @@ fn resolved_of(alloc: Global, value: &Value) -> Result<JournalEntry, Fault>
     ensures gives { Gives (λ e. e) result (resolved_promise_at (view value.now)) }
     ensures ok { (version : TraceVersion) → IfOk result (λ e. (view value.now ≡ value_of_entry version e) × Fits version e) }
 {
-    let mut fields = fields_of_kind(value, "resolved")?;
-    let promise = fields.read(alloc, "promise")?;
-    let reference = fields.read(alloc, "ref")?;
-    let vat = fields.last(alloc, "vat")?;
+    let (promise, reference, vat) = behind_kind(alloc, value, "resolved", "promise", "ref")?;
     Ok(JournalEntry::Resolved(vat, PromiseId(promise), reference))
 }
 
@@ -89,11 +143,7 @@ fn rejected_of(alloc: Global, value: &Value) -> Result<JournalEntry, Fault>
     ensures gives { Gives (λ e. e) result (rejected_at (view value.now)) }
     ensures ok { (version : TraceVersion) → IfOk result (λ e. (view value.now ≡ value_of_entry version e) × Fits version e) }
 {
-    let mut fields = Fields::of(value)?;
-    let exception = fields.read(alloc, "exception")?;
-    fields.word("k", "rejected")?;
-    let promise = fields.read(alloc, "promise")?;
-    let vat = fields.last(alloc, "vat")?;
+    let (exception, promise, vat) = around_kind(alloc, value, "exception", "rejected", "promise")?;
     Ok(JournalEntry::Rejected(vat, PromiseId(promise), exception))
 }
 
@@ -102,9 +152,8 @@ fn dropped_of(alloc: Global, value: &Value) -> Result<JournalEntry, Fault>
     ensures gives { Gives (λ e. e) result (dropped_at (view value.now)) }
     ensures ok { (version : TraceVersion) → IfOk result (λ e. (view value.now ≡ value_of_entry version e) × Fits version e) }
 {
-    let mut fields = fields_of_kind(value, "dropped")?;
-    let reference = fields.read(alloc, "ref")?;
-    let vat = fields.last(alloc, "vat")?;
+    let fields = fields_of_kind(value, "dropped")?;
+    let (reference, vat) = fields.last_two(alloc, "ref", "vat")?;
     Ok(JournalEntry::Dropped(vat, reference))
 }
 
@@ -113,9 +162,7 @@ fn finished_of(alloc: Global, value: &Value) -> Result<JournalEntry, Fault>
     ensures gives { Gives (λ e. e) result (finished_at (view value.now)) }
     ensures ok { (version : TraceVersion) → IfOk result (λ e. (view value.now ≡ value_of_entry version e) × Fits version e) }
 {
-    let mut fields = Fields::of(value)?;
-    let call = fields.read(alloc, "call")?;
-    let vat = vat_behind_kind(alloc, fields, "finished")?;
+    let (call, vat) = before_kind(alloc, value, "call", "finished")?;
     Ok(JournalEntry::Finished(vat, CallId(call)))
 }
 
@@ -124,11 +171,7 @@ fn advanced_of(alloc: Global, value: &Value) -> Result<JournalEntry, Fault>
     ensures gives { Gives (λ e. e) result (entry_advanced_at (view value.now)) }
     ensures ok { (version : TraceVersion) → IfOk result (λ e. (view value.now ≡ value_of_entry version e) × Fits version e) }
 {
-    let mut fields = Fields::of(value)?;
-    let answer = fields.read(alloc, "answer")?;
-    fields.word("k", "advanced")?;
-    let reference = fields.read(alloc, "ref")?;
-    let vat = fields.last(alloc, "vat")?;
+    let (answer, reference, vat) = around_kind(alloc, value, "answer", "advanced", "ref")?;
     Ok(JournalEntry::Advanced(vat, reference, answer))
 }
 
@@ -137,9 +180,7 @@ fn refused_of(alloc: Global, value: &Value) -> Result<JournalEntry, Fault>
     ensures gives { Gives (λ e. e) result (refused_at (view value.now)) }
     ensures ok { (version : TraceVersion) → IfOk result (λ e. (view value.now ≡ value_of_entry version e) × Fits version e) }
 {
-    let mut fields = Fields::of(value)?;
-    let code = fields.read(alloc, "code")?;
-    let vat = vat_behind_kind(alloc, fields, "refused")?;
+    let (code, vat) = before_kind(alloc, value, "code", "refused")?;
     Ok(JournalEntry::Refused(vat, code))
 }
 
@@ -158,9 +199,7 @@ fn down_of(alloc: Global, value: &Value) -> Result<JournalEntry, Fault>
     ensures gives { Gives (λ e. e) result (down_at (view value.now)) }
     ensures ok { (version : TraceVersion) → IfOk result (λ e. (view value.now ≡ value_of_entry version e) × Fits version e) }
 {
-    let mut fields = Fields::of(value)?;
-    let fault = fields.read(alloc, "fault")?;
-    let vat = vat_behind_kind(alloc, fields, "down")?;
+    let (fault, vat) = before_kind(alloc, value, "fault", "down")?;
     Ok(JournalEntry::Down(vat, fault))
 }
 
@@ -170,8 +209,7 @@ fn tables_of(alloc: Global, value: &Value) -> Result<JournalEntry, Fault>
     ensures ok { (version : TraceVersion) → IfOk result (λ e. (view value.now ≡ value_of_entry version e) × Fits version e) }
 {
     let mut fields = Fields::of(value)?;
-    let a = fields.read(alloc, "a")?;
-    let b = fields.read(alloc, "b")?;
+    let (a, b) = fields.two(alloc, "a", "b")?;
     fields.word("k", "tables")?;
     fields.end()?;
     Ok(JournalEntry::Tables(a, b))
@@ -191,8 +229,7 @@ fn rest_of_made(
 {
     let raw = next_payload(alloc, &mut fields)?;
     let reference = fields.read(alloc, "ref")?;
-    let refs = fields.read(alloc, "refs")?;
-    let vat = fields.last(alloc, "vat")?;
+    let (refs, vat) = fields.last_two(alloc, "refs", "vat")?;
     Ok((raw, reference, refs, vat))
 }
 
@@ -203,8 +240,7 @@ fn made_of(alloc: Global, value: &Value) -> Result<(JournalEntry, Option<RawPayl
         × Fits version e.0 × FitsRaw (option_map (λ r. (r.text.now, r.caps)) e.1)) }
 {
     let mut fields = Fields::of(value)?;
-    let call = fields.read(alloc, "call")?;
-    let index = fields.read(alloc, "index")?;
+    let (call, index) = fields.two(alloc, "call", "index")?;
     let interface = fields.read(alloc, "interface")?;
     fields.word("k", "made")?;
     let method = fields.read(alloc, "method")?;
@@ -233,10 +269,8 @@ fn rest_of_delivered(
         member (codes "task") (nat r.2) (
         member (codes "vat") (vat_data r.3) no_members)))) }
 {
-    let refs = fields.read(alloc, "refs")?;
-    let stamp = fields.read(alloc, "stamp")?;
-    let task = fields.read(alloc, "task")?;
-    let vat = fields.last(alloc, "vat")?;
+    let (refs, stamp) = fields.two(alloc, "refs", "stamp")?;
+    let (task, vat) = fields.last_two(alloc, "task", "vat")?;
     Ok((refs, stamp, task, vat))
 }
 
@@ -252,8 +286,7 @@ fn delivered_of(
     let mut fields = Fields::of(value)?;
     let interface = fields.read(alloc, "interface")?;
     fields.word("k", "delivered")?;
-    let method = fields.read(alloc, "method")?;
-    let object = fields.read(alloc, "object")?;
+    let (method, object) = fields.two(alloc, "method", "object")?;
     let raw = next_payload(alloc, &mut fields)?;
     let (refs, stamp, task, vat) = rest_of_delivered(alloc, fields)?;
     let payload = no_payload(alloc)?;
@@ -283,23 +316,6 @@ fn next_outcome<'v>(
     outcome_of(alloc, value)
 }
 
-/// The members of an answer from its references on.
-#[tactic(auto, unfolding(crate::specs::ReadEntries::answered_rest))]
-fn rest_of_answered(
-    alloc: Global,
-    mut fields: Fields<'_>,
-) -> Result<(Items<RefId>, u64, Vat), Fault>
-    ensures gives { Gives (λ r. r) result (answered_rest (members_view fields.entry.rest)) }
-    ensures ok { IfOk result (λ r. members_view fields.entry.rest ≡ member (codes "refs") (list reference_data r.0) (
-        member (codes "task") (nat r.1) (
-        member (codes "vat") (vat_data r.2) no_members))) }
-{
-    let refs = fields.read(alloc, "refs")?;
-    let task = fields.read(alloc, "task")?;
-    let vat = fields.last(alloc, "vat")?;
-    Ok((refs, task, vat))
-}
-
 #[tactic(auto, unfolding(crate::specs::ReadEntries::answered_at))]
 fn answered_of(
     alloc: Global,
@@ -311,7 +327,8 @@ fn answered_of(
 {
     let mut fields = fields_of_kind(value, "answered")?;
     let (outcome, raw) = next_outcome(alloc, &mut fields)?;
-    let (refs, task, vat) = rest_of_answered(alloc, fields)?;
+    let refs = fields.read(alloc, "refs")?;
+    let (task, vat) = fields.last_two(alloc, "task", "vat")?;
     let entry = JournalEntry::Answered(vat, TaskId(task), outcome, refs);
     Ok((entry, raw))
 }
@@ -326,8 +343,7 @@ fn ended_of(alloc: Global, value: &Value) -> Result<(JournalEntry, Option<RawPay
     let call = fields.read(alloc, "call")?;
     fields.word("k", "ended")?;
     let (outcome, raw) = next_outcome(alloc, &mut fields)?;
-    let refs = fields.read(alloc, "refs")?;
-    let vat = fields.last(alloc, "vat")?;
+    let (refs, vat) = fields.last_two(alloc, "refs", "vat")?;
     let ended = Ended {
         call: CallId(call),
         outcome,
@@ -358,24 +374,16 @@ fn command_of(alloc: Global, kind: &str, value: &Value) -> Result<JournalEntry, 
     ensures gives { Gives (λ e. e) result (command_under kind.now (view value.now)) }
     ensures ok { (version : TraceVersion) → IfOk result (λ e. (view value.now ≡ value_of_entry version e) × Fits version e) }
 {
-    if kind == "born" {
-        born_of(alloc, value)
-    } else if kind == "asked" {
-        asked_of(alloc, value)
-    } else if kind == "resolved" {
-        resolved_of(alloc, value)
-    } else if kind == "rejected" {
-        rejected_of(alloc, value)
-    } else if kind == "dropped" {
-        dropped_of(alloc, value)
-    } else if kind == "finished" {
-        finished_of(alloc, value)
-    } else if kind == "advanced" {
-        advanced_of(alloc, value)
-    } else if kind == "refused" {
-        refused_of(alloc, value)
-    } else {
-        Err(Fault::WrongShape)
+    match kind {
+        "born" => born_of(alloc, value),
+        "asked" => asked_of(alloc, value),
+        "resolved" => resolved_of(alloc, value),
+        "rejected" => rejected_of(alloc, value),
+        "dropped" => dropped_of(alloc, value),
+        "finished" => finished_of(alloc, value),
+        "advanced" => advanced_of(alloc, value),
+        "refused" => refused_of(alloc, value),
+        _ => Err(Fault::WrongShape),
     }
 }
 
@@ -389,20 +397,39 @@ fn bare_entry_of(
     ensures gives { Gives (λ e. e) result (bare_entry_under version kind.now (view value.now)) }
     ensures ok { IfOk result (λ e. (view value.now ≡ value_of_entry version e) × Fits version e) }
 {
-    if kind == "got" {
-        got_of(alloc, value)
-    } else if kind == "down" {
-        down_of(alloc, value)
-    } else if kind == "tables" {
-        tables_of(alloc, value)
-    } else if kind == "head" {
-        if head_number(alloc, value)? == version.number() {
-            Ok(JournalEntry::Head)
-        } else {
-            Err(Fault::WrongShape)
+    match kind {
+        "got" => got_of(alloc, value),
+        "down" => down_of(alloc, value),
+        "tables" => tables_of(alloc, value),
+        "head" => {
+            if head_number(alloc, value)? == version.number() {
+                Ok(JournalEntry::Head)
+            } else {
+                Err(Fault::WrongShape)
+            }
         }
-    } else {
-        command_of(alloc, kind, value)
+        _ => command_of(alloc, kind, value),
+    }
+}
+
+/// An entry by its kind, with `no_payload` in the place of its payload, and what stands there.
+fn entry_of_kind<'v>(
+    alloc: Global,
+    kind: &str,
+    value: &'v Value,
+    version: TraceVersion,
+) -> Result<(JournalEntry, Option<RawPayload<'v>>), Fault>
+    ensures gives { Gives (λ e. (e.0, option_map (λ r. (r.text.now, r.caps)) e.1)) result (entry_under version kind.now (view value.now)) }
+    ensures ok { IfOk result (λ e. (view value.now ≡ value_by version (stands_for (option_map (λ r. (r.text.now, r.caps)) e.1)) e.0)
+        × Fits version e.0 × FitsRaw (option_map (λ r. (r.text.now, r.caps)) e.1)) }
+{
+    match kind {
+        "sent" => sent_of(alloc, value, version),
+        "made" => made_of(alloc, value),
+        "delivered" => delivered_of(alloc, value),
+        "answered" => answered_of(alloc, value),
+        "ended" => ended_of(alloc, value),
+        _ => Ok((bare_entry_of(alloc, kind, value, version)?, None)),
     }
 }
 
@@ -420,17 +447,5 @@ pub(crate) fn read_entry(
     let Some(kind) = value.get("k").and_then(Value::as_str) else {
         return Err(Fault::WrongShape);
     };
-    if kind == "sent" {
-        sent_of(alloc, value, version)
-    } else if kind == "made" {
-        made_of(alloc, value)
-    } else if kind == "delivered" {
-        delivered_of(alloc, value)
-    } else if kind == "answered" {
-        answered_of(alloc, value)
-    } else if kind == "ended" {
-        ended_of(alloc, value)
-    } else {
-        Ok((bare_entry_of(alloc, kind, value, version)?, None))
-    }
+    entry_of_kind(alloc, kind, value, version)
 }
