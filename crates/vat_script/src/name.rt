@@ -10,7 +10,7 @@ use std::marker::Model;
 const NAME_LIMIT: usize = 16;
 
 /// A name of a script: 1 to 16 lower case letters and digits. Seen by contracts as its letters. It takes no memory.
-#[derive(Clone, Copy, Debug, PartialEq, Eq, PartialOrd, Ord, Drop)]
+#[derive(Clone, Copy, Debug, PartialEq, Eq, Drop)]
 pub struct Name {
     /// The letters, and zeros behind them.
     places: [u8; NAME_LIMIT],
