@@ -14,6 +14,16 @@ use Rattle.vat_script.specs.declared.fault.ReadFault.{ReadFault}
 use Rattle.vat_script.specs.declared.fault.ReadFault.TheVariants as read
 use Rattle.vat_script.specs.Words.{and_then, of_three, of_five, is_text, vat_of, name_of, number_of, path_of, caps_of}
 
+-- A name alone.
+abbrev pub one_name : List (List ℕ) → Result (List ℕ) LineFault
+one_name (name ∷ []) = name_of name
+one_name words = Err fault.Count
+
+-- Two names.
+abbrev pub two_names : List (List ℕ) → Result (List ℕ × List ℕ) LineFault
+two_names (first ∷ second ∷ []) = and_then (name_of first) (λ f. and_then (name_of second) (λ s. Ok (f, s)))
+two_names words = Err fault.Count
+
 -- NAME OBJECT
 abbrev pub host_of : List (List ℕ) → Result LineCommand LineFault
 host_of (name ∷ object ∷ []) = and_then (name_of name) (λ n. and_then (number_of 64 object) (λ o. Ok (said.Host n (record { 0 = o }))))
@@ -21,8 +31,7 @@ host_of words = Err fault.Count
 
 -- CALL
 abbrev pub bootstrap_of : List (List ℕ) → Result LineCommand LineFault
-bootstrap_of (call ∷ []) = and_then (name_of call) (λ c. Ok (said.Bootstrap c))
-bootstrap_of words = Err fault.Count
+bootstrap_of words = and_then (one_name words) (λ c. Ok (said.Bootstrap c))
 
 abbrev pub field_line : List ℕ → List ℕ → List ℕ → Result LineCommand LineFault
 field_line name call path =
@@ -55,38 +64,31 @@ fail_of words = Err fault.Count
 
 -- PROMISE NAME
 abbrev pub promise_of : List (List ℕ) → Result LineCommand LineFault
-promise_of (promise ∷ name ∷ []) = and_then (name_of promise) (λ p. and_then (name_of name) (λ n. Ok (said.Promise p n)))
-promise_of words = Err fault.Count
+promise_of words = and_then (two_names words) (λ ns. Ok (said.Promise ns.0 ns.1))
 
 -- PROMISE NAME
 abbrev pub resolve_of : List (List ℕ) → Result LineCommand LineFault
-resolve_of (promise ∷ name ∷ []) = and_then (name_of promise) (λ p. and_then (name_of name) (λ n. Ok (said.Resolve p n)))
-resolve_of words = Err fault.Count
+resolve_of words = and_then (two_names words) (λ ns. Ok (said.Resolve ns.0 ns.1))
 
 -- PROMISE
 abbrev pub reject_of : List (List ℕ) → Result LineCommand LineFault
-reject_of (promise ∷ []) = and_then (name_of promise) (λ p. Ok (said.Reject p))
-reject_of words = Err fault.Count
+reject_of words = and_then (one_name words) (λ p. Ok (said.Reject p))
 
 -- NAME NAME: the new one, and the one that it is a clone of
 abbrev pub clone_of : List (List ℕ) → Result LineCommand LineFault
-clone_of (name ∷ from ∷ []) = and_then (name_of name) (λ n. and_then (name_of from) (λ f. Ok (said.CloneRef n f)))
-clone_of words = Err fault.Count
+clone_of words = and_then (two_names words) (λ ns. Ok (said.CloneRef ns.0 ns.1))
 
 -- NAME
 abbrev pub drop_of : List (List ℕ) → Result LineCommand LineFault
-drop_of (name ∷ []) = and_then (name_of name) (λ n. Ok (said.DropRef n))
-drop_of words = Err fault.Count
+drop_of words = and_then (one_name words) (λ n. Ok (said.DropRef n))
 
 -- CALL
 abbrev pub finish_of : List (List ℕ) → Result LineCommand LineFault
-finish_of (call ∷ []) = and_then (name_of call) (λ c. Ok (said.Finish c))
-finish_of words = Err fault.Count
+finish_of words = and_then (one_name words) (λ c. Ok (said.Finish c))
 
 -- NAME
 abbrev pub advance_of : List (List ℕ) → Result LineCommand LineFault
-advance_of (name ∷ []) = and_then (name_of name) (λ n. Ok (said.Advance n))
-advance_of words = Err fault.Count
+advance_of words = and_then (one_name words) (λ n. Ok (said.Advance n))
 
 -- The commands that end something, or change what a reference leads to.
 abbrev pub ending_of : List ℕ → List (List ℕ) → Result LineCommand LineFault

@@ -1,5 +1,5 @@
 ghost use Rattle.std.specs.Prelude.{◌≡◌, map};
-ghost use Rattle.vat_script.specs.Lines.{Reads, command_of, plain_of, ending_of, host_of, bootstrap_of, field_of, field_line, call_of, call_line, answer_of, fail_of, promise_of, resolve_of, reject_of, clone_of, drop_of, finish_of, advance_of};
+ghost use Rattle.vat_script.specs.Lines.{Reads, command_of, plain_of, ending_of, host_of, one_name, two_names, field_of, field_line, call_of, call_line, answer_of, fail_of};
 
 use crate::fault::{LineFault, ReadFault};
 use crate::line::{CallLine, FieldLine, LineCommand};
@@ -106,13 +106,16 @@ fn read_plain(word: &[u8], rest: &[&[u8]]) -> Result<LineCommand, LineFault>
         return read_host(rest);
     }
     if is_word("bootstrap", word) {
-        return read_bootstrap(rest);
+        let call = one_name(rest)?;
+        return Ok(LineCommand::Bootstrap(call));
     }
     if is_word("promise", word) {
-        return read_promise(rest);
+        let (promise, name) = two_names(rest)?;
+        return Ok(LineCommand::Promise(promise, name));
     }
     if is_word("clone", word) {
-        return read_clone(rest);
+        let (name, from) = two_names(rest)?;
+        return Ok(LineCommand::CloneRef(name, from));
     }
     read_ending(word, rest)
 }
@@ -125,31 +128,26 @@ fn read_ending(word: &[u8], rest: &[&[u8]]) -> Result<LineCommand, LineFault>
         return read_fail(rest);
     }
     if is_word("resolve", word) {
-        return read_resolve(rest);
+        let (promise, name) = two_names(rest)?;
+        return Ok(LineCommand::Resolve(promise, name));
     }
     if is_word("reject", word) {
-        return read_reject(rest);
+        let promise = one_name(rest)?;
+        return Ok(LineCommand::Reject(promise));
     }
     if is_word("drop", word) {
-        return read_drop(rest);
+        let name = one_name(rest)?;
+        return Ok(LineCommand::DropRef(name));
     }
     if is_word("finish", word) {
-        return read_finish(rest);
+        let call = one_name(rest)?;
+        return Ok(LineCommand::Finish(call));
     }
     if is_word("advance", word) {
-        return read_advance(rest);
+        let name = one_name(rest)?;
+        return Ok(LineCommand::Advance(name));
     }
     Err(LineFault::Word)
-}
-
-fn read_bootstrap(rest: &[&[u8]]) -> Result<LineCommand, LineFault>
-    ensures { result ≡ bootstrap_of (map (λ word. word.now) rest.now) }
-{
-    let [call] = rest else {
-        return Err(LineFault::Count);
-    };
-    let call = Name::of_word(call)?;
-    Ok(LineCommand::Bootstrap(call))
 }
 
 fn read_host(rest: &[&[u8]]) -> Result<LineCommand, LineFault>
@@ -163,28 +161,6 @@ fn read_host(rest: &[&[u8]]) -> Result<LineCommand, LineFault>
     Ok(LineCommand::Host(name, ObjectId(object)))
 }
 
-fn read_promise(rest: &[&[u8]]) -> Result<LineCommand, LineFault>
-    ensures { result ≡ promise_of (map (λ word. word.now) rest.now) }
-{
-    let [promise, name] = rest else {
-        return Err(LineFault::Count);
-    };
-    let promise = Name::of_word(promise)?;
-    let name = Name::of_word(name)?;
-    Ok(LineCommand::Promise(promise, name))
-}
-
-fn read_clone(rest: &[&[u8]]) -> Result<LineCommand, LineFault>
-    ensures { result ≡ clone_of (map (λ word. word.now) rest.now) }
-{
-    let [name, from] = rest else {
-        return Err(LineFault::Count);
-    };
-    let name = Name::of_word(name)?;
-    let from = Name::of_word(from)?;
-    Ok(LineCommand::CloneRef(name, from))
-}
-
 fn read_fail(rest: &[&[u8]]) -> Result<LineCommand, LineFault>
     ensures { result ≡ fail_of (map (λ word. word.now) rest.now) }
 {
@@ -195,53 +171,24 @@ fn read_fail(rest: &[&[u8]]) -> Result<LineCommand, LineFault>
     Ok(LineCommand::Fail(TaskId(task)))
 }
 
-fn read_resolve(rest: &[&[u8]]) -> Result<LineCommand, LineFault>
-    ensures { result ≡ resolve_of (map (λ word. word.now) rest.now) }
+/// The one word that follows, a name.
+fn one_name(rest: &[&[u8]]) -> Result<Name, LineFault>
+    ensures { result ≡ one_name (map (λ word. word.now) rest.now) }
 {
-    let [promise, name] = rest else {
-        return Err(LineFault::Count);
-    };
-    let promise = Name::of_word(promise)?;
-    let name = Name::of_word(name)?;
-    Ok(LineCommand::Resolve(promise, name))
+    match rest {
+        [name] => Name::of_word(name),
+        _ => Err(LineFault::Count),
+    }
 }
 
-fn read_reject(rest: &[&[u8]]) -> Result<LineCommand, LineFault>
-    ensures { result ≡ reject_of (map (λ word. word.now) rest.now) }
+/// The two words that follow, both names.
+fn two_names(rest: &[&[u8]]) -> Result<(Name, Name), LineFault>
+    ensures { result ≡ two_names (map (λ word. word.now) rest.now) }
 {
-    let [promise] = rest else {
+    let [first, second] = rest else {
         return Err(LineFault::Count);
     };
-    let promise = Name::of_word(promise)?;
-    Ok(LineCommand::Reject(promise))
-}
-
-fn read_drop(rest: &[&[u8]]) -> Result<LineCommand, LineFault>
-    ensures { result ≡ drop_of (map (λ word. word.now) rest.now) }
-{
-    let [name] = rest else {
-        return Err(LineFault::Count);
-    };
-    let name = Name::of_word(name)?;
-    Ok(LineCommand::DropRef(name))
-}
-
-fn read_finish(rest: &[&[u8]]) -> Result<LineCommand, LineFault>
-    ensures { result ≡ finish_of (map (λ word. word.now) rest.now) }
-{
-    let [call] = rest else {
-        return Err(LineFault::Count);
-    };
-    let call = Name::of_word(call)?;
-    Ok(LineCommand::Finish(call))
-}
-
-fn read_advance(rest: &[&[u8]]) -> Result<LineCommand, LineFault>
-    ensures { result ≡ advance_of (map (λ word. word.now) rest.now) }
-{
-    let [name] = rest else {
-        return Err(LineFault::Count);
-    };
-    let name = Name::of_word(name)?;
-    Ok(LineCommand::Advance(name))
+    let first = Name::of_word(first)?;
+    let second = Name::of_word(second)?;
+    Ok((first, second))
 }

@@ -1,6 +1,6 @@
 ghost use Rattle.std.specs.Prelude.{◌≡◌, Ok};
 ghost use Rattle.vat_script.specs.declared.line.LineCommand.TheVariants as said;
-ghost use Rattle.vat_script.specs.Bindings.{Gives, command_for, of_one, reference_at, references_at};
+ghost use Rattle.vat_script.specs.Bindings.{Gives, command_for, references_at};
 ghost use Rattle.rpc_msg.specs.Payloads.{null_payload};
 ghost use Rattle.vat_script.specs.Carried.{script_exception};
 ghost use Rattle.vat_machine.specs.declared.command.Command.TheVariants as command;
@@ -35,10 +35,22 @@ impl VatNames {
             LineCommand::Fail(task) => fail(alloc, *task),
             LineCommand::Resolve(promise, name) => self.resolve(*promise, *name),
             LineCommand::Reject(promise) => self.reject(alloc, *promise),
-            LineCommand::CloneRef(_, from) => self.clone_ref(*from),
-            LineCommand::DropRef(name) => self.drop_ref(*name),
-            LineCommand::Finish(call) => self.finish(*call),
-            LineCommand::Advance(name) => self.advance(*name),
+            LineCommand::CloneRef(_, from) => {
+                let reference = self.reference_at(*from)?;
+                Ok(Command::CloneRef(reference))
+            }
+            LineCommand::DropRef(name) => {
+                let reference = self.reference_at(*name)?;
+                Ok(Command::DropRef(reference))
+            }
+            LineCommand::Finish(call) => {
+                let call = self.call_at(*call)?;
+                Ok(Command::Finish(call))
+            }
+            LineCommand::Advance(name) => {
+                let reference = self.reference_at(*name)?;
+                Ok(Command::Advance(reference))
+            }
         }
     }
 
@@ -95,34 +107,6 @@ impl VatNames {
         let promise = self.promise_at(promise)?;
         let exception = script_exception(alloc)?;
         Ok(Command::Reject(promise, exception))
-    }
-
-    fn clone_ref(&self, from: Name) -> Result<Command, GiveFault>
-        ensures { Gives (of_one (λ (r : RefId). command.CloneRef r) (reference_at self.now from)) result }
-    {
-        let reference = self.reference_at(from)?;
-        Ok(Command::CloneRef(reference))
-    }
-
-    fn drop_ref(&self, name: Name) -> Result<Command, GiveFault>
-        ensures { Gives (command_for self.now (said.DropRef name)) result }
-    {
-        let reference = self.reference_at(name)?;
-        Ok(Command::DropRef(reference))
-    }
-
-    fn finish(&self, call: Name) -> Result<Command, GiveFault>
-        ensures { Gives (command_for self.now (said.Finish call)) result }
-    {
-        let call = self.call_at(call)?;
-        Ok(Command::Finish(call))
-    }
-
-    fn advance(&self, name: Name) -> Result<Command, GiveFault>
-        ensures { Gives (command_for self.now (said.Advance name)) result }
-    {
-        let reference = self.reference_at(name)?;
-        Ok(Command::Advance(reference))
     }
 
     /// The references of these names, in order.
