@@ -32,10 +32,12 @@ impl<Item: Drop> Spare<Item> {
         }
     }
 
-    /// Makes as much memory as a list has, where that is not much.
+    /// Makes as much memory as a list has, where that is not much. Else it won't take the list's place, and is let go.
     pub(crate) fn make_like(&mut self, list: &Vec<Item>, alloc: Global) {
         if list.capacity() <= KEPT {
             self.make(list.capacity(), alloc);
+        } else {
+            *self = Spare::new(alloc);
         }
     }
 
