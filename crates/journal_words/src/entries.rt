@@ -1,7 +1,8 @@
 //! Entries of a journal.
 use crate::messages::write_message;
 use crate::parts::{
-    letter, write_exception, write_path, write_payload, write_references, write_stamp,
+    letter, write_exception, write_numbered, write_path, write_payload, write_references,
+    write_said, write_stamp,
 };
 use rpc_msg::{ExportId, Items, Vat};
 use std::alloc::AllocError;
@@ -24,7 +25,7 @@ pub fn write_entry(text: &mut String, entry: &JournalEntry) -> Result<(), AllocE
         JournalEntry::Made(vat, made) => write_made(text, *vat, made)?,
         JournalEntry::Delivered(vat, delivery) => write_delivery(text, *vat, delivery)?,
         JournalEntry::Answered(vat, task, outcome, refs) => {
-            write!(text, "{}: answers {}, ", letter(*vat), task.0)?;
+            write_said(text, *vat, "answers", task.0)?;
             write_outcome(text, outcome)?;
             write_references(text, refs)?;
         }
@@ -41,40 +42,36 @@ pub fn write_entry(text: &mut String, entry: &JournalEntry) -> Result<(), AllocE
 fn write_short(text: &mut String, entry: &JournalEntry) -> Result<(), AllocError> {
     match entry {
         JournalEntry::Born(vat, reference, origin) => {
-            write!(text, "{}: ref {} of ", letter(*vat), reference.0)?;
+            write_said(text, *vat, "ref", reference.0)?;
             write_origin(text, *origin)
         }
-        JournalEntry::Asked(vat, call) => write!(text, "{}: asks {}", letter(*vat), call.0),
+        JournalEntry::Asked(vat, call) => write_said(text, *vat, "asks", call.0),
         JournalEntry::Resolved(vat, promise, reference) => {
-            write!(
-                text,
-                "{}: promise {} is ref {}",
-                letter(*vat),
-                promise.0,
-                reference.0
-            )
+            write_said(text, *vat, "promise", promise.0)?;
+            write_numbered(text, " is ref", reference.0)
         }
-        JournalEntry::Dropped(vat, reference) => {
-            write!(text, "{}: drops {}", letter(*vat), reference.0)
-        }
-        JournalEntry::Finished(vat, call) => write!(text, "{}: finishes {}", letter(*vat), call.0),
+        JournalEntry::Dropped(vat, reference) => write_said(text, *vat, "drops", reference.0),
+        JournalEntry::Finished(vat, call) => write_said(text, *vat, "finishes", call.0),
         JournalEntry::Advanced(vat, reference, answer) => {
-            write!(text, "{}: ref {} {answer:?}", letter(*vat), reference.0)
+            write_said(text, *vat, "ref", reference.0)?;
+            write!(text, " {answer:?}")
         }
-        JournalEntry::Refused(vat, number) => write!(text, "{}: refused {number}", letter(*vat)),
+        JournalEntry::Refused(vat, number) => {
+            write_said(text, *vat, "refused", u64::from(*number))
+        }
         JournalEntry::Got(vat) => write!(text, "{}: got", letter(*vat)),
-        JournalEntry::Down(vat, number) => write!(text, "{}: down {number}", letter(*vat)),
+        JournalEntry::Down(vat, number) => write_said(text, *vat, "down", u64::from(*number)),
         _ => text.push_str("another"),
     }
 }
 
 fn write_origin(text: &mut String, origin: Origin) -> Result<(), AllocError> {
     match origin {
-        Origin::Object(object) => write!(text, "object {}", object.0),
-        Origin::Promise(promise) => write!(text, "promise {}", promise.0),
-        Origin::Clone(reference) => write!(text, "ref {}", reference.0),
+        Origin::Object(object) => write_numbered(text, " of object", object.0),
+        Origin::Promise(promise) => write_numbered(text, " of promise", promise.0),
+        Origin::Clone(reference) => write_numbered(text, " of ref", reference.0),
         Origin::Field(call, path) => {
-            write!(text, "call {}", call.0)?;
+            write_numbered(text, " of call", call.0)?;
             write_path(text, path)
         }
     }
@@ -113,12 +110,13 @@ pub fn write_delivery(text: &mut String, vat: Vat, delivery: &Delivery) -> Resul
 
 /// A call that has ended.
 pub fn write_ended(text: &mut String, vat: Vat, ended: &Ended) -> Result<(), AllocError> {
-    write!(text, "{}: call {} ended, ", letter(vat), ended.call.0)?;
+    write!(text, "{}: call {} ended", letter(vat), ended.call.0)?;
     write_outcome(text, &ended.outcome)?;
     write_references(text, &ended.refs)
 }
 
 fn write_outcome(text: &mut String, outcome: &Outcome) -> Result<(), AllocError> {
+    text.push_str(", ")?;
     match outcome {
         Outcome::Results(payload) => write_payload(text, payload),
         Outcome::Exception(exception) => write_exception(text, exception),

@@ -1,7 +1,7 @@
 //! Messages.
 use crate::parts::{
-    write_descriptor, write_descriptors, write_exception, write_flag, write_payload, write_stamp,
-    write_target,
+    write_descriptor, write_descriptors, write_exception, write_flag, write_numbered,
+    write_payload, write_stamp, write_target,
 };
 use rpc_msg::{
     Call, Disembargo, DisembargoContext, Message, PlainMessage, Resolve, ResolvedTo, Return,
@@ -27,11 +27,13 @@ fn write_plain(text: &mut String, message: &PlainMessage) -> Result<(), AllocErr
             text.push_str("abort ")?;
             write_exception(text, exception)
         }
-        PlainMessage::Bootstrap(question) => write!(text, "bootstrap {}", question.0),
+        PlainMessage::Bootstrap(question) => {
+            write_numbered(text, "bootstrap", u64::from(question.0))
+        },
         PlainMessage::Call(call) => write_call(text, call),
         PlainMessage::Return(said) => write_return(text, said),
         PlainMessage::Finish(finish) => {
-            write!(text, "finish {}", finish.question.0)?;
+            write_numbered(text, "finish", u64::from(finish.question.0))?;
             write_flag(text, finish.release_result_caps)
         }
         PlainMessage::Resolve(resolve) => write_resolve(text, resolve),
@@ -39,7 +41,7 @@ fn write_plain(text: &mut String, message: &PlainMessage) -> Result<(), AllocErr
             write!(text, "release {} by {}", release.export.0, release.count)
         }
         PlainMessage::Disembargo(disembargo) => write_disembargo(text, *disembargo),
-        PlainMessage::Other(number) => write!(text, "other {number}"),
+        PlainMessage::Other(number) => write_numbered(text, "other", u64::from(*number)),
     }
 }
 
@@ -53,7 +55,7 @@ fn write_call(text: &mut String, call: &Call) -> Result<(), AllocError> {
 }
 
 fn write_return(text: &mut String, said: &Return) -> Result<(), AllocError> {
-    write!(text, "return {}", said.answer.0)?;
+    write_numbered(text, "return", u64::from(said.answer.0))?;
     write_flag(text, said.release_param_caps)?;
     text.push(' ')?;
     match &said.body {

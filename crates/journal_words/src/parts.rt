@@ -13,6 +13,21 @@ pub fn letter(vat: Vat) -> &'static str {
     }
 }
 
+/// What an entry of that vat says of a number.
+pub(crate) fn write_said(
+    text: &mut String,
+    vat: Vat,
+    what: &str,
+    number: u64,
+) -> Result<(), AllocError> {
+    write!(text, "{}: {what} {number}", letter(vat))
+}
+
+/// What has that number.
+pub(crate) fn write_numbered(text: &mut String, what: &str, number: u64) -> Result<(), AllocError> {
+    write!(text, "{what} {number}")
+}
+
 pub(crate) fn write_references(
     text: &mut String,
     references: &Items<RefId>,
@@ -54,9 +69,9 @@ pub(crate) fn write_exception(text: &mut String, exception: &Exception) -> Resul
 
 pub(crate) fn write_target(text: &mut String, target: Target) -> Result<(), AllocError> {
     match target {
-        Target::ImportedCap(export) => write!(text, "import {}", export.0),
+        Target::ImportedCap(export) => write_numbered(text, "import", u64::from(export.0)),
         Target::PromisedAnswer(question, path) => {
-            write!(text, "answer {}", question.0)?;
+            write_numbered(text, "answer", u64::from(question.0))?;
             write_path(text, path)
         }
     }
@@ -79,11 +94,17 @@ pub(crate) fn write_descriptor(
 ) -> Result<(), AllocError> {
     match descriptor {
         Descriptor::None => text.push_str("none"),
-        Descriptor::SenderHosted(export) => write!(text, "senderHosted {}", export.0),
-        Descriptor::SenderPromise(export) => write!(text, "senderPromise {}", export.0),
-        Descriptor::ReceiverHosted(export) => write!(text, "receiverHosted {}", export.0),
+        Descriptor::SenderHosted(export) => {
+            write_numbered(text, "senderHosted", u64::from(export.0))
+        }
+        Descriptor::SenderPromise(export) => {
+            write_numbered(text, "senderPromise", u64::from(export.0))
+        }
+        Descriptor::ReceiverHosted(export) => {
+            write_numbered(text, "receiverHosted", u64::from(export.0))
+        }
         Descriptor::ReceiverAnswer(question, path) => {
-            write!(text, "receiverAnswer {}", question.0)?;
+            write_numbered(text, "receiverAnswer", u64::from(question.0))?;
             write_path(text, path)
         }
     }
