@@ -9,21 +9,28 @@ use vat_core::Core;
 use vat_journal::Advanced;
 use vat_machine::{CallCommand, Effects, Level};
 
-/// A vat, and the null payload of its calls and results, whose copies share its bytes. Each of its steps does the one thing
-/// that the caller says, or the vat is `Astray`. Where a call has another vat `to`, that is a message, which goes straight
-/// there, and what is answered is what it leads to.
+/// A vat, and the payloads of its calls and results, whose copies share their bytes: one is null, the other a capability.
+/// Each of its steps does the one thing that the caller says, or the vat is `Astray`. Where a call has another vat `to`,
+/// that is a message, which goes straight there, and what is answered is what it leads to.
 #[derive(Drop)]
 pub(crate) struct Side {
     alloc: Global,
     core: Core,
     null: Payload,
+    capability: Payload,
 }
 
 impl Side {
     pub(crate) fn new(alloc: Global, vat: Vat, root: Option<ObjectId>) -> Result<Side, Astray> {
         let core = Core::new(alloc, vat, Level::One, root)?;
         let null = Payload::null(alloc)?;
-        Ok(Side { alloc, core, null })
+        let capability = Payload::root_capability(alloc)?;
+        Ok(Side {
+            alloc,
+            core,
+            null,
+            capability,
+        })
     }
 
     // What these effects are, where nothing was sent.
@@ -51,36 +58,39 @@ impl Side {
 
     // A message alone was sent, and goes straight there.
     #[inline(never)]
-    fn send(&mut self, to: &mut Side, mut effects: Effects) -> Result<Done, Astray> {
+    pub(crate) fn send(&mut self, to: &mut Side, effects: Effects) -> Result<Done, Astray> {
+        let effects = self.pass(to, effects)?;
+        to.look(effects)
+    }
+
+    // The same, where what it leads to is still to be looked at.
+    #[inline(always)]
+    fn pass(&mut self, to: &mut Side, mut effects: Effects) -> Result<Effects, Astray> {
         only_sends(&effects, 1)?;
         let Some(message) = pop(&mut effects, self.alloc) else {
             return Err(Astray::Otherwise);
         };
         self.core.recycle(effects);
-        let effects = to.core.receive(message);
-        to.look(effects)
+        Ok(to.core.receive(message))
     }
 
-    // Two messages were sent, and go straight there, in that order. The second leads to nothing.
+    // Two messages were sent, and go straight there, in that order. What the first leads to is still to be looked at; the
+    // second leads to nothing.
     #[inline(never)]
-    fn send_two(&mut self, to: &mut Side, mut effects: Effects) -> Result<Done, Astray> {
+    fn send_two(&mut self, to: &mut Side, mut effects: Effects) -> Result<Effects, Astray> {
         only_sends(&effects, 2)?;
-        let Some(second) = pop(&mut effects, self.alloc) else {
+        let Some(first) = take_first(&mut effects, self.alloc) else {
             return Err(Astray::Otherwise);
         };
-        let Some(first) = pop(&mut effects, self.alloc) else {
-            return Err(Astray::Otherwise);
-        };
-        self.core.recycle(effects);
-        let done = to.receive(first)?;
-        to.receive(second)?.nothing()?;
-        Ok(done)
+        let led_to = to.core.receive(first);
+        self.send(to, effects)?.nothing()?;
+        Ok(led_to)
     }
 
     /// Takes a message, and sends nothing.
     pub(crate) fn receive(&mut self, message: Message) -> Result<Done, Astray> {
         let effects = self.core.receive(message);
-        self.look(effects)
+        self.did(effects)
     }
 
     /// Takes a message, and sends one.
@@ -117,7 +127,7 @@ impl Side {
         reference: RefId,
         passed: RefId,
     ) -> Result<Done, Astray> {
-        let payload = Payload::root_capability(self.alloc)?;
+        let payload = self.capability.copy(self.alloc)?;
         let refs = one(self.alloc, passed)?;
         let effects = self.calls(reference, payload, refs)?;
         self.send(to, effects)
@@ -163,7 +173,7 @@ impl Side {
         task: Task,
         passed: RefId,
     ) -> Result<Done, Astray> {
-        let payload = Payload::root_capability(self.alloc)?;
+        let payload = self.capability.copy(self.alloc)?;
         let refs = one(self.alloc, passed)?;
         match self.core.answer(task.id, payload, refs) {
             Ok(effects) => self.send(to, effects),
@@ -174,9 +184,9 @@ impl Side {
     /// The answer to a task that the other vat passed on from this one: it sends the answer back, and its end.
     pub(crate) fn answer_passed(&mut self, to: &mut Side, task: Task) -> Result<Done, Astray> {
         let effects = self.answers(task)?;
-        let answer = self.sent(effects)?;
-        let effects = to.core.receive(answer);
-        to.send_two(self, effects)
+        let effects = self.pass(to, effects)?;
+        let effects = to.send_two(self, effects)?;
+        self.did(effects)
     }
 
     /// The answer to a task that is a call of this vat's own.
@@ -215,25 +225,17 @@ impl Side {
         reference: RefId,
     ) -> Result<Done, Astray> {
         let effects = self.core.resolve(promise, reference)?;
-        self.send_two(to, effects)
+        let effects = self.send_two(to, effects)?;
+        to.did(effects)
     }
 
-    /// Lets a reference take the shorter path, behind an embargo: the echo of the other vat.
-    pub(crate) fn advance(&mut self, to: &mut Side, reference: RefId) -> Result<Message, Astray> {
-        let (Advanced::Embargoed, mut effects) = self.core.advance(reference)? else {
+    /// Lets a reference take the shorter path, behind an embargo: what the other vat does at the message that asks for its
+    /// end, which is to be an echo, and is still to be looked at.
+    pub(crate) fn advance(&mut self, to: &mut Side, reference: RefId) -> Result<Effects, Astray> {
+        let (Advanced::Embargoed, effects) = self.core.advance(reference)? else {
             return Err(Astray::Otherwise);
         };
-        only_sends(&effects, 2)?;
-        let Some(release) = pop(&mut effects, self.alloc) else {
-            return Err(Astray::Otherwise);
-        };
-        let Some(disembargo) = pop(&mut effects, self.alloc) else {
-            return Err(Astray::Otherwise);
-        };
-        self.core.recycle(effects);
-        let echo = to.reply(disembargo)?;
-        to.receive(release)?.nothing()?;
-        Ok(echo)
+        self.send_two(to, effects)
     }
 
     pub(crate) fn let_go(&mut self, reference: RefId) -> Result<(), Astray> {
@@ -267,6 +269,20 @@ fn only_sends(effects: &Effects, count: usize) -> Result<(), Astray> {
 fn pop(effects: &mut Effects, alloc: Global) -> Option<Message> {
     let mut sends = mem::replace(&mut effects.sends, Items::new(alloc)).into_vec();
     let message = sends.pop();
+    // Nothing is there to be dropped.
+    mem::forget(mem::replace(&mut effects.sends, Items::from_vec(sends)));
+    message
+}
+
+// The first message, which goes out of its list; the last is the first then.
+#[inline(always)]
+fn take_first(effects: &mut Effects, alloc: Global) -> Option<Message> {
+    let mut sends = mem::replace(&mut effects.sends, Items::new(alloc)).into_vec();
+    let message = if sends.is_empty() {
+        None
+    } else {
+        Some(sends.swap_remove(0))
+    };
     // Nothing is there to be dropped.
     mem::forget(mem::replace(&mut effects.sends, Items::from_vec(sends)));
     message
