@@ -11,13 +11,12 @@ use std::alloc::Global;
 use vat_journal::{Delivery, Ended, JournalEntry};
 use vat_machine::Effects;
 
-/// How many entries the effects of a step have.
+/// How many entries the effects of a step have, but for that of going down.
 pub(crate) fn count(effects: &Effects) -> Option<usize>
-    ensures { IfSome result (λ count. count ≡ length effects.now.sends + (length effects.now.deliveries + length effects.now.answers) + 1) }
+    ensures { IfSome result (λ count. count ≡ length effects.now.sends + (length effects.now.deliveries + length effects.now.answers)) }
 {
     let more = effects.deliveries.len().checked_add(effects.answers.len())?;
-    let told = effects.sends.len().checked_add(more)?;
-    told.checked_add(1)
+    effects.sends.len().checked_add(more)
 }
 
 /// Puts the entries of a step's effects at the end, each a copy, where there is room. Where it answers `Err` some of them may
@@ -68,7 +67,8 @@ fn put_sent(
     Ok(())
 }
 
-// Each kind of message that most steps send goes into the journal as soon as it is copied.
+// Each kind of message that most steps send goes into the journal as soon as it is copied. Each entry is put by a function of
+// its own, so that a step pays for the entries that it has.
 fn put_message(
     alloc: Global,
     vat: Vat,
@@ -94,6 +94,7 @@ fn put_message(
     }
 }
 
+#[inline(never)]
 fn put_call(alloc: Global, vat: Vat, journal: &mut Journal, call: &Call) -> Result<(), Memory>
     requires { 0 < journal.old.1 }
     ensures entries { OnOk result (journal.new.0 ≡ journal.old.0 ++ entry.Sent vat (Plain (plain.Call call.now)) ∷ []) }
@@ -105,6 +106,7 @@ fn put_call(alloc: Global, vat: Vat, journal: &mut Journal, call: &Call) -> Resu
     Ok(())
 }
 
+#[inline(never)]
 fn put_return(alloc: Global, vat: Vat, journal: &mut Journal, back: &Return) -> Result<(), Memory>
     requires { 0 < journal.old.1 }
     ensures entries { OnOk result (journal.new.0 ≡ journal.old.0 ++ entry.Sent vat (Plain (plain.Return back.now)) ∷ []) }
@@ -152,9 +154,25 @@ fn put_delivered(
     ensures extends { OnErr result (Extends journal.old.0 journal.new.0) }
 {
     for delivery in deliveries {
-        let copy = delivery.copy(alloc)?;
-        journal.push(JournalEntry::Delivered(vat, copy));
+        put_delivery(alloc, vat, journal, delivery)?;
     }
+    Ok(())
+}
+
+#[inline(never)]
+fn put_delivery(
+    alloc: Global,
+    vat: Vat,
+    journal: &mut Journal,
+    delivery: &Delivery,
+) -> Result<(), Memory>
+    requires { 0 < journal.old.1 }
+    ensures entries { OnOk result (journal.new.0 ≡ journal.old.0 ++ entry.Delivered vat delivery.now ∷ []) }
+    ensures room { journal.old.1 ≤ journal.new.1 + 1 }
+    ensures same { OnErr result (journal.new.0 ≡ journal.old.0) }
+{
+    let copy = delivery.copy(alloc)?;
+    journal.push(JournalEntry::Delivered(vat, copy));
     Ok(())
 }
 
@@ -170,8 +188,19 @@ fn put_ended(
     ensures extends { OnErr result (Extends journal.old.0 journal.new.0) }
 {
     for ended in answers {
-        let copy = ended.copy(alloc)?;
-        journal.push(JournalEntry::Ended(vat, copy));
+        put_end(alloc, vat, journal, ended)?;
     }
+    Ok(())
+}
+
+#[inline(never)]
+fn put_end(alloc: Global, vat: Vat, journal: &mut Journal, ended: &Ended) -> Result<(), Memory>
+    requires { 0 < journal.old.1 }
+    ensures entries { OnOk result (journal.new.0 ≡ journal.old.0 ++ entry.Ended vat ended.now ∷ []) }
+    ensures room { journal.old.1 ≤ journal.new.1 + 1 }
+    ensures same { OnErr result (journal.new.0 ≡ journal.old.0) }
+{
+    let copy = ended.copy(alloc)?;
+    journal.push(JournalEntry::Ended(vat, copy));
     Ok(())
 }

@@ -47,13 +47,29 @@ impl Journal {
         self.entries.len()
     }
 
-    /// Makes room for that many more, beside the room that is kept.
+    /// Makes room for that many more and one, beside the room that is kept.
     pub(crate) fn prepare(&mut self, more: usize) -> Result<(), Memory>
         ensures same { self.new.0 ≡ self.old.0 }
-        ensures ok { OnOk result (more + 6 ≤ self.new.1) }
+        ensures ok { OnOk result (more + 1 + 6 ≤ self.new.1) }
         ensures room { self.old.1 ≤ self.new.1 }
     {
-        let Some(room) = more.checked_add(KEPT) else {
+        let room = self.entries.capacity() - self.entries.len();
+        if let Some(free) = room.checked_sub(KEPT) {
+            if more < free {
+                return Ok(());
+            }
+        }
+        self.grow(more)
+    }
+
+    #[cold]
+    #[inline(never)]
+    fn grow(&mut self, more: usize) -> Result<(), Memory>
+        ensures same { self.new.0 ≡ self.old.0 }
+        ensures ok { OnOk result (more + 1 + 6 ≤ self.new.1) }
+        ensures room { self.old.1 ≤ self.new.1 }
+    {
+        let Some(room) = more.checked_add(1 + KEPT) else {
             return Err(Memory);
         };
         match self.entries.reserve(room) {

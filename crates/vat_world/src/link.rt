@@ -45,9 +45,19 @@ impl Link {
         ensures ok { OnOk result (more + 1 ≤ self.new.1) }
         ensures room { self.old.1 ≤ self.new.1 }
     {
-        if more == 0 {
+        if more < self.messages.capacity() - self.messages.len() {
             return Ok(());
         }
+        self.grow(more)
+    }
+
+    #[cold]
+    #[inline(never)]
+    fn grow(&mut self, more: usize) -> Result<(), Memory>
+        ensures same { self.new.0 ≡ self.old.0 }
+        ensures ok { OnOk result (more + 1 ≤ self.new.1) }
+        ensures room { self.old.1 ≤ self.new.1 }
+    {
         let Some(room) = more.checked_add(1) else {
             return Err(Memory);
         };

@@ -224,7 +224,7 @@ impl World {
     {
         let a = self.a.core.counts()?;
         let b = self.b.core.counts()?;
-        self.journal.prepare(1)?;
+        self.journal.prepare(0)?;
         self.journal.push(JournalEntry::Tables(a, b));
         Ok(())
     }
