@@ -99,6 +99,7 @@ impl Vats {
         }
     }
 
+    #[inline(always)]
     fn did(&mut self, vat: Vat, effects: Effects) -> Result<Done, Astray> {
         let done = Done::of(&effects);
         self.world.recycle(vat, effects);
