@@ -1,5 +1,5 @@
-//! Lines of traces, and verdicts of traces. Behind each line of `stdin` stands, further in, what is answered; both files are
-//! worked out by hand from docs/trace.md.
+//! Lines of traces, and verdicts of traces. Behind each line stands, further in, what is answered; both are worked out by
+//! hand from docs/trace.md.
 //!
 //! - `one LINE`, `two LINE`: what the entry says that is read from that line of version 1 or 2, and its line where that is
 //!   another one; or the fault.
@@ -14,15 +14,13 @@ mod scene;
 
 use anyhow::Result;
 use scene::Scene;
-use std::io::{BufRead, BufReader};
+use std::alloc::Global;
 
-fn main(rt: HostRuntime) -> Result<()> {
-    let alloc = rt.alloc();
+pub fn play(rt: &impl Print, alloc: Global, lines: &str) -> Result<()> {
     let mut scene = Scene::new(alloc);
-    for line in BufReader::new(alloc, rt.reader())?.lines(alloc) {
-        let line = line?;
+    for line in lines.lines() {
         println!(rt; "{line}")?;
-        for said in scene.answer(alloc, line.as_str())?.lines() {
+        for said in scene.answer(alloc, line)?.lines() {
             println!(rt; "    {said}")?;
         }
     }

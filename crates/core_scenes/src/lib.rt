@@ -1,5 +1,5 @@
 //! Scenes of two cores: the lines of a script are played, and below each stands, word for word, what the cores say and do
-//! then. The files `stdin` and `stdout` are worked scenes, with values from the rules of docs/protocol.md.
+//! then. They are worked out from the rules of docs/protocol.md.
 //!
 //! A line `scene ..` begins with two new cores, `scene level 0 ..` with a vat a of level 0. `b hears ..` gives vat b a
 //! message that its peer needn't have sent (`heard.rt`). `100 times ..` plays a line so often, with the number of the turn
@@ -12,22 +12,20 @@ mod told;
 
 use anyhow::Result;
 use scene::Scene;
-use std::io::{BufRead, BufReader};
+use std::alloc::Global;
 
 /// So many lines are told whole.
 const SHOWN: usize = 12;
 
-fn main(rt: HostRuntime) -> Result<()> {
-    let alloc = rt.alloc();
+pub fn play(rt: &impl Print, alloc: Global, lines: &str) -> Result<()> {
     let mut scene = Scene::new(alloc, "")?;
-    for line in BufReader::new(alloc, rt.reader())?.lines(alloc) {
-        let line = line?;
+    for line in lines.lines() {
         println!(rt; "{line}")?;
         if line.starts_with("scene ") {
-            scene = Scene::new(alloc, line.as_str())?;
+            scene = Scene::new(alloc, line)?;
         } else if !line.is_empty() {
-            scene.play(alloc, line.as_str())?;
-            tell(&rt, scene.said.as_str())?;
+            scene.play(alloc, line)?;
+            tell(rt, scene.said.as_str())?;
         }
     }
     Ok(())

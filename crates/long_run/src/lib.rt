@@ -1,6 +1,6 @@
 //! A long run of two vats: 20,000 events, drawn by a fixed rule from every command and delivery, and then all is answered,
-//! settled and let go. What it says is so whatever was drawn (the file `stdout`): no vat goes down, the trace breaks no law,
-//! and nothing is left in the tables.
+//! settled and let go. What it says is so whatever was drawn: no vat goes down, the trace breaks no law, and nothing is left
+//! in the tables.
 #![tactic(auto)]
 
 mod application;
@@ -9,13 +9,14 @@ mod run;
 
 use anyhow::Result;
 use run::Run;
+use std::alloc::Global;
 use trace_check::{Verdict, check};
 use vat_journal::{Counts, JournalEntry};
 
 const EVENTS: u32 = 20_000;
 
-fn main(rt: HostRuntime) -> Result<()> {
-    let mut run = Run::new(rt.alloc())?;
+pub fn play(rt: &impl Print, alloc: Global) -> Result<()> {
+    let mut run = Run::new(alloc)?;
     for _ in 0..EVENTS {
         run.draw()?;
     }
@@ -31,7 +32,7 @@ fn main(rt: HostRuntime) -> Result<()> {
         }
         _ => println!(rt; "no counts were noted")?,
     }
-    match check(rt.alloc(), run.world.journal())? {
+    match check(alloc, run.world.journal())? {
         Verdict::Good(delivered) if delivered < 500 => println!(rt; "few calls were delivered")?,
         Verdict::Good(_) => println!(rt; "the trace breaks no law")?,
         verdict => println!(rt; "the trace breaks a law: {verdict:?}")?,
