@@ -2,5 +2,6 @@ pub mod Bytes
 pub mod Filled
 pub mod Laid
 pub mod Lengths
+pub mod Room
 pub mod Sized
 pub mod Writing

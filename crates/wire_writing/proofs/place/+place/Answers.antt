@@ -1,3 +1,4 @@
+use Rattle.std.proofs.lemmas.Grind.{common_steps}
 use Rattle.std.proofs.Common.{◌≡◌, ℕ, ◌+◌, ◌-◌, ◌*◌, ◌^◌, ◌<◌, ◌≤◌, ◌++◌, Bool, true, List, map, suc, ltb, length, set, refl, sym, ap, subst, ◌∙◌, arith, rules}
 use Rattle.std.specs.Prelude.{replicate}
 use Rattle.std.specs.Vec.{vec_capacity}
@@ -19,6 +20,7 @@ use Rattle.wire_writing.proofs.Lengths.{length-placed_all}
 use Rattle.wire_trees.proofs.Counts.{trees_counted, structs_counted}
 use Rattle.wire_writing.proofs.Filled.{zeros_fit, filled_none, length-filled, length-put}
 use Rattle.wire_writing.proofs.Laid.{narrow_1, narrow_8, narrow_16, narrow_32, packed_room, eights_room, room_for, fields_placed, pointers_placed, list_placed, struct_placed, few_structs}
+use Rattle.wire_writing.proofs.Room.{sum_same, le_then, room_first, room_rest, slot_inside, slot_next, inside_next, struct_inside, struct_fits, section_fits, struct_next, struct_long, struct_there, list_long, list_there, pointers_there, list_spare, zeros_spare, shorter_then}
 use Rattle.wire_writing.proofs.Sized.{taken, taken_by, taken_by_all, trees_sizes, trees_taken, trees_fit, trees_placed, structs_sizes, structs_taken, structs_fit, structs_even, structs_placed}
 use Rattle.wire_trees.proofs.Viewed.{view_null, view_capability, view_struct, view_list, view_void, view_bits, view_bytes, view_twos, view_fours, view_eights, view_pointers, view_structs}
 use Rattle.wire_writing.proofs.place.+place.Goals as goal
@@ -34,7 +36,7 @@ place_items-place_pointers-requires t c =
     let room = subst (λ (es : Elements). HasRoom (taken (parts (tree.list es) 0)) (length c.args.words.now.items) (vec_capacity c.args.words.now)) e c.requires.room in
     let below : HaveSizes (parts_of_all (trees_view c.as_slice-in-Pointers.result.now) 0) = rw c.as_slice-in-Pointers.ensures sizes.1 in
     let fits : HasRoom (length c.as_slice-in-Pointers.result.now + taken (parts_of_all (trees_view c.as_slice-in-Pointers.result.now) 0)) (length c.args.words.now.items) (vec_capacity c.args.words.now) = rw c.as_slice-in-Pointers.ensures (room_for room (omega (arith, trees_counted c.in-Pointers.pointers.trees.items))) in
-    (search (rules, the_lemmas), (c.requires.ahead, (below, fits)))
+    (grind (the_lemmas, arith, common_steps), (c.requires.ahead, (below, fits)))
 
 pub place_items-place_list-requires : goal.place_items-place_list-requires
 place_items-place_list-requires t c =
@@ -48,69 +50,58 @@ place_items-place_list-requires t c =
     let same : structs_count (structs_view c.in-Structs.items.items) * (c.in-Structs.data_words + c.in-Structs.pointer_words) ≡ length c.in-Structs.items.items * (c.in-Structs.data_words + c.in-Structs.pointer_words) = ap (λ (k : ℕ). k * (c.in-Structs.data_words + c.in-Structs.pointer_words)) n in
     let short : length c.deref.result.now < 2 ^ 30 = rw c.deref.ensures.value (omega (arith, few, n)) in
     let fits : HasRoom (length c.deref.result.now * (c.in-Structs.data_words + c.in-Structs.pointer_words) + 1 + taken (parts_of_structs (structs_view c.deref.result.now) 0)) (length c.args.words.now.items) (vec_capacity c.args.words.now) = rw c.deref.ensures.value (room_for room (omega (arith, same))) in
-    (search (rules, the_lemmas), (c.requires.ahead, (even, (below, (short, fits)))))
+    (grind (the_lemmas, arith, common_steps), (c.requires.ahead, (even, (below, (short, fits)))))
 
 pub place_tree-place_fields-requires : goal.place_tree-place_fields-requires
 place_tree-place_fields-requires t c =
     let e = ap view c.in-Struct.is ∙ view_struct c.in-Struct.«data» c.in-Struct.pointers in
     let sizes = subst (λ (u : Tree). HaveSizes (parts u 0)) e c.requires.sizes in
     let room = subst (λ (u : Tree). HasRoom (taken (parts u 0)) (length c.args.words.now.items) (vec_capacity c.args.words.now)) e c.requires.room in
-    let few = room.few in
-    let spare = room.spare in
     let k = ap length c.as_slice-trees.ensures in
     let n = trees_counted c.in-Struct.pointers.trees.items in
-    let z = ap length c.push_zeros.ensures.items in
-    let a = length-append c.args.words.now.items (replicate {A = ℕ} (c.len.result + length c.as_slice-trees.result.now) 0) in
+    let z = ap length c.push_zeros.ensures.items ∙ length-append c.args.words.now.items (replicate {A = ℕ} (c.len.result + length c.as_slice-trees.result.now) 0) in
     let b = length-replicate {A = ℕ} (c.len.result + length c.as_slice-trees.result.now) 0 in
+    let size = struct_long (length c.args.words.now.items) z b (c.len.ensures ∙ c.in-Struct.«data».ok.0) k n in
     let below : HaveSizes (parts_of_all (trees_view c.as_slice-trees.result.now) 0) = rw c.as_slice-trees.ensures sizes.1 in
-    let inside : c.len-next.result + length c.deref.result.now + length c.as_slice-trees.result.now ≤ length c.push_zeros.new.words.items = omega (arith, z, a, b) in
-    let more = c.push_zeros.ensures.capacity in
+    let inside = struct_there (c.len-next.ensures ∙ c.args.words.now.ok.0) (ap length c.deref.ensures.value) k n size in
     let fits : HasRoom (taken (parts_of_all (trees_view c.as_slice-trees.result.now) 0)) (length c.push_zeros.new.words.items) (vec_capacity c.push_zeros.new.words) =
-    rw c.as_slice-trees.ensures record { few = omega (arith, few, n, z, a, b, k); spare = omega (arith, spare, n, z, a, b, k, more) } in
-    (search (rules, the_lemmas), (inside, (below, fits)))
+    rw c.as_slice-trees.ensures (room_rest (length c.in-Struct.«data».items + trees_count (trees_view c.in-Struct.pointers.trees.items)) refl size c.push_zeros.ensures.capacity room) in
+    (grind (the_lemmas, arith, common_steps), (inside, (below, fits)))
 
 pub place_tree-push_zeros-requires : goal.place_tree-push_zeros-requires
 place_tree-push_zeros-requires t c =
     let e = ap view c.in-Struct.is ∙ view_struct c.in-Struct.«data» c.in-Struct.pointers in
-    let spare = (subst (λ (u : Tree). HasRoom (taken (parts u 0)) (length c.args.words.now.items) (vec_capacity c.args.words.now)) e c.requires.room).spare in
-    let k = ap length c.as_slice-trees.ensures in
-    let n = trees_counted c.in-Struct.pointers.trees.items in
-    omega (arith, spare, n, k)
+    let room = subst (λ (u : Tree). HasRoom (taken (parts u 0)) (length c.args.words.now.items) (vec_capacity c.args.words.now)) e c.requires.room in
+    zeros_spare _ {count = length c.in-Struct.«data».items + trees_count (trees_view c.in-Struct.pointers.trees.items)} refl (sum_same (c.len.ensures ∙ c.in-Struct.«data».ok.0) (ap length c.as_slice-trees.ensures ∙ sym (trees_counted c.in-Struct.pointers.trees.items))) room
 
 pub place_trees-place_tree-word-requires : goal.place_trees-place_tree-word-requires
 place_trees-place_tree-word-requires t c =
-    let sizes = (trees_sizes c.args.trees.now c.loop-tree.tree-index c.tree-item.result c.loop-tree-test.true c.tree-item.is c.loop-tree.invariant.sizes).0 in
+    let inv = c.loop-tree.invariant in
+    let sizes = (trees_sizes c.args.trees.now c.loop-tree.tree-index c.tree-item.result c.loop-tree-test.true c.tree-item.is inv.sizes).0 in
     let all = trees_taken c.args.trees.now c.loop-tree.tree-index c.tree-item.result c.loop-tree-test.true c.tree-item.is in
-    let few = c.loop-tree.invariant.room.few in
-    let inside = c.loop-tree.invariant.inside in
-    let spare = c.loop-tree.invariant.room.spare in
-    (search (rules, the_lemmas), (omega (arith, inside), (sizes, record { few = omega (arith, few, all); spare = omega (arith, spare, all) })))
+    (grind (the_lemmas, arith, common_steps), (slot_inside inv.inside c.loop-tree-test.true, (sizes, room_first _ all inv.room)))
 
 pub place_trees-loop-tree-preserved : goal.place_trees-loop-tree-preserved
 place_trees-loop-tree-preserved t c =
     let inv = c.loop-tree.invariant in
     let test = c.loop-tree-test.true in
     let item = c.tree-item.result in
+    let ws = c.loop-tree.words.items in
     let sizes = trees_sizes c.args.trees.now c.loop-tree.tree-index item test c.tree-item.is inv.sizes in
     let all = trees_taken c.args.trees.now c.loop-tree.tree-index item test c.tree-item.is in
-    let own = taken_by (view item) 0 c.loop-tree.slot (length c.loop-tree.words.items) sizes.0 in
-    let long = length-append c.loop-tree.words.items (placed (view item) c.loop-tree.slot (length c.loop-tree.words.items)).1 in
+    let own = taken_by (view item) 0 c.loop-tree.slot (length ws) sizes.0 in
+    let long = length-append ws (placed (view item) c.loop-tree.slot (length ws)).1 in
     let made = c.place_tree-word.ensures.laid.placed in
-    let size : length (set c.place_tree-word.new.words.items c.loop-tree.slot c.place_tree-word.result) ≡ length c.loop-tree.words.items + taken (parts (view item) 0) =
-    length-set c.place_tree-word.new.words.items c.loop-tree.slot c.place_tree-word.result ∙ ap length made ∙ omega (arith, long, own) in
-    let before = inv.slot in
-    let few = inv.room.few in
-    let spare = inv.room.spare in
-    let capacity = inv.capacity in
+    let size : length (set c.place_tree-word.new.words.items c.loop-tree.slot c.place_tree-word.result) ≡ length ws + taken (parts (view item) 0) =
+    length-set c.place_tree-word.new.words.items c.loop-tree.slot c.place_tree-word.result ∙ ap length made ∙ long ∙ ap (λ (k : ℕ). length ws + k) own in
     let more = c.place_tree-word.ensures.laid.capacity in
-    let inside = inv.inside in
     record {
-      slot = omega (arith, before);
-      inside = omega (arith, size, inside, test);
+      slot = slot_next c.args.at c.loop-tree.tree-index inv.slot;
+      inside = inside_next c.loop-tree.slot (taken (parts (view item) 0)) size inv.inside test;
       sizes = sizes.1;
-      room = record { few = omega (arith, size, few, all); spare = omega (arith, size, spare, all, more) };
-      capacity = omega (arith, capacity, more);
-      same = trees_placed c.args.trees.now c.loop-tree.tree-index item test c.tree-item.is c.loop-tree.words.items (set c.place_tree-word.new.words.items c.loop-tree.slot c.place_tree-word.result) _ c.loop-tree.slot c.place_tree-word.result inv.inside
+      room = room_rest (taken (parts (view item) 0)) all size more inv.room;
+      capacity = le_then inv.capacity more;
+      same = trees_placed c.args.trees.now c.loop-tree.tree-index item test c.tree-item.is ws (set c.place_tree-word.new.words.items c.loop-tree.slot c.place_tree-word.result) _ c.loop-tree.slot c.place_tree-word.result inv.inside
           (ap (λ (l : List ℕ). set l c.loop-tree.slot c.place_tree-word.result) made) c.place_tree-word.ensures.laid.word inv.same;
       fits = trees_fit c.args.trees.now c.loop-tree.tree-index item test c.tree-item.is (trees_view c.args.trees.now) c.place_tree-word.ensures.fits inv.fits;
     }
@@ -120,21 +111,13 @@ place_structs-place_fields-requires t c =
     let inv = c.loop-item.invariant in
     let test = c.loop-item-test.true in
     let item = c.item-item.result in
-    let d = c.args.data_words in
-    let p = c.args.pointer_words in
     let ss = c.args.items.now in
     let i = c.loop-item.item-index in
     let sizes = structs_sizes ss i item test c.item-item.is inv.sizes in
     let all = structs_taken ss i item test c.item-item.is in
-    let even = structs_even ss i item test c.item-item.is d p inv.even in
-    let one : length ss - i ≡ suc (length ss - (i + 1)) = omega arith in
-    let more : suc (length ss - (i + 1)) * (d + p) ≡ (d + p) + (length ss - (i + 1)) * (d + p) = omega arith in
-    let inside : c.loop-item.slot + ((d + p) + (length ss - (i + 1)) * (d + p)) ≤ length c.loop-item.words.items = subst (λ (k : ℕ). c.loop-item.slot + k ≤ length c.loop-item.words.items) (ap (λ (k : ℕ). k * (d + p)) one ∙ more) inv.inside in
-    let few = inv.room.few in
-    let spare = inv.room.spare in
-    let ed = even.0 in
-    let ep = even.1 in
-    (search (rules, the_lemmas), (rw (c.as_slice.ensures, c.deref.ensures.value) (omega (arith, inside, ed, ep)), (rw c.as_slice.ensures sizes.0, rw c.as_slice.ensures record { few = omega (arith, few, all); spare = omega (arith, spare, all) })))
+    let even = structs_even ss i item test c.item-item.is c.args.data_words c.args.pointer_words inv.even in
+    let inside = struct_fits c.loop-item.slot _ even.0 even.1 (struct_inside c.loop-item.slot (c.args.data_words + c.args.pointer_words) test inv.inside) in
+    (grind (the_lemmas, arith, common_steps), (rw (c.as_slice.ensures, c.deref.ensures.value) inside, (rw c.as_slice.ensures sizes.0, rw c.as_slice.ensures (room_first _ all inv.room))))
 
 pub place_structs-loop-item-preserved : goal.place_structs-loop-item-preserved
 place_structs-loop-item-preserved t c =
@@ -144,34 +127,29 @@ place_structs-loop-item-preserved t c =
     let d = c.args.data_words in
     let p = c.args.pointer_words in
     let ss = c.args.items.now in
+    let ws = c.loop-item.words.items in
     let i = c.loop-item.item-index in
     let sizes = structs_sizes ss i item test c.item-item.is inv.sizes in
     let all = structs_taken ss i item test c.item-item.is in
     let even = structs_even ss i item test c.item-item.is d p inv.even in
-    let one : length ss - i ≡ suc (length ss - (i + 1)) = omega arith in
-    let more : suc (length ss - (i + 1)) * (d + p) ≡ (d + p) + (length ss - (i + 1)) * (d + p) = omega arith in
-    let inside : c.loop-item.slot + ((d + p) + (length ss - (i + 1)) * (d + p)) ≤ length c.loop-item.words.items = subst (λ (k : ℕ). c.loop-item.slot + k ≤ length c.loop-item.words.items) (ap (λ (k : ℕ). k * (d + p)) one ∙ more) inv.inside in
-    let few = inv.room.few in
-    let spare = inv.room.spare in
-    let capacity = inv.capacity in
+    let inside = struct_inside c.loop-item.slot (d + p) test inv.inside in
     let more = c.place_fields.ensures.capacity in
-    let ed = even.0 in
-    let ep = even.1 in
     let made = rw (c.as_slice.ensures, c.deref.ensures.value) at c.place_fields.ensures.placed in
-    let next : c.loop-item.slot + (c.from.result + c.from-in-loop-item.result) ≡ c.loop-item.slot + (d + p) = omega arith in
-    let A = placed_all (trees_view item.pointers.trees.items) (c.loop-item.slot + length item.words.items) (length c.loop-item.words.items) in
-    let count = length-placed_all (trees_view item.pointers.trees.items) (c.loop-item.slot + length item.words.items) (length c.loop-item.words.items) in
-    let counted = trees_counted item.pointers.trees.items in
-    let own = taken_by_all (trees_view item.pointers.trees.items) 0 (c.loop-item.slot + length item.words.items) (length c.loop-item.words.items) sizes.0 in
-    let size : length c.place_fields.new.words.items ≡ length c.loop-item.words.items + taken (parts_of_all (trees_view item.pointers.trees.items) 0) =
-    ap length made ∙ length-filled c.loop-item.words.items (item.words.items ++ A.0) A.1 c.loop-item.slot (let a = length-append item.words.items A.0 in omega (arith, a, inside, ed, ep, count, counted)) ∙ ap (λ (k : ℕ). length c.loop-item.words.items + k) own in
+    let next : c.loop-item.slot + (c.from.result + c.from-in-loop-item.result) ≡ c.loop-item.slot + (d + p) = ap (λ (k : ℕ). c.loop-item.slot + k) (sum_same c.from.ensures c.from-in-loop-item.ensures) in
+    let at = c.loop-item.slot + length item.words.items in
+    let ts = trees_view item.pointers.trees.items in
+    let A = placed_all ts at (length ws) in
+    let count = length-placed_all ts at (length ws) ∙ trees_counted item.pointers.trees.items in
+    let own = taken_by_all ts 0 at (length ws) sizes.0 in
+    let size : length c.place_fields.new.words.items ≡ length ws + taken (parts_of_all ts 0) =
+    ap length made ∙ length-filled ws (item.words.items ++ A.0) A.1 c.loop-item.slot (section_fits c.loop-item.slot _ (length-append item.words.items A.0 ∙ ap (λ (k : ℕ). length item.words.items + k) count) even.0 even.1 inside) ∙ ap (λ (k : ℕ). length ws + k) own in
     record {
       even = even.2;
-      inside = rw next (omega (arith, size, inside));
+      inside = struct_next c.loop-item.slot (d + p) _ (taken (parts_of_all ts 0)) next size inside;
       sizes = sizes.1;
-      room = record { few = omega (arith, size, few, all); spare = omega (arith, size, spare, all, more) };
-      capacity = omega (arith, capacity, more);
-      same = structs_placed ss i item test c.item-item.is c.loop-item.words.items c.place_fields.new.words.items _ d p c.loop-item.slot (c.loop-item.slot + (c.from.result + c.from-in-loop-item.result)) inv.even next inv.inside inv.sizes made inv.same;
+      room = room_rest (taken (parts_of_all ts 0)) all size more inv.room;
+      capacity = le_then inv.capacity more;
+      same = structs_placed ss i item test c.item-item.is ws c.place_fields.new.words.items _ d p c.loop-item.slot (c.loop-item.slot + (c.from.result + c.from-in-loop-item.result)) inv.even next inv.inside inv.sizes made inv.same;
       fits = structs_fit ss i item test c.item-item.is (structs_view ss) (rw c.as_slice.ensures at c.place_fields.ensures.fits) inv.fits;
     }
 
@@ -223,57 +201,45 @@ place_tree-place_items-requires t c =
     let e = ap view c.in-List.is ∙ view_list c.in-List.items in
     let sizes = subst (λ (u : Tree). HaveSizes (parts u 0)) e c.requires.sizes in
     let room = subst (λ (u : Tree). HasRoom (taken (parts u 0)) (length c.args.words.now.items) (vec_capacity c.args.words.now)) e c.requires.room in
-    (search (rules, the_lemmas), (c.requires.ahead, (sizes, room)))
+    (grind (the_lemmas, arith, common_steps), (c.requires.ahead, (sizes, room)))
 
 pub place_fields-place_trees-requires : goal.place_fields-place_trees-requires
 place_fields-place_trees-requires t c =
     let inside = c.requires.inside in
     let size = length-put c.args.words.now.items c.put.new.words.items c.args.section.now c.args.at c.put.ensures.items (omega (arith, inside)) in
-    (search (rules, the_lemmas), (rw size inside, (c.requires.sizes, rw (size, c.put.ensures.capacity) c.requires.room)))
+    (grind (the_lemmas, arith, common_steps), (rw size inside, (c.requires.sizes, rw (size, c.put.ensures.capacity) c.requires.room)))
 
 pub place_fields-returns-clause-capacity : goal.place_fields-returns-clause-capacity
 place_fields-returns-clause-capacity t c =
-    let a = c.put.ensures.capacity in
-    let b = c.place_trees.ensures.capacity in
-    omega (arith, a, b)
+    subst (λ (k : ℕ). k ≤ vec_capacity c.place_trees.new.words) c.put.ensures.capacity c.place_trees.ensures.capacity
 
 pub place_pointers-place_trees-requires : goal.place_pointers-place_trees-requires
 place_pointers-place_trees-requires t c =
-    let size = ap length c.push_zeros.ensures.items ∙ length-append c.args.words.now.items (replicate {A = ℕ} (length c.args.trees.now) 0) in
-    let count = length-replicate {A = ℕ} (length c.args.trees.now) 0 in
-    let few = c.requires.room.few in
-    let spare = c.requires.room.spare in
-    let more = c.push_zeros.ensures.capacity in
-    (search (rules, the_lemmas), (omega (arith, size, count), (c.requires.sizes, record { few = omega (arith, size, count, few); spare = omega (arith, size, count, spare, more) })))
+    let size = ap length c.push_zeros.ensures.items ∙ length-append c.args.words.now.items (replicate {A = ℕ} (length c.args.trees.now) 0) ∙ ap (λ (k : ℕ). length c.args.words.now.items + k) (length-replicate {A = ℕ} (length c.args.trees.now) 0) in
+    (grind (the_lemmas, arith, common_steps), (pointers_there (length c.args.trees.now) (c.len-next.ensures ∙ c.args.words.now.ok.0) size, (c.requires.sizes, room_rest (length c.args.trees.now) refl size c.push_zeros.ensures.capacity c.requires.room)))
 
 pub place_pointers-push_zeros-requires : goal.place_pointers-push_zeros-requires
-place_pointers-push_zeros-requires t c = let spare = c.requires.room.spare in omega (arith, spare)
+place_pointers-push_zeros-requires t c = zeros_spare _ {count = length c.args.trees.now} refl refl c.requires.room
 
 pub place_list-place_structs-requires : goal.place_list-place_structs-requires
 place_list-place_structs-requires t c =
     let count = length c.args.items.now * (c.from.result + c.from-2.result) in
-    let step : c.from.result + c.from-2.result ≡ c.args.data_words + c.args.pointer_words = omega arith in
-    let same = ap (λ (k : ℕ). length c.args.items.now * k) step in
+    let whole = length c.args.items.now * (c.args.data_words + c.args.pointer_words) in
+    let same : count ≡ whole = ap (λ (k : ℕ). length c.args.items.now * k) (sum_same c.from.ensures c.from-2.ensures) in
     let tag = ap length c.push_reserved.ensures.items ∙ length_push c.args.words.now.items c.word_of_struct-tag.result in
-    let size = ap length c.push_zeros.ensures.items ∙ length-append c.push_reserved.new.self.items (replicate {A = ℕ} count 0) in
-    let zeros = length-replicate {A = ℕ} count 0 in
-    let few = c.requires.room.few in
-    let spare = c.requires.room.spare in
-    let kept = c.push_reserved.ensures.capacity in
-    let more = c.push_zeros.ensures.capacity in
-    (search (rules, the_lemmas), (c.requires.even, (omega (arith, same, tag, size, zeros), (c.requires.sizes, record { few = omega (arith, same, tag, size, zeros, few); spare = omega (arith, same, tag, size, zeros, spare, kept, more) }))))
+    let zeros = ap length c.push_zeros.ensures.items ∙ length-append c.push_reserved.new.self.items (replicate {A = ℕ} count 0) in
+    let size = list_long (length c.args.words.now.items) zeros (length-replicate {A = ℕ} count 0) tag same in
+    let more = subst (λ (k : ℕ). k ≤ vec_capacity c.push_zeros.new.words) c.push_reserved.ensures.capacity c.push_zeros.ensures.capacity in
+    (grind (the_lemmas, arith, common_steps), (c.requires.even, (list_there whole (c.len-next.ensures ∙ c.args.words.now.ok.0) size, (c.requires.sizes, room_rest (whole + 1) refl size more c.requires.room))))
 
 pub place_list-push_reserved-requires : goal.place_list-push_reserved-requires
 place_list-push_reserved-requires t c = let spare = c.requires.room.spare in omega (arith, spare)
 
 pub place_list-push_zeros-requires : goal.place_list-push_zeros-requires
 place_list-push_zeros-requires t c =
-    let step : c.from.result + c.from-2.result ≡ c.args.data_words + c.args.pointer_words = omega arith in
-    let same = ap (λ (k : ℕ). length c.args.items.now * k) step in
+    let same = ap (λ (k : ℕ). length c.args.items.now * k) (sum_same c.from.ensures c.from-2.ensures) in
     let tag = ap length c.push_reserved.ensures.items ∙ length_push c.args.words.now.items c.word_of_struct-tag.result in
-    let spare = c.requires.room.spare in
-    let kept = c.push_reserved.ensures.capacity in
-    omega (arith, same, tag, spare, kept)
+    list_spare _ tag same c.push_reserved.ensures.capacity c.requires.room
 
 pub place_items-place_packed-requires : goal.place_items-place_packed-requires
 place_items-place_packed-requires t c =
@@ -369,42 +335,42 @@ place_tree-returns-in-Struct-clause-laid t c =
     let e = ap view c.in-Struct.is ∙ view_struct c.in-Struct.«data» c.in-Struct.pointers in
     let k = ap length c.as_slice-trees.ensures in
     let n = trees_counted c.in-Struct.pointers.trees.items in
-    let is_next : c.len-next.result ≡ length c.args.words.now.items = omega arith in
-    let is_data : c.len-in-Struct.result ≡ length c.in-Struct.«data».items = omega arith in
-    let is_pointers : length c.as_slice-trees.result.now ≡ trees_count (trees_view c.in-Struct.pointers.trees.items) = omega (arith, n, k) in
+    let is_next : c.len-next.result ≡ length c.args.words.now.items = c.len-next.ensures ∙ c.args.words.now.ok.0 in
+    let is_data : c.len-in-Struct.result ≡ length c.in-Struct.«data».items = c.len-in-Struct.ensures ∙ c.in-Struct.«data».ok.0 in
+    let is_pointers : length c.as_slice-trees.result.now ≡ trees_count (trees_view c.in-Struct.pointers.trees.items) = k ∙ sym n in
     let made = rw (c.as_slice-trees.ensures, c.deref.ensures.value) at c.place_fields.ensures.placed in
-    let count : c.len.result + length c.as_slice-trees.result.now ≡ length c.in-Struct.«data».items + length c.in-Struct.pointers.trees.items = omega (arith, k) in
+    let count : c.len.result + length c.as_slice-trees.result.now ≡ length c.in-Struct.«data».items + length c.in-Struct.pointers.trees.items = sum_same (c.len.ensures ∙ c.in-Struct.«data».ok.0) k in
     let a = c.push_zeros.ensures.capacity in
     let b = c.place_fields.ensures.capacity in
     rw e record {
       word = c.pointer_to_struct.ensures ∙ rw (is_next, is_data, is_pointers) refl;
       placed = struct_placed c.in-Struct.pointers.trees.items c.args.words.now.items c.push_zeros.new.words.items c.place_fields.new.words.items c.in-Struct.«data».items c.len-next.result
           (c.push_zeros.ensures.items ∙ ap (λ (k : ℕ). c.args.words.now.items ++ replicate k 0) count) is_next made;
-      capacity = omega (arith, a, b);
+      capacity = le_then a b;
     }
 
 pub place_pointers-returns-clause-laid : goal.place_pointers-returns-clause-laid
 place_pointers-returns-clause-laid t c =
-    let is_next : c.len-next.result ≡ length c.args.words.now.items = omega arith in
+    let is_next : c.len-next.result ≡ length c.args.words.now.items = c.len-next.ensures ∙ c.args.words.now.ok.0 in
     let a = c.push_zeros.ensures.capacity in
     let b = c.place_trees.ensures.capacity in
     record {
       word = c.word_of_list.ensures ∙ rw (c.distance.ensures, is_next) refl;
       placed = pointers_placed c.args.trees.now c.args.words.now.items c.push_zeros.new.words.items c.place_trees.new.words.items c.len-next.result c.push_zeros.ensures.items is_next c.place_trees.ensures.placed;
-      capacity = omega (arith, a, b);
+      capacity = le_then a b;
     }
 
 pub place_list-returns-clause-laid : goal.place_list-returns-clause-laid
 place_list-returns-clause-laid t c =
-    let is_next : c.len-next.result ≡ length c.args.words.now.items = omega arith in
+    let is_next : c.len-next.result ≡ length c.args.words.now.items = c.len-next.ensures ∙ c.args.words.now.ok.0 in
     let tag_is = rw (c.from-3.ensures, c.from-4.ensures) at c.word_of_struct-tag.ensures in
     let a = c.push_reserved.ensures.capacity in
     let b = c.push_zeros.ensures.capacity in
     let d = c.place_structs.ensures.capacity in
     record {
       word = c.word_of_list.ensures ∙ rw (c.distance.ensures, is_next, c.from.ensures, c.from-2.ensures) refl;
-      placed = rw (← tag_is) (list_placed c.args.items.now c.args.data_words c.args.pointer_words c.args.words.now.items c.push_reserved.new.self.items c.push_zeros.new.words.items c.place_structs.new.words.items (c.len-next.result + 1) c.word_of_struct-tag.result c.requires.even c.push_reserved.ensures.items (c.push_zeros.ensures.items ∙ ap (λ (k : ℕ). c.push_reserved.new.self.items ++ replicate (length c.args.items.now * k) 0) (omega arith)) (omega arith) c.place_structs.ensures.placed);
-      capacity = omega (arith, a, b, d);
+      placed = rw (← tag_is) (list_placed c.args.items.now c.args.data_words c.args.pointer_words c.args.words.now.items c.push_reserved.new.self.items c.push_zeros.new.words.items c.place_structs.new.words.items (c.len-next.result + 1) c.word_of_struct-tag.result c.requires.even c.push_reserved.ensures.items (c.push_zeros.ensures.items ∙ ap (λ (k : ℕ). c.push_reserved.new.self.items ++ replicate (length c.args.items.now * k) 0) (sum_same c.from.ensures c.from-2.ensures)) (ap (λ (k : ℕ). k + 1) is_next) c.place_structs.ensures.placed);
+      capacity = subst (λ (k : ℕ). k ≤ vec_capacity c.place_structs.new.words) a (le_then b d);
     }
 
 pub place_fields-put-requires : goal.place_fields-put-requires
