@@ -113,11 +113,14 @@ place_structs-place_fields-requires t c =
     let item = c.item-item.result in
     let ss = c.args.items.now in
     let i = c.loop-item.item-index in
+    let same = sym c.as_slice.ensures in
     let sizes = structs_sizes ss i item test c.item-item.is inv.sizes in
     let all = structs_taken ss i item test c.item-item.is in
     let even = structs_even ss i item test c.item-item.is c.args.data_words c.args.pointer_words inv.even in
-    let inside = struct_fits c.loop-item.slot _ even.0 even.1 (struct_inside c.loop-item.slot (c.args.data_words + c.args.pointer_words) test inv.inside) in
-    (grind (the_lemmas, arith, common_steps), (rw (c.as_slice.ensures, c.deref.ensures.value) inside, (rw c.as_slice.ensures sizes.0, rw c.as_slice.ensures (room_first _ all inv.room))))
+    let inside = struct_fits c.loop-item.slot _ (ap length c.deref.ensures.value ∙ even.0) (ap length c.as_slice.ensures ∙ even.1) (struct_inside c.loop-item.slot (c.args.data_words + c.args.pointer_words) test inv.inside) in
+    let below = subst (λ (us : List program.Tree). HaveSizes (parts_of_all (trees_view us) 0)) same sizes.0 in
+    let room = subst (λ (us : List program.Tree). HasRoom (taken (parts_of_all (trees_view us) 0)) (length c.loop-item.words.items) (vec_capacity c.loop-item.words)) same (room_first _ all inv.room) in
+    (search (rules, the_lemmas), (inside, (below, room)))
 
 pub place_structs-loop-item-preserved : goal.place_structs-loop-item-preserved
 place_structs-loop-item-preserved t c =
