@@ -146,8 +146,8 @@ build_structs-loop-preserved t c =
           let here = c.loop.invariant.same v ok in
           let one = read here.0 (next_struct_reads c.args.message.now (reading c.args.message.now c.args.caps c.args.levels) c.args.segment c.args.row.data_words c.args.row.pointer_words c.loop.at c.args.row.count c.loop.counter here.0 (structs_view c.loop.items.items) _ here.1 c.loop-test.true ok) in (
             one.0,
-            rw (c.push_reserved.ensures.items, structs_view_push, c.make_fields.ensures, c.in_ok-words.ensures)
-                (structs_go_on c.args.message.now (reading c.args.message.now c.args.caps c.args.levels) c.args.segment c.args.row.data_words c.args.row.pointer_words c.loop.at c.args.row.count c.loop.counter here.0 (structs_view c.loop.items.items) _ here.1 (c.loop.at + c.from.result + c.from-length.result) (trees_view (held c.in_ok-pointers.pointers)) one.0 c.loop-test.true (omega arith) one.1),
+            rw (ap structs_view c.push_reserved.ensures.items ∙ structs_view_push _ _) (rw (c.make_fields.ensures ∙ ap (λ (ws : List ℕ). (ws, trees_view (held c.in_ok-pointers.pointers))) c.in_ok-words.ensures)
+                (structs_go_on c.args.message.now (reading c.args.message.now c.args.caps c.args.levels) c.args.segment c.args.row.data_words c.args.row.pointer_words c.loop.at c.args.row.count c.loop.counter here.0 (structs_view c.loop.items.items) _ here.1 (c.loop.at + c.from.result + c.from-length.result) (trees_view (held c.in_ok-pointers.pointers)) one.0 c.loop-test.true (omega arith) one.1)),
           );
       count = c.push_reserved.ensures.len ∙ ap (λ n. n + 1) c.loop.invariant.count;
       room = c.push_reserved.ensures.capacity ∙ c.loop.invariant.room;
