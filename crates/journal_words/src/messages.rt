@@ -29,7 +29,7 @@ fn write_plain(text: &mut String, message: &PlainMessage) -> Result<(), AllocErr
         }
         PlainMessage::Bootstrap(question) => {
             write_numbered(text, "bootstrap", u64::from(question.0))
-        },
+        }
         PlainMessage::Call(call) => write_call(text, call),
         PlainMessage::Return(said) => write_return(text, said),
         PlainMessage::Finish(finish) => {

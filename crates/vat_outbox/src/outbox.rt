@@ -35,7 +35,7 @@ pub struct Outbox {
     // Whether a list has much memory, which is let go once nothing stands in it.
     much: bool,
     // So many messages may have memory without its being much: few steps say ends, but the room for them stays.
-    kept: usize,
+    kept_sends: usize,
     // So many more of each need no more memory: of messages, deliveries and ended calls; of Finishes; of Releases.
     room: usize,
     finish_room: usize,
@@ -92,7 +92,7 @@ impl Outbox {
             spare_answers: Spare::new(alloc),
             comes_back: false,
             much: false,
-            kept: KEPT,
+            kept_sends: KEPT,
             room: 0,
             finish_room: 0,
             release_room: 0,
@@ -212,14 +212,14 @@ impl Outbox {
         self.releases.reserve(releases)?;
         self.finish_room = finishes;
         self.release_room = releases;
-        self.kept = ends.saturating_add(KEPT);
+        self.kept_sends = ends.saturating_add(KEPT);
         self.much = self.has_much();
         Ok(())
     }
 
     // Whether a list has much memory.
     fn has_much(&self) -> bool {
-        is_more(&self.sends, self.kept)
+        is_more(&self.sends, self.kept_sends)
             || is_more(&self.deliveries, KEPT)
             || is_more(&self.answers, KEPT)
     }
@@ -369,7 +369,7 @@ impl Outbox {
     {
         let sends = self
             .spare_sends
-            .hand_out(&mut self.sends, self.kept, self.alloc);
+            .hand_out(&mut self.sends, self.kept_sends, self.alloc);
         let deliveries = self
             .spare_deliveries
             .hand_out(&mut self.deliveries, KEPT, self.alloc);
@@ -392,7 +392,7 @@ impl Outbox {
         self.room = 0;
         self.finish_room = 0;
         self.release_room = 0;
-        self.kept = KEPT;
+        self.kept_sends = KEPT;
         self.much = false;
         let_go(&mut self.sends, self.alloc);
         let_go(&mut self.deliveries, self.alloc);
