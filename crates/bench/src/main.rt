@@ -5,7 +5,7 @@
 //! `bench trace FILE` reads a trace and checks it, apart and together.
 //! `bench core OPEN WAITING EXPORTS [TRIPS [CYCLES]]` takes calls from one core to another and back, TRIPS times, and takes
 //! shorter paths behind embargoes, CYCLES times, beside so many open questions, waiting calls and exports.
-//! `bench world ROUNDS` takes calls over a `World`, which keeps the journal.
+//! `bench world ROUNDS [WORLDS]` takes calls over a `World`, which keeps the journal, ROUNDS times, in WORLDS worlds in turn.
 //! `bench script FILE` reads a script and plays it, and prints no trace.
 //! Without arguments it does nothing.
 #![tactic(auto)]
@@ -45,7 +45,7 @@ fn main(rt: HostRuntime) -> Result<ExitCode> {
 
 fn usage(rt: &impl Print) -> Result<ExitCode> {
     println!(rt;
-        "usage: bench pool N | bench payload FILE CAPS ROUNDS | bench trace FILE | bench core OPEN WAITING EXPORTS [TRIPS [CYCLES]] | bench world ROUNDS | bench script FILE"
+        "usage: bench pool N | bench payload FILE CAPS ROUNDS | bench trace FILE | bench core OPEN WAITING EXPORTS [TRIPS [CYCLES]] | bench world ROUNDS [WORLDS] | bench script FILE"
     )?;
     Ok(ExitCode::from(2))
 }
@@ -106,7 +106,8 @@ fn measure_world(rt: &HostRuntime, words: &mut Args) -> Result<ExitCode> {
     let Some(rounds) = words.next() else {
         return usage(rt);
     };
-    world::measure(rt, rt.alloc(), rounds.as_str().parse()?)?;
+    let rounds = rounds.as_str().parse()?;
+    world::measure(rt, rt.alloc(), rounds, count(words, 1)?)?;
     Ok(ExitCode::SUCCESS)
 }
 

@@ -10,18 +10,24 @@ use vat_core::Answer;
 use vat_machine::{CallCommand, Command, Effects, Event};
 use vat_world::{StepAnswer, World};
 
-/// Prints how many round trips take place in a second, of so many. Each call is made, delivered, answered, told and finished:
-/// six events of two vats, and eleven entries of their journal, which is kept.
-pub fn measure(rt: &(impl Clock + Print), alloc: Global, rounds: u32) -> anyhow::Result<()> {
-    let mut vats = Vats::new(alloc)?;
-    let root = vats.meet()?;
-    let start = Instant::now(rt)?;
-    for _ in 0..rounds {
-        vats.round_trip(root)?;
+/// Prints how many round trips take place in a second, of so many in each of so many worlds, one after the other. Each call is
+/// made, delivered, answered, told and finished: six events of two vats, and eleven entries of their journal, which is kept as
+/// long as its world. Making a world and letting it go is not timed.
+pub fn measure(
+    rt: &(impl Clock + Print),
+    alloc: Global,
+    rounds: u32,
+    worlds: u32,
+) -> anyhow::Result<()> {
+    let mut nanos: u128 = 0;
+    let mut entries: usize = 0;
+    for _ in 0..worlds {
+        let mut vats = Vats::new(alloc)?;
+        nanos = nanos.saturating_add(vats.time_round_trips(rt, rounds)?);
+        entries = entries.saturating_add(vats.world.journal().len());
     }
-    let micros = start.elapsed(rt)?.as_micros();
-    let a_second = u128::from(rounds) * 1_000_000 / micros.max(1);
-    let entries = vats.world.journal().len();
+    let trips = u128::from(rounds).saturating_mul(u128::from(worlds));
+    let a_second = trips.saturating_mul(1_000_000_000) / nanos.max(1);
     println!(rt; "{a_second} round trips a second, {entries} entries")?;
     Ok(())
 }
@@ -52,6 +58,16 @@ impl Vats {
             Some(root) => Ok(root),
             None => Err(Astray::Otherwise),
         }
+    }
+
+    /// How many nanoseconds so many round trips take.
+    fn time_round_trips(&mut self, rt: &impl Clock, rounds: u32) -> anyhow::Result<u128> {
+        let root = self.meet()?;
+        let start = Instant::now(rt)?;
+        for _ in 0..rounds {
+            self.round_trip(root)?;
+        }
+        Ok(start.elapsed(rt)?.as_nanos())
     }
 
     fn round_trip(&mut self, root: RefId) -> Result<(), Astray> {

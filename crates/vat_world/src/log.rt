@@ -21,6 +21,7 @@ const WANT_OF_ROOM: u16 = 33;
 /// Tells the step that the vat's core took, and answers whether there was room: its messages go from the effects on the link to
 /// the peer, and the entries of its effects stand behind its own entries, which are those from `start` on. Where there is no room
 /// for all of that, the vat goes down with fault 33 in the room that is kept, and its own entries are taken back.
+#[inline(always)]
 pub(crate) fn log_step(
     alloc: Global,
     vat: Vat,

@@ -334,6 +334,7 @@ fn no_effects(alloc: Global) -> Effects
 }
 
 /// A vat receives the oldest message on its way to it. `Empty` where there is none, or the vat is down.
+#[inline(always)]
 pub(crate) fn deliver(
     alloc: Global,
     vat: Vat,
@@ -359,6 +360,7 @@ pub(crate) fn deliver(
     }
 }
 
+#[inline(always)]
 fn handle(
     alloc: Global,
     vat: Vat,

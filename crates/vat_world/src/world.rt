@@ -85,6 +85,7 @@ impl World {
     /// Whatever happened before: the calls delivered through a reference are a beginning of those made through it, in order,
     /// each once, all at the object for which it stands; all of them once none is held or on its way; each ends as it was
     /// answered; and what else is promised (`journal`). The vats keep their bootstrap objects.
+    #[inline(always)]
     pub fn step(&mut self, event: Event) -> StepAnswer
         ensures steps { Steps self.old event result self.new }
         ensures promised { KeepsPromises self.new }
@@ -165,6 +166,7 @@ impl World {
     /// Takes back the memory of effects of that vat that were looked at, for those of its later steps; what they still hold
     /// is dropped. Nothing else changes, and no memory is taken. Who gives back what each step answers saves the vats memory
     /// that each step would else take.
+    #[inline(always)]
     pub fn recycle(&mut self, vat: Vat, effects: Effects)
         ensures { self.new ≡ self.old }
     {
