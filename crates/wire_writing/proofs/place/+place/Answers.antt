@@ -1,5 +1,5 @@
 use Rattle.std.proofs.lemmas.Grind.{common_steps}
-use Rattle.std.proofs.Common.{◌≡◌, ℕ, ◌+◌, ◌-◌, ◌*◌, ◌^◌, ◌<◌, ◌≤◌, ◌++◌, Bool, true, List, map, suc, ltb, length, set, refl, sym, ap, subst, ◌∙◌, arith, rules}
+use Rattle.std.proofs.Common.{◌≡◌, ℕ, ◌+◌, ◌-◌, ◌*◌, ◌^◌, ◌<◌, ◌≤◌, ◌++◌, Bool, true, List, map, ltb, length, set, refl, sym, ap, subst, ◌∙◌, arith, rules}
 use Rattle.std.specs.Prelude.{replicate}
 use Rattle.std.specs.Vec.{vec_capacity}
 use Rattle.std.proofs.lemmas.List.{length-set, length-replicate, length-append, length_push, drop_all, append-nil, map-id}
@@ -20,7 +20,7 @@ use Rattle.wire_writing.proofs.Lengths.{length-placed_all}
 use Rattle.wire_trees.proofs.Counts.{trees_counted, structs_counted}
 use Rattle.wire_writing.proofs.Filled.{zeros_fit, filled_none, length-filled, length-put}
 use Rattle.wire_writing.proofs.Laid.{narrow_1, narrow_8, narrow_16, narrow_32, packed_room, eights_room, room_for, fields_placed, pointers_placed, list_placed, struct_placed, few_structs}
-use Rattle.wire_writing.proofs.Room.{sum_same, le_then, room_first, room_rest, slot_inside, slot_next, inside_next, struct_inside, struct_fits, section_fits, struct_next, struct_long, struct_there, list_long, list_there, pointers_there, list_spare, zeros_spare, shorter_then}
+use Rattle.wire_writing.proofs.Room.{sum_same, le_then, room_first, room_rest, slot_inside, slot_next, inside_next, struct_inside, struct_fits, section_fits, struct_next, struct_long, struct_there, list_long, list_there, pointers_there, list_spare, zeros_spare}
 use Rattle.wire_writing.proofs.Sized.{taken, taken_by, taken_by_all, trees_sizes, trees_taken, trees_fit, trees_placed, structs_sizes, structs_taken, structs_fit, structs_even, structs_placed}
 use Rattle.wire_trees.proofs.Viewed.{view_null, view_capability, view_struct, view_list, view_void, view_bits, view_bytes, view_twos, view_fours, view_eights, view_pointers, view_structs}
 use Rattle.wire_writing.proofs.place.+place.Goals as goal

@@ -56,3 +56,19 @@ returns-clause-items g c =
     let bits = g.E.Element.BITS in
     let product : length c.args.elements.now * c.from.result ≡ length c.args.elements.now * bits = ap (λ (b : ℕ). length c.args.elements.now * b) (c.from.ensures ∙ c.BITS-2.ensures) in
     packed_done bits (packed_size bits (length c.args.elements.now)) c.loop.counter c.loop.words.items (map g.E.Element.said c.loop.rest.now) _ (omega (arith, product)) c.loop.invariant.same
+
+pub joined_word-requires-clause-some : goal.joined_word-requires-clause-some
+joined_word-requires-clause-some g c = c.requires.fill.most
+
+pub split_at-requires : goal.split_at-requires
+split_at-requires g c =
+    let least = c.min.ensures in
+    omega (arith, least)
+
+pub returns-clause-capacity : goal.returns-clause-capacity
+returns-clause-capacity g c =
+    let same = c.loop.invariant.capacity in
+    omega (arith, same)
+
+pub returns-clause-fit : goal.returns-clause-fit
+returns-clause-fit g c = c.fit.ensures

@@ -1,3 +1,4 @@
+use Rattle.std.proofs.lemmas.Result.{err_from_is_err_and}
 use Rattle.std.proofs.Common.{ℕ, List, ◌*◌, ◌++◌, length, take, get_or, sym, ap, ◌∙◌, arith}
 use Rattle.std.specs.List.{flat_map}
 use Rattle.std.proofs.lemmas.List.{flat_map_more, length-append, take_all, take_more}
@@ -68,3 +69,6 @@ pub returns-clause-bytes : goal.returns-clause-bytes
 returns-clause-bytes c =
     let ws = c.args.words.now in
     c.loop-word.invariant.bytes ∙ ap (λ (xs : List ℕ). little_bytes 4 0 ++ (little_bytes 4 (length ws) ++ flat_map (little_bytes 8) xs)) (take_all c.loop-word.word-index ws c.loop-word-test.false)
+
+pub returns-in_err-bytes-clause-bytes : goal.returns-in_err-bytes-clause-bytes
+returns-in_err-bytes-clause-bytes c = rw (err_from_is_err_and c.from_residual.result c.from_residual.ensures.1).1 tt

@@ -1,3 +1,4 @@
+use Rattle.std.proofs.lemmas.Result.{err_from_is_err_and}
 use Rattle.std.proofs.Common.{ℕ, List, subst, refl, ap, ◌∙◌, rules}
 use Rattle.wire_trees.specs.Views.{view}
 use Rattle.wire_trees.specs.Widths.{AreOf}
@@ -57,3 +58,30 @@ returns-clause-placed c =
 pub returns-clause-words : goal.returns-clause-words
 returns-clause-words c =
     subst (λ (ws : List ℕ). AreOf 64 ws) (c.deref.ensures.value ∙ c.in_ok-words.ensures.placed) c.in_ok-message.ensures.fit
+
+pub returns-in_err-words-clause-possible : goal.returns-in_err-words-clause-possible
+returns-in_err-words-clause-possible c = rw (err_from_is_err_and c.from_residual.result c.from_residual.ensures.1).1 tt
+
+pub returns-in_err-words-clause-placed : goal.returns-in_err-words-clause-placed
+returns-in_err-words-clause-placed c = rw (err_from_is_err_and c.from_residual.result c.from_residual.ensures.1).1 tt
+
+pub returns-in_err-words-clause-fits : goal.returns-in_err-words-clause-fits
+returns-in_err-words-clause-fits c = rw (err_from_is_err_and c.from_residual.result c.from_residual.ensures.1).1 tt
+
+pub returns-in_err-words-clause-words : goal.returns-in_err-words-clause-words
+returns-in_err-words-clause-words c = rw (err_from_is_err_and c.from_residual.result c.from_residual.ensures.1).1 tt
+
+pub returns-in_err-message-clause-possible : goal.returns-in_err-message-clause-possible
+returns-in_err-message-clause-possible c = rw (err_from_is_err_and c.from_residual-in_err-message.result c.from_residual-in_err-message.ensures.1).1 tt
+
+pub returns-in_err-message-clause-placed : goal.returns-in_err-message-clause-placed
+returns-in_err-message-clause-placed c = rw (err_from_is_err_and c.from_residual-in_err-message.result c.from_residual-in_err-message.ensures.1).1 tt
+
+pub returns-in_err-message-clause-fits : goal.returns-in_err-message-clause-fits
+returns-in_err-message-clause-fits c = rw (err_from_is_err_and c.from_residual-in_err-message.result c.from_residual-in_err-message.ensures.1).1 tt
+
+pub returns-in_err-message-clause-words : goal.returns-in_err-message-clause-words
+returns-in_err-message-clause-words c = rw (err_from_is_err_and c.from_residual-in_err-message.result c.from_residual-in_err-message.ensures.1).1 tt
+
+pub returns-clause-fits : goal.returns-clause-fits
+returns-clause-fits c = c.in_ok-words.ensures.fits
