@@ -65,13 +65,14 @@ impl<'m> Place<'m> {
     pub fn kind(&self) -> Kind
         ensures { (t : Tree) → At self.now t → result ≡ kind_of t }
     {
-        match self.referent {
-            Referent::Null => Kind::Null,
-            Referent::Capability(index) => Kind::Capability(index),
-            Referent::Content(content) => match self.layout(content) {
-                Layout::Struct { .. } => Kind::Struct,
-                _ => Kind::List,
-            },
+        let content = match self.referent {
+            Referent::Null => return Kind::Null,
+            Referent::Capability(index) => return Kind::Capability(index),
+            Referent::Content(content) => content,
+        };
+        match self.layout(content) {
+            Layout::Struct { .. } => Kind::Struct,
+            _ => Kind::List,
         }
     }
 
