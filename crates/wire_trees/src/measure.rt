@@ -61,11 +61,12 @@ impl Measure {
     fn and(self, other: Measure) -> Measure
         ensures { result ≡ together self other }
     {
+        // Both are at hand, so `|` and no branches.
         Measure {
-            is_uneven: self.is_uneven || other.is_uneven,
-            is_too_deep: self.is_too_deep || other.is_too_deep,
-            is_beyond: self.is_beyond || other.is_beyond,
-            is_too_wide: self.is_too_wide || other.is_too_wide,
+            is_uneven: self.is_uneven | other.is_uneven,
+            is_too_deep: self.is_too_deep | other.is_too_deep,
+            is_beyond: self.is_beyond | other.is_beyond,
+            is_too_wide: self.is_too_wide | other.is_too_wide,
             words: capped_words(u128::from(self.words) + u128::from(other.words)),
             visited: capped_words(u128::from(self.visited) + u128::from(other.visited)),
         }
@@ -96,7 +97,7 @@ fn struct_measure(words: &[u64], pointers: &Pointers, levels: u32) -> Measure
     let size = capped_words(words.len() as u128 + pointers.trees.len() as u128);
     Measure {
         is_too_deep: levels == 0,
-        is_too_wide: MOST_SECTION < words.len() || MOST_SECTION < pointers.trees.len(),
+        is_too_wide: (MOST_SECTION < words.len()) | (MOST_SECTION < pointers.trees.len()),
         words: size,
         visited: size,
         ..Measure::start(0)
@@ -110,7 +111,7 @@ fn packed_measure(count: u64, bits: u8, levels: u32) -> Measure
     let size = capped_words((u128::from(count) * u128::from(bits)).div_ceil(64));
     Measure {
         is_too_deep: levels == 0,
-        is_too_wide: bits == 0 && MOST_ELEMENTS < count,
+        is_too_wide: (bits == 0) & (MOST_ELEMENTS < count),
         words: size,
         visited: size,
         ..Measure::start(0)
