@@ -48,7 +48,7 @@ pub struct Row {
 }
 
 /// The first word of a content that has room in its segment.
-fn place(start: Option<u64>, words: u64, size: u32) -> Result<u32, PayloadFault>
+fn start_of(start: Option<u64>, words: u64, size: u32) -> Result<u32, PayloadFault>
     requires { words < 2 ^ 63 }
     ensures { result ≡ placed start words size }
 {
@@ -116,7 +116,7 @@ pub fn lay_out(message: &Message, content: Content) -> Result<Layout, PayloadFau
     ensures within { IfOk result (IsWithin (length (segment_of message.now content.segment))) }
 {
     let size = message.size(content.segment).unwrap_or(0);
-    let start = place(content.start, content.shape.words(), size)?;
+    let start = start_of(content.start, content.shape.words(), size)?;
     match content.shape {
         Shape::Struct {
             data_words,

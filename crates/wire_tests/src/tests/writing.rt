@@ -274,7 +274,7 @@ fn builds_no_deeper_tree(rt: HostRuntime) -> Result<(), Fail> {
     assert_eq!(rt; fault, WriteFault::Depth);
     assert!(rt; pointers.as_slice().is_empty());
     assert_eq!(rt; fault_of(rt.alloc(), &back, 0), 11);
-    Ok(())
+    is_copied(&rt, rt.alloc(), &back)
 }
 
 #[test]
