@@ -73,7 +73,7 @@ returns-in_err-start c =
 
 pub returns-in-Struct : goal.returns-in-Struct
 returns-in-Struct c =
-    let l = lies c.args.message.now c.args.content c.size.result c.unwrap_or-size.result c.words.result c.in_ok-start.start c.place.result c.size.ensures.size c.size.ensures.short c.unwrap_or-size.ensures c.words.ensures c.place.ensures c.in_ok-start.was in
+    let l = lies c.args.message.now c.args.content c.size.result c.unwrap_or-size.result c.words.result c.in_ok-start.start c.start_of.result c.size.ensures.size c.size.ensures.short c.unwrap_or-size.ensures c.words.ensures c.start_of.ensures c.in_ok-start.was in
     record {
       laid = sym (l.1 ∙ ap (shaped c.args.message.now c.args.content.segment c.in_ok-start.start) c.in-Struct.is);
       within = ends_before (rw c.in-Struct.is at l.0) (omega arith);
@@ -81,7 +81,7 @@ returns-in-Struct c =
 
 pub returns-in-Packed : goal.returns-in-Packed
 returns-in-Packed c =
-    let l = lies c.args.message.now c.args.content c.size.result c.unwrap_or-size.result c.words.result c.in_ok-start.start c.place.result c.size.ensures.size c.size.ensures.short c.unwrap_or-size.ensures c.words.ensures c.place.ensures c.in_ok-start.was in
+    let l = lies c.args.message.now c.args.content c.size.result c.unwrap_or-size.result c.words.result c.in_ok-start.start c.start_of.result c.size.ensures.size c.size.ensures.short c.unwrap_or-size.ensures c.words.ensures c.start_of.ensures c.in_ok-start.was in
     record {
       laid = sym (l.1 ∙ ap (shaped c.args.message.now c.args.content.segment c.in_ok-start.start) c.in-Packed.is);
       within = rw c.in-Packed.is at l.0;
@@ -89,7 +89,7 @@ returns-in-Packed c =
 
 pub returns-in-Pointers : goal.returns-in-Pointers
 returns-in-Pointers c =
-    let l = lies c.args.message.now c.args.content c.size.result c.unwrap_or-size.result c.words.result c.in_ok-start.start c.place.result c.size.ensures.size c.size.ensures.short c.unwrap_or-size.ensures c.words.ensures c.place.ensures c.in_ok-start.was in
+    let l = lies c.args.message.now c.args.content c.size.result c.unwrap_or-size.result c.words.result c.in_ok-start.start c.start_of.result c.size.ensures.size c.size.ensures.short c.unwrap_or-size.ensures c.words.ensures c.start_of.ensures c.in_ok-start.was in
     record {
       laid = sym (l.1 ∙ ap (shaped c.args.message.now c.args.content.segment c.in_ok-start.start) c.in-Pointers.is);
       within = rw c.in-Pointers.is at l.0;
@@ -97,23 +97,23 @@ returns-in-Pointers c =
 
 pub returns-in-Composite-clause-laid : goal.returns-in-Composite-clause-laid
 returns-in-Composite-clause-laid c =
-    let l = lies c.args.message.now c.args.content c.size.result c.unwrap_or-size.result c.words.result c.in_ok-start.start c.place.result c.size.ensures.size c.size.ensures.short c.unwrap_or-size.ensures c.words.ensures c.place.ensures c.in_ok-start.was in
+    let l = lies c.args.message.now c.args.content c.size.result c.unwrap_or-size.result c.words.result c.in_ok-start.start c.start_of.result c.size.ensures.size c.size.ensures.short c.unwrap_or-size.ensures c.words.ensures c.start_of.ensures c.in_ok-start.was in
     c.tagged_at.ensures ∙ ap (tagged c.in_ok-start.start c.in-Composite.words) (c.decode-tag.ensures ∙ ap tag_of c.word.ensures)
     ∙ sym (l.1 ∙ ap (shaped c.args.message.now c.args.content.segment c.in_ok-start.start) c.in-Composite.is)
 
 pub returns-in-Composite-clause-within : goal.returns-in-Composite-clause-within
 returns-in-Composite-clause-within c =
-    let l = lies c.args.message.now c.args.content c.size.result c.unwrap_or-size.result c.words.result c.in_ok-start.start c.place.result c.size.ensures.size c.size.ensures.short c.unwrap_or-size.ensures c.words.ensures c.place.ensures c.in_ok-start.was in
+    let l = lies c.args.message.now c.args.content c.size.result c.unwrap_or-size.result c.words.result c.in_ok-start.start c.start_of.result c.size.ensures.size c.size.ensures.short c.unwrap_or-size.ensures c.words.ensures c.start_of.ensures c.in_ok-start.was in
     rw c.tagged_at.ensures (tag_within c.in_ok-start.start (length (segment_of c.args.message.now c.args.content.segment)) c.in-Composite.words c.decode-tag.result (rw c.in-Composite.is at l.0))
 
 pub word-requires : goal.word-requires
 word-requires c =
-    let l = lies c.args.message.now c.args.content c.size.result c.unwrap_or-size.result c.words.result c.in_ok-start.start c.place.result c.size.ensures.size c.size.ensures.short c.unwrap_or-size.ensures c.words.ensures c.place.ensures c.in_ok-start.was in
+    let l = lies c.args.message.now c.args.content c.size.result c.unwrap_or-size.result c.words.result c.in_ok-start.start c.start_of.result c.size.ensures.size c.size.ensures.short c.unwrap_or-size.ensures c.words.ensures c.start_of.ensures c.in_ok-start.was in
     let inside = (rw c.in-Composite.is at l.0).inside in
     omega (arith, inside)
 
 pub tagged_at-requires : goal.tagged_at-requires
 tagged_at-requires c =
-    let l = lies c.args.message.now c.args.content c.size.result c.unwrap_or-size.result c.words.result c.in_ok-start.start c.place.result c.size.ensures.size c.size.ensures.short c.unwrap_or-size.ensures c.words.ensures c.place.ensures c.in_ok-start.was in
+    let l = lies c.args.message.now c.args.content c.size.result c.unwrap_or-size.result c.words.result c.in_ok-start.start c.start_of.result c.size.ensures.size c.size.ensures.short c.unwrap_or-size.ensures c.words.ensures c.start_of.ensures c.in_ok-start.was in
     let small = (rw c.in-Composite.is at l.0).small in
     omega (arith, small)
