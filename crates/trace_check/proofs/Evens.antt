@@ -11,7 +11,7 @@ use Rattle.finite_maps.proofs.Gets.{tied_other}
 use Rattle.rpc_msg.specs.declared.ids.ExportId.{ExportId}
 use Rattle.trace_check.specs.declared.amounts.Amounts.{Amounts}
 use Rattle.trace_check.specs.Counts.{CountsById, count_of, same_counts}
-use Rattle.trace_check.specs.Kept.{amount, is_even, AllAgree}
+use Rattle.trace_check.specs.Kept.{amount, AllAgree}
 use Rattle.trace_check.proofs.Counting.{count_of-append}
 
 -- ---- The ids of a map
@@ -76,17 +76,3 @@ says_same b x y h r exports imports way outward inward coming all none =
     both_ways b (same_counts exports (imports ++ way))
     (λ t. same_from_everywhere exports (imports ++ way) (λ e. omega (arith, eqb-true _ _ (all t e), outward e, inward e, coming e, count_of-append e imports way)))
     (λ s. none (λ e. eq-eqb _ _ (omega (arith, same_everywhere exports (imports ++ way) s e, outward e, inward e, coming e, count_of-append e imports way))))
-
-any_of : (a b c d : ℕ) → a ≡ b + (c + d) → nat_eq a (b + (c + d)) ≡ true
-any_of a b c d e = eq-eqb a (b + (c + d)) e
-
-even_at : (a b c d : ℕ) → (a ≢ 0 → nat_eq a (b + (c + d)) ≡ true) → (b ≢ 0 → nat_eq a (b + (c + d)) ≡ true) → (c ≢ 0 → nat_eq a (b + (c + d)) ≡ true) → (d ≢ 0 → nat_eq a (b + (c + d)) ≡ true) → ((nat_eq a 0 ≡ true) × (a ≡ 0)) ⊎ ((nat_eq a 0 ≡ false) × (a ≢ 0)) → ((nat_eq b 0 ≡ true) × (b ≡ 0)) ⊎ ((nat_eq b 0 ≡ false) × (b ≢ 0)) → ((nat_eq c 0 ≡ true) × (c ≡ 0)) ⊎ ((nat_eq c 0 ≡ false) × (c ≢ 0)) → ((nat_eq d 0 ≡ true) × (d ≡ 0)) ⊎ ((nat_eq d 0 ≡ false) × (d ≢ 0)) → nat_eq a (b + (c + d)) ≡ true
-even_at a b c d f g h k (inr t) u v w = f t.1
-even_at a b c d f g h k (inl t) (inr u) v w = g u.1
-even_at a b c d f g h k (inl t) (inl u) (inr v) w = h v.1
-even_at a b c d f g h k (inl t) (inl u) (inl v) (inr w) = k w.1
-even_at a b c d f g h k (inl t) (inl u) (inl v) (inl w) = any_of a b c d (omega (arith, t.1, u.1, v.1, w.1))
-
--- What agrees at the ids of each of the four agrees everywhere.
-pub agree_everywhere : (x y h r : Amounts) → ((e : ℕ) → amount x e ≢ 0 → is_even x y h r e ≡ true) → ((e : ℕ) → amount y e ≢ 0 → is_even x y h r e ≡ true) → ((e : ℕ) → amount h e ≢ 0 → is_even x y h r e ≡ true) → ((e : ℕ) → amount r e ≢ 0 → is_even x y h r e ≡ true) → AllAgree x y h r
-agree_everywhere x y h r f g k l e = even_at (amount x e) (amount y e) (amount h e) (amount r e) (f e) (g e) (k e) (l e) (eqb_tells _ 0) (eqb_tells _ 0) (eqb_tells _ 0) (eqb_tells _ 0)

@@ -8,7 +8,7 @@ use std::alloc::Global;
 use std::collections::{BTreeMap, VecDeque};
 
 /// Where a call was delivered.
-#[derive(Clone, Copy, Debug, PartialEq, Eq, Drop)]
+#[derive(Clone, Copy, PartialEq, Eq, Drop)]
 pub(crate) struct Place {
     pub(crate) vat: Vat,
     pub(crate) object: ObjectId,
