@@ -7,7 +7,7 @@ ghost use Rattle.trace_program.specs.Playing.{PlaysLine, PlaysAll, told, answere
 use crate::fault::ScriptFault;
 use rpc_msg::{Memory, Payload, Vat};
 use std::alloc::Global;
-use vat_machine::Effects;
+use vat_machine::{Effects, Refusal};
 use vat_script::{Act, GiveFault, Line, LineCommand, Names};
 use vat_world::{Answer, StepAnswer, World, WorldEvent};
 
@@ -57,7 +57,7 @@ fn play_line(
     Ok(())
 }
 
-/// Lets the event of a line happen, and keeps what it answers.
+/// Lets the event of a line happen, and keeps what it answers. A command that is refused for want of memory ends the play.
 fn happen(
     alloc: Global,
     world: &mut World,
@@ -68,9 +68,19 @@ fn happen(
     ensures { OnOk result ((answer : StepAnswer) × Steps world.old event answer world.new × (names.new ≡ told names.old line.now answer)) }
 {
     let answer = world.step(event);
+    if lacked_memory(&answer) {
+        return Err(Memory);
+    }
     let kept = keep(alloc, names, line, &answer);
     give_back(world, line, answer);
     kept
+}
+
+fn lacked_memory(answer: &StepAnswer) -> bool {
+    matches!(
+        answer,
+        StepAnswer::Answered(Answer::Refused(Refusal::Memory, _))
+    )
 }
 
 /// Gives back the memory in which the line's vat said what it did.
