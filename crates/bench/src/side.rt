@@ -156,7 +156,7 @@ impl Side {
         };
         match self.core.call(call) {
             Ok((_, effects)) => Ok(effects),
-            Err((refusal, _)) => Err(Astray::Refused(refusal)),
+            Err(refused) => Err(Astray::Refused(refused.refusal)),
         }
     }
 
@@ -177,7 +177,7 @@ impl Side {
         let refs = one(self.alloc, passed)?;
         match self.core.answer(task.id, payload, refs) {
             Ok(effects) => self.send(to, effects),
-            Err((refusal, _, _)) => Err(Astray::Refused(refusal)),
+            Err(refused) => Err(Astray::Refused(refused.refusal)),
         }
     }
 
@@ -200,7 +200,7 @@ impl Side {
         let refs = Items::new(self.alloc);
         match self.core.answer(task.id, payload, refs) {
             Ok(effects) => Ok(effects),
-            Err((refusal, _, _)) => Err(Astray::Refused(refusal)),
+            Err(refused) => Err(Astray::Refused(refused.refusal)),
         }
     }
 

@@ -114,8 +114,8 @@ impl Scene {
             bail!("no command");
         };
         let answer = match vat {
-            Vat::A => self.a.obey(command),
-            Vat::B => self.b.obey(command),
+            Vat::A => self.a.command(command),
+            Vat::B => self.b.command(command),
         };
         match answer {
             Answer::Done(granted, effects) => {

@@ -4,6 +4,7 @@ ghost use Rattle.vat_machine.specs.declared.command.Granted.TheVariants as grant
 ghost use Rattle.vat_machine.specs.Progress.{quiet};
 ghost use Rattle.vat_machine.specs.Steps.{Obeys};
 
+use crate::refused::Refused;
 use crate::vat::Core;
 use rpc_msg::CallId;
 use step_asks::{call_straight, straight};
@@ -27,38 +28,50 @@ impl Core {
     /// Makes a call through a reference: gives its number, and what follows. The references that it sends stay the caller's.
     /// Refused, with nothing changed and the call handed back: `Down`; `Level` for references at level 0; `UnknownRef`;
     /// `CapCount`; `Full` at a limit of what it needs (`docs/protocol.md`, "Refusals"); `Memory`.
-    pub fn call(&mut self, call: CallCommand) -> Result<(CallId, Effects), (Refusal, CallCommand)>
+    pub fn call(&mut self, call: CallCommand) -> Result<(CallId, Effects), Refused<CallCommand>>
         ensures done { IfOk result (λ done. Obeys self.old (command.Call call) (Ok (granted.Call done.0)) done.1 self.new) }
-        ensures refused { IfErr result (λ e. Obeys self.old (command.Call call) (Err e.0) quiet self.new) }
-        ensures handed_back { IfErr result (λ e. e.1 ≡ call) }
+        ensures refused { IfErr result (λ e. Obeys self.old (command.Call call) (Err e.refusal) quiet self.new) }
+        ensures handed_back { IfErr result (λ e. e.back ≡ call) }
     {
         let Some(straight) = straight(&self.machine.step.store, &call) else {
             return self.call_any(call);
         };
         let done = match call_straight(&mut self.machine, call, straight) {
             Ok(done) => done,
-            Err(call) => return Err((Refusal::Memory, call)),
+            Err(back) => return Err(Refused {
+                refusal: Refusal::Memory,
+                back,
+            }),
         };
         Ok(done)
     }
 
     // Any call: `call` takes a shorter way where it goes to an import at once.
     #[inline(never)]
-    fn call_any(&mut self, call: CallCommand) -> Result<(CallId, Effects), (Refusal, CallCommand)>
+    fn call_any(&mut self, call: CallCommand) -> Result<(CallId, Effects), Refused<CallCommand>>
         ensures done { IfOk result (λ done. Obeys self.old (command.Call call) (Ok (granted.Call done.0)) done.1 self.new) }
-        ensures refused { IfErr result (λ e. Obeys self.old (command.Call call) (Err e.0) quiet self.new) }
-        ensures handed_back { IfErr result (λ e. e.1 ≡ call) }
+        ensures refused { IfErr result (λ e. Obeys self.old (command.Call call) (Err e.refusal) quiet self.new) }
+        ensures handed_back { IfErr result (λ e. e.back ≡ call) }
     {
         let store = &self.machine.step.store;
         let None = store.down else {
-            return Err((Refusal::Down, call));
+            return Err(Refused {
+                refusal: Refusal::Down,
+                back: call,
+            });
         };
         if let Err(refusal) = check_call_whole(store, &call) {
-            return Err((refusal, call));
+            return Err(Refused {
+                refusal,
+                back: call,
+            });
         }
         let done = match step_asks::call(&mut self.machine, call) {
             Ok(done) => done,
-            Err(call) => return Err((Refusal::Memory, call)),
+            Err(back) => return Err(Refused {
+                refusal: Refusal::Memory,
+                back,
+            }),
         };
         Ok(done)
     }

@@ -2,6 +2,7 @@
 #![tactic(auto)]
 
 mod asking;
+mod contents;
 mod counting;
 mod letting;
 mod making;
@@ -11,8 +12,10 @@ mod obey_letting;
 mod obey_making;
 mod obey_settling;
 mod queries;
+mod refused;
 mod settling;
 mod vat;
 
 pub use obey::Answer;
+pub use refused::Refused;
 pub use vat::Core;

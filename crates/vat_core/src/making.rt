@@ -1,9 +1,10 @@
-ghost use Rattle.std.specs.Prelude.{◌≡◌, Ok, Err, IfOk, IfErr};
+ghost use Rattle.std.specs.Prelude.{◌≡◌, [], Ok, Err, IfOk, IfErr};
 ghost use Rattle.vat_machine.specs.declared.command.Command.TheVariants as command;
 ghost use Rattle.vat_machine.specs.declared.command.Granted.TheVariants as granted;
 ghost use Rattle.vat_machine.specs.Progress.{quiet};
 ghost use Rattle.vat_machine.specs.Steps.{Obeys};
 
+use crate::refused::Refused;
 use crate::vat::Core;
 use rpc_msg::{CallId, Items, ObjectId, Op, PromiseId, RefId};
 use step_asks::ends;
@@ -40,17 +41,32 @@ impl Core {
     /// Makes a reference to what stands at a path of the results of a call, which may not be there yet: gives its number.
     /// Nothing is said. Refused, with nothing changed and the path handed back: `Down`; `UnknownCall`, finished ones too;
     /// `LongPath` beyond 16 steps; `Full` at the last number of a reference; `Memory`.
-    pub fn field(&mut self, id: CallId, path: Items<Op>) -> Result<RefId, (Refusal, Items<Op>)>
+    pub fn field(&mut self, id: CallId, path: Items<Op>) -> Result<RefId, Refused<Items<Op>>>
         ensures done { IfOk result (λ made. Obeys self.old (command.Field id path) (Ok (granted.Reference made)) quiet self.new) }
-        ensures refused { IfErr result (λ e. Obeys self.old (command.Field id path) (Err e.0) quiet self.new) }
-        ensures handed_back { IfErr result (λ e. e.1 ≡ path) }
+        ensures refused { IfErr result (λ e. Obeys self.old (command.Field id path) (Err e.refusal) quiet self.new) }
+        ensures handed_back { IfErr result (λ e. e.back ≡ path) }
     {
         if let Err(refusal) = check_field(&self.machine.step.store, id, &path) {
-            return Err((refusal, path));
+            return Err(Refused {
+                refusal,
+                back: path,
+            });
         }
         let Ok(made) = ends::field(&mut self.machine, id, &path) else {
-            return Err((Refusal::Memory, path));
+            return Err(Refused {
+                refusal: Refusal::Memory,
+                back: path,
+            });
         };
+        Ok(made)
+    }
+
+    /// Makes a reference to what a call gives, if that is one capability: gives its number. It is `field` with an empty path.
+    pub fn result_of(&mut self, id: CallId) -> Result<RefId, Refusal>
+        ensures done { IfOk result (λ made. Obeys self.old (command.Field id []) (Ok (granted.Reference made)) quiet self.new) }
+        ensures refused { IfErr result (λ r. Obeys self.old (command.Field id []) (Err r) quiet self.new) }
+    {
+        let made = self.field(id, Items::new(self.machine.alloc))?;
         Ok(made)
     }
 

@@ -19,7 +19,7 @@ pub enum Answer {
 impl Core {
     /// Takes a command of any kind, and answers what the call of its name does. A command that is refused is handed back
     /// whole.
-    pub fn obey(&mut self, command: Command) -> Answer
+    pub fn command(&mut self, command: Command) -> Answer
         ensures { AnswersTo self.old command result self.new }
     {
         match command {

@@ -3,6 +3,7 @@ ghost use Rattle.vat_machine.specs.declared.command.Command.TheVariants as comma
 ghost use Rattle.vat_core.specs.Answers.{AnswersTo};
 
 use crate::obey::Answer;
+use crate::refused::Refused;
 use crate::vat::Core;
 use vat_machine::{CallCommand, Command, Granted};
 
@@ -21,7 +22,7 @@ impl Core {
     {
         match self.call(call) {
             Ok((id, effects)) => Answer::Done(Granted::Call(id), effects),
-            Err((refusal, call)) => Answer::Refused(refusal, Command::Call(call)),
+            Err(Refused { refusal, back }) => Answer::Refused(refusal, Command::Call(back)),
         }
     }
 }

@@ -3,6 +3,7 @@ ghost use Rattle.vat_machine.specs.declared.command.Command.TheVariants as comma
 ghost use Rattle.vat_core.specs.Answers.{AnswersTo};
 
 use crate::obey::Answer;
+use crate::refused::Refused;
 use crate::vat::Core;
 use rpc_msg::{CallId, Items, ObjectId, Op, RefId};
 use vat_machine::{Command, Granted};
@@ -31,7 +32,7 @@ impl Core {
     {
         match self.field(id, path) {
             Ok(made) => Answer::Done(Granted::Reference(made), self.nothing()),
-            Err((refusal, path)) => Answer::Refused(refusal, Command::Field(id, path)),
+            Err(Refused { refusal, back }) => Answer::Refused(refusal, Command::Field(id, back)),
         }
     }
 

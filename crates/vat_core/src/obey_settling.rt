@@ -3,6 +3,7 @@ ghost use Rattle.vat_machine.specs.declared.command.Command.TheVariants as comma
 ghost use Rattle.vat_core.specs.Answers.{AnswersTo};
 
 use crate::obey::Answer;
+use crate::refused::Refused;
 use crate::vat::Core;
 use rpc_msg::{Exception, Items, Payload, PromiseId, RefId, TaskId};
 use vat_machine::{Command, Granted};
@@ -22,9 +23,9 @@ impl Core {
     {
         match self.reject(promise, exception) {
             Ok(effects) => Answer::Done(Granted::Done, effects),
-            Err((refusal, exception)) => Answer::Refused(
+            Err(Refused { refusal, back }) => Answer::Refused(
                 refusal,
-                Command::Reject(promise, exception),
+                Command::Reject(promise, back),
             ),
         }
     }
@@ -39,10 +40,10 @@ impl Core {
     {
         match self.answer(task, payload, refs) {
             Ok(effects) => Answer::Done(Granted::Done, effects),
-            Err((refusal, payload, refs)) => Answer::Refused(
-                refusal,
-                Command::Answer(task, payload, refs),
-            ),
+            Err(Refused { refusal, back }) => {
+                let (payload, refs) = back;
+                Answer::Refused(refusal, Command::Answer(task, payload, refs))
+            }
         }
     }
 
@@ -51,7 +52,7 @@ impl Core {
     {
         match self.fail(task, exception) {
             Ok(effects) => Answer::Done(Granted::Done, effects),
-            Err((refusal, exception)) => Answer::Refused(refusal, Command::Fail(task, exception)),
+            Err(Refused { refusal, back }) => Answer::Refused(refusal, Command::Fail(task, back)),
         }
     }
 }

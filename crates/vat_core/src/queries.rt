@@ -14,6 +14,13 @@ impl Core {
         self.machine.step.store.waits.holds(vat, reference)
     }
 
+    /// Whether nothing is left between it and its peer: no question, answer, import or export. Takes no memory.
+    pub fn shares_nothing(&self) -> bool
+        ensures { result ≡ has_no_tables self.now }
+    {
+        has_no_tables(&self.machine.step.store)
+    }
+
     /// Whether its state is that of a new core: no number was given, no table has an entry, and it is not down. Takes no
     /// memory.
     pub fn is_new(&self) -> bool

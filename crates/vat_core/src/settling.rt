@@ -4,6 +4,7 @@ ghost use Rattle.vat_machine.specs.declared.command.Granted.TheVariants as grant
 ghost use Rattle.vat_machine.specs.Progress.{quiet};
 ghost use Rattle.vat_machine.specs.Steps.{Obeys};
 
+use crate::refused::Refused;
 use crate::vat::Core;
 use rpc_msg::{Exception, Items, Payload, PromiseId, RefId, TaskId};
 use step_asks::ends;
@@ -29,13 +30,16 @@ impl Core {
         &mut self,
         promise: PromiseId,
         exception: Exception,
-    ) -> Result<Effects, (Refusal, Exception)>
+    ) -> Result<Effects, Refused<Exception>>
         ensures done { IfOk result (λ effects. Obeys self.old (command.Reject promise exception) (Ok granted.Done) effects self.new) }
-        ensures refused { IfErr result (λ e. Obeys self.old (command.Reject promise exception) (Err e.0) quiet self.new) }
-        ensures handed_back { IfErr result (λ e. e.1 ≡ exception) }
+        ensures refused { IfErr result (λ e. Obeys self.old (command.Reject promise exception) (Err e.refusal) quiet self.new) }
+        ensures handed_back { IfErr result (λ e. e.back ≡ exception) }
     {
         if let Err(refusal) = check_reject(&self.machine.step.store, promise) {
-            return Err((refusal, exception));
+            return Err(Refused {
+                refusal,
+                back: exception,
+            });
         }
         let effects = ends::reject(&mut self.machine, promise, exception);
         Ok(effects)
@@ -50,13 +54,16 @@ impl Core {
         task: TaskId,
         payload: Payload,
         refs: Items<RefId>,
-    ) -> Result<Effects, (Refusal, Payload, Items<RefId>)>
+    ) -> Result<Effects, Refused<(Payload, Items<RefId>)>>
         ensures done { IfOk result (λ effects. Obeys self.old (command.Answer task payload refs) (Ok granted.Done) effects self.new) }
-        ensures refused { IfErr result (λ e. Obeys self.old (command.Answer task payload refs) (Err e.0) quiet self.new) }
-        ensures handed_back { IfErr result (λ e. (e.1 ≡ payload) × (e.2 ≡ refs)) }
+        ensures refused { IfErr result (λ e. Obeys self.old (command.Answer task payload refs) (Err e.refusal) quiet self.new) }
+        ensures handed_back { IfErr result (λ e. (e.back.0 ≡ payload) × (e.back.1 ≡ refs)) }
     {
         if let Err(refusal) = check_answer(&self.machine.step.store, task, &payload, &refs) {
-            return Err((refusal, payload, refs));
+            return Err(Refused {
+                refusal,
+                back: (payload, refs),
+            });
         }
         let effects = ends::answer(&mut self.machine, task, payload, refs);
         Ok(effects)
@@ -68,13 +75,16 @@ impl Core {
         &mut self,
         task: TaskId,
         exception: Exception,
-    ) -> Result<Effects, (Refusal, Exception)>
+    ) -> Result<Effects, Refused<Exception>>
         ensures done { IfOk result (λ effects. Obeys self.old (command.Fail task exception) (Ok granted.Done) effects self.new) }
-        ensures refused { IfErr result (λ e. Obeys self.old (command.Fail task exception) (Err e.0) quiet self.new) }
-        ensures handed_back { IfErr result (λ e. e.1 ≡ exception) }
+        ensures refused { IfErr result (λ e. Obeys self.old (command.Fail task exception) (Err e.refusal) quiet self.new) }
+        ensures handed_back { IfErr result (λ e. e.back ≡ exception) }
     {
         if let Err(refusal) = check_fail(&self.machine.step.store, task) {
-            return Err((refusal, exception));
+            return Err(Refused {
+                refusal,
+                back: exception,
+            });
         }
         let effects = ends::fail(&mut self.machine, task, exception);
         Ok(effects)

@@ -16,7 +16,7 @@ use crate::notes::{
 use crate::side::Side;
 use rpc_msg::{CallId, Items, Memory, Message, Payload, RefId, TaskId, Vat};
 use std::alloc::Global;
-use vat_core::{Answer, Core};
+use vat_core::{Answer, Core, Refused};
 use vat_journal::{Advanced, JournalEntry};
 use vat_machine::{CallCommand, Command, Effects, Granted, Refusal};
 
@@ -55,7 +55,7 @@ pub(crate) fn obey(
 fn obey_down(core: &mut Core, command: Command) -> StepAnswer
     ensures { AnswersSo core.old command result core.new }
 {
-    StepAnswer::Answered(core.obey(command))
+    StepAnswer::Answered(core.command(command))
 }
 
 #[inline(always)]
@@ -94,9 +94,9 @@ fn obey_call(
             );
             return StepAnswer::Answered(Answer::Done(left, effects));
         }
-        Err((refusal, call)) => {
+        Err(Refused { refusal, back }) => {
             tell_refused(alloc, vat, acting, peer, journal, start, refusal);
-            return StepAnswer::Answered(Answer::Refused(refusal, Command::Call(call)));
+            return StepAnswer::Answered(Answer::Refused(refusal, Command::Call(back)));
         }
     }
 }
@@ -137,8 +137,9 @@ fn obey_answer(
             );
             return StepAnswer::Answered(Answer::Done(left, effects));
         }
-        Err((refusal, payload, refs)) => {
+        Err(Refused { refusal, back }) => {
             tell_refused(alloc, vat, acting, peer, journal, start, refusal);
+            let (payload, refs) = back;
             let back = Command::Answer(task, payload, refs);
             return StepAnswer::Answered(Answer::Refused(refusal, back));
         }
@@ -236,7 +237,7 @@ fn obey_up(
     let start = journal.len();
     let index = index_of_call(&acting.core, &command);
     let note = note_of(alloc, index, &command);
-    let mut answer = acting.core.obey(command);
+    let mut answer = acting.core.command(command);
     match &mut answer {
         Answer::Done(granted, effects) => {
             *granted = tell_done(

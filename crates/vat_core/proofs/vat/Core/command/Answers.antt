@@ -1,5 +1,5 @@
 use Rattle.vat_core.proofs.Answering.{answers_known}
-use Rattle.vat_core.proofs.vat.Core.obey.Goals as goal
+use Rattle.vat_core.proofs.vat.Core.command.Goals as goal
 
 pub returns-in-Host : goal.returns-in-Host
 returns-in-Host c = answers_known _ _ _ _ _ c.in-Host.is c.obey_host.ensures
