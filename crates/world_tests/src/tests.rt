@@ -1,4 +1,6 @@
-//! Vats that go down, events in a row, and want of memory. What scripts do to two vats is in `script_scenes`.
+//! Vats that go down, events in a row, and want of memory, of two vats and of two cores. What scripts do to two vats is in
+//! `script_scenes`.
+mod cores;
 mod downs;
 mod events;
 mod need;

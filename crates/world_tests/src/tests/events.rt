@@ -35,7 +35,7 @@ fn bare_event(alloc: Global, number: u32) -> WorldEvent {
 }
 
 /// The null payload. A refused allocation is tried again.
-fn null(alloc: Global) -> Result<Payload, Memory> {
+pub(super) fn null(alloc: Global) -> Result<Payload, Memory> {
     match Payload::null(alloc) {
         Ok(payload) => Ok(payload),
         Err(Memory) => Payload::null(alloc),

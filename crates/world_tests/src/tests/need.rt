@@ -1,16 +1,17 @@
 //! Want of memory: to be run with each allocation refused, by `rt try --test --fail-alloc`.
 use crate::tests::events::{Brief, EVENTS, entries, event, take, told, vat_of, world};
-use rpc_msg::{Memory, Message, PlainMessage, Vat};
+use rpc_msg::{ExceptionKind, Memory, Message, PlainMessage, Vat};
 use std::alloc::Global;
 use std::process::Abort;
 use vat_journal::JournalEntry;
 use vat_machine::Refusal;
 use vat_world::World;
 
-fn is_abort(entry: &JournalEntry, reason: &str) -> bool {
-    match entry {
-        JournalEntry::Sent(_, Message::Plain(PlainMessage::Abort(said))) => {
-            said.reason.as_str() == reason
+/// Whether it is the Abort of a vat that goes down for want of memory.
+pub(super) fn is_abort(message: &Message) -> bool {
+    match message {
+        Message::Plain(PlainMessage::Abort(said)) => {
+            said.kind == ExceptionKind::Failed && said.reason.as_str() == "fault 33"
         }
         _ => false,
     }
@@ -19,10 +20,8 @@ fn is_abort(entry: &JournalEntry, reason: &str) -> bool {
 /// Whether the last entries are the Abort of a vat and that it went down, for want of memory.
 fn ends_overflown(entries: &[JournalEntry], vat: Vat) -> bool {
     match entries {
-        [.., abort, down] => {
-            is_abort(abort, "fault 33")
-                && told(abort) == (vat, "sent abort", 0)
-                && told(down) == (vat, "down", 33)
+        [.., JournalEntry::Sent(from, abort), down] => {
+            is_abort(abort) && *from == vat && told(down) == (vat, "down", 33)
         }
         _ => false,
     }
