@@ -3,6 +3,7 @@
 #![tactic(auto)]
 
 mod answering;
+mod falling;
 mod fault;
 mod playing;
 mod program;

@@ -9,6 +9,7 @@ ghost use Rattle.trace_check.specs.Kept.{HasTaken};
 ghost use Rattle.trace_file.specs.Traces.{trace_text};
 ghost use Rattle.trace_program.specs.Traces.{Prints, Faults, PrintsLines, FaultsLines, first_seen};
 
+use crate::falling::lacked_memory;
 use crate::fault::ScriptFault;
 use crate::playing::play_lines;
 use laws_sound::worlds_keep_promises;
@@ -22,7 +23,7 @@ use vat_script::{Line, Names, Program, read_script};
 use vat_world::World;
 
 /// The object of both vats that the other asks for.
-const FIRST_OBJECT: ObjectId = ObjectId(0);
+pub(crate) const FIRST_OBJECT: ObjectId = ObjectId(0);
 
 /// The version of the traces that the program writes.
 const VERSION: TraceVersion = TraceVersion::Two;
@@ -37,7 +38,7 @@ pub struct CheckedTrace {
 /// What a script leads to: the lines are played in order on two new vats that both have bootstrap object 0, and the
 /// trace has a head, the journal, and the counts at the end. `NotText` where the bytes are not UTF-8; `Line` with the
 /// number of the first line that is none, and what is wrong with it; or else `Unnamed` with that of the first that names
-/// something which is not there when its turn comes. `Memory` where a growth was refused.
+/// something which is not there when its turn comes. `Memory` where a growth was refused, that of a vat too.
 pub fn trace_of_script(alloc: Global, script: &[u8]) -> Result<CheckedTrace, ScriptFault>
     ensures prints { IfOk result (λ trace. Prints script.now (string_bytes trace.text) trace.verdict) }
     ensures faults { IfErr result (λ fault. Faults script.now fault) }
@@ -60,10 +61,15 @@ fn trace_of_lines(alloc: Global, lines: &[Line]) -> Result<CheckedTrace, ScriptF
     ensures prints { IfOk result (λ trace. PrintsLines lines.now (string_bytes trace.text) trace.verdict) }
     ensures faults { IfErr result (λ fault. FaultsLines lines.now fault) }
 {
-    match World::new(alloc, Some(FIRST_OBJECT), Some(FIRST_OBJECT)) {
-        Ok(mut world) => trace_from(alloc, &mut world, lines),
-        Err(Memory) => Err(ScriptFault::Memory),
+    let mut world = match World::new(alloc, Some(FIRST_OBJECT), Some(FIRST_OBJECT)) {
+        Ok(world) => world,
+        Err(Memory) => return Err(ScriptFault::Memory),
+    };
+    let trace = trace_from(alloc, &mut world, lines);
+    if lacked_memory(alloc, &world, lines) {
+        return Err(ScriptFault::Memory);
     }
+    trace
 }
 
 fn trace_from(alloc: Global, world: &mut World, lines: &[Line]) -> Result<CheckedTrace, ScriptFault>
