@@ -1,27 +1,44 @@
 //! Draws a trace as a sequence diagram, in SVG on standard output (`docs/trace.md`, "A picture of a trace").
 #![tactic(auto)]
 
+use std::env::Args;
 use std::fs::File;
+use std::io::ErrorKind;
 use std::process::ExitCode;
 use std::{env, io};
 use trace_picture::{Failure, Options, draw_trace, status};
 
 /// `trace_chart FILE [--ref V/N] [--from N] [--to N]`; without arguments the trace is read from standard input.
-fn main(rt: HostRuntime) -> Result<ExitCode, io::Error> {
-    let mut words = env::args(&rt)?;
+fn main(rt: HostRuntime) -> ExitCode {
+    let mut words = match env::args(&rt) {
+        Ok(words) => words,
+        Err(error) => return ended(&rt, Err(unread(&error)), "-"),
+    };
     let _program = words.next();
     let Some(name) = words.next() else {
-        return Ok(ended(&rt, draw_input(&rt), "-"));
+        return ended(&rt, draw_input(&rt), "-");
     };
+    let drawn = draw_named(&rt, name.as_str(), words);
+    ended(&rt, drawn, name.as_str())
+}
+
+/// Why the words could not be read: a word that is not UTF-8 asks for nothing.
+fn unread(error: &io::Error) -> Failure {
+    match error.kind() {
+        ErrorKind::OutOfMemory => Failure::Memory,
+        _ => Failure::Usage,
+    }
+}
+
+fn draw_named(rt: &HostRuntime, name: &str, words: Args) -> Result<(), Failure> {
     let mut chosen = Vec::new(rt.alloc());
     for word in words {
-        chosen.push(word)?;
+        chosen.push(word).map_err(|_| Failure::Memory)?;
     }
-    let drawn = match Options::of(chosen.as_slice()) {
-        Some(options) => draw_file(&rt, name.as_str(), options),
+    match Options::of(chosen.as_slice()) {
+        Some(options) => draw_file(rt, name, options),
         None => Err(Failure::Usage),
-    };
-    Ok(ended(&rt, drawn, name.as_str()))
+    }
 }
 
 fn draw_input(rt: &HostRuntime) -> Result<(), Failure> {

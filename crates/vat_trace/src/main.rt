@@ -2,25 +2,37 @@
 #![tactic(auto)]
 
 use std::fs::File;
+use std::io::ErrorKind;
 use std::process::ExitCode;
 use std::{env, io};
 use trace_program::{Failure, Word, play, status};
 
 /// `vat_trace run|check|show|upgrade FILE`; without arguments the script is read from standard input.
-fn main(rt: HostRuntime) -> Result<ExitCode, io::Error> {
-    let mut words = env::args(&rt)?;
+fn main(rt: HostRuntime) -> ExitCode {
+    let mut words = match env::args(&rt) {
+        Ok(words) => words,
+        Err(error) => return ended(&rt, Err(unread(&error)), "-"),
+    };
     let _program = words.next();
     let Some(word) = words.next() else {
-        return Ok(ended(&rt, on_input(&rt), "-"));
+        return ended(&rt, on_input(&rt), "-");
     };
     let Some(name) = words.next() else {
-        return Ok(misused(&rt));
+        return misused(&rt);
     };
     if words.next().is_some() {
-        return Ok(misused(&rt));
+        return misused(&rt);
     }
     let played = on_file(&rt, word.as_str(), name.as_str());
-    Ok(ended(&rt, played, name.as_str()))
+    ended(&rt, played, name.as_str())
+}
+
+/// Why the words could not be read: a word that is not UTF-8 asks for nothing.
+fn unread(error: &io::Error) -> Failure {
+    match error.kind() {
+        ErrorKind::OutOfMemory => Failure::Memory,
+        _ => Failure::Usage,
+    }
 }
 
 fn on_input(rt: &HostRuntime) -> Result<u8, Failure> {
