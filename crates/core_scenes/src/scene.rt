@@ -4,7 +4,7 @@ use crate::heard::message;
 use crate::told::write_effects;
 use anyhow::{Result, bail};
 use journal_words::{letter, write_counts};
-use rpc_msg::{Message, ObjectId, Payload, RefId, Vat};
+use rpc_msg::{Exception, ExceptionKind, Message, ObjectId, Payload, RefId, Text, Vat};
 use std::alloc::Global;
 use std::collections::VecDeque;
 use std::fmt::Write;
@@ -56,14 +56,30 @@ impl Scene {
 
     fn happen(&mut self, alloc: Global, line: &str) -> Result<()> {
         self.said = String::new(alloc);
-        match line.split_once(" hears ") {
-            Some((vat, words)) => {
-                let vat = if vat == "a" { Vat::A } else { Vat::B };
-                let message = message(alloc, words)?;
-                self.receive(alloc, vat, message)
-            }
+        if let Some((vat, words)) = line.split_once(" hears ") {
+            let vat = if vat == "a" { Vat::A } else { Vat::B };
+            let message = message(alloc, words)?;
+            return self.receive(alloc, vat, message);
+        }
+        match line.split_once(" overloaded ") {
+            Some((line, reason)) => self.reject_overloaded(alloc, line, reason),
             None => self.play_line(alloc, line),
         }
+    }
+
+    /// The promise of a script's line is broken with another exception than the script's.
+    fn reject_overloaded(&mut self, alloc: Global, text: &str, reason: &str) -> Result<()> {
+        let line = Line::read(alloc, Program::Run, text)?;
+        let null = Payload::null(alloc)?;
+        let act = self.names.act(alloc, &null, &line)?;
+        let Act::Happens(Event::Command(_, Command::Reject(promise, _))) = act else {
+            bail!("no promise is broken");
+        };
+        let exception = Exception {
+            kind: ExceptionKind::Overloaded,
+            reason: Text::new(alloc, reason)?,
+        };
+        self.obey(alloc, &line, Command::Reject(promise, exception))
     }
 
     fn play_line(&mut self, alloc: Global, text: &str) -> Result<()> {
