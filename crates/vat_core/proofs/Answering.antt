@@ -40,7 +40,7 @@ down_refuses s c n other down =
 -- ---- Commands of any kind
 
 pub answers_done : (s t : State) (c : Command) (g : Granted) (effects : Effects) → Obeys s c (Ok g) effects t → AnswersTo s c (Done g effects) t
-answers_done s t c g effects obeys = record { obeys = obeys; handed_back = tt }
+answers_done s t c g effects obeys = record { obeys = obeys; handed_back = tt; unchanged = tt }
 
 pub answers_quietly : (s t : State) (c : Command) (g : Granted) (effects : Effects) → effects ≡ quiet → Obeys s c (Ok g) quiet t → AnswersTo s c (Done g effects) t
 answers_quietly s t c g effects none obeys = answers_done s t c g effects (subst (λ (e : Effects). Obeys s c (Ok g) e t) (sym none) obeys)

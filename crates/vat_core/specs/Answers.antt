@@ -23,7 +23,13 @@ abbrev pub HandsBack : Command → Answer → Type 0
 HandsBack c (Done given effects) = Unit {0}
 HandsBack c (Refused r back) = back ≡ c
 
+-- And it changes nothing.
+abbrev pub ChangesNothing : State → Answer → State → Type 0
+ChangesNothing old (Done given effects) new = Unit {0}
+ChangesNothing old (Refused r back) new = new ≡ old
+
 -- It answers what the machine answers to the command.
 pub record AnswersTo (old : State) (c : Command) (answer : Answer) (new : State) : Type 0 where
   pub obeys : Obeys old c (answer_in answer) (effects_in answer) new
   pub handed_back : HandsBack c answer
+  pub unchanged : ChangesNothing old answer new

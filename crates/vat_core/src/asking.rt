@@ -1,4 +1,4 @@
-ghost use Rattle.std.specs.Prelude.{◌≡◌, Ok, Err, IfOk, IfErr};
+ghost use Rattle.std.specs.Prelude.{◌≡◌, Ok, Err, IfOk, IfErr, OnErr};
 ghost use Rattle.vat_machine.specs.declared.command.Command.TheVariants as command;
 ghost use Rattle.vat_machine.specs.declared.command.Granted.TheVariants as granted;
 ghost use Rattle.vat_machine.specs.Progress.{quiet};
@@ -17,6 +17,7 @@ impl Core {
     pub fn bootstrap(&mut self) -> Result<(CallId, Effects), Refusal>
         ensures done { IfOk result (λ done. Obeys self.old command.Bootstrap (Ok (granted.Call done.0)) done.1 self.new) }
         ensures refused { IfErr result (λ r. Obeys self.old command.Bootstrap (Err r) quiet self.new) }
+        ensures unchanged { OnErr result (self.new ≡ self.old) }
     {
         check_bootstrap(&self.machine.step.store)?;
         let Ok(done) = step_asks::bootstrap(&mut self.machine) else {
@@ -32,6 +33,7 @@ impl Core {
         ensures done { IfOk result (λ done. Obeys self.old (command.Call call) (Ok (granted.Call done.0)) done.1 self.new) }
         ensures refused { IfErr result (λ e. Obeys self.old (command.Call call) (Err e.refusal) quiet self.new) }
         ensures handed_back { IfErr result (λ e. e.back ≡ call) }
+        ensures unchanged { OnErr result (self.new ≡ self.old) }
     {
         let Some(straight) = straight(&self.machine.step.store, &call) else {
             return self.call_any(call);
@@ -52,6 +54,7 @@ impl Core {
         ensures done { IfOk result (λ done. Obeys self.old (command.Call call) (Ok (granted.Call done.0)) done.1 self.new) }
         ensures refused { IfErr result (λ e. Obeys self.old (command.Call call) (Err e.refusal) quiet self.new) }
         ensures handed_back { IfErr result (λ e. e.back ≡ call) }
+        ensures unchanged { OnErr result (self.new ≡ self.old) }
     {
         let store = &self.machine.step.store;
         let None = store.down else {

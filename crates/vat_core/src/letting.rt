@@ -1,4 +1,4 @@
-ghost use Rattle.std.specs.Prelude.{◌≡◌, Ok, Err, IfOk, IfErr};
+ghost use Rattle.std.specs.Prelude.{◌≡◌, Ok, Err, IfOk, IfErr, OnErr};
 ghost use Rattle.vat_machine.specs.declared.command.Command.TheVariants as command;
 ghost use Rattle.vat_machine.specs.declared.command.Granted.TheVariants as granted;
 ghost use Rattle.vat_machine.specs.Progress.{quiet};
@@ -17,6 +17,7 @@ impl Core {
     pub fn drop_ref(&mut self, id: RefId) -> Result<Effects, Refusal>
         ensures done { IfOk result (λ effects. Obeys self.old (command.DropRef id) (Ok granted.Done) effects self.new) }
         ensures refused { IfErr result (λ r. Obeys self.old (command.DropRef id) (Err r) quiet self.new) }
+        ensures unchanged { OnErr result (self.new ≡ self.old) }
     {
         check_drop_ref(&self.machine.step.store, id)?;
         let Ok(effects) = ends::drop_ref(&mut self.machine, id) else {
@@ -30,6 +31,7 @@ impl Core {
     pub fn finish(&mut self, id: CallId) -> Result<Effects, Refusal>
         ensures done { IfOk result (λ effects. Obeys self.old (command.Finish id) (Ok granted.Done) effects self.new) }
         ensures refused { IfErr result (λ r. Obeys self.old (command.Finish id) (Err r) quiet self.new) }
+        ensures unchanged { OnErr result (self.new ≡ self.old) }
     {
         check_finish(&self.machine.step.store, id)?;
         calls_have_their_own();
@@ -45,6 +47,7 @@ impl Core {
     pub fn advance(&mut self, id: RefId) -> Result<(Advanced, Effects), Refusal>
         ensures done { IfOk result (λ done. Obeys self.old (command.Advance id) (Ok (granted.Advanced done.0)) done.1 self.new) }
         ensures refused { IfErr result (λ r. Obeys self.old (command.Advance id) (Err r) quiet self.new) }
+        ensures unchanged { OnErr result (self.new ≡ self.old) }
     {
         check_advance(&self.machine.step.store, id)?;
         let Ok(done) = ends::advance(&mut self.machine, id) else {

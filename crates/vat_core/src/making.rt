@@ -1,4 +1,4 @@
-ghost use Rattle.std.specs.Prelude.{◌≡◌, [], Ok, Err, IfOk, IfErr};
+ghost use Rattle.std.specs.Prelude.{◌≡◌, [], Ok, Err, IfOk, IfErr, OnErr};
 ghost use Rattle.vat_machine.specs.declared.command.Command.TheVariants as command;
 ghost use Rattle.vat_machine.specs.declared.command.Granted.TheVariants as granted;
 ghost use Rattle.vat_machine.specs.Progress.{quiet};
@@ -17,6 +17,7 @@ impl Core {
     pub fn host(&mut self, object: ObjectId) -> Result<RefId, Refusal>
         ensures done { IfOk result (λ id. Obeys self.old (command.Host object) (Ok (granted.Reference id)) quiet self.new) }
         ensures refused { IfErr result (λ r. Obeys self.old (command.Host object) (Err r) quiet self.new) }
+        ensures unchanged { OnErr result (self.new ≡ self.old) }
     {
         check_host(&self.machine.step.store, object)?;
         let Ok(made) = ends::host(&mut self.machine, object) else {
@@ -30,6 +31,7 @@ impl Core {
     pub fn clone_ref(&mut self, id: RefId) -> Result<RefId, Refusal>
         ensures done { IfOk result (λ made. Obeys self.old (command.CloneRef id) (Ok (granted.Reference made)) quiet self.new) }
         ensures refused { IfErr result (λ r. Obeys self.old (command.CloneRef id) (Err r) quiet self.new) }
+        ensures unchanged { OnErr result (self.new ≡ self.old) }
     {
         check_clone_ref(&self.machine.step.store, id)?;
         let Ok(made) = ends::clone_ref(&mut self.machine, id) else {
@@ -45,6 +47,7 @@ impl Core {
         ensures done { IfOk result (λ made. Obeys self.old (command.Field id path) (Ok (granted.Reference made)) quiet self.new) }
         ensures refused { IfErr result (λ e. Obeys self.old (command.Field id path) (Err e.refusal) quiet self.new) }
         ensures handed_back { IfErr result (λ e. e.back ≡ path) }
+        ensures unchanged { OnErr result (self.new ≡ self.old) }
     {
         if let Err(refusal) = check_field(&self.machine.step.store, id, &path) {
             return Err(Refused {
@@ -65,6 +68,7 @@ impl Core {
     pub fn result_of(&mut self, id: CallId) -> Result<RefId, Refusal>
         ensures done { IfOk result (λ made. Obeys self.old (command.Field id []) (Ok (granted.Reference made)) quiet self.new) }
         ensures refused { IfErr result (λ r. Obeys self.old (command.Field id []) (Err r) quiet self.new) }
+        ensures unchanged { OnErr result (self.new ≡ self.old) }
     {
         let made = self.field(id, Items::new(self.machine.alloc))?;
         Ok(made)
@@ -75,6 +79,7 @@ impl Core {
     pub fn promise(&mut self) -> Result<(PromiseId, RefId), Refusal>
         ensures done { IfOk result (λ made. Obeys self.old command.Promise (Ok (granted.Promise made.0 made.1)) quiet self.new) }
         ensures refused { IfErr result (λ r. Obeys self.old command.Promise (Err r) quiet self.new) }
+        ensures unchanged { OnErr result (self.new ≡ self.old) }
     {
         check_promise(&self.machine.step.store)?;
         let Ok(made) = step_asks::promise(&mut self.machine) else {

@@ -1,4 +1,4 @@
-ghost use Rattle.std.specs.Prelude.{◌≡◌, Ok, Err, IfOk, IfErr};
+ghost use Rattle.std.specs.Prelude.{◌≡◌, Ok, Err, IfOk, IfErr, OnErr};
 ghost use Rattle.vat_machine.specs.declared.command.Command.TheVariants as command;
 ghost use Rattle.vat_machine.specs.declared.command.Granted.TheVariants as granted;
 ghost use Rattle.vat_machine.specs.Progress.{quiet};
@@ -18,6 +18,7 @@ impl Core {
     pub fn resolve(&mut self, promise: PromiseId, reference: RefId) -> Result<Effects, Refusal>
         ensures done { IfOk result (λ effects. Obeys self.old (command.Resolve promise reference) (Ok granted.Done) effects self.new) }
         ensures refused { IfErr result (λ r. Obeys self.old (command.Resolve promise reference) (Err r) quiet self.new) }
+        ensures unchanged { OnErr result (self.new ≡ self.old) }
     {
         check_resolve(&self.machine.step.store, promise, reference)?;
         let effects = ends::resolve(&mut self.machine, promise, reference);
@@ -34,6 +35,7 @@ impl Core {
         ensures done { IfOk result (λ effects. Obeys self.old (command.Reject promise exception) (Ok granted.Done) effects self.new) }
         ensures refused { IfErr result (λ e. Obeys self.old (command.Reject promise exception) (Err e.refusal) quiet self.new) }
         ensures handed_back { IfErr result (λ e. e.back ≡ exception) }
+        ensures unchanged { OnErr result (self.new ≡ self.old) }
     {
         if let Err(refusal) = check_reject(&self.machine.step.store, promise) {
             return Err(Refused {
@@ -58,6 +60,7 @@ impl Core {
         ensures done { IfOk result (λ effects. Obeys self.old (command.Answer task payload refs) (Ok granted.Done) effects self.new) }
         ensures refused { IfErr result (λ e. Obeys self.old (command.Answer task payload refs) (Err e.refusal) quiet self.new) }
         ensures handed_back { IfErr result (λ e. (e.back.0 ≡ payload) × (e.back.1 ≡ refs)) }
+        ensures unchanged { OnErr result (self.new ≡ self.old) }
     {
         if let Err(refusal) = check_answer(&self.machine.step.store, task, &payload, &refs) {
             return Err(Refused {
@@ -79,6 +82,7 @@ impl Core {
         ensures done { IfOk result (λ effects. Obeys self.old (command.Fail task exception) (Ok granted.Done) effects self.new) }
         ensures refused { IfErr result (λ e. Obeys self.old (command.Fail task exception) (Err e.refusal) quiet self.new) }
         ensures handed_back { IfErr result (λ e. e.back ≡ exception) }
+        ensures unchanged { OnErr result (self.new ≡ self.old) }
     {
         if let Err(refusal) = check_fail(&self.machine.step.store, task) {
             return Err(Refused {

@@ -129,14 +129,14 @@ done_by v g c a granted left x t i note given new counts e h is_index noted tell
 
 -- The same from the core's call of a command's name.
 pub refused_as : (v : Vat) (g : Stage) (c : Command) (r : Refusal) (back : Command) (t : State) (new : Stage)
-    → Obeys g.acting.core c (Err r) quiet t → back ≡ c → TellsRefused v (record g { acting = record (g.acting) { core = t } }) r new → ObeysUp v g c (Refused r back) new
-refused_as v g c r back t new o e tells = refused_by v g c (Refused r back) r back t new refl (record { obeys = o; handed_back = e }) tells
+    → Obeys g.acting.core c (Err r) quiet t → back ≡ c → t ≡ g.acting.core → TellsRefused v (record g { acting = record (g.acting) { core = t } }) r new → ObeysUp v g c (Refused r back) new
+refused_as v g c r back t new o e same tells = refused_by v g c (Refused r back) r back t new refl (record { obeys = o; handed_back = e; unchanged = same }) tells
 
 pub done_as : (v : Vat) (g : Stage) (c : Command) (granted left : Granted) (x : Effects) (t : State) (i : ℕ) (note : Result Note Memory) (given : Effects) (new : Stage)
     → NumbersItsCalls v g.acting.core g.journal → Obeys g.acting.core c (Ok granted) x t → i ≡ index_of g.acting.core c → IsNoteOf i c note
     → TellsDone v (record g { acting = record (g.acting) { core = t } }) note granted x left given new → ObeysUp v g c (Done left given) new
 done_as v g c granted left x t i note given new counts o is_index noted tells =
-    done_by v g c (Done granted x) granted left x t i note given new counts refl (record { obeys = o; handed_back = tt }) is_index noted tells
+    done_by v g c (Done granted x) granted left x t i note given new counts refl (record { obeys = o; handed_back = tt; unchanged = tt }) is_index noted tells
 
 -- At a vat that is down.
 down_by : (g : Stage) (c : Command) (a : Answer) (t : State) → is_some g.acting.core.down ≡ true → AnswersTo g.acting.core c a t → ObeysDown g c a (record g { acting = record (g.acting) { core = t } })

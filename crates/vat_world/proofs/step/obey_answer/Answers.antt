@@ -25,5 +25,5 @@ returns-in-Err-clause-obeys c = (
   _,
   refl,
   refused_as c.args.vat (stage_of c.args.acting.now c.args.peer.now c.args.journal.now) (command.Answer c.args.task c.args.payload c.args.refs) _ _ _ _
-      c.in-Err.ensures.refused (rw (c.in-Err.ensures.handed_back.0, c.in-Err.ensures.handed_back.1) refl) c.tell_refused.ensures.tells,
+      c.in-Err.ensures.refused (rw (c.in-Err.ensures.handed_back.0, c.in-Err.ensures.handed_back.1) refl) c.in-Err.ensures.unchanged c.tell_refused.ensures.tells,
 )

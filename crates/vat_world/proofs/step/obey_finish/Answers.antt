@@ -22,5 +22,5 @@ returns-in-Err-clause-obeys c = (
   _,
   refl,
   refused_as c.args.vat (stage_of c.args.acting.now c.args.peer.now c.args.journal.now) (command.Finish c.args.call) _ _ _ _
-      c.in-Err.ensures.refused refl c.tell_refused.ensures.tells,
+      c.in-Err.ensures.refused refl c.in-Err.ensures.unchanged c.tell_refused.ensures.tells,
 )
