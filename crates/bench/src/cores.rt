@@ -96,7 +96,7 @@ impl Pair {
     fn embargo(&mut self, reference: RefId, first: Task) -> Result<(), Astray> {
         let echo = self.a.advance(&mut self.b, reference)?;
         self.a.call_later(reference)?;
-        let second = self.b.send(&mut self.a, echo)?.task()?;
+        let second = self.a.receive(echo)?.task()?;
         let outcome = self.a.answer_own(second)?;
         self.a.finish_own(outcome)?;
         // Vat b, which passed the first call on, passes its answer back.

@@ -47,13 +47,11 @@ impl Side {
     }
 
     // A message alone was sent.
+    #[inline(always)]
     fn sent(&mut self, mut effects: Effects) -> Result<Message, Astray> {
-        only_sends(&effects, 1)?;
-        let Some(message) = pop(&mut effects, self.alloc) else {
-            return Err(Astray::Otherwise);
-        };
+        let message = take_only(&mut effects, self.alloc);
         self.core.recycle(effects);
-        Ok(message)
+        message
     }
 
     // A message alone was sent, and goes straight there.
@@ -65,26 +63,36 @@ impl Side {
 
     // The same, where what it leads to is still to be looked at.
     #[inline(always)]
-    fn pass(&mut self, to: &mut Side, mut effects: Effects) -> Result<Effects, Astray> {
-        only_sends(&effects, 1)?;
-        let Some(message) = pop(&mut effects, self.alloc) else {
-            return Err(Astray::Otherwise);
-        };
-        self.core.recycle(effects);
+    fn pass(&mut self, to: &mut Side, effects: Effects) -> Result<Effects, Astray> {
+        let message = self.sent(effects)?;
         Ok(to.core.receive(message))
+    }
+
+    // The same, where it leads to nothing.
+    #[inline(always)]
+    fn tell(&mut self, to: &mut Side, effects: Effects) -> Result<(), Astray> {
+        self.send(to, effects)?.nothing()
     }
 
     // Two messages were sent, and go straight there, in that order. What the first leads to is still to be looked at; the
     // second leads to nothing.
     #[inline(never)]
     fn send_two(&mut self, to: &mut Side, mut effects: Effects) -> Result<Effects, Astray> {
-        only_sends(&effects, 2)?;
-        let Some(first) = take_first(&mut effects, self.alloc) else {
-            return Err(Astray::Otherwise);
+        let first = match take_first(&mut effects, self.alloc) {
+            Ok(first) => first,
+            Err(astray) => {
+                self.core.recycle(effects);
+                return Err(astray);
+            }
         };
         let led_to = to.core.receive(first);
-        self.send(to, effects)?.nothing()?;
-        Ok(led_to)
+        match self.tell(to, effects) {
+            Ok(()) => Ok(led_to),
+            Err(astray) => {
+                to.core.recycle(led_to);
+                Err(astray)
+            }
+        }
     }
 
     /// Takes a message, and sends nothing.
@@ -207,7 +215,7 @@ impl Side {
     #[inline(always)]
     pub(crate) fn finish(&mut self, to: &mut Side, outcome: Outcome) -> Result<(), Astray> {
         let effects = self.core.finish(outcome.call)?;
-        self.send(to, effects)?.nothing()
+        self.tell(to, effects)
     }
 
     /// Finishes a call to an object of this vat.
@@ -229,13 +237,16 @@ impl Side {
         to.did(effects)
     }
 
-    /// Lets a reference take the shorter path, behind an embargo: what the other vat does at the message that asks for its
-    /// end, which is to be an echo, and is still to be looked at.
-    pub(crate) fn advance(&mut self, to: &mut Side, reference: RefId) -> Result<Effects, Astray> {
-        let (Advanced::Embargoed, effects) = self.core.advance(reference)? else {
-            return Err(Astray::Otherwise);
-        };
-        self.send_two(to, effects)
+    /// Lets a reference take the shorter path, behind an embargo: what the other vat sends at the message that asks for its
+    /// end, which is to be an echo.
+    pub(crate) fn advance(&mut self, to: &mut Side, reference: RefId) -> Result<Message, Astray> {
+        let (advanced, effects) = self.core.advance(reference)?;
+        let led_to = self.send_two(to, effects)?;
+        let echo = to.sent(led_to)?;
+        match advanced {
+            Advanced::Embargoed => Ok(echo),
+            _ => Err(Astray::Otherwise),
+        }
     }
 
     pub(crate) fn let_go(&mut self, reference: RefId) -> Result<(), Astray> {
@@ -264,24 +275,29 @@ fn only_sends(effects: &Effects, count: usize) -> Result<(), Astray> {
     }
 }
 
-// The last message, which goes out of its list.
+// The message that these effects are alone, which goes out of its list.
 #[inline(always)]
-fn pop(effects: &mut Effects, alloc: Global) -> Option<Message> {
+fn take_only(effects: &mut Effects, alloc: Global) -> Result<Message, Astray> {
+    only_sends(effects, 1)?;
     let mut sends = mem::replace(&mut effects.sends, Items::new(alloc)).into_vec();
     let message = sends.pop();
     // Nothing is there to be dropped.
     mem::forget(mem::replace(&mut effects.sends, Items::from_vec(sends)));
-    message
+    match message {
+        Some(message) => Ok(message),
+        None => Err(Astray::Otherwise),
+    }
 }
 
-// The first message, which goes out of its list; the last is the first then.
+// The first of the two messages that these effects are, which goes out of its list; the other is the first then.
 #[inline(always)]
-fn take_first(effects: &mut Effects, alloc: Global) -> Option<Message> {
+fn take_first(effects: &mut Effects, alloc: Global) -> Result<Message, Astray> {
+    only_sends(effects, 2)?;
     let mut sends = mem::replace(&mut effects.sends, Items::new(alloc)).into_vec();
     let message = if sends.is_empty() {
-        None
+        Err(Astray::Otherwise)
     } else {
-        Some(sends.swap_remove(0))
+        Ok(sends.swap_remove(0))
     };
     // Nothing is there to be dropped.
     mem::forget(mem::replace(&mut effects.sends, Items::from_vec(sends)));

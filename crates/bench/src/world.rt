@@ -101,17 +101,20 @@ impl Vats {
     }
 
     fn command(&mut self, vat: Vat, command: Command) -> Result<(), Astray> {
-        match self.world.step(Event::Command(vat, command)) {
-            StepAnswer::Answered(Answer::Done(_, effects)) => self.did(vat, effects)?.nothing(),
-            StepAnswer::Answered(Answer::Refused(refusal, _)) => Err(Astray::Refused(refusal)),
-            _ => Err(Astray::Otherwise),
-        }
+        self.step(vat, Event::Command(vat, command))?.nothing()
     }
 
     fn deliver(&mut self, vat: Vat) -> Result<Done, Astray> {
-        match self.world.step(Event::Deliver(vat)) {
+        self.step(vat, Event::Deliver(vat))
+    }
+
+    #[inline(always)]
+    fn step(&mut self, vat: Vat, event: Event) -> Result<Done, Astray> {
+        match self.world.step(event) {
+            StepAnswer::Answered(Answer::Done(_, effects)) => self.did(vat, effects),
+            StepAnswer::Answered(Answer::Refused(refusal, _)) => Err(Astray::Refused(refusal)),
             StepAnswer::Handled(effects) => self.did(vat, effects),
-            _ => Err(Astray::Otherwise),
+            StepAnswer::Empty => Err(Astray::Otherwise),
         }
     }
 

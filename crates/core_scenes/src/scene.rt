@@ -10,7 +10,7 @@ use std::collections::VecDeque;
 use std::fmt::Write;
 use vat_core::{Answer, Core};
 use vat_machine::{Command, Effects, Event, Granted, Level};
-use vat_script::{Act, Line, Name, Names, Program};
+use vat_script::{Act, Line, LineCommand, Name, Names, Program};
 
 #[derive(Drop)]
 pub struct Scene {
@@ -135,11 +135,9 @@ impl Scene {
         };
         match answer {
             Answer::Done(granted, effects) => {
-                if let Granted::Advanced(advanced) = granted {
-                    writeln!(self.said, "{}: {advanced:?}", letter(*vat))?;
-                }
-                self.names.bind(*vat, said, granted)?;
-                self.follow(alloc, *vat, effects)
+                let kept = self.keep(*vat, said, granted);
+                self.follow(alloc, *vat, effects)?;
+                kept
             }
             Answer::Refused(refusal, _) => {
                 writeln!(self.said, "{}: refused {}", letter(*vat), refusal.code())?;
@@ -148,13 +146,27 @@ impl Scene {
         }
     }
 
+    fn keep(&mut self, vat: Vat, said: &LineCommand, granted: Granted) -> Result<()> {
+        if let Granted::Advanced(advanced) = granted {
+            writeln!(self.said, "{}: {advanced:?}", letter(vat))?;
+        }
+        self.names.bind(vat, said, granted)?;
+        Ok(())
+    }
+
     fn follow(&mut self, alloc: Global, vat: Vat, effects: Effects) -> Result<()> {
-        write_effects(&mut self.said, vat, &effects)?;
+        let told = write_effects(&mut self.said, vat, &effects);
+        let Effects {
+            sends,
+            deliveries,
+            answers,
+            down: _,
+        } = effects;
+        told?;
         self.names
-            .note_deliveries(alloc, vat, effects.deliveries.as_slice())?;
-        self.names
-            .note_outcomes(alloc, vat, effects.answers.as_slice())?;
-        let mut sends = VecDeque::from(effects.sends.into_vec());
+            .note_deliveries(alloc, vat, deliveries.as_slice())?;
+        self.names.note_outcomes(alloc, vat, answers.as_slice())?;
+        let mut sends = VecDeque::from(sends.into_vec());
         match vat {
             Vat::A => self.to_b.append(&mut sends)?,
             Vat::B => self.to_a.append(&mut sends)?,

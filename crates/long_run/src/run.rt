@@ -6,7 +6,7 @@ use anyhow::{Result, bail};
 use rpc_msg::{Exception, ExceptionKind, Items, ObjectId, Payload, RefId, Text, Vat};
 use std::alloc::Global;
 use vat_core::Answer;
-use vat_machine::{CallCommand, Command, Event};
+use vat_machine::{CallCommand, Command, Effects, Event};
 use vat_world::{StepAnswer, World};
 
 /// What a drawn number stands for: the first ten are deliveries, and what lets go is drawn more often.
@@ -74,22 +74,33 @@ impl Run {
         let gone = Gone::of(&command);
         match self.world.step(Event::Command(vat, command)) {
             StepAnswer::Answered(Answer::Done(granted, effects)) => {
-                if effects.down.is_some() {
-                    bail!("a vat went down");
-                }
                 self.obeyed = self.obeyed.saturating_add(1);
                 let held = self.application(vat);
                 held.forget(gone);
-                held.keep(granted)?;
-                held.note(&effects)?;
-                self.world.recycle(vat, effects);
-                Ok(())
+                let kept = held.keep(granted);
+                self.note(vat, effects)?;
+                kept
             }
-            StepAnswer::Answered(Answer::Refused(..)) => {
+            StepAnswer::Answered(Answer::Refused(_, _)) => {
                 self.refused = self.refused.saturating_add(1);
                 Ok(())
             }
-            _ => bail!("a command was not answered"),
+            StepAnswer::Handled(effects) => {
+                self.world.recycle(vat, effects);
+                bail!("a command was not answered")
+            }
+            StepAnswer::Empty => bail!("a command was not answered"),
+        }
+    }
+
+    /// Keeps what came, and gives the memory of it back. No vat is to go down.
+    fn note(&mut self, vat: Vat, effects: Effects) -> Result<()> {
+        let down = effects.down;
+        let noted = self.application(vat).note(&effects);
+        self.world.recycle(vat, effects);
+        match down {
+            Some(number) => bail!("a vat went down: {number}"),
+            None => noted,
         }
     }
 
@@ -97,14 +108,15 @@ impl Run {
     fn deliver(&mut self, vat: Vat) -> Result<bool> {
         match self.world.step(Event::Deliver(vat)) {
             StepAnswer::Handled(effects) => {
-                if effects.down.is_some() {
-                    bail!("a vat went down");
-                }
-                self.application(vat).note(&effects)?;
-                self.world.recycle(vat, effects);
+                self.note(vat, effects)?;
                 Ok(true)
             }
-            _ => Ok(false),
+            StepAnswer::Answered(Answer::Done(_, effects)) => {
+                self.world.recycle(vat, effects);
+                bail!("a message was not taken")
+            }
+            StepAnswer::Answered(Answer::Refused(_, _)) => Ok(false),
+            StepAnswer::Empty => Ok(false),
         }
     }
 

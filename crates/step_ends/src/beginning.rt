@@ -9,6 +9,7 @@ ghost use Rattle.vat_outbox.specs.Outgoing.{emptied};
 use rpc_msg::Memory;
 use step_base::{Step, begin};
 use step_sweeps::rest;
+use vat_machine::Effects;
 
 /// Begins a step in which nothing is to go, with room for so many entries of every kind, names, messages, deliveries, ends
 /// and outcomes: nothing is loose, no question is to be finished, and nothing is noted. `Err` where a growth was refused, or
@@ -36,5 +37,10 @@ pub fn end_silently(step: &mut Step)
     ensures outbox { step.new.outbox ≡ record (emptied step.old.outbox) { room = step.new.outbox.room; finish_room = step.new.outbox.finish_room; release_room = step.new.outbox.release_room } }
     ensures arisen { step.new.arisen ≡ step.old.arisen }
 {
-    let _ = step.outbox.take();
+    let Effects {
+        sends: _,
+        deliveries: _,
+        answers: _,
+        down: _,
+    } = step.outbox.take();
 }

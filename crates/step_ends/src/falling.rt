@@ -20,7 +20,12 @@ pub fn fall_as(machine: &mut Machine, named: Named, number: u16) -> Effects
     ensures state { state_of machine.new.step.store ≡ fallen_as named number }
     ensures resting { IsResting machine.new }
 {
-    let _ = fall_silently_as(machine, named, number);
+    let Effects {
+        sends: _,
+        deliveries: _,
+        answers: _,
+        down: _,
+    } = fall_silently_as(machine, named, number);
     machine.spare.fall(number)
 }
 

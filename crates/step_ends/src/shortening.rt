@@ -82,7 +82,12 @@ fn turn_back(step: &mut Step, id: RefId, from: Option<Reference>)
     ensures back { (s : State) → WasAdvanced s id.0 from (state_of step.old.store) → (state_of step.new.store ≡ s) × (step.new.store.waits.taken ≡ []) }
     ensures idle { IsIdle step.new }
 {
-    let _ = step.outbox.take();
+    let Effects {
+        sends: _,
+        deliveries: _,
+        answers: _,
+        down: _,
+    } = step.outbox.take();
     let Some(reference) = from else {
         return;
     };

@@ -67,13 +67,21 @@ fn happen(
 ) -> Result<(), Memory>
     ensures { OnOk result ((answer : StepAnswer) × Steps world.old event answer world.new × (names.new ≡ told names.old line.now answer)) }
 {
+    let vat = acting(&event);
     let answer = world.step(event);
     if lacked_memory(&answer) {
+        give_back(world, vat, answer);
         return Err(Memory);
     }
     let kept = keep(alloc, names, line, &answer);
-    give_back(world, line, answer);
+    give_back(world, vat, answer);
     kept
+}
+
+fn acting(event: &WorldEvent) -> Vat {
+    match event {
+        WorldEvent::Command(vat, _) | WorldEvent::Deliver(vat) => *vat,
+    }
 }
 
 fn lacked_memory(answer: &StepAnswer) -> bool {
@@ -83,16 +91,15 @@ fn lacked_memory(answer: &StepAnswer) -> bool {
     )
 }
 
-/// Gives back the memory in which the line's vat said what it did.
-fn give_back(world: &mut World, line: &Line, answer: StepAnswer)
+/// Gives back the memory in which the vat said what it did.
+fn give_back(world: &mut World, vat: Vat, answer: StepAnswer)
     ensures { world.new ≡ world.old }
 {
-    match (line, answer) {
-        (Line::Command(vat, _), StepAnswer::Answered(Answer::Done(_, effects))) => {
-            world.recycle(*vat, effects)
-        }
-        (Line::Deliver(vat), StepAnswer::Handled(effects)) => world.recycle(*vat, effects),
-        _ => {}
+    match answer {
+        StepAnswer::Answered(Answer::Done(_, effects)) => world.recycle(vat, effects),
+        StepAnswer::Answered(Answer::Refused(_, _)) => {}
+        StepAnswer::Handled(effects) => world.recycle(vat, effects),
+        StepAnswer::Empty => {}
     }
 }
 

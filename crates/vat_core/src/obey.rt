@@ -8,7 +8,6 @@ use rpc_msg::Items;
 use vat_machine::{Command, Effects, Granted, Refusal};
 
 /// What comes of a command.
-#[derive(Drop)]
 pub enum Answer {
     /// It is done: what it grants, and what follows.
     Done(Granted, Effects),

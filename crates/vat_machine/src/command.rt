@@ -129,8 +129,8 @@ impl Refusal {
     }
 }
 
-/// What a step of a core does beside its new state.
-#[derive(Drop)]
+/// What a step of a core does beside its new state. It can't be let go unseen: who has one takes it apart, hands it on, or
+/// gives it back to where it came from.
 pub struct Effects {
     /// Messages for the peer, in order.
     pub sends: Items<Message>,

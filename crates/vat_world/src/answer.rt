@@ -3,7 +3,6 @@ use vat_machine::Effects;
 
 /// What an event answers. The messages that its effects sent are on their way to the other vat, and their copies stand in
 /// the journal: so the effects name none. Their memory may be given back once they were looked at (`World::recycle`).
-#[derive(Drop)]
 pub enum StepAnswer {
     /// What the command answers.
     Answered(Answer),

@@ -74,7 +74,12 @@ pub(crate) fn log_overflow(
         log_fall(alloc, vat, acting, peer, journal, number, effects);
         return;
     }
-    *effects = acting.core.shut(WANT_OF_ROOM);
+    let Effects {
+        sends: _,
+        deliveries: _,
+        answers: _,
+        down: _,
+    } = mem::replace(effects, acting.core.shut(WANT_OF_ROOM));
     log_fall(alloc, vat, acting, peer, journal, WANT_OF_ROOM, effects);
 }
 
@@ -115,8 +120,13 @@ fn write_fall(vat: Vat, spare: &mut Outbox, journal: &mut Journal, number: u16, 
         journal.push(JournalEntry::Down(vat, number));
         return;
     }
-    let copy = spare.fall(number);
-    match copy.sends.into_vec().pop() {
+    let Effects {
+        sends,
+        deliveries: _,
+        answers: _,
+        down: _,
+    } = spare.fall(number);
+    match sends.into_vec().pop() {
         Some(message) => journal.push(JournalEntry::Sent(vat, message)),
         None => unreachable!(),
     }

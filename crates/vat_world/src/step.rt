@@ -311,6 +311,12 @@ fn tell_refused(
     write_refused(vat, journal, refusal);
     let mut quiet = no_effects(alloc);
     log_step(alloc, vat, acting, peer, journal, start, &mut quiet);
+    let Effects {
+        sends: _,
+        deliveries: _,
+        answers: _,
+        down: _,
+    } = quiet;
 }
 
 // What is left of an answer: where there was no room, a reference that was to advance did not.

@@ -156,10 +156,10 @@ impl World {
         ensures { self.new ≡ self.old }
     {
         match answer {
-            StepAnswer::Answered(Answer::Done(_, effects)) | StepAnswer::Handled(effects) => {
-                self.recycle(vat, effects)
-            }
-            _ => {}
+            StepAnswer::Answered(Answer::Done(_, effects)) => self.recycle(vat, effects),
+            StepAnswer::Answered(Answer::Refused(_, _)) => {}
+            StepAnswer::Handled(effects) => self.recycle(vat, effects),
+            StepAnswer::Empty => {}
         }
     }
 

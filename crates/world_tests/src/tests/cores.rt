@@ -320,12 +320,19 @@ impl Pair {
         effects: Effects,
         may_go_down: bool,
     ) -> Result<bool, Memory> {
-        if effects.down.is_some() {
-            assert!(rt; may_go_down && is_overflown(&effects));
+        let overflown = is_overflown(&effects);
+        let Effects {
+            sends,
+            deliveries,
+            answers: _,
+            down,
+        } = effects;
+        if down.is_some() {
+            assert!(rt; may_go_down && overflown);
             return Ok(false);
         }
-        self.note(rt, effects.deliveries.as_slice());
-        let mut sends = VecDeque::from(effects.sends.into_vec());
+        self.note(rt, deliveries.as_slice());
+        let mut sends = VecDeque::from(sends.into_vec());
         match vat {
             Vat::A => append(&mut self.to_b, &mut sends)?,
             Vat::B => append(&mut self.to_a, &mut sends)?,

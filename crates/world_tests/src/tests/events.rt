@@ -6,7 +6,7 @@ use std::alloc::Global;
 use std::process::Abort;
 use std::test::Fail;
 use vat_journal::JournalEntry;
-use vat_machine::{CallCommand, Command, Refusal};
+use vat_machine::{CallCommand, Command, Effects, Refusal};
 use vat_world::{Answer, StepAnswer, World, WorldEvent};
 
 /// The events of one bootstrapped call of A at B, by their numbers: from the Bootstrap to the last Release.
@@ -116,19 +116,33 @@ pub(super) enum Brief {
     Refused(Refusal),
 }
 
-fn tell(answer: &StepAnswer) -> Brief {
+fn tell(answer: StepAnswer) -> Brief {
     match answer {
-        StepAnswer::Answered(Answer::Refused(refusal, _)) => Brief::Refused(*refusal),
-        StepAnswer::Answered(_) => Brief::Done,
-        StepAnswer::Handled(_) => Brief::Handled,
+        StepAnswer::Answered(Answer::Refused(refusal, _)) => Brief::Refused(refusal),
+        StepAnswer::Answered(Answer::Done(_, effects)) => {
+            let_go(effects);
+            Brief::Done
+        }
+        StepAnswer::Handled(effects) => {
+            let_go(effects);
+            Brief::Handled
+        }
         StepAnswer::Empty => Brief::Empty,
     }
 }
 
+fn let_go(effects: Effects) {
+    let Effects {
+        sends: _,
+        deliveries: _,
+        answers: _,
+        down: _,
+    } = effects;
+}
+
 // No clause says what these do: a test is proved quicker where nothing is known of the worlds that it compares.
 pub(super) fn take(world: &mut World, event: WorldEvent) -> Brief {
-    let answer = world.step(event);
-    tell(&answer)
+    tell(world.step(event))
 }
 
 fn run(world: &mut World, events: Vec<WorldEvent>) {
