@@ -31,7 +31,7 @@ pub fn begin_quietly(step: &mut Step, more: usize) -> Result<(), Memory>
     begin(step, more)
 }
 
-/// Ends a step that said nothing: the room for what it might have said is given back where it is much.
+/// Ends a step and says nothing: what was to be said is let go, and its room is given back where it is much.
 pub fn end_silently(step: &mut Step)
     ensures store { step.new.store ≡ step.old.store }
     ensures outbox { step.new.outbox ≡ record (emptied step.old.outbox) { room = step.new.outbox.room; finish_room = step.new.outbox.finish_room; release_room = step.new.outbox.release_room } }

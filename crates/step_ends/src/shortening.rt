@@ -11,6 +11,7 @@ ghost use Rattle.step_base.specs.InProgress.{IsIdle, IsReady};
 ghost use Rattle.step_ends.specs.Undoing.{WasAdvanced};
 ghost use Rattle.step_ends.specs.Whole.{IsResting, Tries};
 
+use crate::beginning::end_silently;
 use crate::machine::Machine;
 use crate::undoing::lead_back;
 use rpc_msg::{Memory, RefId};
@@ -21,8 +22,7 @@ use vat_machine::{Effects, Reference};
 use vat_store::Store;
 
 /// Lets a reference take the shorter path, if one is known, where that is not refused, and gives what it did and what the
-/// step says. `Err` for want of memory; the vat
-/// holds what it held then.
+/// step says. `Err` for want of memory; the vat holds what it held then.
 pub fn advance(machine: &mut Machine, id: RefId) -> Result<(Advanced, Effects), Memory>
     requires resting { IsResting machine.old }
     requires allowed { refused (state_of machine.old.step.store) (command.Advance id) ≡ None }
@@ -82,12 +82,7 @@ fn turn_back(step: &mut Step, id: RefId, from: Option<Reference>)
     ensures back { (s : State) → WasAdvanced s id.0 from (state_of step.old.store) → (state_of step.new.store ≡ s) × (step.new.store.waits.taken ≡ []) }
     ensures idle { IsIdle step.new }
 {
-    let Effects {
-        sends: _,
-        deliveries: _,
-        answers: _,
-        down: _,
-    } = step.outbox.take();
+    end_silently(step);
     let Some(reference) = from else {
         return;
     };
