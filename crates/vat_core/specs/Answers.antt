@@ -30,6 +30,6 @@ ChangesNothing old (Refused r back) new = new ≡ old
 
 -- It answers what the machine answers to the command.
 pub record AnswersTo (old : State) (c : Command) (answer : Answer) (new : State) : Type 0 where
-  pub obeys : Obeys old c (answer_in answer) (effects_in answer) new
   pub handed_back : HandsBack c answer
   pub unchanged : ChangesNothing old answer new
+  pub obeys : Obeys old c (answer_in answer) (effects_in answer) new

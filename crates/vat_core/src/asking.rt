@@ -15,9 +15,9 @@ impl Core {
     /// Asks the peer for its bootstrap object: gives the number of the call, and what follows. Refused, with nothing changed:
     /// `Down`; `Full` at 4,096 questions or the last number of a call; `Memory`.
     pub fn bootstrap(&mut self) -> Result<(CallId, Effects), Refusal>
+        ensures unchanged { OnErr result (self.new ≡ self.old) }
         ensures done { IfOk result (λ done. Obeys self.old command.Bootstrap (Ok (granted.Call done.0)) done.1 self.new) }
         ensures refused { IfErr result (λ r. Obeys self.old command.Bootstrap (Err r) quiet self.new) }
-        ensures unchanged { OnErr result (self.new ≡ self.old) }
     {
         check_bootstrap(&self.machine.step.store)?;
         let Ok(done) = step_asks::bootstrap(&mut self.machine) else {
@@ -30,10 +30,10 @@ impl Core {
     /// Refused, with nothing changed and the call handed back: `Down`; `Level` for references at level 0; `UnknownRef`;
     /// `CapCount`; `Full` at a limit of what it needs (`docs/protocol.md`, "Refusals"); `Memory`.
     pub fn call(&mut self, call: CallCommand) -> Result<(CallId, Effects), Refused<CallCommand>>
-        ensures done { IfOk result (λ done. Obeys self.old (command.Call call) (Ok (granted.Call done.0)) done.1 self.new) }
-        ensures refused { IfErr result (λ e. Obeys self.old (command.Call call) (Err e.refusal) quiet self.new) }
         ensures handed_back { IfErr result (λ e. e.back ≡ call) }
         ensures unchanged { OnErr result (self.new ≡ self.old) }
+        ensures done { IfOk result (λ done. Obeys self.old (command.Call call) (Ok (granted.Call done.0)) done.1 self.new) }
+        ensures refused { IfErr result (λ e. Obeys self.old (command.Call call) (Err e.refusal) quiet self.new) }
     {
         let Some(straight) = straight(&self.machine.step.store, &call) else {
             return self.call_any(call);
@@ -51,10 +51,10 @@ impl Core {
     // Any call: `call` takes a shorter way where it goes to an import at once.
     #[inline(never)]
     fn call_any(&mut self, call: CallCommand) -> Result<(CallId, Effects), Refused<CallCommand>>
-        ensures done { IfOk result (λ done. Obeys self.old (command.Call call) (Ok (granted.Call done.0)) done.1 self.new) }
-        ensures refused { IfErr result (λ e. Obeys self.old (command.Call call) (Err e.refusal) quiet self.new) }
         ensures handed_back { IfErr result (λ e. e.back ≡ call) }
         ensures unchanged { OnErr result (self.new ≡ self.old) }
+        ensures done { IfOk result (λ done. Obeys self.old (command.Call call) (Ok (granted.Call done.0)) done.1 self.new) }
+        ensures refused { IfErr result (λ e. Obeys self.old (command.Call call) (Err e.refusal) quiet self.new) }
     {
         let store = &self.machine.step.store;
         let None = store.down else {

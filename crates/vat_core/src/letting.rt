@@ -15,9 +15,9 @@ use vat_machine::{Effects, Refusal};
 impl Core {
     /// Has no more use for a reference: gives what follows. Refused, with nothing changed: `Down`; `UnknownRef`; `Memory`.
     pub fn drop_ref(&mut self, id: RefId) -> Result<Effects, Refusal>
+        ensures unchanged { OnErr result (self.new ≡ self.old) }
         ensures done { IfOk result (λ effects. Obeys self.old (command.DropRef id) (Ok granted.Done) effects self.new) }
         ensures refused { IfErr result (λ r. Obeys self.old (command.DropRef id) (Err r) quiet self.new) }
-        ensures unchanged { OnErr result (self.new ≡ self.old) }
     {
         check_drop_ref(&self.machine.step.store, id)?;
         let Ok(effects) = ends::drop_ref(&mut self.machine, id) else {
@@ -27,11 +27,11 @@ impl Core {
     }
 
     /// Has no more use for a call, of which the application is not told any more: gives what follows. Refused, with nothing
-    /// changed: `Down`; `UnknownCall`; `Memory`.
+    /// changed: `Down`; `UnknownCall`, finished ones too; `Memory`.
     pub fn finish(&mut self, id: CallId) -> Result<Effects, Refusal>
+        ensures unchanged { OnErr result (self.new ≡ self.old) }
         ensures done { IfOk result (λ effects. Obeys self.old (command.Finish id) (Ok granted.Done) effects self.new) }
         ensures refused { IfErr result (λ r. Obeys self.old (command.Finish id) (Err r) quiet self.new) }
-        ensures unchanged { OnErr result (self.new ≡ self.old) }
     {
         check_finish(&self.machine.step.store, id)?;
         calls_have_their_own();
@@ -45,9 +45,9 @@ impl Core {
     /// and what follows. Refused, with nothing changed: `Down`; `Level` at level 0; `UnknownRef`; `Full` at 4,096 embargoes,
     /// where it would need one; `Memory`.
     pub fn advance(&mut self, id: RefId) -> Result<(Advanced, Effects), Refusal>
+        ensures unchanged { OnErr result (self.new ≡ self.old) }
         ensures done { IfOk result (λ done. Obeys self.old (command.Advance id) (Ok (granted.Advanced done.0)) done.1 self.new) }
         ensures refused { IfErr result (λ r. Obeys self.old (command.Advance id) (Err r) quiet self.new) }
-        ensures unchanged { OnErr result (self.new ≡ self.old) }
     {
         check_advance(&self.machine.step.store, id)?;
         let Ok(done) = ends::advance(&mut self.machine, id) else {

@@ -16,8 +16,8 @@ pub enum Answer {
 }
 
 impl Core {
-    /// Takes a command of any kind, and answers what the call of its name does. A command that is refused is handed back
-    /// whole.
+    /// Takes a command of any kind, and answers what the call of its name does. A command that is refused, as the call of its
+    /// name says, changes nothing and is handed back whole.
     pub fn command(&mut self, command: Command) -> Answer
         ensures { AnswersTo self.old command result self.new }
     {

@@ -16,9 +16,9 @@ impl Core {
     /// level 0; `UnknownRef`; `UnknownPromise`, settled ones too; `Cycle` where the reference leads to the promise. Where
     /// memory is refused or a limit met, the vat goes down with fault 33.
     pub fn resolve(&mut self, promise: PromiseId, reference: RefId) -> Result<Effects, Refusal>
+        ensures unchanged { OnErr result (self.new ≡ self.old) }
         ensures done { IfOk result (λ effects. Obeys self.old (command.Resolve promise reference) (Ok granted.Done) effects self.new) }
         ensures refused { IfErr result (λ r. Obeys self.old (command.Resolve promise reference) (Err r) quiet self.new) }
-        ensures unchanged { OnErr result (self.new ≡ self.old) }
     {
         check_resolve(&self.machine.step.store, promise, reference)?;
         let effects = ends::resolve(&mut self.machine, promise, reference);
@@ -32,10 +32,10 @@ impl Core {
         promise: PromiseId,
         exception: Exception,
     ) -> Result<Effects, Refused<Exception>>
-        ensures done { IfOk result (λ effects. Obeys self.old (command.Reject promise exception) (Ok granted.Done) effects self.new) }
-        ensures refused { IfErr result (λ e. Obeys self.old (command.Reject promise exception) (Err e.refusal) quiet self.new) }
         ensures handed_back { IfErr result (λ e. e.back ≡ exception) }
         ensures unchanged { OnErr result (self.new ≡ self.old) }
+        ensures done { IfOk result (λ effects. Obeys self.old (command.Reject promise exception) (Ok granted.Done) effects self.new) }
+        ensures refused { IfErr result (λ e. Obeys self.old (command.Reject promise exception) (Err e.refusal) quiet self.new) }
     {
         if let Err(refusal) = check_reject(&self.machine.step.store, promise) {
             return Err(Refused {
@@ -57,10 +57,10 @@ impl Core {
         payload: Payload,
         refs: Items<RefId>,
     ) -> Result<Effects, Refused<(Payload, Items<RefId>)>>
-        ensures done { IfOk result (λ effects. Obeys self.old (command.Answer task payload refs) (Ok granted.Done) effects self.new) }
-        ensures refused { IfErr result (λ e. Obeys self.old (command.Answer task payload refs) (Err e.refusal) quiet self.new) }
         ensures handed_back { IfErr result (λ e. (e.back.0 ≡ payload) × (e.back.1 ≡ refs)) }
         ensures unchanged { OnErr result (self.new ≡ self.old) }
+        ensures done { IfOk result (λ effects. Obeys self.old (command.Answer task payload refs) (Ok granted.Done) effects self.new) }
+        ensures refused { IfErr result (λ e. Obeys self.old (command.Answer task payload refs) (Err e.refusal) quiet self.new) }
     {
         if let Err(refusal) = check_answer(&self.machine.step.store, task, &payload, &refs) {
             return Err(Refused {
@@ -79,10 +79,10 @@ impl Core {
         task: TaskId,
         exception: Exception,
     ) -> Result<Effects, Refused<Exception>>
-        ensures done { IfOk result (λ effects. Obeys self.old (command.Fail task exception) (Ok granted.Done) effects self.new) }
-        ensures refused { IfErr result (λ e. Obeys self.old (command.Fail task exception) (Err e.refusal) quiet self.new) }
         ensures handed_back { IfErr result (λ e. e.back ≡ exception) }
         ensures unchanged { OnErr result (self.new ≡ self.old) }
+        ensures done { IfOk result (λ effects. Obeys self.old (command.Fail task exception) (Ok granted.Done) effects self.new) }
+        ensures refused { IfErr result (λ e. Obeys self.old (command.Fail task exception) (Err e.refusal) quiet self.new) }
     {
         if let Err(refusal) = check_fail(&self.machine.step.store, task) {
             return Err(Refused {
