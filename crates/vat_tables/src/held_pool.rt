@@ -103,12 +103,8 @@ impl<T> HeldPool<T> {
         if more == 0 {
             return Ok(());
         }
-        let Ok(()) = self.calls.reserve(more) else {
-            return Err(Memory);
-        };
-        let Ok(()) = self.lists.reserve(more) else {
-            return Err(Memory);
-        };
+        self.calls.reserve(more)?;
+        self.lists.reserve(more)?;
         Ok(())
     }
 

@@ -49,9 +49,7 @@ fn numbers_of_places<Entry>(places: &[Option<Entry>], alloc: Global) -> Result<V
     let mut numbers = Vec::new(alloc);
     for number in 0..places.len() {
         if places[number].is_some() {
-            let Ok(()) = numbers.push(number as u64) else {
-                return Err(Memory);
-            };
+            numbers.push(number as u64)?;
         }
     }
     Ok(numbers)
@@ -148,12 +146,8 @@ impl<Entry> Numbered<Entry> {
     {
         let mut numbers = numbers_of_places(&self.places, alloc)?;
         let hashed: Result<Vec<u64>, AllocError> = self.hashed.keys().copied().collect(alloc);
-        let Ok(mut hashed) = hashed else {
-            return Err(Memory);
-        };
-        let Ok(()) = numbers.append(&mut hashed) else {
-            return Err(Memory);
-        };
+        let mut hashed = hashed?;
+        numbers.append(&mut hashed)?;
         numbers.sort_unstable();
         Ok(numbers)
     }

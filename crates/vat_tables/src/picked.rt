@@ -78,9 +78,7 @@ impl<Entry> Picked<Entry> {
         }
         let len = self.slab.len();
         if self.slab.capacity() - len < more {
-            let Ok(()) = self.slab.reserve_exact(growth(len, more)) else {
-                return Err(Memory);
-            };
+            self.slab.reserve_exact(growth(len, more))?;
         }
         if self.slab.capacity() > KEY_LIMIT {
             return Err(Memory);

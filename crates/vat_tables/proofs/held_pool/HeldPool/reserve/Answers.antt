@@ -14,18 +14,18 @@ invariant_of-self-2 g c =
     (subst (λ s. IsPool (record c.self.inside.calls { capacity = c.reserve.new.self.capacity }) s) (sym c.reserve-2.ensures.rest_kept)
     (other_room c.self.inside.calls c.self.inside.lists c.reserve.new.self.capacity c.reserve-2.new.self.capacity c.self.invariant))
 
-pub invariant_of-self-in_default-reserve : goal.invariant_of-self-in_default-reserve
-invariant_of-self-in_default-reserve g c =
+pub invariant_of-self-in_err-reserve-2 : goal.invariant_of-self-in_err-reserve-2
+invariant_of-self-in_err-reserve-2 g c =
     subst (λ s. IsPool s c.reserve-2.new.self) (sym c.reserve.ensures.rest_kept)
     (subst (λ s. IsPool (record c.self.inside.calls { capacity = c.reserve.new.self.capacity }) s) (sym c.reserve-2.ensures.rest_kept)
     (other_room c.self.inside.calls c.self.inside.lists c.reserve.new.self.capacity c.reserve-2.new.self.capacity c.self.invariant))
 
-pub returns-in_default-clause-had_room : goal.returns-in_default-clause-had_room
-returns-in_default-clause-had_room g c = λ fits. let room = ap (λ p. p.room) c.self.view_is in
+pub returns-in_err-reserve-clause-had_room : goal.returns-in_err-reserve-clause-had_room
+returns-in_err-reserve-clause-had_room g c = λ fits. let room = ap (λ p. p.room) c.self.view_is in
     let has : slab_len c.self.inside.calls + c.args.more ≤ c.self.inside.calls.capacity = omega (arith, c.if-more-eq0.false, fits, room) in
     let ok = c.reserve.ensures.succeeds has in search rules
 
-pub returns-in_default-reserve-clause-had_room : goal.returns-in_default-reserve-clause-had_room
-returns-in_default-reserve-clause-had_room g c = λ fits. let room = ap (λ p. p.room) c.self.view_is in
+pub returns-in_err-reserve-2-clause-had_room : goal.returns-in_err-reserve-2-clause-had_room
+returns-in_err-reserve-2-clause-had_room g c = λ fits. let room = ap (λ p. p.room) c.self.view_is in
     let has : slab_len c.self.inside.lists + c.args.more ≤ c.self.inside.lists.capacity = omega (arith, c.if-more-eq0.false, fits, room) in
     let ok = c.reserve-2.ensures.succeeds has in search rules
