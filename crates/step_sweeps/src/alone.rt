@@ -56,9 +56,7 @@ pub(crate) fn find_over_alone(
     if !is_to_be_finished(store, id) {
         return Ok(());
     }
-    let Ok(()) = over.push(id) else {
-        return Err(Memory);
-    };
+    over.push(id)?;
     Ok(())
 }
 

@@ -73,9 +73,7 @@ impl Tally {
         requires { map.get self.old.counts key ≡ None }
         ensures { OnOk result (self.new ≡ record self.old { counts = map.insert self.old.counts key 1 }) }
     {
-        let Ok(()) = self.keys.push(key) else {
-            return Err(Memory);
-        };
+        self.keys.push(key)?;
         let Ok(()) = self.numbers.add(key, 1) else {
             return Err(Memory);
         };

@@ -96,9 +96,7 @@ impl Thought {
         };
         self.last = None;
         let again = node;
-        let Ok(()) = self.gone.push(again) else {
-            return Err(Memory);
-        };
+        self.gone.push(again)?;
         self.marks.add(node)
     }
 
@@ -109,9 +107,7 @@ impl Thought {
     {
         match *node {
             Node::Pipe(id, _) => {
-                let Ok(()) = self.over.push(id) else {
-                    return Err(Memory);
-                };
+                self.over.push(id)?;
                 Ok(())
             }
             _ => Ok(()),
@@ -125,9 +121,7 @@ fn lose_one(less: &mut Tallies, pending: &mut Vec<Node>, node: &Node) -> Result<
     ensures pending { OnOk result (pending.new.items ≡ pending.old.items ++ node.now ∷ []) }
 {
     less.add(*node)?;
-    let Ok(()) = pending.push(*node) else {
-        return Err(Memory);
-    };
+    pending.push(*node)?;
     Ok(())
 }
 

@@ -92,9 +92,7 @@ impl Counter {
             return Err(Memory);
         };
         self.numbers.reserve(room)?;
-        let Ok(()) = self.noted.reserve(places) else {
-            return Err(Memory);
-        };
+        self.noted.reserve(places)?;
         self.room = room;
         self.spare = spare;
         Ok(())

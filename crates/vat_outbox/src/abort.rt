@@ -19,13 +19,9 @@ pub(crate) struct AbortRoom {
 impl AbortRoom {
     /// Makes the room.
     pub(crate) fn new(alloc: Global) -> Result<Self, Memory> {
-        let Ok(sends) = Vec::with_capacity(alloc, 1) else {
-            return Err(Memory);
-        };
+        let sends = Vec::with_capacity(alloc, 1)?;
         // The longest reason is `fault 65535`.
-        let Ok(reason) = String::with_capacity(alloc, 11) else {
-            return Err(Memory);
-        };
+        let reason = String::with_capacity(alloc, 11)?;
         Ok(AbortRoom { sends, reason })
     }
 

@@ -49,10 +49,7 @@ fn grow_empty<Item: Drop>(list: &mut Vec<Item>, more: usize, alloc: Global) -> R
     let Some(wanted) = more.checked_add(SPARE) else {
         return Err(Memory);
     };
-    let Ok(made) = Vec::with_capacity(alloc, wanted) else {
-        return Err(Memory);
-    };
-    *list = made;
+    *list = Vec::with_capacity(alloc, wanted)?;
     Ok(())
 }
 

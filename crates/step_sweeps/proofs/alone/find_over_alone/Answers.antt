@@ -11,5 +11,5 @@ returns-then-not-is_to_be_finished-clause-over c =
 
 pub returns-clause-over : goal.returns-clause-over
 returns-clause-over c =
-    subst (λ (ids : List QuestionId). AreOver (state_of c.args.store.now) ids) (sym (c.in-Ok.ensures.items ∙ ap (λ (ids : List QuestionId). ids ++ c.args.id ∷ []) c.requires.none_yet))
+    subst (λ (ids : List QuestionId). AreOver (state_of c.args.store.now) ids) (sym (c.in_ok-push.ensures.items ∙ ap (λ (ids : List QuestionId). ids ++ c.args.id ∷ []) c.requires.none_yet))
     (c.requires.only.over c.if-not-is_to_be_finished.ensures)

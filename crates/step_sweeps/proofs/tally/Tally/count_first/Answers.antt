@@ -9,5 +9,5 @@ pub invariant_of-self-2 : goal.invariant_of-self-2
 invariant_of-self-2 c =
     let m : Map ℕ = c.self.inside.numbers.entries in
     let keys : List ℕ = c.self.inside.keys.items in
-    subst (λ (n : Map ℕ). AreListed n c.push.new.self.items) (sym c.in-Ok-add.ensures.ok)
-    (subst (λ (ks : List ℕ). AreListed (map.insert m c.args.key 1) ks) (sym c.in-Ok.ensures.items) (listed_more m keys c.args.key 1 c.self.invariant))
+    subst (λ (n : Map ℕ). AreListed n c.push.new.self.items) (sym c.in-Ok.ensures.ok)
+    (subst (λ (ks : List ℕ). AreListed (map.insert m c.args.key 1) ks) (sym c.in_ok-push.ensures.items) (listed_more m keys c.args.key 1 c.self.invariant))
