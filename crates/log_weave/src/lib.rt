@@ -7,8 +7,6 @@
 
 mod laws;
 mod merge;
-#[cfg(test)]
-mod tests;
 
 pub use laws::{Steps, acks_are_needed, log_grows, logs_interleave, merge_of_views};
 pub use merge::{Logged, OneOf, merge_logs};

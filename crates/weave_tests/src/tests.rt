@@ -2,7 +2,7 @@ ghost use Rattle.std.specs.Prelude.{◌≡◌, ℕ, List, [], ◌∷◌, Option,
 ghost use Rattle.log_weave.specs.Machine.{Input, Command, Shut, Receive, side};
 ghost use Rattle.log_weave.specs.Laws.{LogsInterleave, LogGrows};
 
-use crate::{Logged, OneOf, Steps, log_grows, logs_interleave, merge_logs};
+use log_weave::{Logged, OneOf, Steps, log_grows, logs_interleave, merge_logs};
 use std::alloc::{AllocError, Global};
 use std::test::Fail;
 
