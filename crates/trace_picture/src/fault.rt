@@ -1,7 +1,7 @@
 ghost use Rattle.trace_picture.specs.declared.fault.Failure.TheVariants as failure;
 
 use rpc_msg::Memory;
-use std::alloc::AllocError;
+use std::alloc::{AllocError, AllocFailed};
 use trace_file::FileFault;
 use trace_json::TraceFault;
 
@@ -52,6 +52,16 @@ impl From<AllocError> for Failure {
     ghost from_gives = { λ _ why. why ≡ failure.Memory };
 
     fn from(_fault: AllocError) -> Failure {
+        Failure::Memory
+    }
+}
+
+impl<T: Drop> From<AllocFailed<T>> for Failure {
+    ghost use Rattle.std.specs.Prelude.{◌≡◌};
+
+    ghost from_gives = { λ _ why. why ≡ failure.Memory };
+
+    fn from(_fault: AllocFailed<T>) -> Failure {
         Failure::Memory
     }
 }
