@@ -1,5 +1,5 @@
 //! Messages of a peer that needn't be honest, in the words in which messages are told (`told.rt`). A payload is null where no
-//! capability is named, and else capability 0, whose descriptor is the first.
+//! capability is named, and else a struct whose only pointer is capability 0, whose descriptor is the first.
 
 use anyhow::{Result, bail};
 use rpc_msg::{
@@ -8,6 +8,11 @@ use rpc_msg::{
     ResolvedTo, Return, ReturnBody, Stamp, Target, Text, Vat,
 };
 use std::alloc::Global;
+
+/// A segment of two words: a struct with one pointer, and that to capability 0.
+const GIVEN: [u8; 24] = [
+    0, 0, 0, 0, 2, 0, 0, 0, 0, 0, 0, 0, 0, 0, 1, 0, 3, 0, 0, 0, 0, 0, 0, 0,
+];
 
 pub fn message(alloc: Global, text: &str) -> Result<Message> {
     let mut words = Vec::new(alloc);
@@ -126,10 +131,8 @@ fn contents(alloc: Global, words: &[&str]) -> Result<(Payload, Items<Descriptor>
         }
         [kind, number] => {
             let descriptors = Vec::from_slice(alloc, &[descriptor(kind, number)?])?;
-            Ok((
-                Payload::root_capability(alloc)?,
-                Items::from_vec(descriptors),
-            ))
+            let payload = Payload::read(alloc, &GIVEN, 1)?;
+            Ok((payload, Items::from_vec(descriptors)))
         }
         _ => bail!("no payload"),
     }

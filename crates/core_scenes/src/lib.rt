@@ -2,9 +2,9 @@
 //! then. They are worked out from the rules of docs/protocol.md.
 //!
 //! A line `scene ..` begins with two new cores, `scene level 0 ..` with a vat a of level 0. `b hears ..` gives vat b a
-//! message that its peer needn't have sent (`heard.rt`). `b reject p overloaded busy` breaks a promise with that exception,
-//! and not with that of a script. `100 times ..` plays a line so often, with the number of the turn for a `$`, and tells
-//! what is said at the last. All else are lines of a script (docs/script.md).
+//! message that its peer needn't have sent (`heard.rt`). `b reject p overloaded busy` breaks a promise, and `a fail 0 failed
+//! x` fails a task, with that exception and not with that of a script. `100 times ..` plays a line so often, with the number
+//! of the turn for a `$`, and tells what is said at the last. All else are lines of a script (docs/script.md).
 #![tactic(auto)]
 
 mod heard;

@@ -61,25 +61,38 @@ impl Scene {
             let message = message(alloc, words)?;
             return self.receive(alloc, vat, message);
         }
-        match line.split_once(" overloaded ") {
-            Some((line, reason)) => self.reject_overloaded(alloc, line, reason),
+        if let Some((line, reason)) = line.split_once(" overloaded ") {
+            return self.play_with(alloc, line, ExceptionKind::Overloaded, reason);
+        }
+        match line.split_once(" failed ") {
+            Some((line, reason)) => self.play_with(alloc, line, ExceptionKind::Failed, reason),
             None => self.play_line(alloc, line),
         }
     }
 
-    /// The promise of a script's line is broken with another exception than the script's.
-    fn reject_overloaded(&mut self, alloc: Global, text: &str, reason: &str) -> Result<()> {
+    /// A script's line that breaks a promise or fails a task does so with this exception.
+    fn play_with(
+        &mut self,
+        alloc: Global,
+        text: &str,
+        kind: ExceptionKind,
+        reason: &str,
+    ) -> Result<()> {
         let line = Line::read(alloc, Program::Run, text)?;
         let null = Payload::null(alloc)?;
         let act = self.names.act(alloc, &null, &line)?;
-        let Act::Happens(Event::Command(_, Command::Reject(promise, _))) = act else {
-            bail!("no promise is broken");
+        let reason = Text::new(alloc, reason)?;
+        let exception = Exception { kind, reason };
+        let command = match act {
+            Act::Happens(Event::Command(_, Command::Reject(promise, _))) => {
+                Command::Reject(promise, exception)
+            }
+            Act::Happens(Event::Command(_, Command::Fail(task, _))) => {
+                Command::Fail(task, exception)
+            }
+            _ => bail!("nothing fails"),
         };
-        let exception = Exception {
-            kind: ExceptionKind::Overloaded,
-            reason: Text::new(alloc, reason)?,
-        };
-        self.obey(alloc, &line, Command::Reject(promise, exception))
+        self.obey(alloc, &line, command)
     }
 
     fn play_line(&mut self, alloc: Global, text: &str) -> Result<()> {
