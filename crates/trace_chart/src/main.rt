@@ -33,7 +33,7 @@ fn unread(error: &io::Error) -> Failure {
 fn draw_named(rt: &HostRuntime, name: &str, words: Args) -> Result<(), Failure> {
     let mut chosen = Vec::new(rt.alloc());
     for word in words {
-        chosen.push(word).map_err(|_| Failure::Memory)?;
+        chosen.push(word)?;
     }
     match Options::of(chosen.as_slice()) {
         Some(options) => draw_file(rt, name, options),

@@ -1,7 +1,8 @@
 //! Want of memory: to be run with each allocation refused, by `rt try --test --fail-alloc`.
+use std::alloc::Global;
 use std::process::Abort;
 use trace_check::Verdict;
-use trace_program::{ScriptFault, trace_of_script};
+use trace_program::{Failure, ScriptFault, play, trace_of_script};
 
 /// Calls wait for a promise, and for an embargo.
 const EMBARGO: &[u8] =
@@ -13,5 +14,40 @@ fn a_refused_growth_is_told(rt: HostRuntime) {
     match trace_of_script(rt.alloc(), EMBARGO) {
         Ok(trace) => assert!(rt; matches!(trace.verdict, Verdict::Good(_))),
         Err(fault) => assert!(rt; matches!(fault, ScriptFault::Memory)),
+    }
+}
+
+/// A trace with lists, paths and a payload.
+const SENT: &[u8] =
+    b"{\"k\":\"head\",\"version\":2}\n{\"k\":\"sent\",\"message\":{\"call\":{\"caps\":[\"none\",{\"receiverAnswer\":{\"path\":[1,null],\"question\":6}}],\"interface\":7,\"method\":1,\"payload\":{\"bytes\":\"AAAAAAEAAAAAAAAAAAAAAA==\",\"caps\":0},\"question\":1,\"stamp\":{\"index\":0,\"ref\":0,\"vat\":\"a\"},\"target\":{\"answer\":{\"path\":[],\"question\":0}}}},\"vat\":\"a\"}\n";
+
+/// The word, and what it writes of that trace.
+const WRITTEN: [(&str, &[u8]); 3] = [
+    ("check", b"ok: 0 delivered\n"),
+    ("show", b""),
+    ("upgrade", SENT),
+];
+
+fn write(alloc: Global, word: &str, out: &mut Vec<u8>) -> Option<Failure> {
+    let mut reader = SENT;
+    play(alloc, word, &mut reader, out).err()
+}
+
+/// Where a growth is refused, as a line is read or written or in the output, that is told and nothing is written; all is
+/// at the next try.
+fn is_written_at_last(rt: &impl Abort, alloc: Global, word: &str, wanted: &[u8]) {
+    let mut out = Vec::new(alloc);
+    if let Some(failure) = write(alloc, word, &mut out) {
+        assert!(rt; matches!(failure, Failure::Memory | Failure::Unwritten), "{word}");
+        assert!(rt; out.is_empty(), "{word}");
+        assert!(rt; write(alloc, word, &mut out).is_none(), "{word}");
+    }
+    assert!(rt; out.as_slice() == wanted, "{word}");
+}
+
+#[test]
+fn a_refused_growth_is_told_of_a_trace(rt: HostRuntime) {
+    for (word, wanted) in WRITTEN {
+        is_written_at_last(&rt, rt.alloc(), word, wanted);
     }
 }
