@@ -2,7 +2,7 @@ use vat_core::Answer;
 use vat_machine::Effects;
 
 /// What an event answers. The messages that its effects sent are on their way to the other vat, and their copies stand in
-/// the journal: so the effects name none. Their memory may be given back once they were looked at (`World::recycle`).
+/// the journal: so the effects name none. Once they were looked at they are given back (`World::give_back`), or taken apart.
 pub enum StepAnswer {
     /// What the command answers.
     Answered(Answer),

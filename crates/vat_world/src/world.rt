@@ -152,17 +152,6 @@ impl World {
         self.promises();
     }
 
-    fn give_back(&mut self, vat: Vat, answer: StepAnswer)
-        ensures { self.new ≡ self.old }
-    {
-        match answer {
-            StepAnswer::Answered(Answer::Done(_, effects)) => self.recycle(vat, effects),
-            StepAnswer::Answered(Answer::Refused(_, _)) => {}
-            StepAnswer::Handled(effects) => self.recycle(vat, effects),
-            StepAnswer::Empty => {}
-        }
-    }
-
     /// Takes back the memory of effects of that vat that were looked at, for those of its later steps; what they still hold
     /// is dropped. Nothing else changes, and no memory is taken. Who gives back what each step answers saves the vats memory
     /// that each step would else take.
@@ -173,6 +162,19 @@ impl World {
         match vat {
             Vat::A => self.a.core.recycle(effects),
             Vat::B => self.b.core.recycle(effects),
+        }
+    }
+
+    /// Takes back the memory of what an event of that vat answered, as `recycle` does that of its effects. Nothing else
+    /// changes, and no memory is taken.
+    pub fn give_back(&mut self, vat: Vat, answer: StepAnswer)
+        ensures { self.new ≡ self.old }
+    {
+        match answer {
+            StepAnswer::Answered(Answer::Done(_, effects)) => self.recycle(vat, effects),
+            StepAnswer::Answered(Answer::Refused(_, _)) => {}
+            StepAnswer::Handled(effects) => self.recycle(vat, effects),
+            StepAnswer::Empty => {}
         }
     }
 
