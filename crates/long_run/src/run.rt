@@ -85,11 +85,10 @@ impl Run {
                 self.refused = self.refused.saturating_add(1);
                 Ok(())
             }
-            StepAnswer::Handled(effects) => {
-                self.world.recycle(vat, effects);
+            other => {
+                self.world.give_back(vat, other);
                 bail!("a command was not answered")
             }
-            StepAnswer::Empty => bail!("a command was not answered"),
         }
     }
 
@@ -111,12 +110,11 @@ impl Run {
                 self.note(vat, effects)?;
                 Ok(true)
             }
-            StepAnswer::Answered(Answer::Done(_, effects)) => {
-                self.world.recycle(vat, effects);
+            StepAnswer::Empty => Ok(false),
+            other => {
+                self.world.give_back(vat, other);
                 bail!("a message was not taken")
             }
-            StepAnswer::Answered(Answer::Refused(_, _)) => Ok(false),
-            StepAnswer::Empty => Ok(false),
         }
     }
 

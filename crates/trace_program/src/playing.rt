@@ -70,11 +70,11 @@ fn happen(
     let vat = acting(&event);
     let answer = world.step(event);
     if lacked_memory(&answer) {
-        give_back(world, vat, answer);
+        world.give_back(vat, answer);
         return Err(Memory);
     }
     let kept = keep(alloc, names, line, &answer);
-    give_back(world, vat, answer);
+    world.give_back(vat, answer);
     kept
 }
 
@@ -89,18 +89,6 @@ fn lacked_memory(answer: &StepAnswer) -> bool {
         answer,
         StepAnswer::Answered(Answer::Refused(Refusal::Memory, _))
     )
-}
-
-/// Gives back the memory in which the vat said what it did.
-fn give_back(world: &mut World, vat: Vat, answer: StepAnswer)
-    ensures { world.new ≡ world.old }
-{
-    match answer {
-        StepAnswer::Answered(Answer::Done(_, effects)) => world.recycle(vat, effects),
-        StepAnswer::Answered(Answer::Refused(_, _)) => {}
-        StepAnswer::Handled(effects) => world.recycle(vat, effects),
-        StepAnswer::Empty => {}
-    }
 }
 
 /// Binds what the line's command was granted, and keeps the references that its vat's application was handed.
