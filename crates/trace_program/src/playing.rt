@@ -69,7 +69,7 @@ fn happen(
 {
     let vat = acting(&event);
     let answer = world.step(event);
-    if lacked_memory(&answer) {
+    if is_refused_memory(&answer) {
         world.give_back(vat, answer);
         return Err(Memory);
     }
@@ -84,7 +84,7 @@ fn acting(event: &WorldEvent) -> Vat {
     }
 }
 
-fn lacked_memory(answer: &StepAnswer) -> bool {
+fn is_refused_memory(answer: &StepAnswer) -> bool {
     matches!(
         answer,
         StepAnswer::Answered(Answer::Refused(Refusal::Memory, _))
