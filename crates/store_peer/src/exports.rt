@@ -94,8 +94,8 @@ fn lower_each(store: &mut Store, ids: &[ExportId])
     }
 }
 
-/// The exports of the promise, with their nodes, by rising id; in memory of their own. Looks at each export: ask only
-/// where a place names the promise.
+/// The export of the promise, if it has one, with its node: the exports of it, by rising id; in memory of its own. Constant
+/// work.
 pub fn exports_of_promise(
     store: &Store,
     p: u64,
@@ -103,19 +103,18 @@ pub fn exports_of_promise(
 ) -> Result<Items<(u32, Node)>, Memory>
     ensures { IfOk result (λ list. list ≡ exports_where (is_promise p) (map.entries (state_of store.now).exports)) }
 {
-    let mut found = Items::new(alloc);
-    for (id, export) in store.exports.iter() {
-        push_if(
-            &mut found,
-            is_promise(&export.node, p),
-            id as u32,
-            export.node,
-        )?;
+    let node = Node::Promise(p);
+    let Some(id) = store.exports.find(&node) else {
+        return Ok(Items::new(alloc));
+    };
+    match Items::one(alloc, (id.0, node)) {
+        Ok(found) => Ok(found),
+        Err(_) => Err(Memory),
     }
-    Ok(found)
 }
 
-/// The exports of fields of the outcome, as `exports_of_promise` gives those of a promise.
+/// The exports of fields of the outcome, with their nodes, by rising id; in memory of their own. Looks at each export: ask
+/// only where a place names a field.
 pub fn exports_of_field(store: &Store, o: u64, alloc: Global) -> Result<Items<(u32, Node)>, Memory>
     ensures { IfOk result (λ list. list ≡ exports_where (is_field o) (map.entries (state_of store.now).exports)) }
 {
@@ -140,19 +139,6 @@ fn push_if(found: &mut Items<(u32, Node)>, chosen: bool, id: u32, node: Node) ->
     match found.push((id, node)) {
         Ok(()) => Ok(()),
         Err(_) => Err(Memory),
-    }
-}
-
-fn is_promise(node: &Node, p: u64) -> bool
-    ensures { result ≡ is_promise p node.now }
-{
-    match *node {
-        Node::Promise(key) => key == p,
-        Node::Object(_) => false,
-        Node::Field(_, _) => false,
-        Node::Import(_) => false,
-        Node::Pipe(_, _) => false,
-        Node::Broken(_) => false,
     }
 }
 

@@ -1,14 +1,9 @@
-use Rattle.std.proofs.Common.{◌<◌, ℕ, [], ◌∷◌, ◌++◌, cond, ap, ◌∙◌}
-use Rattle.std.proofs.lemmas.List.Elements.{All-tail}
-use Rattle.vat_machine.specs.declared.entries.Export.{Export}
-use Rattle.vat_machine.specs.Nodes.{is_promise}
-use Rattle.store_peer.proofs.Exporting.{chosen_more}
+use Rattle.std.proofs.Common.{None, Some, sym, ◌∙◌}
+use Rattle.store_peer.proofs.OfPromise.{listed}
 use Rattle.store_peer.proofs.exports.exports_of_promise.Goals as goal
 
-pub loop-id-preserved : goal.loop-id-preserved
-loop-id-preserved c = record {
-  so_far = chosen_more (is_promise c.args.p) c.loop-id.found c.push_if.new.found c.loop-id.id-iterator c.next.new.self c.in-Some.id c.in-Some.export.now _
-      c.in-Some.ensures.steps
-      (c.in_ok-push_if.ensures ∙ ap (λ b. c.loop-id.found ++ cond b ((c.in-Some.id, c.in-Some.export.now.node) ∷ []) []) c.is_promise.ensures) c.loop-id.invariant.so_far;
-  ids = All-tail (λ (e : ℕ × Export). e.0 < 4294967296) (c.in-Some.id, c.in-Some.export.now) c.next.new.self (rw c.in-Some.ensures.steps at c.loop-id.invariant.ids);
-}
+pub returns-in_default : goal.returns-in_default
+returns-in_default c = c.new.ensures ∙ sym (listed c.args.store.now.exports.entries c.args.p None c.find.ensures.one_each c.in_default.ensures.id)
+
+pub returns-in-Ok : goal.returns-in-Ok
+returns-in-Ok c = c.in-Ok.ensures.ok ∙ sym (listed c.args.store.now.exports.entries c.args.p (Some c.in-Some.id) c.find.ensures.one_each c.in-Some.ensures.id)
