@@ -38,7 +38,10 @@ fn write(alloc: Global, word: &str, out: &mut Vec<u8>) -> Option<Failure> {
 fn is_written_at_last(rt: &impl Abort, alloc: Global, word: &str, wanted: &[u8]) {
     let mut out = Vec::new(alloc);
     if let Some(failure) = write(alloc, word, &mut out) {
-        assert!(rt; matches!(failure, Failure::Memory | Failure::Unwritten), "{word}");
+        assert!(rt;
+            matches!(failure, Failure::Memory | Failure::Unwritten),
+            "{word}"
+        );
         assert!(rt; out.is_empty(), "{word}");
         assert!(rt; write(alloc, word, &mut out).is_none(), "{word}");
     }
