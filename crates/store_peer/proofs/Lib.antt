@@ -1,5 +1,6 @@
 pub mod Beside
 pub mod Listed
+pub mod OfFields
 pub mod OfPromise
 pub mod Asking
 pub mod Answering

@@ -113,9 +113,18 @@ pub fn exports_of_promise(
     }
 }
 
-/// The exports of fields of the outcome, with their nodes, by rising id; in memory of their own. Looks at each export: ask
-/// only where a place names a field.
+/// The exports of fields of the outcome, with their nodes, by rising id; in memory of their own. Looks at each export, but
+/// at none where there are no such.
 pub fn exports_of_field(store: &Store, o: u64, alloc: Global) -> Result<Items<(u32, Node)>, Memory>
+    ensures { IfOk result (λ list. list ≡ exports_where (is_field o) (map.entries (state_of store.now).exports)) }
+{
+    if store.exports.fields_of(o) == 0 {
+        return Ok(Items::new(alloc));
+    }
+    find_fields(store, o, alloc)
+}
+
+fn find_fields(store: &Store, o: u64, alloc: Global) -> Result<Items<(u32, Node)>, Memory>
     ensures { IfOk result (λ list. list ≡ exports_where (is_field o) (map.entries (state_of store.now).exports)) }
 {
     let mut found = Items::new(alloc);

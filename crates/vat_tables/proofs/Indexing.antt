@@ -12,13 +12,10 @@ use Rattle.vat_machine.specs.declared.node.Node.{Node}
 use Rattle.vat_machine.specs.declared.node.Node.TheVariants as node
 use Rattle.vat_tables.specs.declared.index.NodeIndex.{NodeIndex}
 use Rattle.vat_tables.specs.Exports.{node_eq}
-use Rattle.vat_tables.specs.Index.{found, FindsNone, Refinds}
+use Rattle.vat_tables.specs.Index.{found, FindsNone, Refinds, Numbers}
 use Rattle.vat_tables.specs.Table.{Table}
 
 -- ---- The numbers of one kind
-
-abbrev pub Numbers : Type 0
-Numbers = map.FinMap nat_cmp ℕ
 
 -- this stands under the number, and under each other what stood there
 abbrev pub Renumbers : Numbers → Numbers → ℕ → Option ℕ → Type 0

@@ -1,5 +1,6 @@
 pub mod Chained
 pub mod ExportLemmas
+pub mod FieldCounts
 pub mod Foreseeing
 pub mod HashTable
 pub mod ImportLemmas

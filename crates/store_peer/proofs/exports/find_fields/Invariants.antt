@@ -2,7 +2,7 @@ use Rattle.std.proofs.Common.{◌≡◌, ◌<◌, ◌++◌, All}
 use Rattle.std.specs.FinMap as map
 use Rattle.vat_machine.specs.Nodes.{is_field}
 use Rattle.vat_machine.specs.Settling.{exports_where}
-use Rattle.store_peer.proofs.exports.exports_of_field.Given as goal
+use Rattle.store_peer.proofs.exports.find_fields.Given as goal
 
 abbrev pub invariant-loop-id : goal.invariant-loop-id
 invariant-loop-id l = record {
