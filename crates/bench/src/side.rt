@@ -49,9 +49,23 @@ impl Side {
     // A message alone was sent.
     #[inline(always)]
     fn sent(&mut self, mut effects: Effects) -> Result<Message, Astray> {
-        let message = take_only(&mut effects, self.alloc);
+        let Some(message) = take_only(&mut effects, self.alloc) else {
+            return Err(self.otherwise(effects));
+        };
         self.core.recycle(effects);
-        message
+        Ok(message)
+    }
+
+    // Something else than the messages that are expected.
+    #[cold]
+    #[inline(never)]
+    fn otherwise(&mut self, effects: Effects) -> Astray {
+        let down = effects.down;
+        self.core.recycle(effects);
+        match down {
+            Some(number) => Astray::Down(number),
+            None => Astray::Otherwise,
+        }
     }
 
     // A message alone was sent, and goes straight there.
@@ -63,8 +77,11 @@ impl Side {
 
     // The same, where what it leads to is still to be looked at.
     #[inline(always)]
-    fn pass(&mut self, to: &mut Side, effects: Effects) -> Result<Effects, Astray> {
-        let message = self.sent(effects)?;
+    fn pass(&mut self, to: &mut Side, mut effects: Effects) -> Result<Effects, Astray> {
+        let Some(message) = take_only(&mut effects, self.alloc) else {
+            return Err(self.otherwise(effects));
+        };
+        self.core.recycle(effects);
         Ok(to.core.receive(message))
     }
 
@@ -78,12 +95,8 @@ impl Side {
     // second leads to nothing.
     #[inline(never)]
     fn send_two(&mut self, to: &mut Side, mut effects: Effects) -> Result<Effects, Astray> {
-        let first = match take_first(&mut effects, self.alloc) {
-            Ok(first) => first,
-            Err(astray) => {
-                self.core.recycle(effects);
-                return Err(astray);
-            }
+        let Some(first) = take_first(&mut effects, self.alloc) else {
+            return Err(self.otherwise(effects));
         };
         let led_to = to.core.receive(first);
         match self.tell(to, effects) {
@@ -262,42 +275,39 @@ fn one(alloc: Global, reference: RefId) -> Result<Items<RefId>, Astray> {
     }
 }
 
-// These effects are so many messages alone.
+// Whether these effects are so many messages alone.
 #[inline(always)]
-fn only_sends(effects: &Effects, count: usize) -> Result<(), Astray> {
-    if let Some(number) = effects.down {
-        return Err(Astray::Down(number));
-    }
-    if effects.sends.len() == count && effects.deliveries.is_empty() && effects.answers.is_empty() {
-        Ok(())
-    } else {
-        Err(Astray::Otherwise)
-    }
+fn only_sends(effects: &Effects, count: usize) -> bool {
+    effects.down.is_none()
+        && effects.sends.len() == count
+        && effects.deliveries.is_empty()
+        && effects.answers.is_empty()
 }
 
 // The message that these effects are alone, which goes out of its list.
 #[inline(always)]
-fn take_only(effects: &mut Effects, alloc: Global) -> Result<Message, Astray> {
-    only_sends(effects, 1)?;
+fn take_only(effects: &mut Effects, alloc: Global) -> Option<Message> {
+    if !only_sends(effects, 1) {
+        return None;
+    }
     let mut sends = mem::replace(&mut effects.sends, Items::new(alloc)).into_vec();
     let message = sends.pop();
     // Nothing is there to be dropped.
     mem::forget(mem::replace(&mut effects.sends, Items::from_vec(sends)));
-    match message {
-        Some(message) => Ok(message),
-        None => Err(Astray::Otherwise),
-    }
+    message
 }
 
 // The first of the two messages that these effects are, which goes out of its list; the other is the first then.
 #[inline(always)]
-fn take_first(effects: &mut Effects, alloc: Global) -> Result<Message, Astray> {
-    only_sends(effects, 2)?;
+fn take_first(effects: &mut Effects, alloc: Global) -> Option<Message> {
+    if !only_sends(effects, 2) {
+        return None;
+    }
     let mut sends = mem::replace(&mut effects.sends, Items::new(alloc)).into_vec();
     let message = if sends.is_empty() {
-        Err(Astray::Otherwise)
+        None
     } else {
-        Ok(sends.swap_remove(0))
+        Some(sends.swap_remove(0))
     };
     // Nothing is there to be dropped.
     mem::forget(mem::replace(&mut effects.sends, Items::from_vec(sends)));
