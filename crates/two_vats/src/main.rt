@@ -23,7 +23,7 @@ fn main(rt: HostRuntime) -> Result<()> {
 
     println!(rt; "a asks for the registry, and that for a printer, and prints, at once")?;
     let (bootstrap, effects) = a.core.bootstrap()?;
-    a.steps.push(apart(effects)?)?;
+    a.keep(effects)?;
     let registry = a.core.result_of(bootstrap)?;
     let got = a.call(registry, GET, None)?;
     let promised = a.core.result_of(got)?;
@@ -39,7 +39,7 @@ fn main(rt: HostRuntime) -> Result<()> {
     let _ = a.call(promised, PRINT, None)?;
     for _ in 0..2 {
         let (advanced, effects) = a.core.advance(promised)?;
-        a.steps.push(apart(effects)?)?;
+        a.keep(effects)?;
         println!(rt; "  the promised printer {advanced:?}")?;
     }
     let _ = a.call(promised, PRINT, None)?;
@@ -62,18 +62,6 @@ fn exchange(rt: &HostRuntime, a: &mut Side, b: &mut Side) -> Result<()> {
     Ok(())
 }
 
-/// What a step leaves to do: messages for the other vat, calls to serve, and calls that have ended.
-fn apart(effects: Effects) -> Result<(Vec<Message>, Vec<Delivery>, Vec<Ended>)> {
-    let Effects {
-        sends,
-        deliveries,
-        answers,
-        down,
-    } = effects;
-    ensure!(down.is_none(), "a vat went down: {down:?}");
-    Ok((sends.into_vec(), deliveries.into_vec(), answers.into_vec()))
-}
-
 /// A vat and its application: what the steps of its core left to do, and the printer that it promised.
 #[derive(Drop)]
 struct Side {
@@ -91,6 +79,19 @@ impl Side {
         })
     }
 
+    /// Keeps what a step leaves to do: messages for the other vat, calls to serve, and calls that have ended.
+    fn keep(&mut self, effects: Effects) -> Result<()> {
+        let Effects {
+            sends,
+            deliveries,
+            answers,
+            down,
+        } = effects;
+        ensure!(down.is_none(), "a vat went down: {down:?}");
+        self.steps.push((sends.into_vec(), deliveries.into_vec(), answers.into_vec()))?;
+        Ok(())
+    }
+
     fn call(&mut self, reference: RefId, method: u16, given: Option<RefId>) -> Result<CallId> {
         let (payload, refs) = self.core.contents(given)?;
         let (call, effects) = self.core.call(CallCommand {
@@ -100,13 +101,14 @@ impl Side {
             payload,
             refs,
         })?;
-        self.steps.push(apart(effects)?)?;
+        self.keep(effects)?;
         Ok(call)
     }
 
     fn let_go(&mut self, refs: &[RefId]) -> Result<()> {
         for reference in refs {
-            self.steps.push(apart(self.core.drop_ref(*reference)?)?)?;
+            let effects = self.core.drop_ref(*reference)?;
+            self.keep(effects)?;
         }
         Ok(())
     }
@@ -115,14 +117,16 @@ impl Side {
     fn follow(&mut self, rt: &HostRuntime, other: &mut Side) -> Result<()> {
         for (sends, tasks, answers) in mem::replace(&mut self.steps, Vec::new(rt.alloc())) {
             for message in sends {
-                other.steps.push(apart(other.core.receive(message))?)?;
+                let effects = other.core.receive(message);
+                other.keep(effects)?;
             }
             for task in tasks {
                 self.serve(rt, task)?;
             }
             for ended in answers {
                 println!(rt; "  call {} has ended", ended.call.0)?;
-                self.steps.push(apart(self.core.finish(ended.call)?)?)?;
+                let effects = self.core.finish(ended.call)?;
+                self.keep(effects)?;
                 self.let_go(ended.refs.as_slice())?;
             }
         }
@@ -138,12 +142,12 @@ impl Side {
             let (promise, printer) = self.core.promise()?;
             (self.promised, given) = (Some(promise), Some(printer));
         } else if let (PUBLISH, Some(promise), [printer]) = (method, self.promised, taken) {
-            self.steps
-                .push(apart(self.core.resolve(promise, *printer)?)?)?;
+            let effects = self.core.resolve(promise, *printer)?;
+            self.keep(effects)?;
         }
         let (payload, refs) = self.core.contents(given)?;
-        self.steps
-            .push(apart(self.core.answer(task.task, payload, refs)?)?)?;
+        let effects = self.core.answer(task.task, payload, refs)?;
+        self.keep(effects)?;
         self.let_go(taken)?;
         self.let_go(given.as_slice())
     }
