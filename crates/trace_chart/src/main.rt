@@ -12,7 +12,8 @@ use trace_picture::{Failure, Options, draw_trace, status};
 fn main(rt: HostRuntime) -> ExitCode {
     let mut words = match env::args(&rt) {
         Ok(words) => words,
-        Err(error) => return ended(&rt, Err(unread(&error)), "-"),
+        // a word that is not UTF-8 asks for nothing
+        Err(error) => return ended(&rt, Err(unread(&error, Failure::Usage)), "-"),
     };
     let _program = words.next();
     let Some(name) = words.next() else {
@@ -22,11 +23,11 @@ fn main(rt: HostRuntime) -> ExitCode {
     ended(&rt, drawn, name.as_str())
 }
 
-/// Why the words could not be read: a word that is not UTF-8 asks for nothing.
-fn unread(error: &io::Error) -> Failure {
+/// Why something could not be read: for want of memory, or `otherwise`.
+fn unread(error: &io::Error, otherwise: Failure) -> Failure {
     match error.kind() {
         ErrorKind::OutOfMemory => Failure::Memory,
-        _ => Failure::Usage,
+        _ => otherwise,
     }
 }
 
@@ -53,7 +54,7 @@ fn draw_input(rt: &HostRuntime) -> Result<(), Failure> {
 fn draw_file(rt: &HostRuntime, name: &str, options: Options) -> Result<(), Failure> {
     match File::open(rt, name) {
         Ok(mut file) => draw_trace(rt.alloc(), options, &mut file, &mut rt.stdout()),
-        Err(_) => Err(Failure::Unreadable),
+        Err(error) => Err(unread(&error, Failure::Unreadable)),
     }
 }
 

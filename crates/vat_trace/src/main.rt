@@ -11,7 +11,8 @@ use trace_program::{Failure, Word, play, status};
 fn main(rt: HostRuntime) -> ExitCode {
     let mut words = match env::args(&rt) {
         Ok(words) => words,
-        Err(error) => return ended(&rt, Err(unread(&error)), "-"),
+        // a word that is not UTF-8 asks for nothing
+        Err(error) => return ended(&rt, Err(unread(&error, Failure::Usage)), "-"),
     };
     let _program = words.next();
     let Some(word) = words.next() else {
@@ -27,11 +28,11 @@ fn main(rt: HostRuntime) -> ExitCode {
     ended(&rt, played, name.as_str())
 }
 
-/// Why the words could not be read: a word that is not UTF-8 asks for nothing.
-fn unread(error: &io::Error) -> Failure {
+/// Why something could not be read: for want of memory, or `otherwise`.
+fn unread(error: &io::Error, otherwise: Failure) -> Failure {
     match error.kind() {
         ErrorKind::OutOfMemory => Failure::Memory,
-        _ => Failure::Usage,
+        _ => otherwise,
     }
 }
 
@@ -45,7 +46,7 @@ fn on_file(rt: &HostRuntime, word: &str, name: &str) -> Result<u8, Failure> {
     }
     match File::open(rt, name) {
         Ok(mut file) => play(rt.alloc(), word, &mut file, &mut rt.stdout()),
-        Err(_) => Err(Failure::Unreadable),
+        Err(error) => Err(unread(&error, Failure::Unreadable)),
     }
 }
 
