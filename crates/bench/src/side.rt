@@ -75,7 +75,8 @@ impl Side {
         to.look(effects)
     }
 
-    // The same, where what it leads to is still to be looked at.
+    // The same, where what it leads to is still to be looked at. It says itself what `sent` says, since a message that is
+    // handed on in a `Result` is copied several times, which takes a tenth of a round trip.
     #[inline(always)]
     fn pass(&mut self, to: &mut Side, mut effects: Effects) -> Result<Effects, Astray> {
         let Some(message) = take_only(&mut effects, self.alloc) else {
