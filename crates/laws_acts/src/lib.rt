@@ -1,5 +1,8 @@
 //! What each step of the machine of `vat_machine` is made of: lists of small exact changes. No code runs here: what each
 //! function ensures is the law.
+//!
+//! `laws.rt` has that each step is a list of acts, `places.rt` how often nodes are named after each change. docs/laws.md
+//! says how laws are proved with them.
 #![tactic(auto)]
 
 mod laws;

@@ -1,4 +1,6 @@
 //! What references stand for, at each moment of two vats: that what is called, delivered and ended is what was made.
+//!
+//! How the laws are proved stands in docs/laws.md ("What is called, given and ended").
 #![tactic(auto)]
 
 mod laws;

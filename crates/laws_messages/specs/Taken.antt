@@ -71,6 +71,6 @@ NoneIsRefusedInRuns =
     InScenes Premises
     → EveryRun (λ h xs w. (v : Vat) (m : Message) (ms : List Message) → (core w v).down ≡ None → inbox w v ≡ m ∷ ms → IsLastWord w v m ⊎ MayFault (fault_of (core w v) m))
 
--- And in no run a vat takes the other down, but by going down itself.
+-- And in each run it is known why a vat goes down (`FallsAreKnown`).
 abbrev pub NoVatTakesTheOtherDown : Type 0
 NoVatTakesTheOtherDown = InScenes Premises → EveryRun (λ h xs w. FallsAreKnown xs h)

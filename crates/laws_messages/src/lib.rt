@@ -1,6 +1,10 @@
 //! Exports: that they keep their node and kind, that what is named of them stands, that each which settles is told once, and
 //! that between two vats no message clashes with what is kept of an import. No code runs here: what each function ensures
 //! is the law.
+//!
+//! `laws.rt` has exports and what is named of them, `resolves.rt` Resolves, `answers.rt` answers, embargoes and payloads,
+//! `refused.rt` what a message is checked for: which check is excluded by which law stands in docs/laws.md ("What a message
+//! is checked for").
 #![tactic(auto)]
 
 mod answers;

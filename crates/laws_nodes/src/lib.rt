@@ -1,5 +1,7 @@
 //! Laws over nodes, embargoes, outcomes, questions and calls: what holds in every state to which a vat comes, and at every
 //! moment of its steps. No code runs here: what each function ensures is the law.
+//!
+//! `circles_never_stop` says that a premise of `nodes_settle` is needed.
 #![tactic(auto)]
 
 mod laws;

@@ -1,6 +1,11 @@
 //! The map from two vats to the machine of routes: what two vats and their links are in that machine, and that the pieces of
 //! a vat's step are moves of it, and so are whole steps where what they take as known is so (docs/order.md, "Two vats in that
 //! machine").
+//!
+//! Files of functions that run no code: of pieces, `laws.rt` (references, calls, promises, embargoes, what goes),
+//! `outcomes.rt`, `messages.rt`, `quiet.rt` (what ends and what is let go), `sayings.rt`; of whole commands and messages,
+//! `making.rt` and `taking.rt`; of whole steps, `steps.rt`; of what they take as known, `midway.rt` and, of first acts,
+//! `first_acts.rt`.
 #![tactic(auto)]
 
 mod first_acts;

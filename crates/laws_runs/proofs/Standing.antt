@@ -62,12 +62,12 @@ moves_back s new t to_s to_t sent r m q =
     subst (λ (o : List (Ret Ids Ids)). Row (asker_of (map.get t.questions q)) (outs q to_s) (answerer_of (map.get new.answers q)) o) (sym (rets-append q to_t sent))
     (returns_all (asker_of (map.get t.questions q)) (outs q to_s) (answerer_of (map.get s.answers q)) (answerer_of (map.get new.answers q)) (rets q sent) (rets q to_t) (r q) (m.returns q))
 
-gets_back : (s new t : State) (n : Noted) (to_s to_t : List Noted) → AreRows s (n ∷ to_s) t to_t → Gets s n.message new → AreRows new to_s t to_t
+pub gets_back : (s new t : State) (n : Noted) (to_s to_t : List Noted) → AreRows s (n ∷ to_s) t to_t → Gets s n.message new → AreRows new to_s t to_t
 gets_back s new t n to_s to_t r g q =
     subst (λ (y : Asker Ids Ids). Row y (outs q to_t) (answerer_of (map.get t.answers q)) (rets q to_s)) (sym (g.tells q n.lets))
     (tell_all (asker_of (map.get s.questions q)) (outs q to_t) (answerer_of (map.get t.answers q)) (ret_of q n.message n.lets) (rets q to_s) (r q))
 
-gets_out : (s new t : State) (n : Noted) (to_s to_t : List Noted) → AreRows t to_t s (n ∷ to_s) → Gets s n.message new → AreRows t to_t new to_s
+pub gets_out : (s new t : State) (n : Noted) (to_s to_t : List Noted) → AreRows t to_t s (n ∷ to_s) → Gets s n.message new → AreRows t to_t new to_s
 gets_out s new t n to_s to_t r g q =
     subst (λ (y : Answerer Ids Ids). Row (asker_of (map.get t.questions q)) (outs q to_s) y (rets q to_t)) (sym (g.hears q n.lets))
     (hear_all (asker_of (map.get t.questions q)) (out_of q n.message n.lets) (outs q to_s) (answerer_of (map.get s.answers q)) (rets q to_t) (r q))

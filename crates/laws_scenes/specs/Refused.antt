@@ -1,4 +1,4 @@
--- No message of an honest peer is refused, and no vat takes the other down (docs/laws.md, "What a message is checked for").
+-- No check refuses a message of an honest peer, and why a vat goes down (docs/laws.md, "What a message is checked for").
 use Rattle.std.specs.Prelude.{◌≡◌, ◌⊎◌, None, Option, List, ◌∷◌}
 use Rattle.rpc_msg.specs.declared.ids.ObjectId.{ObjectId}
 use Rattle.rpc_msg.specs.declared.ids.Vat.{Vat}
@@ -24,6 +24,6 @@ ScenesRefuseNothing = (root_a root_b : Option ObjectId) (x : Scene) → IsScene 
 abbrev pub RunsRefuseNothing : Type 0
 RunsRefuseNothing = EveryRun (λ h xs w. (v : Vat) (m : Message) (ms : List Message) → (core w v).down ≡ None → inbox w v ≡ m ∷ ms → IsLastWord w v m ⊎ MayFault (fault_of (core w v) m))
 
--- And in no run a vat takes the other down, but by going down itself.
+-- And in each run it is known why a vat goes down (`FallsAreKnown`).
 abbrev pub AllFallsAreKnown : Type 0
 AllFallsAreKnown = EveryRun (λ h xs w. FallsAreKnown xs h)

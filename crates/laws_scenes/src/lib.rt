@@ -1,4 +1,6 @@
 //! In each scene of two vats of level 1 calls keep their order. No code runs here: what each function ensures is the law.
+//!
+//! `laws.rt` has the end of the argument of docs/order.md, of scenes and of runs; `between.rt` what is so between steps.
 #![tactic(auto)]
 
 mod between;

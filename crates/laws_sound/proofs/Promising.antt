@@ -1,5 +1,5 @@
 -- What is promised of every run is so of each world to which one leads.
-use Rattle.std.proofs.Common.{◌≡◌, ℕ, Bool, true, false, Option, None, Some, is_some, List, [], ◌∷◌, ◌++◌, refl, sym, ap, subst, ◌∙◌}
+use Rattle.std.proofs.Common.{◌≡◌, ℕ, Bool, true, false, Option, None, Some, is_some, List, [], ◌∷◌, ◌++◌, refl, sym, ap, subst, ◌∙◌, append_assoc}
 use Rattle.rpc_msg.specs.declared.ids.Vat.{Vat}
 use Rattle.rpc_msg.specs.declared.ids.Vat.TheVariants.{A, B}
 use Rattle.rpc_msg.specs.declared.ids.ObjectId.{ObjectId}
@@ -7,18 +7,20 @@ use Rattle.rpc_msg.specs.Vats.{other_vat}
 use Rattle.vat_journal.specs.declared.entry.JournalEntry.{JournalEntry}
 use Rattle.vat_journal.specs.declared.entry.JournalEntry.TheVariants as entry
 use Rattle.vat_machine.specs.Laws.{IdleIsRight}
-use Rattle.vat_machine.specs.Claims.{AreNumbered, IsInOrder, IsQuietWhenDown, Falls, FallsAreKnown, FallsFor, ByShut, ForRoom, ForHeld, ByPeer, IsReached, IsSound, history, went_down_in}
-use Rattle.vat_journal.specs.Meaning.{History}
+use Rattle.vat_machine.specs.Claims.{AreNumbered, IsInOrder, IsQuietWhenDown, Falls, FallsAreKnown, FallsFor, ByShut, ForRoom, ForHeld, ByPeer, IsInTime, IsReached, IsSound, history, went_down_in}
+use Rattle.vat_journal.specs.History.{Ref}
+use Rattle.vat_journal.specs.Meaning.{History, Meaning, StandsFor}
 use Rattle.vat_machine.specs.World.{Happening, World, Run, new_world, shut_number, was_shut}
 use Rattle.vat_machine.specs.Journal.{event_entries, journal_from}
 use Rattle.laws_runs.proofs.WhoIsDown.{SaysDown, says_more}
 use Rattle.laws_runs.specs.MadeCalls.{CallsAreNumbered}
+use Rattle.laws_runs.specs.Meanings.{InTimeIsToOne, MeaningsLast}
 use Rattle.laws_runs.specs.Quiet.{EveryRunIsQuiet}
 use Rattle.laws_runs.specs.SceneSessions.{CountsOfRuns}
 use Rattle.laws_scenes.specs.InFull.{ArriveInFull, RunsArriveInFull}
 use Rattle.laws_scenes.specs.Ordered.{RunsAreOrdered}
 use Rattle.laws_scenes.specs.Refused.{AllFallsAreKnown, RunsRefuseNothing}
-use Rattle.laws_sound.specs.Promised.{AreEachAtOne, events_of, GoesDown, GoesDownFor, ItsShut, WantOfRoom, TheLimit, TheOther, BootstrapsStay, DownsAreKnown, DownsAreTold, WorldsAreSound, WorldsKeepPromises}
+use Rattle.laws_sound.specs.Promised.{AreEachAtOne, events_of, GoesDown, GoesDownFor, ItsShut, WantOfRoom, TheLimit, TheOther, BootstrapsStay, DownsAreKnown, DownsAreTold, MeansForGood, WorldsAreSound, WorldsKeepPromises, history_of}
 use Rattle.laws_sound.proofs.Kept as kept
 use Rattle.laws_runs.proofs.FallsInRuns.{says_at_start}
 
@@ -44,6 +46,17 @@ downs h shut a b xs known which = record { each = each; shuts = λ v e. sym (kep
         let f : Falls xs (history a b (events_of before)) v n = known.falls (events_of before) (events_of behind) (entry.Down v n) (kept.split v n h before behind e) in
         record { once = sym (kept.went_kept v before) ∙ f.once; why = for (shut v) (shut_number v xs) before v n (which v) f.why }
 
+-- ---- What references stand for, for good
+
+-- What holds of each entry by those before it, holds of the entries up to any moment.
+begun : (h : History) (before behind : List JournalEntry) → h.journal ≡ before ++ behind → IsInTime h → IsInTime (record h { journal = before })
+begun h before behind e k first rest x f = k first (rest ++ behind) x (e ∙ ap (λ (l : List JournalEntry). l ++ behind) f ∙ append_assoc first (x ∷ rest) behind)
+
+for_good : MeaningsLast → InTimeIsToOne → (h : History) → IsInTime h → MeansForGood h
+for_good last one h k before behind e r x stands =
+    let up : History = record h { journal = before } in
+    subst (λ (l : List JournalEntry). StandsFor (record h { journal = l }) r x) (sym e) (last up behind (one up (begun h before behind e k)) r x stands)
+
 -- ---- Who is down
 
 says_run : (h : List JournalEntry) (w : World) (xs : List Happening) (new : World) → SaysDown w h → Run w xs new → SaysDown new (journal_from h xs)
@@ -57,8 +70,8 @@ told h w run v =
 
 -- ---- All of it
 
-pub promised : BootstrapsStay → WorldsAreSound → RunsAreOrdered → CallsAreNumbered → RunsArriveInFull → EveryRunIsQuiet → CountsOfRuns → RunsRefuseNothing → AllFallsAreKnown → IdleIsRight → WorldsKeepPromises
-promised stay sound ordered numbers full quiet counts refuses falls idle h shut w run which =
+pub promised : MeaningsLast → InTimeIsToOne → BootstrapsStay → WorldsAreSound → RunsAreOrdered → CallsAreNumbered → RunsArriveInFull → EveryRunIsQuiet → CountsOfRuns → RunsRefuseNothing → AllFallsAreKnown → IdleIsRight → WorldsKeepPromises
+promised last one stay sound ordered numbers full quiet counts refuses falls idle h shut w run which =
     let a = run.root_a in
     let b = run.root_b in
     let xs = run.happened in
@@ -70,6 +83,7 @@ promised stay sound ordered numbers full quiet counts refuses falls idle h shut 
       at_one = kept.at_one h (subst (λ (l : List JournalEntry). AreEachAtOne l) (sym i) (ordered a b xs w run.ran).at_one);
       in_full = λ up. kept.in_full h w (subst (λ (l : List JournalEntry). ArriveInFull l w) (sym i) (full a b xs w run.ran up));
       means_one = all.means_one;
+      lasting = for_good last one (history_of h w) all.in_time;
       to_one = all.to_one;
       none_lost = all.in_full;
       as_made = all.in_time;

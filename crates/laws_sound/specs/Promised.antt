@@ -7,7 +7,7 @@ use Rattle.rpc_msg.specs.Vats.{other_vat}
 use Rattle.vat_journal.specs.declared.entry.JournalEntry.{JournalEntry}
 use Rattle.vat_journal.specs.declared.entry.JournalEntry.TheVariants as entry
 use Rattle.vat_journal.specs.History.{Ref, all_that, deliveries}
-use Rattle.vat_journal.specs.Meaning.{History}
+use Rattle.vat_journal.specs.Meaning.{History, Meaning, StandsFor}
 use Rattle.vat_machine.specs.Claims.{AreNumbered, BothUp, CountsAgree, EndsAreSo, IsInFull, IsInTime, IsSound, IdleIsNonePending, IsInOrder, IsQuietWhenDown, IsReached, IsToOne, MeansOne, history, object_number, went_down_in}
 use Rattle.vat_machine.specs.Faults.{fault_of}
 use Rattle.vat_machine.specs.Numbers.{held_past_limit, peer_abort, want_of_room}
@@ -33,6 +33,10 @@ events_of h = all_that but_tables h
 abbrev pub history_of : List JournalEntry → World → History
 history_of h w = record { journal = h; root_a = object_number w.a.core.bootstrap; root_b = object_number w.b.core.bootstrap }
 
+-- What a reference stands for by the entries up to any moment, it stands for by those behind too.
+abbrev pub MeansForGood : History → Type 0
+MeansForGood h = (before behind : List JournalEntry) → h.journal ≡ before ++ behind → (r : Ref) (x : Meaning) → StandsFor (record h { journal = before }) r x → StandsFor h r x
+
 -- All deliveries of a reference are at one object of one vat.
 abbrev pub AreEachAtOne : List JournalEntry → Type 0
 AreEachAtOne h = (r : Ref) → AreAtOne (deliveries h r)
@@ -47,7 +51,8 @@ abbrev pub RefusesNothing : World → Type 0
 RefusesNothing w = (v : Vat) (m : Message) (ms : List Message) → (core w v).down ≡ None → inbox w v ≡ m ∷ ms → IsLastWord w v m ⊎ MayFault (fault_of (core w v) m)
 
 -- Why a vat went down with that number: its application shut it; or nobody did, and it wanted room or memory, a call would have
--- had to wait where no more may, or the other vat was down before and said so.
+-- had to wait where no more may, or the other vat was down before and said so. (That a shut has its number is said of the run,
+-- which knows the shut: `FallsFor` of the claims.)
 pub data GoesDownFor (shut : Bool) (before : List JournalEntry) (v : Vat) (n : ℕ) : Type 0 where
   ItsShut : shut ≡ true → GoesDownFor shut before v n
   WantOfRoom : shut ≡ false → n ≡ want_of_room → GoesDownFor shut before v n
@@ -59,7 +64,8 @@ pub record GoesDown (shut : Bool) (before : List JournalEntry) (v : Vat) (n : �
   pub once : went_down_in v before ≡ false
   pub why : GoesDownFor shut before v n
 
--- So it is of each that went down, and each that a shut took down has its entry: no vat takes the other down, but by going down.
+-- So it is of each that went down, and each that a shut took down has its entry. So what one vat does takes the other down with 31,
+-- 33 or 34 alone, and with 34 only where it was down before.
 pub record DownsAreKnown (shut : Vat → Bool) (h : List JournalEntry) : Type 0 where
   pub each : (v : Vat) (n : ℕ) (before behind : List JournalEntry) → h ≡ before ++ entry.Down v n ∷ behind → GoesDown (shut v) before v n
   pub shuts : (v : Vat) → shut v ≡ true → went_down_in v h ≡ true
@@ -75,9 +81,10 @@ pub record IsPromised (h : List JournalEntry) (shut : Vat → Bool) (w : World) 
   pub numbered : AreNumbered h
   pub at_one : AreEachAtOne h
   pub in_full : AreInFull h w
-  -- a reference stands for one thing at most; the object is the one for which it stands; and where it stands for an object, all of
-  -- its calls are delivered where none is pending, also if none was before
+  -- a reference stands for one thing at most, for good; the object is the one for which it stands; and where it stands for an
+  -- object, all of its calls are delivered where none is pending, also if none was before
   pub means_one : MeansOne (history_of h w)
+  pub lasting : MeansForGood (history_of h w)
   pub to_one : IsToOne (history_of h w)
   pub none_lost : IsInFull (history_of h w) w
   -- what is delivered is what was made, with one new reference for each that was sent, at the object for which the reference stands in
@@ -88,7 +95,7 @@ pub record IsPromised (h : List JournalEntry) (shut : Vat → Bool) (w : World) 
   pub quiet : IsQuietWhenDown h
   -- each count of an export is what the other vat holds of it and what is on its way, while neither is down
   pub counts : CountsAgree w
-  -- neither vat takes the other down, but by going down itself
+  -- no check refuses an honest message but for the limit of waiting calls; and why a vat went down
   pub unrefused : RefusesNothing w
   pub downs : DownsAreKnown shut h
   pub told : DownsAreTold h w

@@ -1,5 +1,9 @@
 //! All that is promised of scenes, put together: what is received means what it should, so what a vat holds does. No code
 //! runs here: what each function ensures is the law.
+//!
+//! `laws.rt` has the laws of scenes and runs, `worlds.rt` those of worlds with their journal.
+//!
+//! How the laws are proved stands in docs/laws.md ("All of it in scenes").
 #![tactic(auto)]
 
 mod laws;

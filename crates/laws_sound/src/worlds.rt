@@ -25,13 +25,14 @@ pub fn bootstraps_stay()
 {}
 
 /// Of each such world with its journal: the calls delivered through a reference are a beginning of those made, in order, each once,
-/// all at the one object for which the reference stands; all of them once one was and none is pending, and also if none was where
-/// the reference stands for an object; each delivery is of a call as it was made; each call ends once, as it was answered, or as
-/// its reference stands for broken; a vat that is down delivers nothing; the counts of both vats agree; and no vat takes the other
-/// down.
+/// all at the one object for which the reference stands, for good; all of them once one was and none is pending, and also if none
+/// was where the reference stands for an object; each delivery is of a call as it was made; each call ends once, as it was
+/// answered, or as its reference stands for broken; a vat that is down delivers nothing; the counts of both vats agree; and each
+/// vat went down for a shut, for want of room or memory, at the limit of waiting calls, or as the other was down before.
 pub fn worlds_keep_promises()
     ensures { WorldsKeepPromises }
 {
+    meanings_last();
     bootstraps_stay();
     worlds_are_sound();
     calls_keep_their_order();

@@ -1,5 +1,9 @@
 //! What stands on the wires between two vats means what the history says. No code runs here: what each function ensures is
 //! the law.
+//!
+//! `sent.rt` has the laws of what is sent, `scenes.rt` those of steps in scenes, `laws.rt` the others.
+//!
+//! How the laws are proved stands in docs/laws.md ("What stands on the wires").
 #![tactic(auto)]
 
 mod laws;

@@ -1,5 +1,8 @@
 //! Worked runs and steps of the machine of `vat_machine`, and wrong steps that it refuses. No code runs here: what each
 //! function ensures is the example, or the law.
+//!
+//! `runs.rt` and `steps.rt` have the examples, `refused.rt` what the machine refuses. States, messages, effects and the
+//! statement of an example stand in `specs/`, its proof in `proofs/` in a file of the same name.
 #![tactic(auto)]
 
 mod refused;

@@ -6,9 +6,10 @@ use std::fs::File;
 use std::io::ErrorKind;
 use std::process::ExitCode;
 use std::{env, io};
-use trace_picture::{Failure, Options, draw_trace, status};
+use trace_picture::{Failure, Options, draw_trace, status, write_help};
 
-/// `trace_chart FILE [--ref V/N] [--from N] [--to N]`; without arguments the trace is read from standard input.
+/// `trace_chart FILE [--ref V/N] [--from N] [--to N]`, or `trace_chart --help`; without arguments the trace is read from
+/// standard input.
 fn main(rt: HostRuntime) -> ExitCode {
     let mut words = match env::args(&rt) {
         Ok(words) => words,
@@ -19,6 +20,9 @@ fn main(rt: HostRuntime) -> ExitCode {
     let Some(name) = words.next() else {
         return ended(&rt, draw_input(&rt), "-");
     };
+    if name.as_str() == "--help" {
+        return ended(&rt, write_help(&mut rt.stdout()), "-");
+    }
     let drawn = draw_named(&rt, name.as_str(), words);
     ended(&rt, drawn, name.as_str())
 }

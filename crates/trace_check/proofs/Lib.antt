@@ -8,3 +8,5 @@ pub mod Turns
 pub mod Called
 pub mod Moving
 pub mod First
+pub mod Releasing
+pub mod Breaking

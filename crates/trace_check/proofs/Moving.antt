@@ -17,9 +17,11 @@ use Rattle.trace_check.specs.declared.ways.Ways.{Ways}
 use Rattle.trace_check.specs.declared.downs.Downs.{Downs}
 use Rattle.trace_check.specs.Breaches.{sent_one, sent, sendings, is_got, got, on_the_way, none_left, gets_nothing, falls, is_down, counted_on_the_way, agrees, miscounts}
 use Rattle.trace_check.specs.Counts.{CountsById, count_of, same_counts, Sending, gives, releases, of_each}
-use Rattle.trace_check.specs.Kept.{amount, IsSaid, IsWay, IsWayOf, WaysFor, way_of, rest_of, is_some_left, DownsFor}
+use Rattle.trace_check.specs.Kept.{amount, Lists, Grows, direct_sum, IsSaid, IsWay, IsWayOf, WaysFor, IsCounted, way_of, rest_of, is_some_left, DownsFor}
 use Rattle.trace_check.proofs.Counting.{count_of-append}
 use Rattle.trace_check.proofs.Growing.{all_that_more, all_that_same, count_more}
+use Rattle.trace_check.proofs.OneWay.{way_grows}
+use Rattle.trace_check.proofs.Releasing.{all_counted}
 use Rattle.trace_check.proofs.Saying.{sendings_more, sendings_same}
 
 abbrev pub with_way : Ways → Vat → Way → Ways
@@ -34,25 +36,25 @@ got_same h e v nope = count_more (is_got v) h e ∙ ap (λ b. got h v + cond b 1
 got_one : (h : List JournalEntry) (e : JournalEntry) (v : Vat) → is_got v e ≡ true → got (h ++ e ∷ []) v ≡ suc (got h v)
 got_one h e v is = count_more (is_got v) h e ∙ ap (λ b. got h v + cond b 1 0) is ∙ omega arith
 
-pub way_stays : (w : Way) (v : Vat) (h : List JournalEntry) (e : JournalEntry) → sent_one v e ≡ None → is_got (other_vat v) e ≡ false → IsWayOf w v h → IsWayOf w v (h ++ e ∷ [])
-way_stays w v h e none nope is =
+pub way_stays : (ls : Lists) (w : Way) (v : Vat) (h : List JournalEntry) (e : JournalEntry) → sent_one v e ≡ None → is_got (other_vat v) e ≡ false → IsWayOf ls w v h → IsWayOf ls w v (h ++ e ∷ [])
+way_stays ls w v h e none nope is =
     let s = sendings_same h e v none in
     let g = got_same h e (other_vat v) nope in
     record {
-      way = subst (λ (n : ℕ). IsWay w (drop n (sendings (h ++ e ∷ []) v))) (sym g) (subst (λ (ss : List Sending). IsWay w (drop (got h (other_vat v)) ss)) (sym s) is.way);
+      way = subst (λ (n : ℕ). IsWay ls w (drop n (sendings (h ++ e ∷ []) v))) (sym g) (subst (λ (ss : List Sending). IsWay ls w (drop (got h (other_vat v)) ss)) (sym s) is.way);
       fewer = subst (λ (n : ℕ). n ≤ length (sendings (h ++ e ∷ []) v)) (sym g) (subst (λ (ss : List Sending). got h (other_vat v) ≤ length ss) (sym s) is.fewer);
       said = subst (IsSaid w.said) (sym (all_that_same (sent_one v) h e none)) is.said;
     }
 
-way_sent : (w n : Way) (v : Vat) (m : Message) (h : List JournalEntry) (e : JournalEntry) → sent_one v e ≡ Some m → is_got (other_vat v) e ≡ false → IsWayOf w v h
-    → IsWay n (on_the_way h v ++ record { message = m; before = sent h (other_vat v) } ∷ []) → IsSaid n.said (sent h v ++ m ∷ []) → IsWayOf n v (h ++ e ∷ [])
-way_sent w n v m h e one nope is new said =
+way_sent : (ls : Lists) (w n : Way) (v : Vat) (m : Message) (h : List JournalEntry) (e : JournalEntry) → sent_one v e ≡ Some m → is_got (other_vat v) e ≡ false → IsWayOf ls w v h
+    → IsWay ls n (on_the_way h v ++ record { message = m; before = sent h (other_vat v) } ∷ []) → IsSaid n.said (sent h v ++ m ∷ []) → IsWayOf ls n v (h ++ e ∷ [])
+way_sent ls w n v m h e one nope is new said =
     let x : Sending = record { message = m; before = sent h (other_vat v) } in
     let s : sendings (h ++ e ∷ []) v ≡ sendings h v ++ x ∷ [] = sendings_more h e v m one in
     let g = got_same h e (other_vat v) nope in
     let k = got h (other_vat v) in
     record {
-      way = subst (IsWay n) (sym (ap (λ (j : ℕ). drop j (sendings (h ++ e ∷ []) v)) g ∙ ap (drop k) s ∙ drop-append-le k (sendings h v) (x ∷ []) is.fewer)) new;
+      way = subst (IsWay ls n) (sym (ap (λ (j : ℕ). drop j (sendings (h ++ e ∷ []) v)) g ∙ ap (drop k) s ∙ drop-append-le k (sendings h v) (x ∷ []) is.fewer)) new;
       fewer = omega (arith, g, ap length s, length-append (sendings h v) (x ∷ []), is.fewer);
       said = subst (IsSaid n.said) (sym (all_that_more (sent_one v) h e ∙ ap (λ o. sent h v ++ in_front o []) one)) said;
     }
@@ -69,51 +71,83 @@ left_below zero (x ∷ xs) left = omega arith
 left_below (suc n) [] left = absurd (let f : false ≡ true = left in cc)
 left_below (suc n) (x ∷ xs) left = omega (arith, left_below n xs left)
 
-way_got : (w n : Way) (v : Vat) (h : List JournalEntry) (e : JournalEntry) → sent_one v e ≡ None → is_got (other_vat v) e ≡ true → IsWayOf w v h → is_some_left (on_the_way h v) ≡ true → IsWay n (rest_of (on_the_way h v)) → n.said ≡ w.said → IsWayOf n v (h ++ e ∷ [])
-way_got w n v h e none is_one is left new same =
+way_got : (ls : Lists) (w n : Way) (v : Vat) (h : List JournalEntry) (e : JournalEntry) → sent_one v e ≡ None → is_got (other_vat v) e ≡ true → IsWayOf ls w v h → is_some_left (on_the_way h v) ≡ true → IsWay ls n (rest_of (on_the_way h v)) → n.said ≡ w.said → IsWayOf ls n v (h ++ e ∷ [])
+way_got ls w n v h e none is_one is left new same =
     let s = sendings_same h e v none in
     let g = got_one h e (other_vat v) is_one in
     let k = got h (other_vat v) in
     record {
-      way = subst (IsWay n) (rest-drop k (sendings h v) ∙ sym (ap (λ (j : ℕ). drop j (sendings (h ++ e ∷ []) v)) g ∙ ap (drop (suc k)) s)) new;
+      way = subst (IsWay ls n) (rest-drop k (sendings h v) ∙ sym (ap (λ (j : ℕ). drop j (sendings (h ++ e ∷ []) v)) g ∙ ap (drop (suc k)) s)) new;
       fewer = omega (arith, g, ap length s, left_below k (sendings h v) left);
       said = subst (λ x. IsSaid x (sent (h ++ e ∷ []) v)) (sym same) (subst (IsSaid w.said) (sym (all_that_same (sent_one v) h e none)) is.said);
     }
+
+pub way_of_grows : (ls ms : Lists) (w : Way) (v : Vat) (h : List JournalEntry) → Grows ls ms → IsWayOf ls w v h → IsWayOf ms w v h
+way_of_grows ls ms w v h grows is = record { way = way_grows ls ms w (on_the_way h v) grows is.way; fewer = is.fewer; said = is.said }
 
 -- ---- Both
 
 -- What a way does with a message that is sent while the other vat has said some.
 abbrev pub Sends : (w n : Way) → Said → Message → Type 0
 Sends w n other m =
-    ((ss : List Sending) (before : List Message) → IsWay w ss → IsSaid other before → IsWay n (ss ++ record { message = m; before = before } ∷ []))
+    ((ss : List Sending) (before : List Message) → IsWay other.lists.items w ss → IsSaid other before → IsWay other.lists.items n (ss ++ record { message = m; before = before } ∷ []))
     × ((ms : List Message) → IsSaid w.said ms → IsSaid n.said (ms ++ m ∷ []))
+    × Grows w.said.lists.items n.said.lists.items
 
 pub ways_sent : (w : Ways) (n : Way) (v : Vat) (m : Message) (h : List JournalEntry) (e : JournalEntry) → e ≡ entry.Sent v m → WaysFor w h → Sends (way_of w v) n (way_of w (other_vat v)).said m → WaysFor (with_way w v n) (h ++ e ∷ [])
 ways_sent w n v m h e is now new = subst (λ x. WaysFor (with_way w v n) (h ++ x ∷ [])) (sym is) (sends v new)
   where
     sends : (v : Vat) → Sends (way_of w v) n (way_of w (other_vat v)).said m → WaysFor (with_way w v n) (h ++ entry.Sent v m ∷ [])
-    sends A new A = way_sent w.a n A m h (entry.Sent A m) refl refl (now A) (new.0 _ _ (now A).way (now B).said) (new.1 _ (now A).said)
-    sends A new B = way_stays w.b B h (entry.Sent A m) refl refl (now B)
-    sends B new A = way_stays w.a A h (entry.Sent B m) refl refl (now A)
-    sends B new B = way_sent w.b n B m h (entry.Sent B m) refl refl (now B) (new.0 _ _ (now B).way (now A).said) (new.1 _ (now B).said)
+    sends A new A = way_sent w.b.said.lists.items w.a n A m h (entry.Sent A m) refl refl (now A) (new.0 _ _ (now A).way (now B).said) (new.1 _ (now A).said)
+    sends A new B = way_of_grows w.a.said.lists.items n.said.lists.items w.b B (h ++ entry.Sent A m ∷ []) new.2 (way_stays w.a.said.lists.items w.b B h (entry.Sent A m) refl refl (now B))
+    sends B new A = way_of_grows w.b.said.lists.items n.said.lists.items w.a A (h ++ entry.Sent B m ∷ []) new.2 (way_stays w.b.said.lists.items w.a A h (entry.Sent B m) refl refl (now A))
+    sends B new B = way_sent w.a.said.lists.items w.b n B m h (entry.Sent B m) refl refl (now B) (new.0 _ _ (now B).way (now A).said) (new.1 _ (now B).said)
 
 left_told : (ss : List Sending) → is_some_left ss ≡ not (none_left ss)
 left_told [] = refl
 left_told (s ∷ ss) = refl
 
 -- Vat v receives: a message of the other goes.
-pub ways_told : (w : Ways) (v : Vat) (h : List JournalEntry) (e : JournalEntry) → e ≡ entry.Got (other_vat v) → WaysFor w h → (b : Bool) → ((ss : List Sending) → IsWay (way_of w v) ss → b ≡ is_some_left ss) → b ≡ not (gets_nothing h e)
-ways_told w A h e is now b told = told _ (now A).way ∙ left_told (on_the_way h A) ∙ ap (λ x. not (gets_nothing h x)) (sym is)
-ways_told w B h e is now b told = told _ (now B).way ∙ left_told (on_the_way h B) ∙ ap (λ x. not (gets_nothing h x)) (sym is)
+pub ways_told : (w : Ways) (v : Vat) (h : List JournalEntry) (e : JournalEntry) → e ≡ entry.Got (other_vat v) → WaysFor w h → (b : Bool)
+    → ((ls : Lists) (ss : List Sending) → IsWay ls (way_of w v) ss → b ≡ is_some_left ss) → b ≡ not (gets_nothing h e)
+ways_told w A h e is now b told = told _ _ (now A).way ∙ left_told (on_the_way h A) ∙ ap (λ x. not (gets_nothing h x)) (sym is)
+ways_told w B h e is now b told = told _ _ (now B).way ∙ left_told (on_the_way h B) ∙ ap (λ x. not (gets_nothing h x)) (sym is)
 
-pub ways_got : (w : Ways) (n : Way) (v : Vat) (h : List JournalEntry) (e : JournalEntry) → e ≡ entry.Got (other_vat v) → WaysFor w h → ((ss : List Sending) → IsWay (way_of w v) ss → true ≡ is_some_left ss) → ((ss : List Sending) → IsWay (way_of w v) ss → IsWay n (rest_of ss)) → n.said ≡ (way_of w v).said → WaysFor (with_way w v n) (h ++ e ∷ [])
-ways_got w n v h e is now told new same = subst (λ x. WaysFor (with_way w v n) (h ++ x ∷ [])) (sym is) (gets v told new same)
+-- What a way does when its oldest message is received.
+abbrev pub Gets : (w n : Way) → Type 0
+Gets w n =
+    ((ls : Lists) (ss : List Sending) → IsWay ls w ss → true ≡ is_some_left ss)
+    × ((ls : Lists) (ss : List Sending) → IsWay ls w ss → IsWay ls n (rest_of ss))
+    × (n.said ≡ w.said)
+
+pub ways_got : (w : Ways) (n : Way) (v : Vat) (h : List JournalEntry) (e : JournalEntry) → e ≡ entry.Got (other_vat v) → WaysFor w h → Gets (way_of w v) n → WaysFor (with_way w v n) (h ++ e ∷ [])
+ways_got w n v h e is now new = subst (λ x. WaysFor (with_way w v n) (h ++ x ∷ [])) (sym is) (gets v new)
   where
-    gets : (v : Vat) → ((ss : List Sending) → IsWay (way_of w v) ss → true ≡ is_some_left ss) → ((ss : List Sending) → IsWay (way_of w v) ss → IsWay n (rest_of ss)) → n.said ≡ (way_of w v).said → WaysFor (with_way w v n) (h ++ entry.Got (other_vat v) ∷ [])
-    gets A told new same A = way_got w.a n A h (entry.Got B) refl refl (now A) (sym (told _ (now A).way)) (new _ (now A).way) same
-    gets A told new same B = way_stays w.b B h (entry.Got B) refl refl (now B)
-    gets B told new same A = way_stays w.a A h (entry.Got A) refl refl (now A)
-    gets B told new same B = way_got w.b n B h (entry.Got A) refl refl (now B) (sym (told _ (now B).way)) (new _ (now B).way) same
+    gets : (v : Vat) → Gets (way_of w v) n → WaysFor (with_way w v n) (h ++ entry.Got (other_vat v) ∷ [])
+    gets A new A = way_got w.b.said.lists.items w.a n A h (entry.Got B) refl refl (now A) (sym (new.0 _ _ (now A).way)) (new.1 _ _ (now A).way) new.2
+    gets A new B = subst (λ (s : Said). IsWayOf s.lists.items w.b B (h ++ entry.Got B ∷ [])) (sym new.2) (way_stays w.a.said.lists.items w.b B h (entry.Got B) refl refl (now B))
+    gets B new A = subst (λ (s : Said). IsWayOf s.lists.items w.a A (h ++ entry.Got A ∷ [])) (sym new.2) (way_stays w.b.said.lists.items w.a A h (entry.Got A) refl refl (now A))
+    gets B new B = way_got w.a.said.lists.items w.b n B h (entry.Got A) refl refl (now B) (sym (new.0 _ _ (now B).way)) (new.1 _ _ (now B).way) new.2
+
+pub way_begins : (w : Ways) → IsWay w.b.said.lists.items w.a [] → IsSaid w.a.said [] → IsWay w.a.said.lists.items w.b [] → IsSaid w.b.said [] → WaysFor w []
+way_begins w a a_said b b_said A = record { way = a; fewer = omega arith; said = a_said }
+way_begins w a a_said b b_said B = record { way = b; fewer = omega arith; said = b_said }
+
+-- The lists that were released are counted: of both vats, one after the other.
+pub ways_counted : (w n : Ways) (h : List JournalEntry)
+    → ((ss : List Sending) → IsWay w.b.said.lists.items w.a ss → IsWay w.b.said.lists.items n.a ss) → n.a.said ≡ w.a.said
+    → ((ss : List Sending) → IsWay n.a.said.lists.items w.b ss → IsWay n.a.said.lists.items n.b ss) → n.b.said ≡ w.b.said
+    → WaysFor w h → WaysFor n h
+ways_counted w n h a same_a b same_b now A = record {
+  way = subst (λ (s : Said). IsWay s.lists.items n.a (on_the_way h A)) (sym same_b) (a _ (now A).way);
+  fewer = (now A).fewer;
+  said = subst (λ (s : Said). IsSaid s (sent h A)) (sym same_a) (now A).said;
+}
+ways_counted w n h a same_a b same_b now B = record {
+  way = b _ (subst (λ (s : Said). IsWay s.lists.items w.b (on_the_way h B)) (sym same_a) (now B).way);
+  fewer = (now B).fewer;
+  said = subst (λ (s : Said). IsSaid s (sent h B)) (sym same_b) (now B).said;
+}
 
 pub record IsStill (e : JournalEntry) : Type 0 where
   pub not_sent : (v : Vat) → sent_one v e ≡ None
@@ -140,7 +174,7 @@ is_still (entry.Down v n) f g = record { not_sent = λ u. refl; not_got = λ u. 
 is_still (entry.Tables a b) f g = record { not_sent = λ u. refl; not_got = λ u. refl; gets = λ h. refl }
 
 pub ways_stay : (w : Ways) (h : List JournalEntry) (e : JournalEntry) → IsStill e → WaysFor w h → WaysFor w (h ++ e ∷ [])
-ways_stay w h e still now v = way_stays (way_of w v) v h e (still.not_sent v) (still.not_got (other_vat v)) (now v)
+ways_stay w h e still now v = way_stays (way_of w (other_vat v)).said.lists.items (way_of w v) v h e (still.not_sent v) (still.not_got (other_vat v)) (now v)
 
 -- ---- Down
 
@@ -176,14 +210,23 @@ down_falls d u v n h e same is now = subst (λ x. DownsFor (with_down d v) (h ++
 
 -- ---- Counts on the way
 
-pub counts_told : (w : Ways) (h : List JournalEntry) (v : Vat) → WaysFor w h → (e : ℕ) → amount (way_of w v).handed_on e + amount (way_of w (other_vat v)).released e ≡ count_of e (counted_on_the_way h v)
-counts_told w h v now e = omega (arith, (now v).way.handed e, (now (other_vat v)).way.given_back e, count_of-append e (of_each gives (on_the_way h v)) (of_each releases (on_the_way h (other_vat v))))
+pub is_counted : (w : Ways) → w.a.releases.flagged.items ≡ [] → w.b.releases.flagged.items ≡ [] → IsCounted w
+is_counted w a b A = a
+is_counted w a b B = b
 
-pub agrees_told : (w : Ways) (h : List JournalEntry) (v : Vat) (b : Bool) (xs ys exports imports : CountsById) → WaysFor w h → xs ≡ exports → ys ≡ imports
-    → ((way : CountsById) → ((e : ℕ) → amount (way_of w v).handed_on e + amount (way_of w (other_vat v)).released e ≡ count_of e way) → b ≡ same_counts xs (ys ++ way))
+counts_released : (w : Ways) (h : List JournalEntry) (v : Vat) → IsCounted w → WaysFor w h → (e : ℕ) → amount (way_of w v).releases.counted e ≡ count_of e (of_each releases (on_the_way h v))
+counts_released w h v counted now e =
+    all_counted (way_of w (other_vat v)).said.lists.items (way_of w v).releases (λ x. direct_sum x (way_of w v).parcels.items) (λ x. count_of x (of_each releases (on_the_way h v))) (counted v) (now v).way.given_back e
+
+pub counts_told : (w : Ways) (h : List JournalEntry) (v : Vat) → IsCounted w → WaysFor w h → (e : ℕ) → amount (way_of w v).handed_on e + amount (way_of w (other_vat v)).releases.counted e ≡ count_of e (counted_on_the_way h v)
+counts_told w h v counted now e =
+    omega (arith, (now v).way.handed e, counts_released w h (other_vat v) counted now e, count_of-append e (of_each gives (on_the_way h v)) (of_each releases (on_the_way h (other_vat v))))
+
+pub agrees_told : (w : Ways) (h : List JournalEntry) (v : Vat) (b : Bool) (xs ys exports imports : CountsById) → IsCounted w → WaysFor w h → xs ≡ exports → ys ≡ imports
+    → ((way : CountsById) → ((e : ℕ) → amount (way_of w v).handed_on e + amount (way_of w (other_vat v)).releases.counted e ≡ count_of e way) → b ≡ same_counts xs (ys ++ way))
     → b ≡ agrees h v exports imports
-agrees_told w h v b xs ys exports imports now x y told =
-    told (counted_on_the_way h v) (counts_told w h v now)
+agrees_told w h v b xs ys exports imports counted now x y told =
+    told (counted_on_the_way h v) (counts_told w h v counted now)
     ∙ ap (λ (zs : CountsById). same_counts zs (ys ++ counted_on_the_way h v)) x
     ∙ ap (λ (zs : CountsById). same_counts exports (zs ++ counted_on_the_way h v)) y
 

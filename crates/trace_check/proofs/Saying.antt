@@ -13,11 +13,13 @@ use Rattle.rpc_msg.specs.declared.message.Message.TheVariants as message
 use Rattle.rpc_msg.specs.Vats.{other_vat}
 use Rattle.vat_journal.specs.declared.entry.JournalEntry.{JournalEntry}
 use Rattle.vat_journal.specs.History.{if_so, or_rest, in_front}
+use Rattle.trace_check.specs.declared.said.Lasts.{Lasts}
 use Rattle.trace_check.specs.declared.said.Said.{Said}
 use Rattle.trace_check.specs.Breaches.{sent_one, sent, sending, sending_one, sendings_after, sendings}
 use Rattle.trace_check.specs.Counts.{CountsById, handed_on, is_question, is_answer, last_that, handed_on_by}
-use Rattle.trace_check.specs.Kept.{listed, IsSaid}
+use Rattle.trace_check.specs.Kept.{Grows, last_of, list_at, listed, IsSaid}
 use Rattle.trace_check.proofs.Growing.{in_front-append}
+use Rattle.trace_check.proofs.Releasing.{at_grows, at_choice}
 
 -- ---- The last
 
@@ -37,7 +39,7 @@ handed_choice : (b : Bool) (m : Message) (o : Option Message) → handed_on_by (
 handed_choice true m o = refl
 handed_choice false m o = refl
 
-handed_more : (p : Message → Bool) (b : Bool) (ms : List Message) (m : Message) → p m ≡ b → handed_on_by (last_that p (ms ++ m ∷ [])) ≡ cond b (handed_on m) (handed_on_by (last_that p ms))
+pub handed_more : (p : Message → Bool) (b : Bool) (ms : List Message) (m : Message) → p m ≡ b → handed_on_by (last_that p (ms ++ m ∷ [])) ≡ cond b (handed_on m) (handed_on_by (last_that p ms))
 handed_more p b ms m is =
     ap handed_on_by (last_more p ms m)
     ∙ ap (λ c. handed_on_by (or_rest (if_so c m) (last_that p ms))) is
@@ -72,24 +74,32 @@ no_answer (plain.Other x) f q = refl
 module _ (s n : Said) (ms : List Message) (m : Message) (was : IsSaid s ms) where
   pub says_nothing : ((q : ℕ) → is_question q m ≡ false) → ((q : ℕ) → is_answer q m ≡ false) → n ≡ s → IsSaid n (ms ++ m ∷ [])
   says_nothing no_question no_answer same = record {
-    questions = λ q. ap (λ (x : Said). listed x.questions q) same ∙ was.questions q ∙ sym (handed_more (is_question q) false ms m (no_question q));
-    answers = λ q. ap (λ (x : Said). listed x.answers q) same ∙ was.answers q ∙ sym (handed_more (is_answer q) false ms m (no_answer q));
+    questions = λ q. ap (λ (x : Said). listed x.lists.items x.questions q) same ∙ was.questions q ∙ ap (λ (x : CountsById). Some x) (sym (handed_more (is_question q) false ms m (no_question q)));
+    answers = λ q. ap (λ (x : Said). listed x.lists.items x.answers q) same ∙ was.answers q ∙ ap (λ (x : CountsById). Some x) (sym (handed_more (is_answer q) false ms m (no_answer q)));
   }
 
-  pub says_question : (id : ℕ) (ids : CountsById) → ((q : ℕ) → is_question q m ≡ nat_eq q id) → ((q : ℕ) → is_answer q m ≡ false) → ids ≡ handed_on m
-      → ((q : ℕ) → listed n.questions q ≡ cond (nat_eq q id) ids (listed s.questions q)) → n.answers ≡ s.answers → IsSaid n (ms ++ m ∷ [])
-  says_question id ids question no_answer are set same = record {
-    questions = λ q. set q ∙ ap (λ (xs : CountsById). cond (nat_eq q id) xs (listed s.questions q)) are ∙ ap (λ (xs : CountsById). cond (nat_eq q id) (handed_on m) xs) (was.questions q)
-        ∙ sym (handed_more (is_question q) (nat_eq q id) ms m (question q));
-    answers = λ q. ap (λ l. listed l q) same ∙ was.answers q ∙ sym (handed_more (is_answer q) false ms m (no_answer q));
+  pub says_question : (id : ℕ) (list : Option ℕ) → ((q : ℕ) → is_question q m ≡ nat_eq q id) → ((q : ℕ) → is_answer q m ≡ false) → Grows s.lists.items n.lists.items
+      → list_at n.lists.items list ≡ Some (handed_on m)
+      → ((q : ℕ) → last_of n.questions q ≡ cond (nat_eq q id) list (last_of s.questions q)) → n.answers ≡ s.answers → IsSaid n (ms ++ m ∷ [])
+  says_question id list question no_answer grows kept set same = record {
+    questions = λ q. ap (list_at n.lists.items) (set q)
+        ∙ at_choice n.lists.items (nat_eq q id) list (last_of s.questions q) (handed_on m) (handed_on_by (last_that (is_question q) ms)) kept (at_grows s.lists.items n.lists.items (last_of s.questions q) (handed_on_by (last_that (is_question q) ms)) grows (was.questions q))
+        ∙ ap (λ (x : CountsById). Some x) (sym (handed_more (is_question q) (nat_eq q id) ms m (question q)));
+    answers = λ q. ap (λ (l : Lasts). list_at n.lists.items (last_of l q)) same
+        ∙ at_grows s.lists.items n.lists.items (last_of s.answers q) (handed_on_by (last_that (is_answer q) ms)) grows (was.answers q)
+        ∙ ap (λ (x : CountsById). Some x) (sym (handed_more (is_answer q) false ms m (no_answer q)));
   }
 
-  pub says_answer : (id : ℕ) (ids : CountsById) → ((q : ℕ) → is_question q m ≡ false) → ((q : ℕ) → is_answer q m ≡ nat_eq q id) → ids ≡ handed_on m
-      → ((q : ℕ) → listed n.answers q ≡ cond (nat_eq q id) ids (listed s.answers q)) → n.questions ≡ s.questions → IsSaid n (ms ++ m ∷ [])
-  says_answer id ids no_question answer are set same = record {
-    questions = λ q. ap (λ l. listed l q) same ∙ was.questions q ∙ sym (handed_more (is_question q) false ms m (no_question q));
-    answers = λ q. set q ∙ ap (λ (xs : CountsById). cond (nat_eq q id) xs (listed s.answers q)) are ∙ ap (λ (xs : CountsById). cond (nat_eq q id) (handed_on m) xs) (was.answers q)
-        ∙ sym (handed_more (is_answer q) (nat_eq q id) ms m (answer q));
+  pub says_answer : (id : ℕ) (list : Option ℕ) → ((q : ℕ) → is_question q m ≡ false) → ((q : ℕ) → is_answer q m ≡ nat_eq q id) → Grows s.lists.items n.lists.items
+      → list_at n.lists.items list ≡ Some (handed_on m)
+      → ((q : ℕ) → last_of n.answers q ≡ cond (nat_eq q id) list (last_of s.answers q)) → n.questions ≡ s.questions → IsSaid n (ms ++ m ∷ [])
+  says_answer id list no_question answer grows kept set same = record {
+    questions = λ q. ap (λ (l : Lasts). list_at n.lists.items (last_of l q)) same
+        ∙ at_grows s.lists.items n.lists.items (last_of s.questions q) (handed_on_by (last_that (is_question q) ms)) grows (was.questions q)
+        ∙ ap (λ (x : CountsById). Some x) (sym (handed_more (is_question q) false ms m (no_question q)));
+    answers = λ q. ap (list_at n.lists.items) (set q)
+        ∙ at_choice n.lists.items (nat_eq q id) list (last_of s.answers q) (handed_on m) (handed_on_by (last_that (is_answer q) ms)) kept (at_grows s.lists.items n.lists.items (last_of s.answers q) (handed_on_by (last_that (is_answer q) ms)) grows (was.answers q))
+        ∙ ap (λ (x : CountsById). Some x) (sym (handed_more (is_answer q) (nat_eq q id) ms m (answer q)));
   }
 
 -- ---- The messages of a vat, with those before them

@@ -1,5 +1,5 @@
 -- What the fields of a checker say.
-use Rattle.std.specs.Prelude.{◌≡◌, ℕ, ◌+◌, Bool, true, false, Option, None, Some, nat_eq, List, [], ◌∷◌, ◌++◌, ◌&&◌, map, length, drop, filter, ◌≤◌}
+use Rattle.std.specs.Prelude.{◌≡◌, ℕ, ◌+◌, ◌*◌, Bool, true, false, cond, Option, None, Some, nat_eq, List, [], ◌∷◌, ◌++◌, ◌&&◌, map, length, drop, filter, ◌≤◌, slice_get}
 use Rattle.std.specs.BTreeMap.{get}
 use Rattle.std.specs.Ordering.{nat_cmp}
 use Rattle.std.specs.Option.{unwrap_or}
@@ -7,6 +7,10 @@ use Rattle.rpc_msg.specs.declared.message.Message.{Message}
 use Rattle.trace_check.specs.declared.amounts.Amounts.{Amounts}
 use Rattle.trace_check.specs.declared.said.Lasts.{Lasts}
 use Rattle.trace_check.specs.declared.said.Said.{Said}
+use Rattle.trace_check.specs.declared.releases.Released.{Released}
+use Rattle.trace_check.specs.declared.releases.Released.TheVariants as released
+use Rattle.trace_check.specs.declared.releases.Flagged.{Flagged}
+use Rattle.trace_check.specs.declared.releases.Releases.{Releases}
 use Rattle.rpc_msg.specs.declared.ids.Vat.{Vat}
 use Rattle.rpc_msg.specs.declared.ids.Vat.TheVariants.{A, B}
 use Rattle.rpc_msg.specs.declared.ids.Stamp.{Stamp}
@@ -37,17 +41,80 @@ is_even x y h r e = nat_eq (amount x e) (amount y e + (amount h e + amount r e))
 abbrev pub AllAgree : (exported imported handed_on released : Amounts) → Type 0
 AllAgree x y h r = (e : ℕ) → is_even x y h r e ≡ true
 
+-- Lists that were handed on, each at its place.
+abbrev pub Lists : Type 0
+Lists = List CountsById
+
+-- Each list stays at its place.
+abbrev pub Grows : Lists → Lists → Type 0
+Grows ls ms = (n : ℕ) (ids : CountsById) → slice_get ls n ≡ Some ids → slice_get ms n ≡ Some ids
+
+abbrev pub last_of : Lasts → ℕ → Option ℕ
+last_of l q = get nat_cmp l.by_id q
+
+-- The list at a place. No place stands for the empty one.
+abbrev pub list_at : Lists → Option ℕ → Option CountsById
+list_at ls None = Some []
+list_at ls (Some n) = slice_get ls n
+
 -- What is kept of an id.
-abbrev pub listed : Lasts → ℕ → CountsById
-listed l q = unwrap_or (get nat_cmp l.by_id q) []
+abbrev pub listed : Lists → Lasts → ℕ → Option CountsById
+listed ls l q = list_at ls (last_of l q)
 
 -- A vat that sent these messages has handed that on by the last of each id.
 pub record IsSaid (s : Said) (ms : List Message) : Type 0 where
-  pub questions : (q : ℕ) → listed s.questions q ≡ handed_on_by (last_that (is_question q) ms)
-  pub answers : (q : ℕ) → listed s.answers q ≡ handed_on_by (last_that (is_answer q) ms)
+  pub questions : (q : ℕ) → listed s.lists.items s.questions q ≡ Some (handed_on_by (last_that (is_question q) ms))
+  pub answers : (q : ℕ) → listed s.lists.items s.answers q ≡ Some (handed_on_by (last_that (is_answer q) ms))
 
-abbrev pub parcel_of : Sending → Parcel
-parcel_of s = record { handed_on = gives s; released = releases s }
+-- What a message releases, by what its receiver handed on.
+abbrev pub released_in : Lists → Released → Option CountsById
+released_in ls (released.Count id n) = Some ((id, n) ∷ [])
+released_in ls (released.List place) = list_at ls place
+
+-- How much of an export the list at a place has.
+abbrev pub weight : Lists → ℕ → ℕ → ℕ
+weight ls e n = count_of e (unwrap_or (slice_get ls n) [])
+
+-- What the lists have that messages released which were sent, and which were received.
+abbrev pub sent_sum : Lists → ℕ → List Flagged → ℕ
+sent_sum ls e [] = 0
+sent_sum ls e (x ∷ xs) = x.sent * weight ls e x.list + sent_sum ls e xs
+
+abbrev pub got_sum : Lists → ℕ → List Flagged → ℕ
+got_sum ls e [] = 0
+got_sum ls e (x ∷ xs) = x.got * weight ls e x.list + got_sum ls e xs
+
+abbrev pub IsIn : Lists → ℕ → Type 0
+IsIn ls n = (ids : CountsById) × (slice_get ls n ≡ Some ids)
+
+-- Each list is there.
+abbrev pub AllIn : Lists → List Flagged → Type 0
+AllIn ls [] = Unit {0}
+AllIn ls (x ∷ xs) = IsIn ls x.list × AllIn ls xs
+
+-- What a message releases that names an export.
+abbrev pub direct : ℕ → Released → ℕ
+direct e (released.Count id n) = cond (nat_eq e id.0) n 0
+direct e (released.List place) = 0
+
+-- They are that much of each export: what is counted, with what was released since, less what was received since. No less
+-- is counted than messages name.
+pub record IsReleased (ls : Lists) (r : Releases) (named much : ℕ → ℕ) : Type 0 where
+  pub all_in : AllIn ls r.flagged.items
+  pub least : (e : ℕ) → named e ≤ amount r.counted e
+  pub even : (e : ℕ) → amount r.counted e + sent_sum ls e r.flagged.items ≡ got_sum ls e r.flagged.items + much e
+
+-- What the messages of these parcels release that name an export.
+abbrev pub direct_sum : ℕ → List Parcel → ℕ
+direct_sum e [] = 0
+direct_sum e (p ∷ ps) = direct e p.released + direct_sum e ps
+
+-- What a parcel adds to the counts, and what a message on its way does.
+abbrev pub added_by : Lists → Parcel → CountsById × Option CountsById
+added_by ls p = (p.handed_on, released_in ls p.released)
+
+abbrev pub adds : Sending → CountsById × Option CountsById
+adds s = (gives s, Some (releases s))
 
 abbrev pub is_some_left : List Sending → Bool
 is_some_left [] = false
@@ -57,11 +124,11 @@ abbrev pub rest_of : List Sending → List Sending
 rest_of [] = []
 rest_of (s ∷ ss) = ss
 
--- These messages are on their way.
-pub record IsWay (w : Way) (ss : List Sending) : Type 0 where
-  pub parcels : w.parcels.items ≡ map parcel_of ss
+-- These messages are on their way to a vat that handed these lists on.
+pub record IsWay (ls : Lists) (w : Way) (ss : List Sending) : Type 0 where
+  pub parcels : map (added_by ls) w.parcels.items ≡ map adds ss
   pub handed : (e : ℕ) → amount w.handed_on e ≡ count_of e (of_each gives ss)
-  pub given_back : (e : ℕ) → amount w.released e ≡ count_of e (of_each releases ss)
+  pub given_back : IsReleased ls w.releases (λ e. direct_sum e w.parcels.items) (λ e. count_of e (of_each releases ss))
 
 -- What is known of a reference: the indices of its calls that were made and not delivered, and the place of the first
 -- delivery.
@@ -129,13 +196,17 @@ way_of w A = w.a
 way_of w B = w.b
 
 -- No more was received than was sent, the rest is on its way, and what was said last is kept.
-pub record IsWayOf (w : Way) (v : Vat) (h : List JournalEntry) : Type 0 where
-  pub way : IsWay w (on_the_way h v)
+pub record IsWayOf (ls : Lists) (w : Way) (v : Vat) (h : List JournalEntry) : Type 0 where
+  pub way : IsWay ls w (on_the_way h v)
   pub fewer : got h (other_vat v) ≤ length (sendings h v)
   pub said : IsSaid w.said (sent h v)
 
 abbrev pub WaysFor : Ways → List JournalEntry → Type 0
-WaysFor w h = (v : Vat) → IsWayOf (way_of w v) v h
+WaysFor w h = (v : Vat) → IsWayOf (way_of w (other_vat v)).said.lists.items (way_of w v) v h
+
+-- All lists that were released are counted.
+abbrev pub IsCounted : Ways → Type 0
+IsCounted w = (v : Vat) → (way_of w v).releases.flagged.items ≡ []
 
 abbrev pub down_of : Downs → Vat → Bool
 down_of d A = d.a

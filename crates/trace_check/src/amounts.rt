@@ -1,4 +1,4 @@
-ghost use Rattle.std.specs.Prelude.{◌≡◌, ◌+◌, ◌-◌, ℕ, cond, nat_eq, OnOk, IfOk};
+ghost use Rattle.std.specs.Prelude.{◌≡◌, ◌+◌, ◌-◌, ◌*◌, ℕ, cond, nat_eq, OnOk, IfOk};
 ghost use Rattle.trace_check.specs.Counts.{count_of};
 ghost use Rattle.trace_check.specs.Kept.{amount};
 
@@ -30,26 +30,26 @@ impl Amounts {
         }
     }
 
-    fn add(&mut self, id: ExportId, more: u32) -> Result<(), Memory>
+    pub(crate) fn add(&mut self, id: ExportId, more: u64) -> Result<(), Memory>
         ensures { OnOk result ((e : ℕ) → amount self.new e ≡ amount self.old e + cond (nat_eq e id.0) more 0) }
     {
         if more == 0 {
             return Ok(());
         }
-        let Some(sum) = self.of(id).checked_add(u64::from(more)) else {
+        let Some(sum) = self.of(id).checked_add(more) else {
             return Err(Memory);
         };
         self.by_id.insert(id.0, sum)?;
         Ok(())
     }
 
-    fn take(&mut self, id: ExportId, less: u32)
+    pub(crate) fn take(&mut self, id: ExportId, less: u64)
         ensures { (e : ℕ) → amount self.new e ≡ amount self.old e - cond (nat_eq e id.0) less 0 }
     {
         let Some(amount) = self.by_id.get_mut(&id.0) else {
             return;
         };
-        *amount = amount.saturating_sub(u64::from(less));
+        *amount = amount.saturating_sub(less);
         if *amount == 0 {
             self.by_id.remove(&id.0);
         }
@@ -60,7 +60,7 @@ impl Amounts {
         ensures { OnOk result ((e : ℕ) → amount self.new e ≡ amount self.old e + count_of e counts.now) }
     {
         for (id, count) in counts {
-            self.add(*id, *count)?;
+            self.add(*id, u64::from(*count))?;
         }
         Ok(())
     }
@@ -78,7 +78,37 @@ impl Amounts {
         ensures { (e : ℕ) → amount self.new e ≡ amount self.old e - count_of e counts.now }
     {
         for (id, count) in counts {
-            self.take(*id, *count);
+            self.take(*id, u64::from(*count));
         }
+    }
+
+    /// Adds all these counts so many times. After a refusal nothing is known of the amounts.
+    pub(crate) fn add_times(&mut self, counts: &[(ExportId, u32)], times: u64) -> Result<(), Memory>
+        ensures { OnOk result ((e : ℕ) → amount self.new e ≡ amount self.old e + times * count_of e counts.now) }
+    {
+        for (id, count) in counts {
+            let Some(more) = times.checked_mul(u64::from(*count)) else {
+                return Err(Memory);
+            };
+            self.add(*id, more)?;
+        }
+        Ok(())
+    }
+
+    /// Takes all these counts away so many times; no amount goes below 0. After a refusal nothing is known of the amounts.
+    pub(crate) fn take_times(
+        &mut self,
+        counts: &[(ExportId, u32)],
+        times: u64,
+    ) -> Result<(), Memory>
+        ensures { OnOk result ((e : ℕ) → amount self.new e ≡ amount self.old e - times * count_of e counts.now) }
+    {
+        for (id, count) in counts {
+            let Some(less) = times.checked_mul(u64::from(*count)) else {
+                return Err(Memory);
+            };
+            self.take(*id, less);
+        }
+        Ok(())
     }
 }

@@ -10,8 +10,8 @@ use std::alloc::Global;
 use vat_journal::JournalEntry;
 
 /// Reads the entries of a trace one by one. It holds what is open: the calls that were made and not delivered, where
-/// the calls of each reference go, what the messages on their way add to the counts, and what the last question and
-/// answer of each id handed on.
+/// the calls of each reference go, and what the messages on their way add to the counts; and once each list of exports
+/// that a question or an answer handed on, however many messages release it.
 #[derive(Drop)]
 pub struct Checker {
     pub(crate) pending: Pending,
@@ -33,10 +33,10 @@ impl Checker {
         }
     }
 
-    /// Takes the next entry. The work does not grow with the number of entries but for the depth of trees; that of a
-    /// true flag grows with the ids that it releases, that of a `Tables` entry with those that it says and that
-    /// messages on their way name. `Memory` where a growth was refused, and where
-    /// entries or counts are more than 64 bits can say.
+    /// Takes the next entry. The work does not grow with the number of entries but for the depth of trees, nor that of a
+    /// true flag with the ids that it releases; that of a `Tables` entry grows with those that it says, that messages on
+    /// their way name, and that are in lists which flags released, or no longer release, since the last such entry.
+    /// `Memory` where a growth was refused, and where entries or counts are more than 64 bits can say.
     pub fn take(mut self, alloc: Global, entry: &JournalEntry) -> Result<Self, Memory>
         ensures { IfOk result (λ new. (h : List Entry) → HasTaken self h → HasTaken new (h ++ entry.now ∷ [])) }
     {

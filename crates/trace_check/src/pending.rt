@@ -1,4 +1,4 @@
-ghost use Rattle.std.specs.Prelude.{◌≡◌, [], ◌∷◌, ◌++◌, List, None, IfOk, suc, length};
+ghost use Rattle.std.specs.Prelude.{◌≡◌, [], ◌∷◌, ◌++◌, List, None, IfOk, OnOk, suc, length};
 ghost use Rattle.vat_journal.specs.declared.entry.JournalEntry.{JournalEntry as Entry};
 ghost use Rattle.trace_check.specs.Breaches.{breach, miscounts};
 ghost use Rattle.trace_check.specs.Kept.{IsPending};
@@ -30,8 +30,9 @@ impl Pending {
         }
     }
 
-    fn miscounts(&self, alloc: Global, entry: &JournalEntry) -> Result<bool, Memory>
-        ensures { IfOk result (λ wrong. (h : List Entry) → IsPending self.now h → wrong ≡ miscounts h entry.now) }
+    fn miscounts(&mut self, alloc: Global, entry: &JournalEntry) -> Result<bool, Memory>
+        ensures wrong { IfOk result (λ wrong. (h : List Entry) → IsPending self.old h → wrong ≡ miscounts h entry.now) }
+        ensures rest { OnOk result ((h : List Entry) → IsPending self.old h → IsPending self.new h) }
     {
         let JournalEntry::Tables(a, b) = entry else {
             return Ok(false);
@@ -39,6 +40,7 @@ impl Pending {
         if self.downs.any() {
             return Ok(false);
         }
+        self.ways.count()?;
         let fits = self.ways.agree(alloc, a, b)?;
         Ok(!fits)
     }

@@ -2,7 +2,7 @@ ghost use Rattle.std.specs.Prelude.{◌≡◌, [], ◌∷◌, ◌++◌, List, If
 ghost use Rattle.vat_journal.specs.declared.entry.JournalEntry.TheVariants as entry;
 ghost use Rattle.vat_journal.specs.declared.entry.JournalEntry.{JournalEntry as Entry};
 ghost use Rattle.trace_check.specs.Breaches.{gets_nothing, agrees};
-ghost use Rattle.trace_check.specs.Kept.{WaysFor};
+ghost use Rattle.trace_check.specs.Kept.{WaysFor, IsCounted};
 ghost use Rattle.rpc_msg.specs.declared.ids.Vat.TheVariants.{A, B};
 
 use crate::agreeing::agree;
@@ -38,13 +38,27 @@ impl Ways {
                 self.send(alloc, *vat, message)?;
                 Ok(true)
             }
-            JournalEntry::Got(vat) => Ok(self.receive(*vat)),
+            JournalEntry::Got(vat) => {
+                let kept = self.receive(*vat)?;
+                Ok(kept)
+            }
             _ => Ok(true),
         }
     }
 
+    /// Counts the lists that messages on their way released. After a refusal nothing is known of the rest.
+    pub(crate) fn count(&mut self) -> Result<(), Memory>
+        ensures same { OnOk result ((h : List Entry) → WaysFor self.old h → WaysFor self.new h) }
+        ensures counted { OnOk result (IsCounted self.new) }
+    {
+        self.a.count(self.b.said.lists.as_slice())?;
+        self.b.count(self.a.said.lists.as_slice())?;
+        Ok(())
+    }
+
     /// Whether the counts of both vats fit each other and what is on its way.
     pub(crate) fn agree(&self, alloc: Global, a: &Counts, b: &Counts) -> Result<bool, Memory>
+        requires { IsCounted self.now }
         ensures { IfOk result (λ fits. (h : List Entry) → WaysFor self.now h → fits ≡ (agrees h A a.now.exports b.now.imports && agrees h B b.now.exports a.now.imports)) }
     {
         let of_a = agree(
@@ -52,14 +66,14 @@ impl Ways {
             a.exports.as_slice(),
             b.imports.as_slice(),
             &self.a.handed_on,
-            &self.b.released,
+            &self.b.releases.counted,
         )?;
         let of_b = agree(
             alloc,
             b.exports.as_slice(),
             a.imports.as_slice(),
             &self.b.handed_on,
-            &self.a.released,
+            &self.a.releases.counted,
         )?;
         Ok(of_a && of_b)
     }
@@ -74,13 +88,19 @@ impl Ways {
         Ok(())
     }
 
-    fn receive(&mut self, vat: Vat) -> bool
-        ensures matched { (h : List Entry) → WaysFor self.old h → result ≡ not (gets_nothing h (entry.Got vat)) }
-        ensures rest { IsTrue result → (h : List Entry) → WaysFor self.old h → WaysFor self.new (h ++ entry.Got vat ∷ []) }
+    fn receive(&mut self, vat: Vat) -> Result<bool, Memory>
+        ensures matched { IfOk result (λ kept. (h : List Entry) → WaysFor self.old h → kept ≡ not (gets_nothing h (entry.Got vat))) }
+        ensures rest { IfOk result (λ kept. IsTrue kept → (h : List Entry) → WaysFor self.old h → WaysFor self.new (h ++ entry.Got vat ∷ [])) }
     {
         match vat {
-            Vat::A => self.b.receive(),
-            Vat::B => self.a.receive(),
+            Vat::A => {
+                let kept = self.b.receive()?;
+                Ok(kept)
+            }
+            Vat::B => {
+                let kept = self.a.receive()?;
+                Ok(kept)
+            }
         }
     }
 }

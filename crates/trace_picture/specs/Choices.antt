@@ -1,17 +1,20 @@
 -- What the options of the program say (docs/trace.md, "A picture of a trace").
-use Rattle.std.specs.Prelude.{ℕ, ◌==◌, ◌^◌, ◌+◌, ◌-◌, ◌&&◌, nat_lt, nat_le, nat_eq, min, Bool, false, if◌then◌else◌, List, [], ◌∷◌, length, Option, Some, None, option_map, option_and_then, codes}
-use Rattle.std.specs.List.{before_first, after_first}
+use Rattle.std.specs.Prelude.{ℕ, ◌==◌, ◌^◌, ◌+◌, ◌-◌, ◌&&◌, ◌||◌, nat_lt, nat_le, nat_eq, min, Bool, false, if◌then◌else◌, List, [], ◌∷◌, length, Option, Some, None, option_map, option_and_then, codes}
+use Rattle.std.specs.List.{before_first, after_first, list_any}
 use Rattle.std.specs.Str.{all_ascii_digits, bytes_eq}
 use Rattle.std.specs.Str.Parse.{digits_value}
 use Rattle.rpc_msg.specs.declared.ids.Vat.{Vat}
 use Rattle.rpc_msg.specs.declared.ids.Vat.TheVariants as vat
 use Rattle.rpc_msg.specs.declared.ids.RefId.{RefId}
+use Rattle.rpc_msg.specs.declared.ids.Stamp.{Stamp}
 use Rattle.rpc_msg.specs.declared.message.PlainMessage.{PlainMessage}
 use Rattle.rpc_msg.specs.declared.message.PlainMessage.TheVariants as plain
 use Rattle.rpc_msg.specs.declared.message.Message.{Message}
 use Rattle.rpc_msg.specs.declared.message.Message.TheVariants as message
 use Rattle.vat_journal.specs.declared.entry.JournalEntry.{JournalEntry}
 use Rattle.vat_journal.specs.declared.entry.JournalEntry.TheVariants as entry
+use Rattle.vat_journal.specs.declared.entry.Origin.{Origin}
+use Rattle.vat_journal.specs.declared.entry.Origin.TheVariants as origin
 use Rattle.vat_journal.specs.History.{same_vat}
 use Rattle.trace_picture.specs.declared.options.Options.{Options}
 
@@ -99,3 +102,46 @@ entry_stands_out o (entry.Resolved v p r) = is_marked o v r
 entry_stands_out o (entry.Advanced v r answer) = is_marked o v r
 entry_stands_out o (entry.Dropped v r) = is_marked o v r
 entry_stands_out o e = false
+
+-- ---- Which entries name a reference
+
+abbrev pub is_call_of : Vat → RefId → Stamp → Bool
+is_call_of v r stamp = same_vat stamp.vat v && nat_eq stamp.reference.0 r.0
+
+-- It is at that vat, and one of the references has that number.
+abbrev pub has_ref : Vat → RefId → Vat → List RefId → Bool
+has_ref v r at refs = same_vat at v && list_any (λ s. nat_eq s.0 r.0) refs
+
+-- The reference of which a new one is a clone.
+abbrev pub cloned : Origin → List RefId
+cloned (origin.Clone other) = other ∷ []
+cloned o = []
+
+abbrev pub plain_names : Vat → RefId → PlainMessage → Bool
+plain_names v r (plain.Call call) = is_call_of v r call.stamp
+plain_names v r m = false
+
+abbrev pub message_names : Vat → RefId → Message → Bool
+message_names v r (message.Plain m) = plain_names v r m
+message_names v r m = false
+
+-- As `ref`, among `refs`, as what a clone is of, or in the stamp of a call (docs/trace.md, "Entries").
+abbrev pub entry_names : Vat → RefId → JournalEntry → Bool
+entry_names v r (entry.Born at own origin) = has_ref v r at (own ∷ cloned origin)
+entry_names v r (entry.Made at made) = has_ref v r at (made.reference ∷ made.refs)
+entry_names v r (entry.Delivered at d) = is_call_of v r d.stamp || has_ref v r at d.refs
+entry_names v r (entry.Answered at task outcome refs) = has_ref v r at refs
+entry_names v r (entry.Ended at ended) = has_ref v r at ended.refs
+entry_names v r (entry.Resolved at p own) = has_ref v r at (own ∷ [])
+entry_names v r (entry.Advanced at own answer) = has_ref v r at (own ∷ [])
+entry_names v r (entry.Dropped at own) = has_ref v r at (own ∷ [])
+entry_names v r (entry.Sent at m) = message_names v r m
+entry_names v r e = false
+
+abbrev pub is_named : Option (Vat × RefId) → JournalEntry → Bool
+is_named None e = false
+is_named (Some chosen) e = entry_names chosen.0 chosen.1 e
+
+-- The entry names the reference whose calls stand out.
+abbrev pub is_named_by : Options → JournalEntry → Bool
+is_named_by o e = is_named o.reference e

@@ -35,6 +35,10 @@ OutputFails bytes why = (why ≡ failure.Unwritten) × (input : List ℕ) × IsI
 abbrev pub Fails : Option (List ℕ) → Failure → Type 0
 Fails bytes why = ReadFails bytes why ⊎ (((input : List ℕ) × IsInput bytes input × TextFails input why) ⊎ OutputFails bytes why)
 
+-- What is written where help is asked for.
+abbrev pub help_text : List ℕ
+help_text = codes "usage: trace_chart FILE [--ref V/N] [--from N] [--to N]\n\nDraws a trace as a sequence diagram, in SVG on standard output. Without a word the trace is\nread from standard input.\n\n  --ref V/N   what is of reference N of vat V (a or b) stands out\n  --from N    the first entry that is drawn, counted as the trace's lines are\n  --to N      the last one; without it 60 entries are drawn\n\nThe status is 0, or 2 where nothing is drawn.\n"
+
 -- What is said of a failure where the file has that name. Of an output that can't be written nothing is said.
 abbrev pub said_of : List ℕ → Failure → List ℕ
 said_of name failure.Usage = codes "usage: trace_chart FILE [--ref V/N] [--from N] [--to N]" ++ 10 ∷ []

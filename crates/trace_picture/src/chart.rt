@@ -1,11 +1,15 @@
 ghost use Rattle.std.specs.Prelude.{◌≡◌};
 ghost use Rattle.trace_picture.specs.Choices.{message_stands_out, entry_stands_out};
 
+use crate::bars::{Bars, CallAt, CallName, Embargo, Lasting, Over};
+use crate::entries::{begins_step, begun_by, call_of, lifted_by, vat_of};
 use crate::followed::Followed;
-use crate::labels::{counts_label, embargo_label, entry_label, lifted_label, message_label};
+use crate::labels::{begun_label, counts_label, entry_label, lifted_label, write_stamp};
+use crate::messages::message_label;
 use crate::options::Options;
+use crate::questions::{Asked, Questions};
 use rpc_msg::{
-    Disembargo, DisembargoContext, EmbargoId, Memory, Message, PlainMessage, RefId, Vat,
+    Disembargo, DisembargoContext, EmbargoId, Memory, Message, PlainMessage, RefId, Stamp, Vat,
 };
 use std::alloc::Global;
 use std::collections::VecDeque;
@@ -13,24 +17,28 @@ use std::mem;
 use trace_file::Follower;
 use vat_journal::{Advanced, Counts, JournalEntry};
 
+/// A message whose ends are more rows apart is said at both of them.
+const LONG: usize = 4;
+
 /// A message, from the row in which it was sent to the one in which it was received, where these are drawn.
 #[derive(Drop)]
 pub(crate) struct Arrow {
     pub(crate) from: Vat,
     pub(crate) sent: Option<usize>,
     pub(crate) got: Option<usize>,
-    pub(crate) label: String,
     pub(crate) marked: bool,
 }
 
 /// What a note has at its vat's lifeline.
-#[derive(Clone, Copy, Debug, PartialEq, Eq, Drop)]
+#[derive(Clone, Copy, Drop)]
 pub(crate) enum Mark {
     /// The application does something, or something reaches it.
     Event,
-    /// A call is made that waits under an embargo.
+    /// An arrow begins or ends.
+    Message,
+    /// A call comes that waits.
     Waiting,
-    /// Nothing: what an arrow's end means, or counts.
+    /// Nothing: counts, or what there is no arrow for.
     Beside,
     /// The vat goes down.
     Down,
@@ -46,32 +54,6 @@ pub(crate) struct Note {
     pub(crate) marked: bool,
 }
 
-/// An embargo of a vat, from the entry that sent the Disembargo to the one that received it back.
-#[derive(Drop)]
-pub(crate) struct Bar {
-    pub(crate) vat: Vat,
-    pub(crate) id: EmbargoId,
-    /// The reference that was advanced, where the trace says it.
-    pub(crate) reference: Option<RefId>,
-    /// How many calls were made through it since.
-    pub(crate) waiting: u64,
-    /// Embargoes of one vat at one time have different lanes.
-    pub(crate) lane: u64,
-    pub(crate) began: u64,
-    pub(crate) ended: Option<u64>,
-}
-
-impl Bar {
-    /// Whether the vat has this embargo now.
-    fn is_open(&self, vat: Vat) -> bool {
-        self.vat == vat && self.ended.is_none()
-    }
-
-    fn is_of(&self, reference: RefId) -> bool {
-        self.reference == Some(reference)
-    }
-}
-
 /// A message that was sent and not received yet.
 #[derive(Drop)]
 struct OnItsWay {
@@ -80,6 +62,20 @@ struct OnItsWay {
     marked: bool,
     /// The embargo that it lifts where it is received.
     lifts: Option<EmbargoId>,
+    /// The call that comes with it.
+    call: Option<CallAt>,
+}
+
+/// The call that came with the newest step, where that did not say yet where it goes.
+#[derive(Clone, Copy, Drop)]
+struct Arrived {
+    vat: Vat,
+    call: CallAt,
+    entry: u64,
+    row: Option<usize>,
+    /// What is said in its row, where anything is.
+    note: Option<usize>,
+    marked: bool,
 }
 
 /// What is drawn of a trace.
@@ -94,13 +90,17 @@ pub(crate) struct Chart {
     pub(crate) rows: Vec<u64>,
     pub(crate) arrows: Vec<Arrow>,
     pub(crate) notes: Vec<Note>,
-    pub(crate) bars: Vec<Bar>,
+    pub(crate) bars: Bars,
+    /// Whether an entry named the reference that stands out.
+    pub(crate) is_named: bool,
     from_a: VecDeque<OnItsWay>,
     from_b: VecDeque<OnItsWay>,
     /// The reference that each vat advanced last, where its Disembargo is not sent yet.
     embargoed_a: Option<RefId>,
     embargoed_b: Option<RefId>,
+    arrived: Option<Arrived>,
     followed: Followed,
+    questions: Questions,
 }
 
 impl Chart {
@@ -112,12 +112,15 @@ impl Chart {
             rows: Vec::new(alloc),
             arrows: Vec::new(alloc),
             notes: Vec::new(alloc),
-            bars: Vec::new(alloc),
+            bars: Bars::new(alloc),
+            is_named: false,
             from_a: VecDeque::new(alloc),
             from_b: VecDeque::new(alloc),
             embargoed_a: None,
             embargoed_b: None,
+            arrived: None,
             followed: Followed::new(alloc),
+            questions: Questions::new(alloc),
         }
     }
 
@@ -137,6 +140,14 @@ impl Chart {
         }
     }
 
+    fn depart(&mut self, vat: Vat, way: OnItsWay) -> Result<(), Memory> {
+        match vat {
+            Vat::A => self.from_a.push_back(way)?,
+            Vat::B => self.from_b.push_back(way)?,
+        }
+        Ok(())
+    }
+
     /// The row of the entry that comes now, where it is drawn.
     fn row(&mut self) -> Result<Option<usize>, Memory> {
         if !self.options.draws(self.entries) {
@@ -148,7 +159,7 @@ impl Chart {
         Ok(Some(row))
     }
 
-    /// Says something in a row, where there is one.
+    /// Says something in a row, where there is one. Which note it is.
     fn note(
         &mut self,
         row: Option<usize>,
@@ -156,10 +167,11 @@ impl Chart {
         mark: Mark,
         label: String,
         marked: bool,
-    ) -> Result<(), Memory> {
+    ) -> Result<Option<usize>, Memory> {
         let Some(row) = row else {
-            return Ok(());
+            return Ok(None);
         };
+        let place = self.notes.len();
         self.notes.push(Note {
             row,
             vat,
@@ -167,31 +179,98 @@ impl Chart {
             label,
             marked,
         })?;
+        Ok(Some(place))
+    }
+
+    fn draw(&mut self, alloc: Global, entry: &JournalEntry) -> Result<(), Memory> {
+        self.entries = self.entries.saturating_add(1);
+        if begins_step(entry) {
+            self.wait(alloc)?;
+        }
+        self.is_named = self.is_named || self.options.are_named_by(entry);
+        self.followed.learn(&self.options, entry)?;
+        self.questions.learn(entry)?;
+        let ended = self.end(alloc, entry)?;
+        match entry {
+            JournalEntry::Sent(vat, message) => self.send(alloc, *vat, message, ended)?,
+            JournalEntry::Got(vat) => self.receive(alloc, *vat)?,
+            JournalEntry::Tables(a, b) => self.count(alloc, a, b)?,
+            _ => match vat_of(entry) {
+                Some(vat) => self.happen(alloc, vat, entry, ended)?,
+                None => {}
+            },
+        }
+        self.followed.forget(entry);
         Ok(())
     }
 
-    fn send(&mut self, alloc: Global, vat: Vat, message: &Message) -> Result<(), Memory> {
-        let sent = self.row()?;
-        self.open_bar(alloc, vat, message, sent)?;
+    /// The call that came with the step that is over waits, where that did not say where it goes.
+    fn wait(&mut self, alloc: Global) -> Result<(), Memory> {
+        let Some(arrived) = mem::replace(&mut self.arrived, None) else {
+            return Ok(());
+        };
+        let what = Lasting::Wait(arrived.call);
+        self.bars.begin(arrived.vat, what, arrived.entry)?;
+        let mut label = String::from_str(alloc, "waits: ")?;
+        if let Some(place) = arrived.note
+            && let Some(note) = self.notes.get_mut(place)
+        {
+            label.push_str(note.label.as_str())?;
+            note.label = label;
+            note.mark = Mark::Waiting;
+            return Ok(());
+        }
+        write_stamp(&mut label, &arrived.call.stamp)?;
+        let (row, vat, marked) = (arrived.row, arrived.vat, arrived.marked);
+        let _place = self.note(row, vat, Mark::Waiting, label, marked)?;
+        Ok(())
+    }
+
+    /// What an entry ends: what it says of a call that waited.
+    fn end(&mut self, alloc: Global, entry: &JournalEntry) -> Result<Option<Remark>, Memory> {
+        let Some((vat, over)) = Over::by(entry) else {
+            return Ok(None);
+        };
+        if let Some(arrived) = self.arrived
+            && arrived.vat == vat
+            && over.has_call(&arrived.call)
+        {
+            self.arrived = None;
+        }
+        if !self.bars.end(alloc, vat, &over, self.entries)? {
+            return Ok(None);
+        }
+        Ok(remark_on(&over))
+    }
+
+    fn send(
+        &mut self,
+        alloc: Global,
+        vat: Vat,
+        message: &Message,
+        ended: Option<Remark>,
+    ) -> Result<(), Memory> {
+        let row = self.row()?;
+        let begun = self.open_embargo(vat, message)?;
         let marked = self.marks_message(message) || self.marks_more(vat, message);
-        let label = message_label(alloc, message)?;
+        let label = message_label(alloc, message, self.questions.of(vat, message))?;
+        let mut said = remark_label(alloc, ended)?;
+        if let Some(embargo) = &begun {
+            said = begun_label(alloc, embargo)?;
+            said.push_str(": ")?;
+        }
+        said.push_str(label.as_str())?;
+        let _place = self.note(row, vat, Mark::Message, said, marked)?;
         self.depart(
             vat,
             OnItsWay {
-                sent,
+                sent: row,
                 label,
                 marked,
                 lifts: lifted_by(message),
+                call: call_of(message),
             },
         )
-    }
-
-    fn depart(&mut self, vat: Vat, way: OnItsWay) -> Result<(), Memory> {
-        match vat {
-            Vat::A => self.from_a.push_back(way)?,
-            Vat::B => self.from_b.push_back(way)?,
-        }
-        Ok(())
     }
 
     fn marks_message(&self, message: &Message) -> bool
@@ -205,13 +284,10 @@ impl Chart {
 
     /// Whether a message is about a call or an embargo of the reference that stands out.
     fn marks_more(&self, from: Vat, message: &Message) -> bool {
+        if let Some(Asked::Call(stamp)) = self.questions.of(from, message) {
+            return self.options.marks_call(&stamp);
+        }
         match message {
-            Message::Plain(PlainMessage::Return(answer)) => {
-                self.followed.has_question(from.other(), answer.answer)
-            }
-            Message::Plain(PlainMessage::Finish(finish)) => {
-                self.followed.has_question(from, finish.question)
-            }
             Message::Plain(PlainMessage::Disembargo(disembargo)) => {
                 self.marks_disembargo(from, disembargo)
             }
@@ -224,13 +300,10 @@ impl Chart {
             DisembargoContext::SenderLoopback(id) => (from, id),
             DisembargoContext::ReceiverLoopback(id) => (from.other(), id),
         };
-        let mut marked = false;
-        for bar in self.bars.iter() {
-            if bar.is_open(vat) && bar.id == id {
-                marked = self.marks_named(vat, bar.reference);
-            }
+        match self.bars.embargo(vat, id) {
+            Some(embargo) => self.marks_named(vat, embargo.reference),
+            None => false,
         }
-        marked
     }
 
     fn marks_named(&self, vat: Vat, reference: Option<RefId>) -> bool {
@@ -244,54 +317,69 @@ impl Chart {
         let got = self.row()?;
         let Some(way) = self.next_from(vat.other()) else {
             let label = String::from_str(alloc, "receives nothing that was sent")?;
-            return self.note(got, vat, Mark::Beside, label, false);
+            let _place = self.note(got, vat, Mark::Beside, label, false)?;
+            return Ok(());
         };
-        if let Some(id) = way.lifts {
-            self.lift(alloc, vat, id, got)?;
+        let marked = way.marked;
+        let mut note = None;
+        if let Some(label) = self.received_label(alloc, vat, &way, got)? {
+            note = self.note(got, vat, Mark::Message, label, marked)?;
         }
-        draw_arrow(&mut self.arrows, vat.other(), way, got)
+        if let Some(call) = way.call {
+            self.arrived = Some(Arrived {
+                vat,
+                call,
+                entry: self.entries,
+                row: got,
+                note,
+                marked,
+            });
+        }
+        draw_arrow(&mut self.arrows, vat.other(), &way, got)
     }
 
-    /// The embargo ends, where the vat has one with that id.
-    fn lift(
+    /// What is said where a message is received: the embargo that it lifts, and what it is, where it comes from afar.
+    fn received_label(
         &mut self,
         alloc: Global,
         vat: Vat,
-        id: EmbargoId,
-        row: Option<usize>,
-    ) -> Result<(), Memory> {
-        let Some((reference, waiting)) = self.close_bar(vat, id) else {
-            return Ok(());
-        };
-        let label = lifted_label(alloc, id, reference, waiting)?;
-        let marked = self.marks_named(vat, reference);
-        self.note(row, vat, Mark::Beside, label, marked)
+        way: &OnItsWay,
+        got: Option<usize>,
+    ) -> Result<Option<String>, Memory> {
+        let far = is_far(way.sent, got);
+        if let Some(id) = way.lifts
+            && let Some(embargo) = self.bars.embargo(vat, id)
+        {
+            let _any = self.bars.end(alloc, vat, &Over::Embargo(id), self.entries)?;
+            let mut label = lifted_label(alloc, &embargo)?;
+            if far {
+                label.push_str(": ")?;
+                label.push_str(way.label.as_str())?;
+            }
+            return Ok(Some(label));
+        }
+        if !far {
+            return Ok(None);
+        }
+        let mut label = String::from_str(alloc, "gets ")?;
+        label.push_str(way.label.as_str())?;
+        Ok(Some(label))
     }
 
-    fn open_bar(
-        &mut self,
-        alloc: Global,
-        vat: Vat,
-        message: &Message,
-        row: Option<usize>,
-    ) -> Result<(), Memory> {
+    /// The embargo that begins where the message is sent.
+    fn open_embargo(&mut self, vat: Vat, message: &Message) -> Result<Option<Embargo>, Memory> {
         let Some(id) = begun_by(message) else {
-            return Ok(());
+            return Ok(None);
         };
         let reference = self.take_embargoed(vat);
-        let lane = self.free_lane(vat);
-        self.bars.push(Bar {
-            vat,
+        let embargo = Embargo {
             id,
             reference,
             waiting: 0,
-            lane,
-            began: self.entries,
-            ended: None,
-        })?;
-        let label = embargo_label(alloc, id, reference)?;
-        let marked = self.marks_named(vat, reference);
-        self.note(row, vat, Mark::Beside, label, marked)
+        };
+        self.bars
+            .begin(vat, Lasting::Embargo(embargo), self.entries)?;
+        Ok(Some(embargo))
     }
 
     /// The reference whose embargo begins with the vat's next Disembargo.
@@ -314,93 +402,54 @@ impl Chart {
         }
     }
 
-    /// Beyond those of the vat's embargoes that are not lifted.
-    fn free_lane(&self, vat: Vat) -> u64 {
-        let mut lane = 0;
-        for bar in self.bars.iter() {
-            if bar.is_open(vat) && lane <= bar.lane {
-                lane = bar.lane.saturating_add(1);
-            }
-        }
-        lane
-    }
-
-    /// The reference of the embargo that ends, and how many calls waited.
-    fn close_bar(&mut self, vat: Vat, id: EmbargoId) -> Option<(Option<RefId>, u64)> {
-        let mut closed = None;
-        for bar in self.bars.iter_mut() {
-            if bar.is_open(vat) && bar.id == id {
-                bar.ended = Some(self.entries);
-                closed = Some((bar.reference, bar.waiting));
-            }
-        }
-        closed
-    }
-
-    /// Whether a call is made now that waits under an embargo, where it is counted.
-    fn waits(&mut self, entry: &JournalEntry) -> bool {
-        let JournalEntry::Made(vat, made) = entry else {
-            return false;
-        };
-        let mut waits = false;
-        for bar in self.bars.iter_mut() {
-            if bar.is_open(*vat) && bar.is_of(made.reference) {
-                bar.waiting = bar.waiting.saturating_add(1);
-                waits = true;
-            }
-        }
-        waits
-    }
-
-    /// A vat that goes down has no embargoes any more.
-    fn close_bars(&mut self, vat: Vat) {
-        for bar in self.bars.iter_mut() {
-            if bar.is_open(vat) {
-                bar.ended = Some(self.entries);
-            }
-        }
-    }
-
-    fn draw(&mut self, alloc: Global, entry: &JournalEntry) -> Result<(), Memory> {
-        self.entries = self.entries.saturating_add(1);
-        self.followed.learn(&self.options, entry)?;
-        match entry {
-            JournalEntry::Sent(vat, message) => self.send(alloc, *vat, message)?,
-            JournalEntry::Got(vat) => self.receive(alloc, *vat)?,
-            JournalEntry::Tables(a, b) => self.count(alloc, a, b)?,
-            _ => match vat_of(entry) {
-                Some(vat) => self.happen(alloc, vat, entry)?,
-                None => {}
-            },
-        }
-        self.followed.forget(entry);
-        Ok(())
-    }
-
     fn count(&mut self, alloc: Global, a: &Counts, b: &Counts) -> Result<(), Memory> {
         let row = self.row()?;
         let label = counts_label(alloc, a)?;
-        self.note(row, Vat::A, Mark::Beside, label, false)?;
+        let _place = self.note(row, Vat::A, Mark::Beside, label, false)?;
         let label = counts_label(alloc, b)?;
-        self.note(row, Vat::B, Mark::Beside, label, false)
+        let _place = self.note(row, Vat::B, Mark::Beside, label, false)?;
+        Ok(())
     }
 
     /// An entry that is no message's.
-    fn happen(&mut self, alloc: Global, vat: Vat, entry: &JournalEntry) -> Result<(), Memory> {
-        let mut label = entry_label(alloc, entry)?;
+    fn happen(
+        &mut self,
+        alloc: Global,
+        vat: Vat,
+        entry: &JournalEntry,
+        ended: Option<Remark>,
+    ) -> Result<(), Memory> {
+        let mut said = remark_label(alloc, ended)?;
+        let label = entry_label(alloc, entry)?;
+        said.push_str(label.as_str())?;
         let marked = self.marks_entry(entry) || self.followed.has(entry);
-        let mut mark = Mark::Event;
-        if self.waits(entry) {
-            label.push_str(", waits")?;
-            mark = Mark::Waiting;
-        }
-        if let JournalEntry::Down(..) = entry {
-            self.close_bars(vat);
-            mark = Mark::Down;
-        }
+        let mark = match entry {
+            JournalEntry::Down(..) => Mark::Down,
+            _ => Mark::Event,
+        };
         self.keep_embargoed(entry);
         let row = self.row()?;
-        self.note(row, vat, mark, label, marked)
+        let note = self.note(row, vat, mark, said, marked)?;
+        if let JournalEntry::Made(_, made) = entry {
+            self.bars.count(vat, made.reference);
+            let stamp = Stamp {
+                vat,
+                reference: made.reference,
+                index: made.index,
+            };
+            self.arrived = Some(Arrived {
+                vat,
+                call: CallAt {
+                    stamp,
+                    name: CallName::Made(made.call),
+                },
+                entry: self.entries,
+                row,
+                note,
+                marked,
+            });
+        }
+        Ok(())
     }
 
     fn marks_entry(&self, entry: &JournalEntry) -> bool
@@ -418,10 +467,44 @@ impl Chart {
     }
 }
 
+/// What an entry says of a call that waited.
+#[derive(Clone, Copy, Drop)]
+enum Remark {
+    GoesOn,
+    WaitsNoMore,
+}
+
+fn remark_on(over: &Over) -> Option<Remark> {
+    match over {
+        Over::GoesOn(_) => Some(Remark::GoesOn),
+        Over::Ends(_) => Some(Remark::WaitsNoMore),
+        _ => None,
+    }
+}
+
+/// What stands before the label of an entry.
+fn remark_label(alloc: Global, remark: Option<Remark>) -> Result<String, Memory> {
+    let label = match remark {
+        Some(Remark::GoesOn) => "goes on: ",
+        Some(Remark::WaitsNoMore) => "waits no more: ",
+        None => "",
+    };
+    let text = String::from_str(alloc, label)?;
+    Ok(text)
+}
+
+/// Whether a message is received far from where it was sent, or that is not drawn.
+fn is_far(sent: Option<usize>, got: Option<usize>) -> bool {
+    match (sent, got) {
+        (Some(sent), Some(got)) => got.saturating_sub(sent) > LONG,
+        _ => true,
+    }
+}
+
 /// Arrows for the messages that a vat sent and the other did not receive.
 fn draw_open(arrows: &mut Vec<Arrow>, from: Vat, ways: VecDeque<OnItsWay>) -> Result<(), Memory> {
     for way in ways {
-        draw_arrow(arrows, from, way, None)?;
+        draw_arrow(arrows, from, &way, None)?;
     }
     Ok(())
 }
@@ -430,7 +513,7 @@ fn draw_open(arrows: &mut Vec<Arrow>, from: Vat, ways: VecDeque<OnItsWay>) -> Re
 fn draw_arrow(
     arrows: &mut Vec<Arrow>,
     from: Vat,
-    way: OnItsWay,
+    way: &OnItsWay,
     got: Option<usize>,
 ) -> Result<(), Memory> {
     if way.sent.is_none() && got.is_none() {
@@ -440,52 +523,9 @@ fn draw_arrow(
         from,
         sent: way.sent,
         got,
-        label: way.label,
         marked: way.marked,
     })?;
     Ok(())
-}
-
-/// The embargo that begins where the message is sent.
-fn begun_by(message: &Message) -> Option<EmbargoId> {
-    let Message::Plain(PlainMessage::Disembargo(disembargo)) = message else {
-        return None;
-    };
-    match disembargo.context {
-        DisembargoContext::SenderLoopback(id) => Some(id),
-        DisembargoContext::ReceiverLoopback(_) => None,
-    }
-}
-
-/// The embargo that is lifted where the message is received.
-fn lifted_by(message: &Message) -> Option<EmbargoId> {
-    let Message::Plain(PlainMessage::Disembargo(disembargo)) = message else {
-        return None;
-    };
-    match disembargo.context {
-        DisembargoContext::SenderLoopback(_) => None,
-        DisembargoContext::ReceiverLoopback(id) => Some(id),
-    }
-}
-
-/// The vat of an entry that is no message's; heads and counts have none.
-fn vat_of(entry: &JournalEntry) -> Option<Vat> {
-    match entry {
-        JournalEntry::Born(vat, ..) => Some(*vat),
-        JournalEntry::Asked(vat, ..) => Some(*vat),
-        JournalEntry::Made(vat, ..) => Some(*vat),
-        JournalEntry::Delivered(vat, ..) => Some(*vat),
-        JournalEntry::Answered(vat, ..) => Some(*vat),
-        JournalEntry::Ended(vat, ..) => Some(*vat),
-        JournalEntry::Resolved(vat, ..) => Some(*vat),
-        JournalEntry::Rejected(vat, ..) => Some(*vat),
-        JournalEntry::Dropped(vat, ..) => Some(*vat),
-        JournalEntry::Finished(vat, ..) => Some(*vat),
-        JournalEntry::Advanced(vat, ..) => Some(*vat),
-        JournalEntry::Refused(vat, ..) => Some(*vat),
-        JournalEntry::Down(vat, ..) => Some(*vat),
-        _ => None,
-    }
 }
 
 impl Follower for Chart {

@@ -1,5 +1,7 @@
-use crate::chart::{Arrow, Bar, Chart, Mark, Note};
-use crate::labels::{letter, write_embargo};
+use crate::bars::{Bar, Lasting};
+use crate::chart::{Arrow, Chart, Mark, Note};
+use crate::foot::Foot;
+use crate::labels::{letter, write_embargo, write_stamp};
 use crate::text::write_label;
 use rpc_msg::{RefId, Vat};
 use std::alloc::{AllocError, Global};
@@ -8,17 +10,20 @@ use std::fmt::Write;
 /// The picture's width, and where the lifelines of vat A and of vat B stand in it.
 const WIDTH: u64 = 1400;
 
-const LIFELINE_A: u64 = 480;
+const LIFELINE_A: u64 = 560;
 
-const LIFELINE_B: u64 = 960;
+const LIFELINE_B: u64 = 840;
 
-/// What an application does and sees stands outside the lifelines, that far from them. Between them are the messages.
+/// What is said stands outside the lifelines, that far from them. Between them are the arrows alone.
 const ASIDE: u64 = 14;
 
-/// How long an arrow is that is cut, and where its label begins.
+/// How long an arrow is that is cut.
 const STUB: u64 = 40;
 
-const BEHIND_STUB: u64 = 48;
+/// How far a bar is from the one in the lane before it, and in how many places lanes are drawn.
+const LANE: u64 = 10;
+
+const LANES: u64 = 12;
 
 /// The entries' numbers end there.
 const NUMBERS: u64 = 42;
@@ -32,6 +37,9 @@ const TOP: u64 = 104;
 const ROW: u64 = 24;
 
 const BOTTOM: u64 = 12;
+
+/// How far the whole labels at the foot are from what is above them.
+const GAP: u64 = 8;
 
 /// The vats' heads stand again above each row of that number, in a band of that height.
 const PAGE: usize = 30;
@@ -49,24 +57,30 @@ const FAINT: &str = "#6b7280";
 
 const EMBARGO: &str = "#f2c879";
 
+const WAIT: &str = "#a9c4e8";
+
 const DOWN: &str = "#b91c1c";
 
 /// The picture as SVG.
 pub(crate) fn picture(alloc: Global, chart: &Chart) -> Result<String, AllocError> {
+    let foot = Foot::of(alloc, chart, end_of(chart).saturating_add(GAP))?;
     let mut svg = String::new(alloc);
-    write_picture(&mut svg, chart)?;
+    write_picture(&mut svg, chart, &foot)?;
     Ok(svg)
 }
 
-fn write_picture(svg: &mut String, chart: &Chart) -> Result<(), AllocError> {
-    let height = end_of(chart).saturating_add(BOTTOM);
+fn write_picture(svg: &mut String, chart: &Chart, foot: &Foot) -> Result<(), AllocError> {
+    let height = foot.end.saturating_add(BOTTOM);
     write_ground(svg, height)?;
     write_title(svg, chart)?;
     write_legend(svg, chart)?;
     write_rows(svg, chart)?;
     write_lifelines(svg, chart)?;
-    write_messages(svg, chart, height)?;
+    write_bars(svg, chart)?;
+    write_arrows(svg, chart)?;
+    write_again(svg, chart)?;
     write_notes(svg, chart, height)?;
+    svg.push_str(foot.svg.as_str())?;
     svg.push_str("</svg>\n")
 }
 
@@ -81,16 +95,6 @@ fn write_ground(svg: &mut String, height: u64) -> Result<(), AllocError> {
         svg,
         "<rect width=\"{WIDTH}\" height=\"{height}\" fill=\"white\"/>"
     )
-}
-
-/// Embargoes, and what goes from vat to vat.
-fn write_messages(svg: &mut String, chart: &Chart, height: u64) -> Result<(), AllocError> {
-    for bar in chart.bars.iter() {
-        write_bar(svg, chart, bar)?;
-    }
-    write_arrows(svg, chart)?;
-    write_again(svg, chart)?;
-    write_labels(svg, chart, height)
 }
 
 /// The height of a row's middle.
@@ -174,39 +178,51 @@ fn write_extent(svg: &mut String, chart: &Chart) -> Result<(), AllocError> {
 
 /// What the signs say.
 fn write_legend(svg: &mut String, chart: &Chart) -> Result<(), AllocError> {
-    write_signs(svg)?;
-    write_dot(svg, (566, 43), "white", EVENT)?;
-    write_sign(svg, 576, "waits under an embargo")?;
+    write_bar_sign(svg, 12, EMBARGO)?;
+    write_sign(svg, 26, "embargo")?;
+    write_bar_sign(svg, 90, WAIT)?;
+    write_dot(svg, (94, 43), "white", EVENT)?;
+    write_sign(svg, 104, "a call waits")?;
+    write_cross(svg, 196, 43)?;
+    write_sign(svg, 208, "goes down")?;
+    writeln!(
+        svg,
+        "<line x1=\"284\" y1=\"43\" x2=\"314\" y2=\"43\" stroke=\"{MESSAGE}\" stroke-dasharray=\"4 3\"/>"
+    )?;
+    write_sign(
+        svg,
+        320,
+        "begins or ends outside the picture, or was not received",
+    )?;
     match chart.options.reference {
-        Some((vat, reference)) => write_marked_sign(svg, vat, reference),
+        Some((vat, reference)) => write_marked_sign(svg, vat, reference, chart.is_named),
         None => Ok(()),
     }
 }
 
-fn write_signs(svg: &mut String) -> Result<(), AllocError> {
+fn write_bar_sign(svg: &mut String, x: u64, fill: &str) -> Result<(), AllocError> {
     writeln!(
         svg,
-        "<rect x=\"12\" y=\"36\" width=\"8\" height=\"14\" fill=\"{EMBARGO}\"/>"
-    )?;
-    write_sign(svg, 26, "embargo")?;
-    write_cross(svg, 98, 43)?;
-    write_sign(svg, 110, "goes down")?;
-    writeln!(
-        svg,
-        "<line x1=\"186\" y1=\"43\" x2=\"216\" y2=\"43\" stroke=\"{MESSAGE}\" stroke-dasharray=\"4 3\"/>"
-    )?;
-    write_sign(
-        svg,
-        222,
-        "begins or ends outside the picture, or was not received",
+        "<rect x=\"{x}\" y=\"36\" width=\"8\" height=\"14\" fill=\"{fill}\"/>"
     )
 }
 
-fn write_marked_sign(svg: &mut String, vat: Vat, reference: RefId) -> Result<(), AllocError> {
+/// The reference that stands out, and where no entry names it, that.
+fn write_marked_sign(
+    svg: &mut String,
+    vat: Vat,
+    reference: RefId,
+    is_named: bool,
+) -> Result<(), AllocError> {
     let name = letter(vat);
+    let lacks = if is_named {
+        ""
+    } else {
+        ", which no entry names"
+    };
     writeln!(
         svg,
-        "<line x1=\"730\" y1=\"43\" x2=\"760\" y2=\"43\" stroke=\"{MARKED}\" stroke-width=\"2\"/>\n<text x=\"766\" y=\"47\" fill=\"{MARKED}\">reference {name}/{}</text>",
+        "<line x1=\"730\" y1=\"43\" x2=\"760\" y2=\"43\" stroke=\"{MARKED}\" stroke-width=\"2\"/>\n<text x=\"766\" y=\"47\" fill=\"{MARKED}\">reference {name}/{}{lacks}</text>",
         reference.0
     )
 }
@@ -275,7 +291,18 @@ fn write_again(svg: &mut String, chart: &Chart) -> Result<(), AllocError> {
     Ok(())
 }
 
-/// An embargo, as a bar along its vat's lifeline, as far as it lies in the picture.
+/// Embargoes and waiting calls.
+fn write_bars(svg: &mut String, chart: &Chart) -> Result<(), AllocError> {
+    for bar in chart.bars.closed() {
+        write_bar(svg, chart, bar)?;
+    }
+    for bar in chart.bars.open() {
+        write_bar(svg, chart, bar)?;
+    }
+    Ok(())
+}
+
+/// A bar along its vat's lifeline, as far as it lies in the picture.
 fn write_bar(svg: &mut String, chart: &Chart, bar: &Bar) -> Result<(), AllocError> {
     let top = y_from(chart, bar.began);
     let end = match bar.ended {
@@ -286,17 +313,34 @@ fn write_bar(svg: &mut String, chart: &Chart, bar: &Bar) -> Result<(), AllocErro
         return Ok(());
     }
     let height = end.saturating_sub(top);
-    let aside = bar.lane.saturating_mul(10);
+    let aside = (bar.lane % LANES) * LANE;
     let x = match bar.vat {
-        Vat::A => (LIFELINE_A - 4).saturating_add(aside),
-        Vat::B => (LIFELINE_B - 4).saturating_sub(aside),
+        Vat::A => LIFELINE_A - 4 + aside,
+        Vat::B => LIFELINE_B - 4 - aside,
+    };
+    let fill = match bar.what {
+        Lasting::Embargo(_) => EMBARGO,
+        Lasting::Wait(_) => WAIT,
     };
     write!(
         svg,
-        "<rect x=\"{x}\" y=\"{top}\" width=\"8\" height=\"{height}\" fill=\"{EMBARGO}\"><title>"
+        "<rect x=\"{x}\" y=\"{top}\" width=\"8\" height=\"{height}\" fill=\"{fill}\"><title>"
     )?;
-    write_embargo(svg, bar.id, bar.reference)?;
-    writeln!(svg, "; calls that wait: {}</title></rect>", bar.waiting)
+    write_bar_title(svg, bar)?;
+    svg.push_str("</title></rect>\n")
+}
+
+fn write_bar_title(svg: &mut String, bar: &Bar) -> Result<(), AllocError> {
+    match &bar.what {
+        Lasting::Embargo(embargo) => {
+            write_embargo(svg, embargo)?;
+            write!(svg, "; calls that wait: {}", embargo.waiting)
+        }
+        Lasting::Wait(call) => {
+            write_stamp(svg, &call.stamp)?;
+            svg.push_str(" waits")
+        }
+    }
 }
 
 /// Those that stand out lie on the others.
@@ -332,46 +376,6 @@ fn write_arrow(svg: &mut String, arrow: &Arrow) -> Result<(), AllocError> {
         }
         (None, None) => Ok(()),
     }
-}
-
-/// What the messages are, in the column between the lifelines, which nothing leaves. No arrow crosses a label: they have a
-/// margin in the ground's colour and lie on the arrows.
-fn write_labels(svg: &mut String, chart: &Chart, height: u64) -> Result<(), AllocError> {
-    let width = LIFELINE_B - LIFELINE_A;
-    writeln!(
-        svg,
-        "<svg x=\"{LIFELINE_A}\" width=\"{width}\" height=\"{height}\" viewBox=\"{LIFELINE_A} 0 {width} {height}\" stroke=\"white\" stroke-width=\"3\" paint-order=\"stroke\">"
-    )?;
-    for arrow in chart.arrows.iter() {
-        write_arrow_label(svg, arrow)?;
-    }
-    svg.push_str("</svg>\n")
-}
-
-/// Where an arrow's label begins: above the arrow's beginning, or beside an arrow that is cut. That far from a vat's lifeline,
-/// and at that height.
-fn place_of_label(arrow: &Arrow) -> Option<(Vat, u64, u64)> {
-    match (arrow.sent, arrow.got) {
-        (Some(sent), Some(_)) => Some((arrow.from, ASIDE, y_of(sent).saturating_sub(4))),
-        (Some(sent), None) => Some((arrow.from, BEHIND_STUB, y_of(sent).saturating_add(4))),
-        (None, Some(got)) => {
-            Some((arrow.from.other(), BEHIND_STUB, y_of(got).saturating_add(4)))
-        }
-        (None, None) => None,
-    }
-}
-
-fn write_arrow_label(svg: &mut String, arrow: &Arrow) -> Result<(), AllocError> {
-    let Some((vat, far, y)) = place_of_label(arrow) else {
-        return Ok(());
-    };
-    let anchor = match vat {
-        Vat::A => "start",
-        Vat::B => "end",
-    };
-    let fill = if arrow.marked { MARKED } else { MESSAGE };
-    let at = (inside(vat, far), y);
-    write_text(svg, at, anchor, fill, arrow.label.as_str())
 }
 
 /// A text that begins or ends there.
@@ -422,7 +426,7 @@ fn write_ends(svg: &mut String, arrow: &Arrow) -> Result<(), AllocError> {
     svg.push_str("/>\n")
 }
 
-/// What is said at the lifelines, each vat's in a column of its own, which nothing leaves.
+/// What is said, each vat's in a column of its own, which nothing leaves.
 fn write_notes(svg: &mut String, chart: &Chart, height: u64) -> Result<(), AllocError> {
     for note in chart.notes.iter() {
         write_mark(svg, note)?;
@@ -461,7 +465,7 @@ fn write_mark(svg: &mut String, note: &Note) -> Result<(), AllocError> {
         Mark::Event => write_dot(svg, (x, y), ink, ink),
         Mark::Waiting => write_dot(svg, (x, y), "white", ink),
         Mark::Down => write_cross(svg, x, y),
-        Mark::Beside => Ok(()),
+        Mark::Message | Mark::Beside => Ok(()),
     }
 }
 
@@ -485,6 +489,7 @@ fn write_cross(svg: &mut String, x: u64, y: u64) -> Result<(), AllocError> {
 fn write_note(svg: &mut String, note: &Note, x: u64, anchor: &str) -> Result<(), AllocError> {
     let fill = match note.mark {
         Mark::Event => EVENT,
+        Mark::Message => MESSAGE,
         Mark::Waiting => EVENT,
         Mark::Beside => FAINT,
         Mark::Down => DOWN,

@@ -1,16 +1,14 @@
 use crate::options::Options;
-use rpc_msg::{CallId, Memory, Message, PlainMessage, QuestionId, TaskId, Vat};
+use rpc_msg::{CallId, Memory, TaskId, Vat};
 use std::alloc::Global;
 use vat_journal::JournalEntry;
 
-/// The calls through the reference that stands out, under the names that they have in the trace.
+/// The calls through the reference that stands out, under the names that applications have for them.
 #[derive(Drop)]
 pub(crate) struct Followed {
-    /// As the application has them that made them.
+    /// Of the application that made them.
     calls: Vec<(Vat, CallId)>,
-    /// As the vat has them that asked last with that id.
-    questions: Vec<(Vat, QuestionId)>,
-    /// As the application has them that they reached.
+    /// Of the application that they reached.
     tasks: Vec<(Vat, TaskId)>,
 }
 
@@ -19,7 +17,6 @@ impl Followed {
     pub(crate) fn new(alloc: Global) -> Self {
         Followed {
             calls: Vec::new(alloc),
-            questions: Vec::new(alloc),
             tasks: Vec::new(alloc),
         }
     }
@@ -33,23 +30,7 @@ impl Followed {
             JournalEntry::Delivered(vat, delivery) if options.marks_call(&delivery.stamp) => {
                 self.tasks.push((*vat, delivery.task))?;
             }
-            JournalEntry::Sent(vat, Message::Plain(PlainMessage::Call(call))) => {
-                self.ask(*vat, call.question, options.marks_call(&call.stamp))?;
-            }
-            JournalEntry::Sent(vat, Message::Plain(PlainMessage::Bootstrap(question))) => {
-                self.ask(*vat, *question, false)?;
-            }
             _ => {}
-        }
-        Ok(())
-    }
-
-    /// A question's id that comes again is another question's.
-    fn ask(&mut self, vat: Vat, question: QuestionId, followed: bool) -> Result<(), Memory> {
-        let asked = (vat, question);
-        self.questions.retain(|other| *other != asked);
-        if followed {
-            self.questions.push(asked)?;
         }
         Ok(())
     }
@@ -77,10 +58,5 @@ impl Followed {
             JournalEntry::Answered(vat, task, ..) => self.tasks.contains(&(*vat, *task)),
             _ => false,
         }
-    }
-
-    /// Whether the question with that id which the vat asked last is one of the calls.
-    pub(crate) fn has_question(&self, vat: Vat, question: QuestionId) -> bool {
-        self.questions.contains(&(vat, question))
     }
 }

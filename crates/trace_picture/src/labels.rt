@@ -1,90 +1,9 @@
-use crate::refusals::refusal_name;
-use rpc_msg::{
-    Call, Descriptor, Disembargo, DisembargoContext, EmbargoId, Exception, ExceptionKind, ExportId,
-    Items, Message, Op, Path, PlainMessage, RefId, Resolve, ResolvedTo, Return, ReturnBody, Stamp,
-    Target, Vat,
-};
+use crate::bars::Embargo;
+use crate::reasons::{fault_name, refusal_name};
+use rpc_msg::{Exception, ExceptionKind, ExportId, Items, Op, Path, RefId, Stamp, Vat};
 use std::alloc::{AllocError, Global};
 use std::fmt::Write;
 use vat_journal::{Advanced, Counts, Delivery, JournalEntry, MadeCall, Origin, Outcome};
-
-/// What is said of a message, on its arrow.
-pub(crate) fn message_label(alloc: Global, message: &Message) -> Result<String, AllocError> {
-    let mut text = String::new(alloc);
-    write_message(&mut text, message)?;
-    Ok(text)
-}
-
-fn write_message(text: &mut String, message: &Message) -> Result<(), AllocError> {
-    match message {
-        Message::Plain(plain) => write_plain(text, plain),
-        Message::Unimplemented(plain) => {
-            text.push_str("Unimplemented: ")?;
-            write_plain(text, plain)
-        }
-    }
-}
-
-fn write_plain(text: &mut String, message: &PlainMessage) -> Result<(), AllocError> {
-    match message {
-        PlainMessage::Abort(exception) => {
-            text.push_str("Abort, ")?;
-            write_exception(text, exception)
-        }
-        PlainMessage::Bootstrap(question) => write!(text, "Bootstrap, question {}", question.0),
-        PlainMessage::Call(call) => write_call(text, call),
-        PlainMessage::Return(answer) => write_return(text, answer),
-        PlainMessage::Finish(finish) => {
-            write!(text, "Finish, question {}", finish.question.0)?;
-            write_flag(text, finish.release_result_caps)
-        }
-        PlainMessage::Resolve(resolve) => write_resolve(text, resolve),
-        PlainMessage::Release(release) => {
-            write!(
-                text,
-                "Release, export {} by {}",
-                release.export.0, release.count
-            )
-        }
-        PlainMessage::Disembargo(disembargo) => write_disembargo(text, disembargo),
-        PlainMessage::Other(number) => write!(text, "message {number}"),
-    }
-}
-
-fn write_call(text: &mut String, call: &Call) -> Result<(), AllocError> {
-    write!(text, "Call, question {}, to ", call.question.0)?;
-    write_target(text, &call.target)?;
-    text.push_str(" (")?;
-    write_stamp(text, &call.stamp)?;
-    text.push(')')?;
-    write_descriptors(text, &call.descriptors)
-}
-
-fn write_return(text: &mut String, answer: &Return) -> Result<(), AllocError> {
-    write!(text, "Return, answer {}: ", answer.answer.0)?;
-    write_body(text, &answer.body)?;
-    write_flag(text, answer.release_param_caps)
-}
-
-fn write_body(text: &mut String, body: &ReturnBody) -> Result<(), AllocError> {
-    match body {
-        ReturnBody::Results(_, descriptors) => {
-            text.push_str("results")?;
-            write_descriptors(text, descriptors)
-        }
-        ReturnBody::Exception(exception) => write_exception(text, exception),
-        ReturnBody::Canceled => text.push_str("canceled"),
-    }
-}
-
-/// The capabilities of a payload, as the wire has them; nothing where there are none.
-fn write_descriptors(text: &mut String, descriptors: &Items<Descriptor>) -> Result<(), AllocError> {
-    for (place, descriptor) in descriptors.as_slice().iter().enumerate() {
-        text.push_str(if place == 0 { " with " } else { ", " })?;
-        write_descriptor(text, descriptor)?;
-    }
-    Ok(())
-}
 
 /// The capabilities of a payload, as an application has them; nothing where there are none.
 fn write_references(
@@ -103,7 +22,7 @@ fn write_references(
     Ok(())
 }
 
-fn write_exception(text: &mut String, exception: &Exception) -> Result<(), AllocError> {
+pub(crate) fn write_exception(text: &mut String, exception: &Exception) -> Result<(), AllocError> {
     let kind = match exception.kind {
         ExceptionKind::Failed => "failed",
         ExceptionKind::Overloaded => "overloaded",
@@ -113,63 +32,17 @@ fn write_exception(text: &mut String, exception: &Exception) -> Result<(), Alloc
     write!(text, "exception ({kind}): {}", exception.reason.as_str())
 }
 
-fn write_resolve(text: &mut String, resolve: &Resolve) -> Result<(), AllocError> {
-    write!(text, "Resolve, promise {}: ", resolve.promise.0)?;
-    match &resolve.to {
-        ResolvedTo::Cap(descriptor) => write_descriptor(text, descriptor),
-        ResolvedTo::Exception(exception) => write_exception(text, exception),
-    }
-}
-
-fn write_disembargo(text: &mut String, disembargo: &Disembargo) -> Result<(), AllocError> {
-    match disembargo.context {
-        DisembargoContext::SenderLoopback(id) => write!(text, "Disembargo {}, to ", id.0)?,
-        DisembargoContext::ReceiverLoopback(id) => write!(text, "Disembargo {} back, to ", id.0)?,
-    }
-    write_target(text, &disembargo.target)
-}
-
-fn write_flag(text: &mut String, releases: bool) -> Result<(), AllocError> {
-    if releases {
-        return text.push_str(", releases");
-    }
-    Ok(())
-}
-
-fn write_target(text: &mut String, target: &Target) -> Result<(), AllocError> {
-    match target {
-        Target::ImportedCap(export) => write!(text, "export {}", export.0),
-        Target::PromisedAnswer(question, path) => {
-            write!(text, "answer {}", question.0)?;
-            write_path(text, path)
-        }
-    }
-}
-
-fn write_descriptor(text: &mut String, descriptor: &Descriptor) -> Result<(), AllocError> {
-    match descriptor {
-        Descriptor::None => text.push_str("none"),
-        Descriptor::SenderHosted(export) => write!(text, "senderHosted {}", export.0),
-        Descriptor::SenderPromise(export) => write!(text, "senderPromise {}", export.0),
-        Descriptor::ReceiverHosted(export) => write!(text, "receiverHosted {}", export.0),
-        Descriptor::ReceiverAnswer(question, path) => {
-            write!(text, "receiverAnswer {}", question.0)?;
-            write_path(text, path)
-        }
-    }
-}
-
-fn write_path(text: &mut String, path: &Path) -> Result<(), AllocError> {
+pub(crate) fn write_path(text: &mut String, path: &Path) -> Result<(), AllocError> {
     for op in path.as_slice() {
         match op {
-            Op::Noop => {}
+            Op::Noop => text.push_str(".noop")?,
             Op::Field(field) => write!(text, ".{field}")?,
         }
     }
     Ok(())
 }
 
-fn write_stamp(text: &mut String, stamp: &Stamp) -> Result<(), AllocError> {
+pub(crate) fn write_stamp(text: &mut String, stamp: &Stamp) -> Result<(), AllocError> {
     write!(
         text,
         "{}/{} #{}",
@@ -202,11 +75,11 @@ fn write_entry(text: &mut String, entry: &JournalEntry) -> Result<(), AllocError
         JournalEntry::Made(vat, made) => write_made(text, *vat, made),
         JournalEntry::Delivered(_, delivery) => write_delivered(text, delivery),
         JournalEntry::Answered(_, task, outcome, references) => {
-            write!(text, "answers task {}: ", task.0)?;
+            write!(text, "answers task {}", task.0)?;
             write_results(text, outcome, "reference", references)
         }
         JournalEntry::Ended(_, ended) => {
-            write!(text, "call {} ends: ", ended.call.0)?;
+            write!(text, "call {} ends", ended.call.0)?;
             write_results(text, &ended.outcome, "new reference", &ended.refs)
         }
         _ => write_command(text, entry),
@@ -219,8 +92,12 @@ fn write_results(
     which: &str,
     references: &Items<RefId>,
 ) -> Result<(), AllocError> {
-    write_outcome(text, outcome)?;
-    write_references(text, which, references)
+    write_references(text, which, references)?;
+    text.push_str(": ")?;
+    match outcome {
+        Outcome::Results(_) => text.push_str("results"),
+        Outcome::Exception(exception) => write_exception(text, exception),
+    }
 }
 
 fn write_command(text: &mut String, entry: &JournalEntry) -> Result<(), AllocError> {
@@ -240,7 +117,7 @@ fn write_command(text: &mut String, entry: &JournalEntry) -> Result<(), AllocErr
         JournalEntry::Finished(_, call) => write!(text, "finishes call {}", call.0),
         JournalEntry::Advanced(_, reference, advanced) => write_advanced(text, reference, advanced),
         JournalEntry::Refused(_, code) => write_refused(text, *code),
-        JournalEntry::Down(_, fault) => write!(text, "goes down: {fault}"),
+        JournalEntry::Down(_, number) => write_down(text, *number),
         _ => Ok(()),
     }
 }
@@ -249,6 +126,13 @@ fn write_refused(text: &mut String, code: u16) -> Result<(), AllocError> {
     match refusal_name(code) {
         Some(name) => write!(text, "a command is refused: {name} ({code})"),
         None => write!(text, "a command is refused: {code}"),
+    }
+}
+
+fn write_down(text: &mut String, number: u16) -> Result<(), AllocError> {
+    match fault_name(number) {
+        Some(name) => write!(text, "goes down: {name} ({number})"),
+        None => write!(text, "goes down: {number}"),
     }
 }
 
@@ -275,30 +159,24 @@ fn write_made(text: &mut String, vat: Vat, made: &MadeCall) -> Result<(), AllocE
             index: made.index,
         },
     )?;
+    write!(text, " as call {}", made.call.0)?;
+    write_references(text, "reference", &made.refs)?;
     write!(
         text,
-        ", interface {}, method {}, call {}",
-        made.interface, made.method, made.call.0
-    )?;
-    write_references(text, "reference", &made.refs)
+        "; interface {}, method {}",
+        made.interface, made.method
+    )
 }
 
 fn write_delivered(text: &mut String, delivery: &Delivery) -> Result<(), AllocError> {
     text.push_str("delivers ")?;
     write_stamp(text, &delivery.stamp)?;
+    write_references(text, "new reference", &delivery.refs)?;
     write!(
         text,
         " to object {}, task {}",
         delivery.object.0, delivery.task.0
-    )?;
-    write_references(text, "new reference", &delivery.refs)
-}
-
-fn write_outcome(text: &mut String, outcome: &Outcome) -> Result<(), AllocError> {
-    match outcome {
-        Outcome::Results(_) => text.push_str("results"),
-        Outcome::Exception(exception) => write_exception(text, exception),
-    }
+    )
 }
 
 fn write_advanced(
@@ -316,37 +194,24 @@ fn write_advanced(
 }
 
 /// What is said where an embargo begins.
-pub(crate) fn embargo_label(
-    alloc: Global,
-    id: EmbargoId,
-    reference: Option<RefId>,
-) -> Result<String, AllocError> {
-    let mut text = String::new(alloc);
-    write_embargo(&mut text, id, reference)?;
+pub(crate) fn begun_label(alloc: Global, embargo: &Embargo) -> Result<String, AllocError> {
+    let mut text = String::from_str(alloc, "begins ")?;
+    write_embargo(&mut text, embargo)?;
     Ok(text)
 }
 
 /// What is said where an embargo ends.
-pub(crate) fn lifted_label(
-    alloc: Global,
-    id: EmbargoId,
-    reference: Option<RefId>,
-    waiting: u64,
-) -> Result<String, AllocError> {
-    let mut text = String::new(alloc);
-    write_embargo(&mut text, id, reference)?;
-    write!(text, " is lifted; calls that waited: {waiting}")?;
+pub(crate) fn lifted_label(alloc: Global, embargo: &Embargo) -> Result<String, AllocError> {
+    let mut text = String::from_str(alloc, "lifts ")?;
+    write_embargo(&mut text, embargo)?;
+    write!(text, " ({} waited)", embargo.waiting)?;
     Ok(text)
 }
 
 /// An embargo by its id and its reference, where that is known.
-pub(crate) fn write_embargo(
-    text: &mut String,
-    id: EmbargoId,
-    reference: Option<RefId>,
-) -> Result<(), AllocError> {
-    write!(text, "embargo {}", id.0)?;
-    if let Some(reference) = reference {
+pub(crate) fn write_embargo(text: &mut String, embargo: &Embargo) -> Result<(), AllocError> {
+    write!(text, "embargo {}", embargo.id.0)?;
+    if let Some(reference) = embargo.reference {
         write!(text, " of reference {}", reference.0)?;
     }
     Ok(())
@@ -355,15 +220,11 @@ pub(crate) fn write_embargo(
 /// What is said of a vat's counts.
 pub(crate) fn counts_label(alloc: Global, counts: &Counts) -> Result<String, AllocError> {
     let mut text = String::new(alloc);
-    write_tables(&mut text, counts)?;
-    Ok(text)
-}
-
-fn write_tables(text: &mut String, counts: &Counts) -> Result<(), AllocError> {
     text.push_str("exports: ")?;
-    write_counts(text, &counts.exports)?;
+    write_counts(&mut text, &counts.exports)?;
     text.push_str("; imports: ")?;
-    write_counts(text, &counts.imports)
+    write_counts(&mut text, &counts.imports)?;
+    Ok(text)
 }
 
 fn write_counts(text: &mut String, counts: &Items<(ExportId, u32)>) -> Result<(), AllocError> {

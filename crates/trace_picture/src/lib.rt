@@ -1,18 +1,31 @@
 //! Draws a trace as a sequence diagram, in SVG (`docs/trace.md`, "A picture of a trace"): what the program `trace_chart`
 //! does with a file, a reader and a writer.
+//!
+//! - `chart.rt`: the follower that gathers what is drawn of a trace: rows with their notes, arrows. `bars.rt` keeps the
+//!   embargoes and the calls that wait, `followed.rt` the names of the calls through the reference that stands out,
+//!   `questions.rt` what each question is of, and `entries.rt` says what of an entry the others want to know.
+//! - `labels.rt` says an entry in words and `messages.rt` a message (`reasons.rt` refusals and faults), `text.rt` writes a
+//!   text as SVG has it, cut where it is too wide, `draw.rt` draws, and `foot.rt` the labels that were cut.
+//! - `options.rt`: the program's options; `fault.rt`: why it fails; `program.rt`: the program without its handles:
+//!   `trace_chart` gives it arguments, files and streams.
 #![tactic(auto)]
 
+mod bars;
 mod chart;
 mod draw;
+mod entries;
 mod fault;
 mod followed;
+mod foot;
 mod labels;
+mod messages;
 mod options;
 mod program;
-mod refusals;
+mod questions;
+mod reasons;
 mod text;
 
 pub use fault::Failure;
 pub use options::Options;
-pub use program::{draw_trace, status};
+pub use program::{draw_trace, status, write_help};
 pub use text::write_label;

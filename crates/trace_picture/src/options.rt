@@ -1,7 +1,9 @@
-ghost use Rattle.std.specs.Prelude.{◌≡◌, nat_lt, map, string_bytes};
-ghost use Rattle.trace_picture.specs.Choices.{with_choice, with_choices, choices, vat_of, number_of, reference_of, unchosen, last_drawn, is_drawn, is_marked};
+ghost use Rattle.std.specs.Prelude.{◌≡◌, nat_eq, nat_lt, map, string_bytes};
+ghost use Rattle.std.specs.List.{list_any};
+ghost use Rattle.trace_picture.specs.Choices.{with_choice, with_choices, choices, vat_of, number_of, reference_of, unchosen, last_drawn, is_drawn, is_marked, is_named_by, entry_names, is_call_of};
 
-use rpc_msg::{RefId, Stamp, Vat};
+use rpc_msg::{Items, Message, PlainMessage, RefId, Stamp, Vat};
+use vat_journal::{JournalEntry, Origin};
 
 /// How many entries a picture has where nothing else is asked for.
 const LEGIBLE: u64 = 60;
@@ -111,12 +113,61 @@ impl Options {
         }
     }
 
+    /// Whether an entry names the reference whose calls stand out.
+    pub(crate) fn are_named_by(&self, entry: &JournalEntry) -> bool
+        ensures { result ≡ is_named_by self.now entry.now }
+    {
+        match self.reference {
+            Some((vat, reference)) => names(entry, vat, reference),
+            None => false,
+        }
+    }
+
     /// Whether the call with that stamp stands out.
     pub(crate) fn marks_call(&self, stamp: &Stamp) -> bool
         ensures { result ≡ is_marked self.now stamp.now.vat stamp.now.reference }
     {
         self.marks(stamp.vat, stamp.reference)
     }
+}
+
+/// Whether an entry names a reference of that vat: by itself, among others, or by the stamp of a call.
+fn names(entry: &JournalEntry, vat: Vat, reference: RefId) -> bool
+    ensures { result ≡ entry_names vat reference entry.now }
+{
+    match entry {
+        JournalEntry::Born(at, own, origin) => {
+            *at == vat && (*own == reference || *origin == Origin::Clone(reference))
+        }
+        JournalEntry::Made(at, made) => {
+            *at == vat && (made.reference == reference || has(&made.refs, reference))
+        }
+        JournalEntry::Delivered(at, delivery) => {
+            is_through(&delivery.stamp, vat, reference)
+                || *at == vat && has(&delivery.refs, reference)
+        }
+        JournalEntry::Answered(at, _, _, references) => *at == vat && has(references, reference),
+        JournalEntry::Ended(at, ended) => *at == vat && has(&ended.refs, reference),
+        JournalEntry::Resolved(at, _, own) => *at == vat && *own == reference,
+        JournalEntry::Dropped(at, own) => *at == vat && *own == reference,
+        JournalEntry::Advanced(at, own, _) => *at == vat && *own == reference,
+        JournalEntry::Sent(_, Message::Plain(PlainMessage::Call(call))) => {
+            is_through(&call.stamp, vat, reference)
+        }
+        _ => false,
+    }
+}
+
+fn has(references: &Items<RefId>, reference: RefId) -> bool
+    ensures { result ≡ list_any (λ r. nat_eq r.0 reference.0) references.now }
+{
+    references.as_slice().contains(&reference)
+}
+
+fn is_through(stamp: &Stamp, vat: Vat, reference: RefId) -> bool
+    ensures { result ≡ is_call_of vat reference stamp.now }
+{
+    stamp.vat == vat && stamp.reference == reference
 }
 
 /// A decimal number. A sign is none of its digits.

@@ -1,7 +1,7 @@
 ghost use Rattle.std.specs.Prelude.{◌≡◌, ◌⊎◌, ℕ, List, IfOk, IfErr, OnOk, string_bytes};
 ghost use Rattle.std.specs.Io.KnownBytes.{Appends};
 ghost use Rattle.trace_picture.specs.Drawn.{IsInput, IsSomeTrace};
-ghost use Rattle.trace_picture.specs.Failures.{Fails, ReadFails, TextFails, said_of, status_of};
+ghost use Rattle.trace_picture.specs.Failures.{Fails, ReadFails, TextFails, said_of, status_of, help_text};
 
 use crate::chart::Chart;
 use crate::draw::picture;
@@ -21,6 +21,10 @@ const FAILED: u8 = 2;
 /// How the program is called.
 const USAGE: &str = "usage: trace_chart FILE [--ref V/N] [--from N] [--to N]";
 
+/// What the program is for, and what its options do.
+const HELP: &str =
+    "usage: trace_chart FILE [--ref V/N] [--from N] [--to N]\n\nDraws a trace as a sequence diagram, in SVG on standard output. Without a word the trace is\nread from standard input.\n\n  --ref V/N   what is of reference N of vat V (a or b) stands out\n  --from N    the first entry that is drawn, counted as the trace's lines are\n  --to N      the last one; without it 60 entries are drawn\n\nThe status is 0, or 2 where nothing is drawn.\n";
+
 /// Draws the trace that a file has, whose bytes the reader gives, to `out`.
 ///
 /// `Unreadable` where the reader fails, `NotText` where the bytes are not UTF-8, `Line` with the first line that is none of
@@ -39,6 +43,14 @@ pub fn draw_trace<R: Read, W: Write>(
     let trace = read_text(alloc, reader)?;
     let svg = svg_of(alloc, trace.as_str(), options)?;
     write_text(out, svg.as_str())
+}
+
+/// Writes what the program is for. `Unwritten` where `out` fails, which may have taken a part of it.
+pub fn write_help<W: Write>(out: &mut W) -> Result<(), Failure>
+    ensures written { OnOk result (Appends (W.contents out.old) (W.contents out.new) help_text) }
+    ensures fails { IfErr result (λ why. why ≡ Failure.Unwritten) }
+{
+    write_text(out, HELP)
 }
 
 /// The status with which the program ends. A failure is said on `err`, where that can be written.

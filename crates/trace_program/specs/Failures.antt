@@ -61,7 +61,7 @@ Fails (Some w) bytes why = ReadFails bytes why ⊎ (((input : List ℕ) × IsInp
 
 -- What is said of a failure where the file has that name. Of an output that can't be written nothing is said.
 abbrev pub said_of : List ℕ → Failure → List ℕ
-said_of name failure.Usage = codes "usage: vat_trace run|check|show|upgrade FILE" ++ 10 ∷ []
+said_of name failure.Usage = codes "usage: vat_trace run|pair|check|show|upgrade FILE" ++ 10 ∷ []
 said_of name failure.Memory = codes "out of memory" ++ 10 ∷ []
 said_of name failure.Unreadable = codes "cannot read " ++ (name ++ 10 ∷ [])
 said_of name failure.NotText = codes "cannot read " ++ (name ++ 10 ∷ [])

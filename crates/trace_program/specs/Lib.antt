@@ -3,3 +3,4 @@ pub mod Traces
 pub mod Words
 pub mod Answers
 pub mod Failures
+pub mod Falling

@@ -78,7 +78,7 @@ Does w names l (act.Happens e) new bound = (a : StepAnswer) × Steps w e a new �
 -- A line does what it says, or names something that is not there; the first such thing is the fault.
 abbrev pub PlaysLine : Seen → Names → Line → Result Unit GiveFault → Seen → Names → Type 0
 PlaysLine w names l (Ok u) new bound = (a : Act) × (act_for names l ≡ Ok a) × Does w names l a new bound
-PlaysLine w names l (Err (gives.Name f)) new bound = act_for names l ≡ Err f
+PlaysLine w names l (Err (gives.Name f)) new bound = (act_for names l ≡ Err f) × (new ≡ w) × (bound ≡ names)
 PlaysLine w names l (Err gives.Memory) new bound = Unit {0}
 
 -- Lines in order.
@@ -86,15 +86,19 @@ abbrev pub Plays : Seen → Names → List Line → Seen → Names → Type 0
 Plays w names [] new bound = (new ≡ w) × (bound ≡ names)
 Plays w names (x ∷ xs) new bound = (mid : Seen) × (now : Names) × PlaysLine w names x (Ok tt) mid now × Plays mid now xs new bound
 
--- The line with that number, counted from 1, names something that is not there when its turn comes.
-abbrev pub IsUnnamedAt : Seen → Names → List Line → ℕ → NameFault → Type 0
-IsUnnamedAt w names lines number f =
-    (i : ℕ) × (x : Line) × (mid : Seen) × (now : Names)
+-- The line with that number, counted from 1, names something that is not there when its turn comes, where those before it
+-- led to that.
+abbrev pub StopsAt : Seen → Names → List Line → ℕ → NameFault → Seen → Names → Type 0
+StopsAt w names lines number f mid now =
+    (i : ℕ) × (x : Line)
     × (number ≡ i + 1) × (take (i + 1) lines ≡ take i lines ++ x ∷ []) × Plays w names (take i lines) mid now × (act_for now x ≡ Err f)
+
+abbrev pub IsUnnamedAt : Seen → Names → List Line → ℕ → NameFault → Type 0
+IsUnnamedAt w names lines number f = (mid : Seen) × (now : Names) × StopsAt w names lines number f mid now
 
 abbrev pub PlaysAll : Seen → Names → List Line → Result Unit ScriptFault → Seen → Names → Type 0
 PlaysAll w names lines (Ok u) new bound = Plays w names lines new bound
-PlaysAll w names lines (Err (fault.Unnamed number f)) new bound = IsUnnamedAt w names lines number f
+PlaysAll w names lines (Err (fault.Unnamed number f)) new bound = StopsAt w names lines number f new bound
 PlaysAll w names lines (Err (fault.Line number f)) new bound = ⊥
 PlaysAll w names lines (Err fault.NotText) new bound = ⊥
 PlaysAll w names lines (Err fault.Memory) new bound = Unit {0}

@@ -7,6 +7,7 @@ use Rattle.vat_journal.specs.declared.entry.JournalEntry.TheVariants as entry
 use Rattle.trace_write.specs.declared.version.TraceVersion.TheVariants.{Two}
 use Rattle.trace_check.specs.declared.verdict.Verdict.{Verdict}
 use Rattle.trace_check.specs.Breaches.{verdict_of}
+use Rattle.laws_verdicts.specs.Good.{IsGood}
 use Rattle.trace_file.specs.Traces.{trace_text}
 use Rattle.vat_script.specs.declared.line.Line.{Line}
 use Rattle.vat_script.specs.declared.line.Program.TheVariants.{Run}
@@ -30,11 +31,12 @@ abbrev pub entries_of : Seen → List JournalEntry
 entries_of w = entry.Head ∷ w.journal
 
 -- The trace that the lines of a script print, and its verdict. What is printed is the journal of what the lines did, with
--- the counts at its end; a run of two new vats has that journal, and all is so that is promised of it.
+-- the counts at its end; a run of two new vats has that journal, and all is so that is promised of it; and its verdict is
+-- good.
 abbrev pub PrintsLines : List Line → List ℕ → Verdict → Type 0
 PrintsLines lines text verdict =
     (w : Seen) × (names : Names) × Plays first_seen no_names lines w names × IsReached (noted w) × KeepsPromises (noted w)
-    × (text ≡ trace_text Two (entries_of (noted w))) × (verdict ≡ verdict_of (entries_of (noted w)))
+    × (text ≡ trace_text Two (entries_of (noted w))) × (verdict ≡ verdict_of (entries_of (noted w))) × IsGood (entries_of (noted w))
 
 -- Which fault they have.
 abbrev pub FaultsLines : List Line → ScriptFault → Type 0

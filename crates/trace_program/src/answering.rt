@@ -18,9 +18,9 @@ const BROKEN: u8 = 3;
 
 /// What is printed, and the status with which the program ends.
 #[derive(Drop)]
-pub(crate) struct Printed {
-    pub(crate) text: String,
-    pub(crate) status: u8,
+pub struct Printed {
+    pub text: String,
+    pub status: u8,
 }
 
 /// What the program answers to a word and an input, or the fault of the input.
@@ -40,7 +40,18 @@ fn run(alloc: Global, script: &str) -> Result<Printed, Failure>
     ensures answers { IfOk result (λ a. RunsTo script.now (string_bytes a.text) a.status) }
     ensures fails { IfErr result (λ why. ScriptFails script.now why) }
 {
-    let CheckedTrace { mut text, verdict } = trace_of_script(alloc, script.as_bytes())?;
+    let trace = trace_of_script(alloc, script.as_bytes())?;
+    let printed = print_checked(trace)?;
+    Ok(printed)
+}
+
+/// What is printed of a trace: its text, behind which stands the line that says a broken verdict, and the status by the
+/// verdict. `Memory` where a growth was refused.
+pub fn print_checked(trace: CheckedTrace) -> Result<Printed, Memory>
+    ensures text { IfOk result (λ printed. string_bytes printed.text ≡ string_bytes trace.text ++ complaint trace.verdict) }
+    ensures status { IfOk result (λ printed. printed.status ≡ status_of trace.verdict) }
+{
+    let CheckedTrace { mut text, verdict } = trace;
     write_broken(&mut text, verdict)?;
     let status = status(verdict);
     Ok(Printed { text, status })

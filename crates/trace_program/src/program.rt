@@ -16,10 +16,10 @@ use std::io::{ErrorKind, Read, Write};
 const FAILED: u8 = 2;
 
 /// How the program is called.
-const USAGE: &str = "usage: vat_trace run|check|show|upgrade FILE";
+const USAGE: &str = "usage: vat_trace run|pair|check|show|upgrade FILE";
 
 /// What the program does with a word and a file, whose bytes the reader gives. It writes to `out` what the word asks for,
-/// and answers the status: 0, or 3 where it said that an entry breaks a law.
+/// and answers the status: 0, or 3 where `check` said that an entry breaks a law.
 ///
 /// `Usage` for another word, `Unreadable` where the reader fails, `NotText` where the bytes are not UTF-8, then `Script`
 /// or `Trace` with the fault of the script or the trace, and `Memory` where a growth was refused: nothing is written to
@@ -73,8 +73,9 @@ fn tell<E: Write>(failure: Failure, name: &str, err: &mut E) -> io::Result<()>
     }
 }
 
-/// The whole text of a file.
-fn read_text<R: Read>(alloc: Global, reader: &mut R) -> Result<String, Failure>
+/// The whole text of a file. `Unreadable` where the reader fails, `NotText` where the bytes are not UTF-8, `Memory` where a
+/// growth was refused.
+pub fn read_text<R: Read>(alloc: Global, reader: &mut R) -> Result<String, Failure>
     ensures text { IfOk result (λ text. IsInput (R.remaining reader.old) (string_bytes text)) }
     ensures fails { IfErr result (λ why. ReadFails (R.remaining reader.old) why) }
 {
@@ -92,7 +93,8 @@ fn read_text<R: Read>(alloc: Global, reader: &mut R) -> Result<String, Failure>
     }
 }
 
-fn write_text<W: Write>(out: &mut W, text: &str) -> Result<(), Failure>
+/// Writes a text. `Unwritten` where that fails, which may have taken a part of it.
+pub fn write_text<W: Write>(out: &mut W, text: &str) -> Result<(), Failure>
     ensures written { OnOk result (Appends (W.contents out.old) (W.contents out.new) text.now) }
     ensures fails { IfErr result (λ why. why ≡ Failure.Unwritten) }
 {

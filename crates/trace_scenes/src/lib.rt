@@ -7,6 +7,8 @@
 //! - `first LINE`: the version that the first line of a trace says, or the fault.
 //! - `entry NAME LINE` gives the entry of a line of version 2 a name, and `trace NAME .. : WHAT` asks for the verdict of the
 //!   entries with these names.
+//!
+//! `lines.rt` answers a line, `scene.rt` keeps entries by name and gives verdicts.
 #![tactic(auto)]
 
 mod lines;

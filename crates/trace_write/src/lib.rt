@@ -11,4 +11,7 @@ mod write_messages;
 mod write_parts;
 
 pub use line::line_of;
+pub use part::{Part, add_part, put_part, write_under};
 pub use version::TraceVersion;
+pub use write_members::{add_member, write_number, write_numbers, write_only};
+pub use write_messages::write_plain;

@@ -8,7 +8,7 @@ use serde_json::{Map, Value, put};
 use std::alloc::{AllocError, Global};
 
 /// What stands in a list, or as a member of an object.
-pub(crate) trait Part {
+pub trait Part {
     ghost shown: { Self → Data };
 
     ghost fits: { Self → Type 0 };
@@ -19,7 +19,7 @@ pub(crate) trait Part {
 }
 
 /// Puts a part beside an object's members.
-pub(crate) fn put_part<T: Part>(
+pub fn put_part<T: Part>(
     members: &mut Map<String, Value>,
     alloc: Global,
     key: &str,
@@ -33,7 +33,7 @@ pub(crate) fn put_part<T: Part>(
 }
 
 /// An object of these members and a part.
-pub(crate) fn add_part<T: Part>(
+pub fn add_part<T: Part>(
     members: Map<String, Value>,
     alloc: Global,
     key: &str,
@@ -47,7 +47,7 @@ pub(crate) fn add_part<T: Part>(
 }
 
 /// An object of one member, a part.
-pub(crate) fn write_under<T: Part>(alloc: Global, key: &str, part: &T) -> Result<Value, AllocError>
+pub fn write_under<T: Part>(alloc: Global, key: &str, part: &T) -> Result<Value, AllocError>
     ensures is { IfOk result (λ v. view v ≡ only key.now (T.shown part.now)) }
     ensures fits { OnOk result (T.fits part.now) }
 {

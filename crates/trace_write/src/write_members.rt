@@ -11,7 +11,7 @@ use serde_json::{Map, ToValue, Value, put};
 use std::alloc::{AllocError, Global};
 
 /// The members of an object that are numbers. Others can be put beside them, in any order.
-pub(crate) fn write_numbers(
+pub fn write_numbers(
     alloc: Global,
     numbers: &[(&str, u64)],
 ) -> Result<Map<String, Value>, AllocError>
@@ -76,7 +76,7 @@ pub(crate) fn write_flat_event(
 }
 
 /// An object of these members and one more.
-pub(crate) fn add_member(
+pub fn add_member(
     mut members: Map<String, Value>,
     alloc: Global,
     key: &str,
@@ -89,14 +89,14 @@ pub(crate) fn add_member(
 }
 
 /// An object of one member.
-pub(crate) fn write_only(alloc: Global, key: &str, value: Value) -> Result<Value, AllocError>
+pub fn write_only(alloc: Global, key: &str, value: Value) -> Result<Value, AllocError>
     ensures { IfOk result (λ v. view v ≡ only key.now (view value)) }
 {
     add_member(Map::new(alloc), alloc, key, value)
 }
 
 /// An object of one member, a number.
-pub(crate) fn write_number(alloc: Global, key: &str, number: u32) -> Result<Value, AllocError>
+pub fn write_number(alloc: Global, key: &str, number: u32) -> Result<Value, AllocError>
     ensures is { IfOk result (λ v. view v ≡ only key.now (nat number)) }
     ensures fits { OnOk result (FitsU32 number) }
 {

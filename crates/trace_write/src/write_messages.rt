@@ -172,7 +172,8 @@ impl Part for Disembargo {
     }
 }
 
-fn write_plain(
+/// A message that is no Unimplemented, as lines of that version have it.
+pub fn write_plain(
     alloc: Global,
     message: &PlainMessage,
     version: TraceVersion,

@@ -1,8 +1,9 @@
 -- What is promised of every run of two vats (docs/protocol.md, "What is promised"): the calls delivered through a
 -- reference are a beginning of the calls made through it, in order, each once, all to the object it stands for, and all
 -- of them once none is held or in flight; a vat delivers nothing after it went down; each export count equals what the
--- other vat holds or is in flight. What is delivered is what was made, what ends a call is what answered it, and no vat
--- takes the other down.
+-- other vat holds or is in flight. What is delivered is what was made, what ends a call is what answered it, and why each
+-- vat went down is known: its application shut it, it wanted room or memory, a call would have had to wait where no more
+-- may, or the other was down before.
 use Rattle.std.specs.Prelude.{◌≡◌, ◌≢◌, ◌↔◌, ℕ, ◌+◌, ◌<◌, Bool, true, false, ◌&&◌, nat_eq, Option, None, Some, IsSome, cond, List, [], ◌∷◌, ◌++◌, All, length, codes}
 use Rattle.std.specs.List.{list_any}
 use Rattle.std.specs.FinMap as map
@@ -186,7 +187,7 @@ IfFalls xs h e = Unit {0}
 abbrev pub ShutsAreTold : List Happening → List JournalEntry → Type 0
 ShutsAreTold xs h = (v : Vat) → was_shut v xs ≡ true → went_down_in v h ≡ true
 
--- Neither vat takes the other down, but by going down itself.
+-- So it is of each that went down, and each that a shut took down has its entry.
 pub record FallsAreKnown (xs : List Happening) (h : History) : Type 0 where
   pub falls : Upto (IfFalls xs) h
   pub shuts : ShutsAreTold xs h.journal

@@ -1,7 +1,9 @@
 ghost use Rattle.std.specs.Prelude.{◌≡◌};
 ghost use Rattle.vat_machine.specs.Numbers.{refusal_number};
 
-use rpc_msg::{CallId, Exception, Items, Message, ObjectId, Op, Payload, PromiseId, RefId, TaskId};
+use rpc_msg::{
+    CallId, Exception, Items, Memory, Message, ObjectId, Op, Payload, PromiseId, RefId, TaskId,
+};
 use thiserror::Error;
 use vat_journal::{Advanced, Delivery, Ended};
 
@@ -126,6 +128,17 @@ impl Refusal {
             Refusal::LongPath => 10,
             Refusal::Level => 11,
         }
+    }
+}
+
+impl From<Memory> for Refusal {
+    ghost use Rattle.std.specs.Prelude.{◌≡◌};
+    ghost use Rattle.vat_machine.specs.declared.command.Refusal.TheVariants as refusal;
+
+    ghost from_gives = { λ _ r. r ≡ refusal.Memory };
+
+    fn from(_want: Memory) -> Refusal {
+        Refusal::Memory
     }
 }
 

@@ -1,5 +1,9 @@
 //! The machine of a vat: what its core holds, in types; what each of its steps does, what two vats do, and what is
 //! promised of them, in the definitions of specs/. Of code it has the numbers of refusals and faults alone.
+//!
+//! - `node.rt`: nodes. `calls.rt`: calls that wait, outcomes, promises. `entries.rt`: what the tables keep.
+//! - `command.rt`: commands, answers, refusals, effects, levels. `event.rt`: events of two vats. `fault.rt`: faults.
+//! - `laws.rt`: what is proved, on functions that run no code.
 #![tactic(auto)]
 
 mod calls;

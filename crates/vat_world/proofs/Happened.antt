@@ -20,7 +20,7 @@ use Rattle.vat_machine.specs.World.{World, side, core, inbox, put_inbox, after, 
 use Rattle.vat_machine.specs.Journal.{effect_entries}
 use Rattle.vat_machine.proofs.StaysDown.{command_down}
 use Rattle.laws_runs.proofs.QuietRuns.{commanded_tells}
-use Rattle.vat_core.specs.declared.obey.Answer.{Answer}
+use Rattle.vat_telling.specs.Answer.{Answer}
 use Rattle.vat_world.specs.declared.answer.StepAnswer.{StepAnswer as Given}
 use Rattle.vat_world.specs.declared.answer.StepAnswer.TheVariants as given
 use Rattle.vat_world.specs.Stages.{Stage, stepped, taken, takes_down, ObeysUp, ObeysDown, ObeysBy, HandlesUp, DeliversBy}

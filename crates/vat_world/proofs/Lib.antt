@@ -1,5 +1,4 @@
 mod Telling
-mod Noting
 mod Stepping
 mod Reaching
 mod Happened

@@ -21,47 +21,18 @@ use Rattle.vat_machine.specs.Journal.{own_entries, effect_entries}
 use Rattle.vat_machine.proofs.StaysDown.{command_down}
 use Rattle.laws_steps.proofs.UsedOnce.{command_leaves_up, message_leaves_up}
 use Rattle.laws_runs.specs.MadeCalls.{NumbersItsCalls}
-use Rattle.vat_core.specs.declared.obey.Answer.{Answer}
-use Rattle.vat_core.specs.declared.obey.Answer.TheVariants.{Done, Refused}
-use Rattle.vat_core.specs.Answers.{AnswersTo, answer_in, effects_in}
-use Rattle.vat_world.specs.declared.notes.Note.{Note}
-use Rattle.vat_world.specs.Notes.{index_of}
+use Rattle.vat_telling.specs.Answer.{Answer}
+use Rattle.vat_telling.specs.Answer.TheVariants.{Done, Refused}
+use Rattle.vat_telling.specs.Answers.{AnswersTo, answer_in, effects_in}
+use Rattle.vat_telling.specs.declared.notes.Note.{Note}
+use Rattle.vat_telling.specs.Notes.{index_of}
+use Rattle.vat_telling.specs.Told.{without_sends, given_of, noted_entries, IsFall, HadNote}
+use Rattle.vat_telling.proofs.Noting.{IsNoteOf, own_so}
+use Rattle.vat_telling.proofs.Falling.{obeys_fall}
 use Rattle.vat_world.specs.declared.answer.StepAnswer.{StepAnswer}
-use Rattle.vat_world.specs.Stages.{Stage, stepped, without_sends, given_of, noted_entries, takes_down, IsFall, HadNote, Logs, TellsDone, TellsRefused, ObeysUp, ObeysUpSo, ObeysDown, ObeysBy, ObeysSo, HandlesUp}
-use Rattle.vat_world.proofs.Noting.{IsNoteOf, own_so}
+use Rattle.vat_world.specs.Stages.{Stage, stepped, takes_down, Logs, TellsDone, TellsRefused, ObeysUp, ObeysUpSo, ObeysDown, ObeysBy, ObeysSo, HandlesUp}
 
 -- ---- A step that takes a vat down says no more than an Abort
-
-stays_up : (o : Option ℕ) (x : Effects) → o ≡ None → IfSome o (IsFall x)
-stays_up o x e = subst (λ (p : Option ℕ). IfSome p (IsFall x)) (sym e) tt
-
-unchanged : (s : State) (x : Effects) (t : State) → s.down ≡ None → IsUnchanged s x t → IfSome t.down (IsFall x)
-unchanged s x t up h = stays_up t.down x (ap (λ (u : State). u.down) h.new_is ∙ up)
-
-falls : (s : State) (n : ℕ) (x : Effects) (t : State) → Falls s n x t → IfSome t.down (IsFall x)
-falls s n x t h = subst (λ (u : State). IfSome u.down (IsFall x)) (sym h.new_is) (inl h.effects_are)
-
-shuts : (s : State) (n : ℕ) (o : Option ℕ) (x : Effects) (t : State) → s.down ≡ None → ShutsFrom s n o x t → IfSome t.down (IsFall x)
-shuts s n None x t up h = falls s n x t h
-shuts s n (Some m) x t up h = unchanged s x t up h
-
-pub obeys_fall : (s : State) (c : Command) (a : Result Granted Refusal) (x : Effects) (t : State) → s.down ≡ None → Obeys s c a x t → IfSome t.down (IsFall x)
-obeys_fall s c a x t up (Refuses r f g u) = unchanged s x t up u
-obeys_fall s c a x t up (LacksMemory f g k u) = unchanged s x t up u
-obeys_fall s c a x t up (GoesDown f g k u) = falls s _ x t u
-obeys_fall s c a x t up (Shuts n f g h) = shuts s n s.down x t up h
-obeys_fall s c a x t up (IsDone g f k h w) = stays_up t.down x (command_leaves_up s c g x t h ∙ up)
-
-fault_falls : (m : Message) (n : ℕ) → IsFall (falling_by m n) n
-fault_falls (message.Plain (plain.Abort e)) n = inr refl
-fault_falls m n = inl refl
-
-pub receives_fall : (s : State) (m : Message) (x : Effects) (t : State) → s.down ≡ None → Receives s m x t → IfSome t.down (IsFall x)
-receives_fall s m x t up (WasDown d u) = unchanged s x t up u
-receives_fall s m x t up (FaultsBy n d f g h) =
-    subst (λ (u : State). IfSome u.down (IsFall x)) (sym h) (subst (λ (y : Effects). IsFall y n) (sym g) (fault_falls m n))
-receives_fall s m x t up (LacksRoom d f u) = falls s _ x t u
-receives_fall s m x t up (IsHandled d f h w) = stays_up t.down x (message_leaves_up s m x t f h ∙ up)
 
 pub done_falls : (s : State) (c : Command) (a : Answer) (g : Granted) (x : Effects) (t : State) → s.down ≡ None → a ≡ Done g x → AnswersTo s c a t → IfSome t.down (IsFall x)
 done_falls s c a g x t up e h = obeys_fall s c (Ok g) x t up (subst (λ (b : Answer). Obeys s c (answer_in b) (effects_in b) t) e h.obeys)

@@ -16,9 +16,10 @@ use Rattle.vat_machine.specs.State.{State}
 use Rattle.vat_machine.specs.Down.{ShutsFrom, Falls}
 use Rattle.vat_machine.specs.World.{overflow_effects, overflown, given_up}
 use Rattle.vat_machine.specs.Journal.{effect_entries, refused_entries, went_down}
-use Rattle.vat_world.specs.declared.notes.Note.{Note}
-use Rattle.vat_world.specs.Notes.{note_entries}
-use Rattle.vat_world.specs.Stages.{Stage, stepped, without_sends, Extends, Logs, Overflows, HadNote, TellsDone, TellsRefused}
+use Rattle.vat_telling.specs.declared.notes.Note.{Note}
+use Rattle.vat_telling.specs.Notes.{note_entries}
+use Rattle.vat_telling.specs.Told.{without_sends, Extends, HadNote}
+use Rattle.vat_world.specs.Stages.{Stage, stepped, Logs, Overflows, TellsDone, TellsRefused}
 
 -- ---- What is behind
 
@@ -28,12 +29,6 @@ taken_back before more n e = ap (λ (k : ℕ). take k (before ++ more)) e ∙ fr
     front : (xs ys : List JournalEntry) → take (length xs) (xs ++ ys) ≡ xs
     front [] ys = refl
     front (x ∷ xs) ys = ap (λ (l : List JournalEntry). x ∷ l) (front xs ys)
-
-pub behind_nothing : (xs ys : List JournalEntry) → ys ≡ xs → Extends xs ys
-behind_nothing xs ys e = ([], e ∙ sym (append-nil xs))
-
-pub behind_more : (xs more ys zs : List JournalEntry) → ys ≡ xs ++ more → Extends ys zs → Extends xs zs
-behind_more xs more ys zs e h = (more ++ h.0, h.1 ∙ ap (λ (l : List JournalEntry). l ++ h.0) e ∙ append_assoc xs more h.0)
 
 -- ---- No room
 
@@ -120,19 +115,3 @@ told_refused v g journal r effects given room start new e s j l = record {
   given = given;
   logs = subst (λ (x : Effects). Logs v g x (refused_entries v r) room given new) e (l g.journal (refused_entries v r) j s);
 }
-
--- ---- The entries of a step that took the vat down
-
-pub all_written : (v : Vat) (e : Effects) (n : ℕ) (s : List Message) (d : List Delivery) (a : List Ended) (h j k l m : List JournalEntry)
-    → e.down ≡ Some n → s ≡ e.sends → d ≡ e.deliveries → a ≡ e.answers
-    → j ≡ h ++ map (entry.Sent v) s → k ≡ j ++ map (entry.Delivered v) d → l ≡ k ++ map (entry.Ended v) a → m ≡ l ++ entry.Down v n ∷ [] → m ≡ h ++ effect_entries v e
-all_written v e n s d a h j k l m down es ed ea ej ek el em =
-    subst (λ (o : Option ℕ). m ≡ h ++ (map (entry.Sent v) e.sends ++ map (entry.Delivered v) e.deliveries ++ map (entry.Ended v) e.answers ++ went_down v o)) (sym down)
-    (em ∙ ap (λ (x : List JournalEntry). x ++ entry.Down v n ∷ []) (el ∙ ap (λ (x : List JournalEntry). x ++ map (entry.Ended v) a) (ek ∙ ap (λ (x : List JournalEntry). x ++ map (entry.Delivered v) d) ej))
-    ∙ ap (λ (x : List Message). (((h ++ map (entry.Sent v) x) ++ map (entry.Delivered v) d) ++ map (entry.Ended v) a) ++ entry.Down v n ∷ []) es
-    ∙ ap (λ (x : List Delivery). (((h ++ map (entry.Sent v) e.sends) ++ map (entry.Delivered v) x) ++ map (entry.Ended v) a) ++ entry.Down v n ∷ []) ed
-    ∙ ap (λ (x : List Ended). (((h ++ map (entry.Sent v) e.sends) ++ map (entry.Delivered v) e.deliveries) ++ map (entry.Ended v) x) ++ entry.Down v n ∷ []) ea
-    ∙ together h (map (entry.Sent v) e.sends) (map (entry.Delivered v) e.deliveries) (map (entry.Ended v) e.answers) (entry.Down v n ∷ []))
-  where
-    together : (h a b c d : List JournalEntry) → (((h ++ a) ++ b) ++ c) ++ d ≡ h ++ (a ++ b ++ c ++ d)
-    together h a b c d = simp append_assoc

@@ -1,5 +1,4 @@
 pub mod Stages
 pub mod Rooms
-pub mod Notes
 pub mod World
-pub use Rattle.vat_core.specs.declared.obey.Answer
+pub use Rattle.vat_telling.specs.Answer

@@ -16,13 +16,13 @@ use Rattle.vat_machine.specs.Steps.{Obeys}
 use Rattle.vat_machine.specs.World.{Side, Tells, CommandTold, MessageTold, given_up}
 use Rattle.vat_machine.specs.Progress.{quiet}
 use Rattle.vat_machine.specs.Journal.{effect_entries, own_entries, refused_entries}
-use Rattle.vat_core.specs.Answers.{AnswersTo}
-use Rattle.vat_core.specs.declared.obey.Answer.{Answer}
-use Rattle.vat_core.specs.declared.obey.Answer.TheVariants.{Done, Refused}
-use Rattle.vat_world.specs.declared.notes.Note.{Note}
+use Rattle.vat_telling.specs.Answers.{AnswersTo}
+use Rattle.vat_telling.specs.Answer.{Answer}
+use Rattle.vat_telling.specs.Answer.TheVariants.{Done, Refused}
+use Rattle.vat_telling.specs.declared.notes.Note.{Note}
 use Rattle.vat_world.specs.declared.answer.StepAnswer.{StepAnswer}
 use Rattle.vat_world.specs.declared.answer.StepAnswer.TheVariants as step
-use Rattle.vat_world.specs.Notes.{note_entries}
+use Rattle.vat_telling.specs.Told.{without_sends, given_of, noted_entries, HadNote}
 
 -- What one vat's step may change.
 pub record Stage : Type 0 where
@@ -38,15 +38,6 @@ stepped v g s told own = record {
   peer = record (g.peer) { inbox = g.peer.inbox ++ told.sends };
   journal = g.journal ++ (own ++ effect_entries v told);
 }
-
--- What is answered of the effects: all but the messages, which are on their way.
-abbrev pub without_sends : Effects → Effects
-without_sends e = record e { sends = [] }
-
--- What is answered of a command. One that is refused is handed back.
-abbrev pub given_of : Command → Result Granted Refusal → Effects → Answer
-given_of c (Ok g) told = Done g (without_sends told)
-given_of c (Err r) told = Refused r c
 
 -- A command at a vat that is up.
 pub record ObeysUp (v : Vat) (g : Stage) (c : Command) (given : Answer) (new : Stage) : Type 0 where
@@ -101,9 +92,6 @@ DeliversBy (m ∷ ms) None v g given new = (effects : Effects) × (given ≡ ste
 
 -- ---- How a step is told
 
-abbrev pub IsFall : Effects → ℕ → Type 0
-IsFall e n = (e ≡ falling n) ⊎ (e ≡ silent n)
-
 -- A core's step with these effects is told: with its own entries where there was room for it, and without them where there
 -- was none.
 pub record Logs (v : Vat) (g : Stage) (effects : Effects) (own : List JournalEntry) (room : Bool) (given : Effects) (new : Stage) : Type 0 where
@@ -120,21 +108,6 @@ pub record Overflows (v : Vat) (g : Stage) (effects : Effects) (given : Effects)
   pub tells : Tells effects g.acting.core false told s
   pub new_is : new ≡ stepped v g s told []
   pub given_is : given ≡ without_sends told
-
--- What is behind the entries that stood there.
-abbrev pub Extends : List JournalEntry → List JournalEntry → Type 0
-Extends xs ys = (more : List JournalEntry) × (ys ≡ xs ++ more)
-
--- The entries that a note gives, where there is one.
-abbrev pub noted_entries : Vat → Result Note Memory → Granted → List JournalEntry
-noted_entries v (Ok note) answer = note_entries v note answer
-noted_entries v (Err m) answer = []
-
--- There was room, so there is a note.
-abbrev pub HadNote : Bool → Result Note Memory → Type 0
-HadNote true (Ok note) = Unit {0}
-HadNote true (Err m) = ⊥
-HadNote false note = Unit {0}
 
 -- A step that was done is told, and this is left of what it granted.
 pub record TellsDone (v : Vat) (g : Stage) (note : Result Note Memory) (granted : Granted) (effects : Effects) (left : Granted) (given : Effects) (new : Stage) : Type 0 where

@@ -17,9 +17,10 @@ use Rattle.vat_journal.specs.History.{Ref, delivered, made}
 use Rattle.vat_journal.specs.Meaning.{History, ObjectAt, StandsFor}
 use Rattle.vat_machine.specs.Claims.{BothUp, IsReached as LedTo}
 use Rattle.laws_sound.specs.Promised.{IsPromised, events_of, history_of}
+use Rattle.laws_verdicts.specs.Recorded.{IsRecorded}
 use Rattle.vat_world.specs.declared.answer.StepAnswer.{StepAnswer as Given}
 use Rattle.vat_world.specs.declared.answer.StepAnswer.TheVariants as given
-use Rattle.vat_world.specs.Stages.{given_of, without_sends}
+use Rattle.vat_telling.specs.Told.{given_of, without_sends}
 
 -- What contracts see of a world: its two vats and what is on its way, the journal, and which vats a shut took down.
 pub record Seen : Type 0 where
@@ -74,10 +75,11 @@ Runs w (e ∷ es) new = (mid : Seen) × (result : Given) × Steps w e result mid
 
 -- ---- What every world is
 
--- A run of two new vats leads to this world; the journal tells that run, and between its events the counts of both vats
--- as often as they were asked for; and a vat is told to be taken down by a shut exactly where one did.
+-- A run of two new vats leads to this world; the journal tells that run, and between its events the counts of both vats, as they
+-- were, as often as they were asked for; and a vat is told to be taken down by a shut exactly where one did.
 pub record IsReached (w : Seen) : Type 0 where
   pub run : LedTo (record { world = w.world; journal = events_of w.journal })
+  pub recorded : IsRecorded run.root_a run.root_b (record { world = w.world; journal = w.journal })
   pub shuts : (v : Vat) → shut w v ≡ was_shut v run.happened
 
 -- By which references stand for something in it: its journal, and the bootstrap objects of its vats.

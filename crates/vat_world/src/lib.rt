@@ -1,18 +1,27 @@
 //! Two vats, the messages on their way between them, and the journal of what happens.
+//!
+//! Its events are those of the machine (`vat_machine::Event`). What contracts see of a world is the machine's world, the
+//! journal, and which vats a shut took down (`specs/World.Seen`); the type's invariant says that a run of two new vats
+//! leads there (`IsReached`).
+//!
+//! - `side.rt`: a vat with its inbox and the memory of the journal's copy of its Abort; `link.rt`: a list that tells contracts
+//!   its room.
+//! - `log.rt`: the core's step goes into the journal (`vat_telling`) and its messages on to the link, whole, or as going down
+//!   in the room that is kept.
+//! - `step.rt`: one vat's step, by a command or a message (`specs/Stages`): a call, the results of a task and the Finish of
+//!   a call go to the core's calls of these names at once, other commands to `Core::command`; `answer.rt`: what an event
+//!   answers; `world.rt`: the same for either vat, runs, what can be asked, and the memory of effects that comes back.
 #![tactic(auto)]
 
 mod answer;
-mod entries;
-mod journal;
 mod link;
 mod log;
-mod notes;
 mod side;
 mod step;
 mod world;
 
 pub use answer::StepAnswer;
-pub use vat_core::Answer;
 pub use vat_journal::JournalEntry;
 pub use vat_machine::Event as WorldEvent;
+pub use vat_telling::Answer;
 pub use world::World;

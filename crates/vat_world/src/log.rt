@@ -1,19 +1,17 @@
 ghost use Rattle.std.specs.Prelude.{List, ◌≡◌, ◌++◌, ◌+◌, ◌≤◌, ◌<◌, [], ◌∷◌, true, false, Some, OnOk, OnErr, IfSome, length};
 ghost use Rattle.vat_machine.specs.Journal.{effect_entries};
 ghost use Rattle.vat_journal.specs.declared.entry.JournalEntry.{JournalEntry};
-ghost use Rattle.vat_world.specs.Stages.{stepped, without_sends, Extends, IsFall, Logs, Overflows};
+ghost use Rattle.vat_world.specs.Stages.{stepped, Logs, Overflows};
+ghost use Rattle.vat_telling.specs.Told.{without_sends, Extends, IsFall};
 ghost use Rattle.vat_world.specs.Rooms.{stage_of, side_of, IsReady, HasRoom, KeepsRoom};
 
-use crate::entries::{count, put_effects};
-use crate::journal::Journal;
 use crate::link::Link;
 use crate::side::Side;
 use rpc_msg::{Items, Memory, Vat};
 use std::alloc::Global;
 use std::mem;
-use vat_journal::JournalEntry;
 use vat_machine::Effects;
-use vat_outbox::Outbox;
+use vat_telling::{Journal, count, put_effects, write_fall};
 
 /// The fault of a vat that found no room.
 const WANT_OF_ROOM: u16 = 33;
@@ -106,31 +104,6 @@ fn log_fall(
 {
     write_fall(vat, &mut acting.spare, journal, number, effects);
     send(alloc, &mut peer.inbox, effects);
-}
-
-// Puts the entries of going down at the end of the journal: the Abort's, if there is one, by its copy that is kept.
-fn write_fall(vat: Vat, spare: &mut Outbox, journal: &mut Journal, number: u16, effects: &Effects)
-    requires can_abort { spare.old.can_abort ≡ true }
-    requires entries { 2 ≤ journal.old.1 }
-    requires fall { IsFall effects.now number }
-    ensures entries { journal.new.0 ≡ journal.old.0 ++ effect_entries vat effects.now }
-    ensures room { journal.old.1 ≤ journal.new.1 + 2 }
-{
-    if effects.sends.is_empty() {
-        journal.push(JournalEntry::Down(vat, number));
-        return;
-    }
-    let Effects {
-        sends,
-        deliveries: _,
-        answers: _,
-        down: _,
-    } = spare.fall(number);
-    match sends.into_vec().pop() {
-        Some(message) => journal.push(JournalEntry::Sent(vat, message)),
-        None => unreachable!(),
-    }
-    journal.push(JournalEntry::Down(vat, number));
 }
 
 // Puts the messages of a step on the link, where there is room.

@@ -1,9 +1,9 @@
 use crate::link::Link;
 use rpc_msg::{Memory, ObjectId, Vat};
 use std::alloc::Global;
-use vat_core::Core;
 use vat_machine::Level;
 use vat_outbox::Outbox;
+use vat_telling::Core;
 
 /// A vat of the world, the messages on their way to it, whether a shut took it down, and the memory of the copy of its
 /// Abort that goes into the journal.

@@ -3,22 +3,22 @@ ghost use Rattle.vat_machine.specs.declared.command.Command.TheVariants as comma
 ghost use Rattle.laws_runs.specs.MadeCalls.{NumbersItsCalls};
 ghost use Rattle.vat_machine.specs.Refusals.{is_shut};
 ghost use Rattle.vat_world.specs.Rooms.{stage_of, owed, CanAbort, CanFall, HasRoom};
-ghost use Rattle.vat_world.specs.Stages.{ObeysSo, ObeysUp, ObeysUpSo, AnswersSo, DeliversBy, HandlesUp, IsFall, TellsDone, TellsRefused, takes_down};
+ghost use Rattle.vat_world.specs.Stages.{ObeysSo, ObeysUp, ObeysUpSo, AnswersSo, DeliversBy, HandlesUp, TellsDone, TellsRefused, takes_down};
+ghost use Rattle.vat_telling.specs.Told.{IsFall};
 ghost use Rattle.vat_machine.specs.Progress.{quiet};
 ghost use Rattle.vat_machine.specs.World.{given_up};
 
 use crate::answer::StepAnswer;
-use crate::journal::Journal;
 use crate::log::{log_overflow, log_step};
-use crate::notes::{
-    Note, calls_before, index_of_call, note_answer, note_call, note_of, write_note, write_refused,
-};
 use crate::side::Side;
 use rpc_msg::{CallId, Items, Memory, Message, Payload, RefId, TaskId, Vat};
 use std::alloc::Global;
-use vat_core::{Answer, Core, Refused};
 use vat_journal::{Advanced, JournalEntry};
 use vat_machine::{CallCommand, Command, Effects, Granted, Refusal};
+use vat_telling::{
+    Answer, Core, Journal, Note, Refused, calls_before, index_of_call, note_answer, note_call,
+    note_of, write_note, write_refused,
+};
 
 /// A command at a vat. Answers what its core answers, with the effects of going down where the link or the journal could
 /// not grow. The commands of a call that takes its usual course go to the core's call of their name at once.

@@ -2,23 +2,25 @@ ghost use Rattle.std.specs.Prelude.{◌≡◌, ◌↔◌, true, ◌++◌, [], �
 ghost use Rattle.vat_journal.specs.declared.entry.JournalEntry.{JournalEntry};
 ghost use Rattle.vat_machine.specs.World.{tables_entry};
 ghost use Rattle.vat_machine.specs.Pending.{is_idle, pending};
-ghost use Rattle.vat_machine.specs.Claims.{AreNumbered, CountsAgree, EndsAreSo, IsInFull, IsInOrder, IsInTime, IsQuietWhenDown, IsToOne, MeansOne};
+ghost use Rattle.vat_machine.specs.Claims.{AreNumbered, CountsAgree, EndsAreSo, IsInFull, IsInOrder, IsInTime, IsQuietWhenDown, IsSound, IsToOne, MeansOne};
 ghost use Rattle.vat_machine.specs.declared.event.Event.TheVariants as event;
-ghost use Rattle.laws_sound.specs.Promised.{AreEachAtOne, AreInFull, DownsAreKnown, DownsAreTold, RefusesNothing, history_of};
-ghost use Rattle.vat_world.specs.World.{AllCame, IsReached, KeepsBootstraps, KeepsPromises, Steps, Runs, new_seen, shut};
+ghost use Rattle.laws_sound.specs.Promised.{AreEachAtOne, AreInFull, DownsAreKnown, DownsAreTold, MeansForGood, RefusesNothing, history_of};
+ghost use Rattle.laws_verdicts.specs.Good.{IsGood};
+ghost use Rattle.vat_journal.specs.declared.entry.JournalEntry.TheVariants as entry;
+ghost use Rattle.vat_world.specs.World.{AllCame, IsReached, KeepsBootstraps, KeepsPromises, Steps, Runs, new_seen, shut, told};
 
 use crate::answer::StepAnswer;
-use crate::journal::Journal;
 use crate::side::Side;
 use crate::step::{deliver, obey};
 use laws_runs::calls_are_counted;
-use laws_sound::{bootstraps_stay, worlds_keep_promises};
+use laws_sound::{bootstraps_stay, worlds_are_sound, worlds_keep_promises};
+use laws_verdicts::every_verdict_is_good;
 use rpc_msg::{Memory, ObjectId, RefId, Vat};
 use std::alloc::Global;
 use std::marker::Model;
-use vat_core::Answer;
 use vat_journal::JournalEntry;
 use vat_machine::{Command, Effects, Event};
+use vat_telling::{Answer, Journal};
 
 /// Two vats of level 1, the messages on their way between them, and the journal of what happens. It keeps the room that both
 /// vats need to go down, so that want of memory takes a vat down and is written.
@@ -186,18 +188,40 @@ impl World {
         let _ = &self.journal;
     }
 
+    // All that is promised of runs is so of each run that leads to a value of this type.
+    fn is_sound(&self)
+        ensures { (r : IsReached self.now) → IsSound (told self.now) r.run.happened self.now.world }
+    {
+        bootstraps_stay();
+        worlds_are_sound();
+        let _ = &self.journal;
+    }
+
+    // The check of traces finds the journal of every value of this type good.
+    fn passes_the_check(&self)
+        ensures alone { IsGood self.now.journal }
+        ensures headed { IsGood (entry.Head ∷ self.now.journal) }
+    {
+        every_verdict_is_good();
+        let _ = &self.journal;
+    }
+
     /// The entries of all that happened, the oldest first: those of a run of two new vats (`reached`), whatever they were
     /// commanded and whenever messages came.
     ///
     /// By it the calls delivered through a reference are a beginning of those made through it, in order (`in_order`); no two
     /// of these are one (`numbered`), so each is delivered once; all are at one object (`at_one`), the one for which the
-    /// reference stands by the journal (`to_object`), and it stands for nothing else (`means_one`); and while both vats are up,
-    /// where none is held or on its way, all are delivered: once one was (`in_full`), and from the first where the reference
-    /// stands for an object (`none_lost`). Each delivery has the interface, method and payload of the call that was made, and
-    /// one new reference for each that was sent (`as_made`); each call ends once, as it was answered, or with an exception that
-    /// says why where its reference stands for broken, and with new references for those that came (`ends`). A vat delivers
-    /// nothing after it went down (`quiet`). While both are up, the count of each export is what the other vat holds and what
-    /// is on its way (`counts`). No vat takes the other down, but by going down itself (`unrefused`, `downs`, `told`).
+    /// reference stands by the journal (`to_object`), and it stands for nothing else (`means_one`), for good (`lasting`); and
+    /// while both vats are up, where none is held or on its way, all are delivered: once one was (`in_full`), and from the
+    /// first where the reference stands for an object (`none_lost`). Each delivery has the interface, method and payload of
+    /// the call that was made, and one new reference for each that was sent (`as_made`); each call ends once, as it was
+    /// answered, or with an exception that says why where its reference stands for broken, and with new references for those
+    /// that came (`ends`). A vat delivers nothing after it went down (`quiet`). While both are up, the count of each export
+    /// is what the other vat holds and what is on its way (`counts`). No check refuses a message of the other vat, but for
+    /// the limit of waiting calls and the Abort of one that is down (`unrefused`); a vat goes down once, for a shut, for that
+    /// limit, for want of room or memory, or because the other vat went down before (`downs`, `told`), and of each run that
+    /// leads here all is so that is promised of runs: a vat that was shut has the number of that shut (`sound`). And the
+    /// check of traces finds the journal good, with a head in front too (`is_good`, `headed`).
     pub fn journal(&self) -> &[JournalEntry]
         ensures entries { result.now ≡ self.now.journal }
         ensures reached { IsReached self.now }
@@ -206,6 +230,7 @@ impl World {
         ensures at_one { AreEachAtOne result.now }
         ensures to_object { IsToOne (history_of result.now self.now.world) }
         ensures means_one { MeansOne (history_of result.now self.now.world) }
+        ensures lasting { MeansForGood (history_of result.now self.now.world) }
         ensures in_full { AreInFull result.now self.now.world }
         ensures none_lost { IsInFull (history_of result.now self.now.world) self.now.world }
         ensures as_made { IsInTime (history_of result.now self.now.world) }
@@ -215,8 +240,13 @@ impl World {
         ensures unrefused { RefusesNothing self.now.world }
         ensures downs { DownsAreKnown (shut self.now) result.now }
         ensures told { DownsAreTold result.now self.now.world }
+        ensures sound { (r : IsReached self.now) → IsSound (history_of result.now self.now.world) r.run.happened self.now.world }
+        ensures is_good { IsGood result.now }
+        ensures headed { IsGood (entry.Head ∷ result.now) }
     {
         self.promises();
+        self.is_sound();
+        self.passes_the_check();
         self.journal.entries()
     }
 

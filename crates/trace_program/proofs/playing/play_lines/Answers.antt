@@ -1,11 +1,11 @@
 use Rattle.std.proofs.Common.{◌+◌, sym, subst}
-use Rattle.trace_program.specs.Playing.{IsUnnamedAt}
+use Rattle.trace_program.specs.Playing.{StopsAt}
 use Rattle.trace_program.proofs.Going.{plays_more, unnamed_next}
 use Rattle.trace_program.proofs.playing.play_lines.Goals as goal
 
 pub returns-in-Err-Name : goal.returns-in-Err-Name
 returns-in-Err-Name c =
-    subst (λ fault. IsUnnamedAt c.args.world.now c.args.names.now c.args.lines.now (c.loop-i.i + 1) fault) (sym c.in-Err-Name.fault-is)
+    subst (λ fault. StopsAt c.args.world.now c.args.names.now c.args.lines.now (c.loop-i.i + 1) fault c.play_line.new.world c.play_line.new.names) (sym c.in-Err-Name.fault-is)
     (unnamed_next _ _ _ _ _ _ _ _ _ _ _ _ c.loop-i-test.true c.index-lines-i.is c.loop-i.invariant c.in-Err-Name.is c.in-Err-Name.field-0-is c.play_line.ensures)
 
 pub loop-i-preserved : goal.loop-i-preserved

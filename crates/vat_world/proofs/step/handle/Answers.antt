@@ -1,5 +1,6 @@
 use Rattle.vat_world.specs.Rooms.{stage_of}
-use Rattle.vat_world.proofs.Stepping.{receives_fall, handles_by}
+use Rattle.vat_telling.proofs.Falling.{receives_fall}
+use Rattle.vat_world.proofs.Stepping.{handles_by}
 use Rattle.vat_world.proofs.step.handle.Goals as goal
 
 pub log_step-requires-clause-fell : goal.log_step-requires-clause-fell

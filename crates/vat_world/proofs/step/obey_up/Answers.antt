@@ -9,7 +9,7 @@ tell_done-requires-clause-fell c =
 pub returns-in-Done-clause-obeys : goal.returns-in-Done-clause-obeys
 returns-in-Done-clause-obeys c =
     done_by c.args.vat (stage_of c.args.acting.now c.args.peer.now c.args.journal.now) c.args.command _ _ _ _ _ _ _ _ _
-    c.requires.counts c.in-Done.is c.command-answer.ensures c.index_of_call-index.ensures c.note_of-note.ensures c.tell_done.ensures.tells
+    c.requires.counts c.in-Done.is c.command-answer.ensures c.index_of_call-index.ensures c.note_of-note.ensures.entries c.tell_done.ensures.tells
 
 pub returns-in-Refused-clause-obeys : goal.returns-in-Refused-clause-obeys
 returns-in-Refused-clause-obeys c =

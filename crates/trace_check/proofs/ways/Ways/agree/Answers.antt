@@ -5,12 +5,12 @@ use Rattle.trace_check.proofs.ways.Ways.agree.Goals as goal
 pub returns-then-of_a : goal.returns-then-of_a
 returns-then-of_a c = λ h now.
     both_agree c.in_ok-of_a.of_a c.in_ok-of_b.of_b _ _
-    (agrees_told c.args.self.now h A _ _ _ _ _ now c.as_slice.ensures c.as_slice-2.ensures c.in_ok-of_a.ensures)
-    (agrees_told c.args.self.now h B _ _ _ _ _ now c.as_slice-3.ensures c.as_slice-4.ensures c.in_ok-of_b.ensures)
+    (agrees_told c.args.self.now h A _ _ _ _ _ c.requires now c.as_slice.ensures c.as_slice-2.ensures c.in_ok-of_a.ensures)
+    (agrees_told c.args.self.now h B _ _ _ _ _ c.requires now c.as_slice-3.ensures c.as_slice-4.ensures c.in_ok-of_b.ensures)
     c.if-of_a.true
 
 pub returns-else-of_a : goal.returns-else-of_a
 returns-else-of_a c = λ h now.
     one_differs c.in_ok-of_a.of_a _ _
-    (agrees_told c.args.self.now h A _ _ _ _ _ now c.as_slice.ensures c.as_slice-2.ensures c.in_ok-of_a.ensures)
+    (agrees_told c.args.self.now h A _ _ _ _ _ c.requires now c.as_slice.ensures c.as_slice-2.ensures c.in_ok-of_a.ensures)
     c.if-of_a.false

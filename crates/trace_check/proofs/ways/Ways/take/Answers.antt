@@ -14,5 +14,5 @@ returns-in_default c =
 pub returns-in_ok-send-in-Sent-clause-rest : goal.returns-in_ok-send-in-Sent-clause-rest
 returns-in_ok-send-in-Sent-clause-rest c = λ kept h now. subst (λ x. WaysFor c.send.new.self (h ++ x ∷ [])) (sym c.in-Sent.is) (c.in_ok-send-in-Sent.ensures h now)
 
-pub returns-in-Got-clause-rest : goal.returns-in-Got-clause-rest
-returns-in-Got-clause-rest c = λ kept h now. subst (λ x. WaysFor c.receive.new.self (h ++ x ∷ [])) (sym c.in-Got.is) (c.receive.ensures.rest kept h now)
+pub returns-in_ok-kept-in-Got-clause-rest : goal.returns-in_ok-kept-in-Got-clause-rest
+returns-in_ok-kept-in-Got-clause-rest c = λ kept h now. subst (λ x. WaysFor c.receive.new.self (h ++ x ∷ [])) (sym c.in-Got.is) (c.in_ok-kept-in-Got.ensures.rest kept h now)

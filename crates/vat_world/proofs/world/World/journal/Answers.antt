@@ -1,7 +1,9 @@
-use Rattle.std.proofs.Common.{List, sym, ap, subst, ◌∙◌}
+use Rattle.std.proofs.Common.{List, ◌∷◌, sym, ap, subst, ◌∙◌}
 use Rattle.vat_journal.specs.declared.entry.JournalEntry.{JournalEntry}
-use Rattle.vat_machine.specs.Claims.{AreNumbered, EndsAreSo, IsInFull, IsInOrder, IsInTime, IsToOne, MeansOne}
-use Rattle.laws_sound.specs.Promised.{AreEachAtOne, history_of}
+use Rattle.vat_machine.specs.Claims.{AreNumbered, EndsAreSo, IsInFull, IsInOrder, IsInTime, IsSound, IsToOne, MeansOne}
+use Rattle.laws_sound.specs.Promised.{AreEachAtOne, MeansForGood, history_of}
+use Rattle.laws_verdicts.specs.Good.{IsGood}
+use Rattle.vat_journal.specs.declared.entry.JournalEntry.TheVariants as entry
 use Rattle.vat_world.specs.World.{Seen}
 use Rattle.vat_world.proofs.world.World.journal.Goals as goal
 
@@ -28,3 +30,15 @@ returns-clause-as_made c = subst (λ (h : List JournalEntry). IsInTime (history_
 
 pub returns-clause-ends : goal.returns-clause-ends
 returns-clause-ends c = subst (λ (h : List JournalEntry). EndsAreSo (history_of h c.args.self.now.world)) (sym (c.entries.ensures ∙ ap (λ (w : Seen). w.journal) c.self.view_is)) c.promises.ensures.ends
+
+pub returns-clause-is_good : goal.returns-clause-is_good
+returns-clause-is_good c = subst (λ (h : List JournalEntry). IsGood h) (sym (c.entries.ensures ∙ ap (λ (w : Seen). w.journal) c.self.view_is)) c.passes_the_check.ensures.alone
+
+pub returns-clause-headed : goal.returns-clause-headed
+returns-clause-headed c = subst (λ (h : List JournalEntry). IsGood (entry.Head ∷ h)) (sym (c.entries.ensures ∙ ap (λ (w : Seen). w.journal) c.self.view_is)) c.passes_the_check.ensures.headed
+
+pub returns-clause-lasting : goal.returns-clause-lasting
+returns-clause-lasting c = subst (λ (h : List JournalEntry). MeansForGood (history_of h c.args.self.now.world)) (sym (c.entries.ensures ∙ ap (λ (w : Seen). w.journal) c.self.view_is)) c.promises.ensures.lasting
+
+pub returns-clause-sound : goal.returns-clause-sound
+returns-clause-sound c r = subst (λ (h : List JournalEntry). IsSound (history_of h c.args.self.now.world) r.run.happened c.args.self.now.world) (sym (c.entries.ensures ∙ ap (λ (w : Seen). w.journal) c.self.view_is)) (c.is_sound.ensures r)
