@@ -2,12 +2,11 @@
 
 use crate::application::{Application, Gone, pick};
 use crate::drawing::Draws;
+use crate::vats::Vats;
 use anyhow::{Result, bail};
 use rpc_msg::{Exception, ExceptionKind, Items, ObjectId, Payload, RefId, Text, Vat};
 use std::alloc::Global;
-use vat_core::Answer;
-use vat_machine::{CallCommand, Command, Effects, Event};
-use vat_world::{StepAnswer, World};
+use vat_machine::{CallCommand, Command, Effects};
 
 /// What a drawn number stands for: the first ten are deliveries, and what lets go is drawn more often.
 const DRAWN: usize = 30;
@@ -16,8 +15,8 @@ const DRAWN: usize = 30;
 const ENDINGS: u32 = 1_000_000;
 
 #[derive(Drop)]
-pub struct Run {
-    pub world: World,
+pub struct Run<V: Vats> {
+    pub vats: V,
     a: Application,
     b: Application,
     draws: Draws,
@@ -26,22 +25,25 @@ pub struct Run {
     alloc: Global,
 }
 
-impl Run {
-    pub fn new(alloc: Global) -> Result<Run> {
-        let root = Some(ObjectId(0));
-        Ok(Run {
-            world: World::new(alloc, root, root)?,
+impl<V: Vats> Run<V> {
+    pub fn new(alloc: Global, vats: V) -> Run<V>
+        ensures { V.same vats result.vats }
+    {
+        Run {
+            vats,
             a: Application::new(alloc),
             b: Application::new(alloc),
             draws: Draws::new(),
             obeyed: 0,
             refused: 0,
             alloc,
-        })
+        }
     }
 
     /// One event.
-    pub fn draw(&mut self) -> Result<()> {
+    pub fn draw(&mut self) -> Result<()>
+        ensures { V.same self.old.vats self.new.vats }
+    {
         let vat = match self.draws.below(2) {
             Some(0) => Vat::A,
             _ => Vat::B,
@@ -56,47 +58,38 @@ impl Run {
         }
     }
 
-    fn command(&mut self, vat: Vat, drawn: usize) -> Result<Option<Command>> {
+    fn command(&mut self, vat: Vat, drawn: usize) -> Result<Option<Command>>
+        ensures { V.same self.old.vats self.new.vats }
+    {
         match vat {
             Vat::A => drawn_for(self.alloc, &mut self.draws, &self.a, drawn),
             Vat::B => drawn_for(self.alloc, &mut self.draws, &self.b, drawn),
         }
     }
 
-    fn application(&mut self, vat: Vat) -> &mut Application {
-        match vat {
-            Vat::A => &mut self.a,
-            Vat::B => &mut self.b,
-        }
-    }
-
-    fn obey(&mut self, vat: Vat, command: Command) -> Result<()> {
+    fn obey(&mut self, vat: Vat, command: Command) -> Result<()>
+        ensures { V.same self.old.vats self.new.vats }
+    {
         let gone = Gone::of(&command);
-        match self.world.step(Event::Command(vat, command)) {
-            StepAnswer::Answered(Answer::Done(granted, effects)) => {
-                self.obeyed = self.obeyed.saturating_add(1);
-                let held = self.application(vat);
-                held.forget(gone);
-                let kept = held.keep(granted);
-                self.note(vat, effects)?;
-                kept
-            }
-            StepAnswer::Answered(Answer::Refused(_, _)) => {
-                self.refused = self.refused.saturating_add(1);
-                Ok(())
-            }
-            other => {
-                self.world.give_back(vat, other);
-                bail!("a command was not answered")
-            }
-        }
+        let Some((granted, effects)) = self.vats.command(vat, command)? else {
+            self.refused = self.refused.saturating_add(1);
+            return Ok(());
+        };
+        self.obeyed = self.obeyed.saturating_add(1);
+        let held = of(vat, &mut self.a, &mut self.b);
+        held.forget(gone);
+        let kept = held.keep(granted);
+        self.note(vat, effects)?;
+        kept
     }
 
     /// Keeps what came, and gives the memory of it back. No vat is to go down.
-    fn note(&mut self, vat: Vat, effects: Effects) -> Result<()> {
+    fn note(&mut self, vat: Vat, effects: Effects) -> Result<()>
+        ensures { V.same self.old.vats self.new.vats }
+    {
         let down = effects.down;
-        let noted = self.application(vat).note(&effects);
-        self.world.recycle(vat, effects);
+        let noted = of(vat, &mut self.a, &mut self.b).note(&effects);
+        self.vats.recycle(vat, effects);
         match down {
             Some(number) => bail!("a vat went down: {number}"),
             None => noted,
@@ -104,22 +97,20 @@ impl Run {
     }
 
     /// Whether there was a message.
-    fn deliver(&mut self, vat: Vat) -> Result<bool> {
-        match self.world.step(Event::Deliver(vat)) {
-            StepAnswer::Handled(effects) => {
-                self.note(vat, effects)?;
-                Ok(true)
-            }
-            StepAnswer::Empty => Ok(false),
-            other => {
-                self.world.give_back(vat, other);
-                bail!("a message was not taken")
-            }
-        }
+    fn deliver(&mut self, vat: Vat) -> Result<bool>
+        ensures { V.same self.old.vats self.new.vats }
+    {
+        let Some(effects) = self.vats.deliver(vat)? else {
+            return Ok(false);
+        };
+        self.note(vat, effects)?;
+        Ok(true)
     }
 
     /// All is answered, settled and let go, until nothing is on its way.
-    pub fn let_go(&mut self) -> Result<()> {
+    pub fn let_go(&mut self) -> Result<()>
+        ensures { V.same self.old.vats self.new.vats }
+    {
         for _ in 0..ENDINGS {
             let a = self.let_one_go(Vat::A)?;
             let b = self.let_one_go(Vat::B)?;
@@ -131,9 +122,11 @@ impl Run {
     }
 
     /// Whether there was something.
-    fn let_one_go(&mut self, vat: Vat) -> Result<bool> {
+    fn let_one_go(&mut self, vat: Vat) -> Result<bool>
+        ensures { V.same self.old.vats self.new.vats }
+    {
         let alloc = self.alloc;
-        let held = self.application(vat);
+        let held = of(vat, &mut self.a, &mut self.b);
         let command = if let Some(task) = held.tasks.pop() {
             Command::Answer(task, Payload::null(alloc)?, Items::new(alloc))
         } else if let Some(promise) = held.promises.pop() {
@@ -147,6 +140,14 @@ impl Run {
         };
         self.obey(vat, command)?;
         Ok(true)
+    }
+}
+
+/// What the application of a vat holds.
+fn of<'a>(vat: Vat, a: &'a mut Application, b: &'a mut Application) -> &'a mut Application {
+    match vat {
+        Vat::A => a,
+        Vat::B => b,
     }
 }
 

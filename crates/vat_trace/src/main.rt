@@ -1,13 +1,32 @@
-//! Plays scripts on two vats and prints what happens; checks, shows and upgrades traces.
+//! Plays scripts on two vats, in one thread or two, and prints what happens; checks, shows and upgrades traces.
+//!
+//! What it does with the word `pair` stands here, and what it does in one thread in `trace_program`:
+//!
+//! - `vats.rt`: two new vats at the two ends of a link. `working.rt` works them by the lines of a script; `judging.rt`: which
+//!   fault the lines have then, and `wanting.rt` whether a vat lacked memory.
+//! - `trace.rt`: the trace of two vats that were worked, and that of a script. `program.rt`: the word without the handles.
 #![tactic(auto)]
 
+mod judging;
+mod program;
+#[cfg(test)]
+mod tests;
+mod trace;
+mod vats;
+mod wanting;
+mod working;
+
+use crate::program::play_pair;
 use std::fs::File;
 use std::io::ErrorKind;
 use std::process::ExitCode;
+use std::sync::Wait;
+use std::thread::Threads;
+use std::time::Clock;
 use std::{env, io};
 use trace_program::{Failure, Word, play, status};
 
-/// `vat_trace run|check|show|upgrade FILE`; without arguments the script is read from standard input.
+/// `vat_trace run|pair|check|show|upgrade FILE`; without arguments the script is read from standard input.
 fn main(rt: HostRuntime) -> ExitCode {
     let mut words = match env::args(&rt) {
         Ok(words) => words,
@@ -24,7 +43,10 @@ fn main(rt: HostRuntime) -> ExitCode {
     if words.next().is_some() {
         return misused(&rt);
     }
-    let played = on_file(&rt, word.as_str(), name.as_str());
+    let played = match word.as_str() {
+        "pair" => on_threads(&rt, &rt, name.as_str()),
+        word => on_file(&rt, word, name.as_str()),
+    };
     ended(&rt, played, name.as_str())
 }
 
@@ -46,6 +68,18 @@ fn on_file(rt: &HostRuntime, word: &str, name: &str) -> Result<u8, Failure> {
     }
     match File::open(rt, name) {
         Ok(mut file) => play(rt.alloc(), word, &mut file, &mut rt.stdout()),
+        Err(error) => Err(unread(&error, Failure::Unreadable)),
+    }
+}
+
+/// Plays a file on two threads.
+fn on_threads<R: Threads + Wait + Clock + Sync>(
+    threads: &R,
+    rt: &HostRuntime,
+    name: &str,
+) -> Result<u8, Failure> {
+    match File::open(rt, name) {
+        Ok(mut file) => play_pair(rt.alloc(), threads, threads, &mut file, &mut rt.stdout()),
         Err(error) => Err(unread(&error, Failure::Unreadable)),
     }
 }

@@ -1,0 +1,76 @@
+ghost use Rattle.std.specs.Prelude.{◌≡◌, [], IfOk, IfErr};
+ghost use Rattle.vat_machine.specs.declared.command.Command.TheVariants as command;
+ghost use Rattle.vat_machine.specs.declared.command.Granted.TheVariants as granted;
+ghost use Rattle.vat_machine.specs.Progress.{quiet};
+ghost use Rattle.link_sides.specs.Answer.TheVariants as answer;
+ghost use Rattle.ring_ends.specs.Ends.{IsSameEnd};
+ghost use Rattle.link_driver.specs.Ends.{Takes};
+
+use crate::ends::VatEnd;
+use crate::granted::promise_in;
+use link_sides::{Answer, Refused};
+use rpc_msg::{CallId, Items, ObjectId, Op, PromiseId, RefId};
+use vat_machine::{Command, Refusal};
+
+// What is refused is refused as `vat_core::Core` says, or with `Down`. One that is refused with `Down` may have taken the vat down
+// for want of room.
+impl<V> VatEnd<V> {
+    /// Makes a reference to an object of the application: gives its number. Refused as `Core::host` is, or with `Down`.
+    pub fn host(&mut self, object: ObjectId) -> Result<RefId, Refusal>
+        ensures end { IsSameEnd self.old.end self.new.end }
+        ensures done { IfOk result (λ id. Takes self.old.end (command.Host object) (answer.Done (granted.Reference id) quiet) self.new.end) }
+        ensures refused { IfErr result (λ r. Takes self.old.end (command.Host object) (answer.Refused r (command.Host object)) self.new.end) }
+    {
+        match self.ask_reference(Command::Host(object)) {
+            Ok(made) => Ok(made),
+            Err(refused) => Err(refused.refusal),
+        }
+    }
+
+    /// Makes a second reference with the same head as another: gives its number. Refused as `Core::clone_ref` is, or with `Down`.
+    pub fn clone_ref(&mut self, id: RefId) -> Result<RefId, Refusal>
+        ensures end { IsSameEnd self.old.end self.new.end }
+        ensures done { IfOk result (λ made. Takes self.old.end (command.CloneRef id) (answer.Done (granted.Reference made) quiet) self.new.end) }
+        ensures refused { IfErr result (λ r. Takes self.old.end (command.CloneRef id) (answer.Refused r (command.CloneRef id)) self.new.end) }
+    {
+        match self.ask_reference(Command::CloneRef(id)) {
+            Ok(made) => Ok(made),
+            Err(refused) => Err(refused.refusal),
+        }
+    }
+
+    /// Makes a reference to what stands at a path of the results of a call: gives its number. Refused as `Core::field` is, or
+    /// with `Down`; then the path is handed back.
+    pub fn field(&mut self, id: CallId, path: Items<Op>) -> Result<RefId, Refused<Items<Op>>>
+        ensures handed_back { IfErr result (λ e. e.back ≡ path) }
+        ensures end { IsSameEnd self.old.end self.new.end }
+        ensures done { IfOk result (λ made. Takes self.old.end (command.Field id path) (answer.Done (granted.Reference made) quiet) self.new.end) }
+        ensures refused { IfErr result (λ e. Takes self.old.end (command.Field id path) (answer.Refused e.refusal (command.Field id path)) self.new.end) }
+    {
+        match self.ask_reference(Command::Field(id, path)) {
+            Ok(made) => Ok(made),
+            Err(
+                Refused {
+                    refusal,
+                    back: Command::Field(_, back),
+                },
+            ) => Err(Refused { refusal, back }),
+            Err(_) => unreachable!(),
+        }
+    }
+
+    /// Makes a promise that is open, and a reference to it: gives their numbers. Refused as `Core::promise` is, or with `Down`.
+    pub fn promise(&mut self) -> Result<(PromiseId, RefId), Refusal>
+        ensures end { IsSameEnd self.old.end self.new.end }
+        ensures done { IfOk result (λ made. Takes self.old.end command.Promise (answer.Done (granted.Promise made.0 made.1) quiet) self.new.end) }
+        ensures refused { IfErr result (λ r. Takes self.old.end command.Promise (answer.Refused r command.Promise) self.new.end) }
+    {
+        match self.command(Command::Promise) {
+            Answer::Done(granted, effects) => {
+                self.recycle(effects);
+                Ok(promise_in(granted))
+            }
+            Answer::Refused(refusal, _) => Err(refusal),
+        }
+    }
+}

@@ -1,0 +1,50 @@
+use crate::{Answer, Turn, VatEnd};
+use pair_workers::PairEnd;
+use vat_machine::{Command, Effects, Granted, Refusal};
+
+/// An end of a vat, as its worker uses it.
+#[derive(Drop)]
+pub(crate) struct Worked<V> {
+    pub(crate) end: VatEnd<V>,
+}
+
+impl<V> PairEnd for Worked<V> {
+    ghost use Rattle.ring_ends.specs.Ends.{IsSameEnd};
+    ghost use Rattle.link_sides.specs.Sides.{down_by};
+    ghost use Rattle.std.proofs.Common.{rules};
+
+    ghost same = { λ x y. IsSameEnd x.end.end y.end.end };
+
+    ghost down_by = { λ x. down_by x.end.end.side };
+
+    fn down(&self) -> Option<u16> {
+        self.end.down()
+    }
+
+    fn command(&mut self, command: Command) -> Result<(Granted, Effects), Refusal> {
+        match self.end.command(command) {
+            Answer::Done(granted, effects) => Ok((granted, effects)),
+            Answer::Refused(refusal, _) => Err(refusal),
+        }
+    }
+
+    fn turn(&mut self) -> Result<Option<Effects>, u16> {
+        match self.end.turn() {
+            Turn::Idle => Ok(None),
+            Turn::Handled(effects) => Ok(Some(effects)),
+            Turn::Down(number) => Err(number),
+        }
+    }
+
+    fn flush(&mut self) {
+        let _count = self.end.flush();
+    }
+
+    fn recycle(&mut self, effects: Effects) {
+        self.end.recycle(effects);
+    }
+
+    ghost same_self = { λ x. Prim.search rules };
+
+    ghost same_through = { λ x y z first then. Prim.search rules };
+}

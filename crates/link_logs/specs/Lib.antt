@@ -1,0 +1,4 @@
+pub mod Notes
+pub mod Steps
+pub mod Pieces
+pub mod Orders

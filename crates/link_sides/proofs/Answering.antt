@@ -1,0 +1,74 @@
+-- What is answered to a command, from what was told of its step.
+use Rattle.std.proofs.Common.{◌≡◌, true, false, Result, Ok, Err, List, refl, sym, ap, subst, ◌∙◌}
+use Rattle.std.specs.declared.snapshot.Snapshot.{Snapshot}
+use Rattle.rpc_msg.specs.Op.{Op}
+use Rattle.rpc_msg.specs.declared.ids.CallId.{CallId}
+use Rattle.rpc_msg.specs.declared.ids.ObjectId.{ObjectId}
+use Rattle.rpc_msg.specs.declared.ids.RefId.{RefId}
+use Rattle.vat_machine.specs.declared.command.Command.{Command}
+use Rattle.vat_machine.specs.declared.command.Command.TheVariants as command
+use Rattle.vat_machine.specs.declared.command.Granted.{Granted}
+use Rattle.vat_machine.specs.declared.command.Refusal.{Refusal}
+use Rattle.vat_machine.specs.declared.command.Refusal.TheVariants as refusal
+use Rattle.vat_machine.specs.declared.command.Effects.{Effects}
+use Rattle.vat_machine.specs.Progress.{quiet}
+use Rattle.vat_machine.specs.Refusals.{is_shut}
+use Rattle.vat_telling.specs.Answer.{Answer}
+use Rattle.vat_telling.specs.Answer.TheVariants.{Done, Refused}
+use Rattle.vat_telling.specs.Answers.{HandsBack, effects_in}
+use Rattle.vat_telling.specs.Told.{given_of, without_sends}
+use Rattle.log_weave.specs.Machine as weave
+use Rattle.log_weave.specs.Machine.{Input, Receive}
+use Rattle.link_logs.specs.declared.note.Told.{Told}
+use Rattle.link_logs.specs.declared.note.Told.TheVariants as told
+use Rattle.link_logs.specs.Notes.{input_by}
+use Rattle.link_sides.specs.Sides.{AnswersBy, IsQuiet, IsShut, IsToldBy}
+
+pub done_so : (c : Command) (g : Granted) (x y : Effects) (asked : Snapshot Command) (said : Snapshot (Result Granted Refusal)) (e : Snapshot Effects)
+    → said.value ≡ Ok g → e.value ≡ x → IsQuiet c x → y ≡ without_sends x → AnswersBy c (told.Obeyed asked said e true) (Done g y)
+done_so c g x y asked said e s f says h = (
+  refl,
+  subst (λ (z : Effects). IsQuiet c z) (sym f) says,
+  ap (λ (z : Effects). Done g z) (h ∙ ap without_sends (sym f)) ∙ ap (λ (r : Result Granted Refusal). given_of c r e.value) (sym s),
+)
+
+pub refused_so : (c back : Command) (r : Refusal) (a : Answer) (t : Told) → a ≡ Refused r back → IsQuiet c (effects_in a) → HandsBack c a → IsToldBy c (Err r) quiet t → AnswersBy c t (Refused r back)
+refused_so c back r a (told.Obeyed d b e room) is says handed h =
+    let same : back ≡ c = subst (λ (x : Answer). HandsBack c x) is handed in (
+      h.3,
+      subst (λ (z : Effects). IsQuiet c z) (sym h.2) (subst (λ (x : Answer). IsQuiet c (effects_in x)) is says),
+      ap (λ (k : Command). Refused r k) same ∙ ap (λ (k : Result Granted Refusal). given_of c k e.value) (sym h.1),
+    )
+refused_so c back r a (told.Shut e) is says handed h = absurd h
+refused_so c back r a (told.Received m e room) is says handed h = absurd h
+
+pub refused_when_shut : (c back : Command) (t : Told) → IsShut t → back ≡ c → is_shut c ≡ false → AnswersBy c t (Refused refusal.Down back)
+refused_when_shut c back (told.Obeyed d a e room) h same other = absurd h
+refused_when_shut c back (told.Shut e) h same other = (other, ap (λ (d : Command). Refused refusal.Down d) same)
+refused_when_shut c back (told.Received m e room) h same other = absurd h
+
+pub is_told_shut : (t : Told) → input_by t ≡ weave.Shut → IsShut t
+is_told_shut (told.Obeyed d a e room) h = absurd (let g : weave.Command d.value ≡ weave.Shut = h in cc)
+is_told_shut (told.Shut e) h = tt
+is_told_shut (told.Received m e room) h = absurd (let g : Receive m.value ≡ weave.Shut = h in cc)
+
+-- What the core answered says nothing, of a command that only makes something.
+pub says_at : (c d : Command) (a : Answer) (g : Granted) (x : Effects) → a ≡ Done g x → d ≡ c → IsQuiet c (effects_in a) → IsQuiet d x
+says_at c d a g x e f h = subst (λ (k : Command). IsQuiet k x) (sym f) (subst (λ (b : Answer). IsQuiet c (effects_in b)) e h)
+
+-- Of the other commands nothing is said.
+pub loud : (c : Command) (x : Effects) → ((o : ObjectId) → c ≡ command.Host o → ⊥) → ((r : RefId) → c ≡ command.CloneRef r → ⊥) → ((i : CallId) (path : List Op) → c ≡ command.Field i path → ⊥) → (c ≡ command.Promise → ⊥) → IsQuiet c x
+loud (command.Host o) x h k f p = absurd (h o refl)
+loud (command.CloneRef r) x h k f p = absurd (k r refl)
+loud (command.Field i path) x h k f p = absurd (f i path refl)
+loud command.Promise x h k f p = absurd (p refl)
+loud (command.DropRef r) x h k f p = tt
+loud command.Bootstrap x h k f p = tt
+loud (command.Call c) x h k f p = tt
+loud (command.Resolve q r) x h k f p = tt
+loud (command.Reject q e) x h k f p = tt
+loud (command.Answer t payload refs) x h k f p = tt
+loud (command.Fail t e) x h k f p = tt
+loud (command.Finish c) x h k f p = tt
+loud (command.Advance r) x h k f p = tt
+loud (command.Shut n) x h k f p = tt

@@ -1,0 +1,4 @@
+pub mod Stepping
+pub mod Answering
+pub mod Queueing
+pub mod Crossing

@@ -1,0 +1,20 @@
+//! How one vat of a pair is worked on a thread: the lines of its script, and then turns that answer each open task. The end
+//! that a worker is given may be of any kind; it gives that same end back.
+#![tactic(auto)]
+
+mod both;
+mod gate;
+mod job;
+mod open;
+mod pair_end;
+mod signals;
+mod worker;
+mod worker_end;
+
+pub use both::work_both;
+pub use gate::{Gate, OpenGate};
+pub use job::Job;
+pub use pair_end::PairEnd;
+pub use signals::Signals;
+pub use worker::work;
+pub use worker_end::WorkerEnd;

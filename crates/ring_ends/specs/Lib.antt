@@ -1,0 +1,10 @@
+pub mod Waiting
+pub mod Parties
+pub mod Logs
+pub mod Entries
+pub mod Kept
+pub mod LoggedSides
+pub mod Seats
+pub mod Ends
+pub mod Gather
+pub mod Links

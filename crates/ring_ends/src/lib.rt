@@ -1,0 +1,34 @@
+//! The two ends of a link, each to be worked on a thread of its own, with no lock between them.
+//!
+//! An [`End`] is a side that acts ([`Party`]), a log of its steps, and its ends of two rings: it puts its messages into
+//! frames and pushes them into one ring, and pops the other side's frames from the other. [`link`] makes two, and
+//! [`Gathered::of`] puts them side by side at the end: their logs then have one order, in which all of it could have
+//! happened in one thread (docs/threads.md). A [`Seat`] is a side with its log and no rings.
+//!
+//! What a step is, this crate doesn't know: all of it is proved of any side.
+#![tactic(auto)]
+
+mod end;
+mod entry;
+mod fault;
+mod frame;
+mod gathered;
+mod linking;
+mod logged_side;
+mod merging;
+mod party;
+mod seat;
+mod turn;
+mod waiting;
+
+pub use end::End;
+pub use entry::Entry;
+pub use fault::LinkFault;
+pub use frame::Frame;
+pub use gathered::Gathered;
+pub use linking::{MOST_PLACES, link};
+pub use merging::Reads;
+pub use party::Party;
+pub use seat::Seat;
+pub use turn::Turn;
+pub use waiting::Waiting;

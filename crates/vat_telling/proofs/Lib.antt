@@ -1,0 +1,4 @@
+pub mod Noting
+pub mod Written
+pub mod Falling
+pub use Rattle.vat_core.proofs.Answering

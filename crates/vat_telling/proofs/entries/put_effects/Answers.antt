@@ -1,0 +1,7 @@
+use Rattle.vat_telling.proofs.Written.{all_written}
+use Rattle.vat_telling.proofs.entries.put_effects.Goals as goal
+
+pub returns-in-Some-clause-entries : goal.returns-in-Some-clause-entries
+returns-in-Some-clause-entries c =
+    all_written c.args.vat c.args.effects.now c.in-Some.number _ _ _ c.args.journal.now.0 _ _ _ _ c.in-Some.is c.as_slice.ensures c.as_slice-2.ensures c.as_slice-3.ensures
+    c.in_ok-put_sent.ensures.entries c.in_ok-put_delivered.ensures.entries c.in_ok-put_ended.ensures.entries c.put_down.ensures.entries

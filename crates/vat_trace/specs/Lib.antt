@@ -1,0 +1,4 @@
+pub mod Pairs
+pub mod Judged
+pub mod Printed
+pub mod Answers

@@ -1,0 +1,30 @@
+-- Two vats as `pair` begins with them, and the journal that it prints (docs/script.md, "Two threads").
+use Rattle.std.specs.Prelude.{◌≡◌, List, [], ◌∷◌, ◌++◌}
+use Rattle.rpc_msg.specs.declared.ids.Vat.{Vat}
+use Rattle.rpc_msg.specs.declared.ids.Vat.TheVariants.{A, B}
+use Rattle.vat_journal.specs.declared.entry.JournalEntry.{JournalEntry}
+use Rattle.vat_machine.specs.declared.command.Level.TheVariants.{One}
+use Rattle.vat_machine.specs.State.{State, start}
+use Rattle.vat_machine.specs.World.{tables_entry}
+use Rattle.link_logs.specs.Steps.{Held}
+use Rattle.link_promises.specs.Promises.{Pair, IsTold, world_of}
+use Rattle.link_driver.specs.Ends.{new_held}
+use Rattle.trace_program.specs.Traces.{first_object}
+
+-- A new vat of level 1 with bootstrap object 0, of which nothing was written.
+abbrev pub first_state : Vat → State
+first_state v = start v One first_object
+
+abbrev pub first_held : Vat → Held
+first_held v = new_held (first_state v)
+
+-- Both were handed in so.
+abbrev pub AreFirst : Pair → Type 0
+AreFirst p = (p.start_a ≡ first_held A) × (p.start_b ≡ first_held B)
+
+-- The journal of both (`link_promises/specs/Promises`), with the counts of both vats at its end.
+abbrev pub noted : Pair → List JournalEntry → List JournalEntry
+noted p journal = journal ++ tables_entry (world_of p) ∷ []
+
+abbrev pub IsNoted : Pair → List JournalEntry → Type 0
+IsNoted p entries = (journal : List JournalEntry) × IsTold p journal × (entries ≡ noted p journal)

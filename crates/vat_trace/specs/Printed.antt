@@ -1,0 +1,55 @@
+-- The trace of a script for two threads (docs/script.md, "Two threads"; docs/trace.md).
+use Rattle.std.specs.Prelude.{ℕ, ◌≡◌, Ok, Err, List, ◌∷◌}
+use Rattle.std.specs.Str.{IsUtf8}
+use Rattle.vat_journal.specs.declared.entry.JournalEntry.{JournalEntry}
+use Rattle.vat_journal.specs.declared.entry.JournalEntry.TheVariants as entry
+use Rattle.trace_write.specs.declared.version.TraceVersion.TheVariants.{Two}
+use Rattle.trace_check.specs.declared.verdict.Verdict.{Verdict}
+use Rattle.trace_check.specs.Breaches.{verdict_of}
+use Rattle.trace_file.specs.Traces.{trace_text}
+use Rattle.laws_verdicts.specs.Good.{IsGood}
+use Rattle.vat_script.specs.declared.line.Line.{Line}
+use Rattle.vat_script.specs.declared.line.Program.TheVariants.{Pair as OnThreads}
+use Rattle.vat_script.specs.Scripts.{texts_of, lines_from}
+use Rattle.pair_workers.specs.Ending.{IsFaultAt}
+use Rattle.link_promises.specs.Promises.{Pair, IsTold}
+use Rattle.trace_program.specs.declared.fault.ScriptFault.{ScriptFault}
+use Rattle.trace_program.specs.declared.fault.ScriptFault.TheVariants as fault
+use Rattle.vat_trace.specs.Pairs.{AreFirst, noted}
+
+-- The entries of a trace: the head, the journal of both vats, and their counts.
+abbrev pub entries_of : Pair → List JournalEntry → List JournalEntry
+entries_of p journal = entry.Head ∷ noted p journal
+
+-- The trace of two vats that were put side by side, and its verdict: the journal tells a run of two new vats which leads to where
+-- both are, and all is so that is promised of it; and the verdict is good.
+abbrev pub PrintsBoth : Pair → List ℕ → Verdict → Type 0
+PrintsBoth p text verdict =
+    (journal : List JournalEntry) × IsTold p journal
+    × (text ≡ trace_text Two (entries_of p journal)) × (verdict ≡ verdict_of (entries_of p journal)) × IsGood (entries_of p journal)
+
+-- Two vats that both began with bootstrap object 0 have this trace. Nothing is said of what they did.
+abbrev pub PrintsLines : List ℕ → Verdict → Type 0
+PrintsLines text verdict = (p : Pair) × AreFirst p × PrintsBoth p text verdict
+
+-- Which fault lines have: one of them names what is not bound.
+abbrev pub FaultsLines : List Line → ScriptFault → Type 0
+FaultsLines lines (fault.Unnamed number f) = IsFaultAt lines number f
+FaultsLines lines (fault.Line number f) = ⊥
+FaultsLines lines fault.NotText = ⊥
+FaultsLines lines fault.Memory = Unit {0}
+
+-- The bytes of a script are text, and these are its lines.
+abbrev pub SaysLines : List ℕ → List Line → Type 0
+SaysLines script lines = IsUtf8 script × (lines_from OnThreads 1 (texts_of script) ≡ Ok lines)
+
+-- The trace that a script prints, and its verdict.
+abbrev pub PrintsPair : List ℕ → List ℕ → Verdict → Type 0
+PrintsPair script text verdict = (lines : List Line) × SaysLines script lines × PrintsLines text verdict
+
+-- Which fault it has. The first line that is none is a fault before any line is played.
+abbrev pub FaultsPair : List ℕ → ScriptFault → Type 0
+FaultsPair script (fault.Line number f) = IsUtf8 script × (lines_from OnThreads 1 (texts_of script) ≡ Err (number, f))
+FaultsPair script (fault.Unnamed number f) = (lines : List Line) × SaysLines script lines × FaultsLines lines (fault.Unnamed number f)
+FaultsPair script fault.NotText = ¬ IsUtf8 script
+FaultsPair script fault.Memory = Unit {0}

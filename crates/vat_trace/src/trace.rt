@@ -1,0 +1,119 @@
+ghost use Rattle.std.specs.Prelude.{◌≡◌, IfOk, IfErr, string_bytes};
+ghost use Rattle.link_sides.specs.Sides.{down_by};
+ghost use Rattle.pair_workers.specs.Ending.{IsEnding};
+ghost use Rattle.vat_trace.specs.Pairs.{AreFirst, IsNoted};
+ghost use Rattle.vat_trace.specs.Printed.{PrintsBoth, PrintsLines, FaultsLines, PrintsPair, FaultsPair};
+
+use crate::judging::judge;
+use crate::wanting::lacked_memory;
+use crate::working::work_lines;
+use laws_verdicts::{every_verdict_is_good, journals_tell_runs};
+use link_driver::{Gathered, JournalEntry, PairRun};
+use pair_workers::OpenGate;
+use rpc_msg::Memory;
+use std::alloc::Global;
+use std::sync::Wait;
+use std::thread::Threads;
+use std::time::Clock;
+use trace_program::{CheckedTrace, ScriptFault, checked};
+use vat_script::{Line, Program, read_script};
+
+/// How many places a ring has.
+const CAPACITY: usize = 16;
+
+/// How many turns in a row may find no frame.
+const MAX_TURNS: u32 = 10_000;
+
+/// What a script leads to: its lines are worked by two new vats that both have bootstrap object 0, each on a thread of its own.
+/// The trace has a head, the journal of both ends and the counts at the end; its verdict is good. So it is too where the work
+/// ended by the limit of turns, or with a vat down.
+///
+/// `NotText` where the bytes are not UTF-8; `Line` with the number of the first line that is none, and what is wrong with it; or
+/// else `Unnamed` with a line that names something which is not there when its turn comes, the lower one where there is one of
+/// each vat. `Memory` where a growth was refused, that of a vat too, or where there is no thread.
+pub fn trace_of_pair<R: Threads + Wait + Sync, C: Clock + Sync>(
+    alloc: Global,
+    rt: &R,
+    clock: &C,
+    script: &[u8],
+) -> Result<CheckedTrace, ScriptFault>
+    ensures prints { IfOk result (λ trace. PrintsPair script.now (string_bytes trace.text) trace.verdict) }
+    ensures faults { IfErr result (λ fault. FaultsPair script.now fault) }
+{
+    let lines = match read_script(alloc, Program::Pair, script) {
+        Ok(lines) => lines,
+        Err(vat_script::ScriptFault::Memory) => return Err(ScriptFault::Memory),
+        Err(vat_script::ScriptFault::NotText) => return Err(ScriptFault::NotText),
+        Err(vat_script::ScriptFault::Line(number, fault)) => {
+            return Err(ScriptFault::Line(number, fault));
+        }
+    };
+    match trace_of_lines(alloc, rt, clock, lines.as_slice()) {
+        Ok(trace) => return Ok(trace),
+        Err(fault) => return Err(fault),
+    }
+}
+
+fn trace_of_lines<R: Threads + Wait + Sync, C: Clock + Sync>(
+    alloc: Global,
+    rt: &R,
+    clock: &C,
+    lines: &[Line],
+) -> Result<CheckedTrace, ScriptFault>
+    ensures prints { IfOk result (λ trace. PrintsLines (string_bytes trace.text) trace.verdict) }
+    ensures faults { IfErr result (λ fault. FaultsLines lines.now fault) }
+{
+    let run = match work_lines(alloc, rt, clock, lines, &OpenGate, CAPACITY, MAX_TURNS) {
+        Ok(run) => run,
+        Err(_) => return Err(ScriptFault::Memory),
+    };
+    if lacked_memory(alloc, rt, clock, lines, (CAPACITY, MAX_TURNS), &run) {
+        return Err(ScriptFault::Memory);
+    }
+    trace_of_run(alloc, lines, &run)
+}
+
+// A run is lent here: at each exit there would be much to drop.
+fn trace_of_run(alloc: Global, lines: &[Line], run: &PairRun) -> Result<CheckedTrace, ScriptFault>
+    requires first { AreFirst run.now.gathered.both }
+    requires ending_a { IsEnding lines.now (down_by run.now.gathered.both.side_a) run.now.a }
+    requires ending_b { IsEnding lines.now (down_by run.now.gathered.both.side_b) run.now.b }
+    ensures prints { IfOk result (λ trace. PrintsLines (string_bytes trace.text) trace.verdict) }
+    ensures faults { IfErr result (λ fault. FaultsLines lines.now fault) }
+{
+    let _ = lines;
+    match judge(run.a, run.b) {
+        Ok(()) => {}
+        Err(fault) => return Err(fault),
+    }
+    match trace_of_gathered(alloc, &run.gathered) {
+        Ok(trace) => return Ok(trace),
+        Err(Memory) => return Err(ScriptFault::Memory),
+    }
+}
+
+/// The trace of two ends that were put side by side: a head, the journal of both and the counts of both vats; and its verdict,
+/// which is good. `Memory` where a growth was refused.
+pub fn trace_of_gathered(alloc: Global, gathered: &Gathered) -> Result<CheckedTrace, Memory>
+    ensures { IfOk result (λ trace. PrintsBoth gathered.now.both (string_bytes trace.text) trace.verdict) }
+{
+    journals_tell_runs();
+    every_verdict_is_good();
+    let journal = noted(alloc, gathered)?;
+    match checked(alloc, journal.as_slice()) {
+        Ok(trace) => return Ok(trace),
+        Err(Memory) => return Err(Memory),
+    }
+}
+
+/// The journal of both, with the counts at its end.
+fn noted(alloc: Global, gathered: &Gathered) -> Result<Vec<JournalEntry>, Memory>
+    ensures { IfOk result (λ journal. IsNoted gathered.now.both journal.items) }
+{
+    let tables = gathered.tables()?;
+    let mut journal = gathered.journal(alloc)?;
+    match journal.push(tables) {
+        Ok(()) => return Ok(journal),
+        Err(_) => return Err(Memory),
+    }
+}

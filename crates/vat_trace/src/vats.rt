@@ -1,0 +1,46 @@
+ghost use Rattle.std.specs.Prelude.{◌≡◌, IfOk};
+ghost use Rattle.rpc_msg.specs.declared.ids.Vat.TheVariants.{A, B};
+ghost use Rattle.link_driver.specs.Ends.{AreEnds, IsNewCore};
+ghost use Rattle.vat_trace.specs.Pairs.{first_state, first_held};
+
+use link_driver::{EndA, EndB, LinkFault, Vat, link};
+use rpc_msg::{Memory, ObjectId};
+use std::alloc::Global;
+use vat_core::Core;
+use vat_machine::Level;
+
+/// The object of both vats that the other asks for.
+const FIRST_OBJECT: ObjectId = ObjectId(0);
+
+/// The ends of a link of two new vats that both have bootstrap object 0, over rings of that many places. `BadCapacity` where no
+/// ring may have so many, `Memory` where a growth was refused.
+pub(crate) fn new_ends(alloc: Global, capacity: usize) -> Result<(EndA, EndB), LinkFault>
+    ensures ends { IfOk result (λ ends. AreEnds ends.0.end ends.1.end) }
+    ensures first_a { IfOk result (λ ends. ends.0.end.start ≡ first_held A) }
+    ensures first_b { IfOk result (λ ends. ends.1.end.start ≡ first_held B) }
+{
+    let core_a = match new_core(alloc, Vat::A) {
+        Ok(core) => core,
+        Err(Memory) => return Err(LinkFault::Memory),
+    };
+    let core_b = match new_core(alloc, Vat::B) {
+        Ok(core) => core,
+        Err(Memory) => return Err(LinkFault::Memory),
+    };
+    match link(alloc, core_a, core_b, capacity) {
+        Ok(ends) => return Ok(ends),
+        Err((fault, _, _)) => return Err(fault),
+    }
+}
+
+fn new_core(alloc: Global, vat: Vat) -> Result<Core, Memory>
+    ensures state { IfOk result (λ core. core ≡ first_state vat) }
+    ensures fresh { IfOk result (λ core. IsNewCore vat core) }
+{
+    let core = Core::new(alloc, vat, Level::One, Some(FIRST_OBJECT))?;
+    // this is so; that it is, is known by a look
+    if !core.is_new() {
+        return Err(Memory);
+    }
+    Ok(core)
+}

@@ -1,0 +1,39 @@
+ghost use Rattle.std.specs.Prelude.{◌≡◌, IfOk};
+ghost use Rattle.link_sides.specs.Sides.{down_by};
+ghost use Rattle.pair_workers.specs.Ending.{IsEnding};
+ghost use Rattle.vat_trace.specs.Pairs.{AreFirst};
+
+use crate::vats::new_ends;
+use link_driver::{LinkFault, PairRun, run_pair};
+use pair_workers::Gate;
+use std::alloc::Global;
+use std::sync::Wait;
+use std::thread::Threads;
+use std::time::Clock;
+use vat_script::Line;
+
+/// Two new vats that both have bootstrap object 0, worked by the lines of a script, each on a thread of its own, over rings of
+/// that many places, as `link_driver::run_pair` does. `BadCapacity` where no ring may have so many, `Memory` where the vats or their
+/// rings find none, `NoThread` where there is no thread.
+pub fn work_lines<R: Threads + Wait + Sync, G: Gate, C: Clock + Sync>(
+    alloc: Global,
+    rt: &R,
+    clock: &C,
+    lines: &[Line],
+    gate: &G,
+    capacity: usize,
+    max_turns: u32,
+) -> Result<PairRun, LinkFault>
+    ensures first { IfOk result (λ run. AreFirst run.gathered.both) }
+    ensures ending_a { IfOk result (λ run. IsEnding lines.now (down_by run.gathered.both.side_a) run.a) }
+    ensures ending_b { IfOk result (λ run. IsEnding lines.now (down_by run.gathered.both.side_b) run.b) }
+{
+    let (a, b) = match new_ends(alloc, capacity) {
+        Ok(ends) => ends,
+        Err(fault) => return Err(fault),
+    };
+    match run_pair(alloc, rt, clock, a, b, lines, gate, max_turns) {
+        Ok(run) => return Ok(run),
+        Err((fault, _, _)) => return Err(fault),
+    }
+}
