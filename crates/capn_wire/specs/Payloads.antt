@@ -1,8 +1,9 @@
 -- What contracts see of a payload.
-use Rattle.std.specs.Prelude.{◌≡◌, ◌<◌, ℕ, slice_index, Bool, ◌==◌, ◌&&◌, nat_eq, List, [], ◌∷◌, Ok, Err, IsOk}
+use Rattle.std.specs.Prelude.{◌≡◌, ◌<◌, ◌≤◌, ℕ, slice_index, Bool, ◌==◌, ◌&&◌, nat_eq, List, [], ◌∷◌, Ok, Err, IsOk, None}
 use Rattle.std.specs.Cmp.{IsEquivalence, and_equiv, on_equiv, nat_eq_equiv}
 use Rattle.std.specs.Cmp.Lexicographic.{pointwise, nat_list_eq_equiv}
 use Rattle.wire_trees.specs.Trees.{Tree, null}
+use Rattle.wire_trees.specs.Writable.{parts, words_visited, all_words, refused}
 use Rattle.wire_reading.specs.Reading.{root_of, message_of, tree_read}
 use Rattle.wire_reading.specs.Framing.{IsFramed}
 
@@ -29,6 +30,12 @@ pub record Says (p : Contents) (m : List (List ℕ)) (t : Tree) : Type 0 where
   pub framed : IsFramed p.bytes m
   pub visited : ℕ
   pub read : root_of m p.caps ≡ Ok (t, visited)
+
+-- The contents nest at most so deep, and a visit of them counts at most so many words. With as many levels or more left for it
+-- the tree can be written, where these words leave room for a pointer to it.
+pub record FitsWithin (p : Contents) (levels n : ℕ) : Type 0 where
+  pub fits : (k : ℕ) → levels ≤ k → n < 65536 → refused p.caps (parts (tree_of p) k) ≡ None
+  pub words : (k : ℕ) → levels ≤ k → all_words words_visited (parts (tree_of p) k) ≤ n
 
 -- the payload of a null pointer, with no capabilities: one segment of one word, after the word that says so
 abbrev pub null_payload : Contents

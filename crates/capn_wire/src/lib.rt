@@ -6,8 +6,8 @@
 //!
 //! ```text
 //! let mut pointers = Pointers::new(alloc);
-//! pointers.push(Tree::text(alloc, "hello")?).map_err(|(fault, _)| fault)?;
-//! pointers.push(Tree::Cap(0)).map_err(|(fault, _)| fault)?;
+//! pointers.push(Tree::text(alloc, "hello")?)?;
+//! pointers.push(Tree::Cap(0))?;
 //! let words = vec![in alloc; 7]?;
 //! let tree = Tree::Struct { words, pointers };
 //!
@@ -45,4 +45,4 @@ pub use faults::Memory;
 pub use path::{CapAt, Op};
 pub use payload::Payload;
 pub use wire_reading::{Kind, Place, View};
-pub use wire_trees::{Element, Fields, Items, PayloadFault, Pointers, Tree, WriteFault};
+pub use wire_trees::{Element, Fields, Items, PayloadFault, Pointers, PushError, Tree, WriteFault};

@@ -1,5 +1,5 @@
 //! A payload: bytes of the encoding that were read once, and the number of its capabilities.
-ghost use Rattle.std.specs.Prelude.{◌≡◌, ◌<◌, ◌⊎◌, ℕ, List, IfOk, IfErr, MatchOption, MatchResult, Err};
+ghost use Rattle.std.specs.Prelude.{◌≡◌, ◌<◌, ◌≤◌, ◌⊎◌, ℕ, List, length, IfSome, IfOk, IfErr, MatchOption, MatchResult, Err};
 ghost use Rattle.wire_reading.specs.Reading.{message_of, root_of, tree_read};
 ghost use Rattle.wire_trees.specs.declared.faults.PayloadFault.TheVariants as faults;
 ghost use Rattle.wire_trees.specs.declared.faults.WriteFault.TheVariants as write_faults;
@@ -10,9 +10,9 @@ use crate::path::{CapAt, Op};
 use std::alloc::{AllocError, Global};
 use std::marker::Model;
 use std::sync::Arc;
-use wire_reading::{Message, View, build_tree, visited_words};
+use wire_reading::{Message, View, build_tree, visited_within, visited_words};
 use wire_trees::{PayloadFault, Tree, WriteFault};
-use wire_writing::write_tree;
+use wire_writing::{message_of, write_tree};
 
 /// Bytes of the encoding, and the number of the capabilities that go with them. It can't be malformed.
 /// Copies share their bytes.
@@ -34,11 +34,11 @@ impl Model for Payload {
 }
 
 impl Payload {
-    ghost use Rattle.capn_wire.specs.Payloads.{IsEncoded, IsPayload, Says, tree_of, null_payload, root_payload};
+    ghost use Rattle.capn_wire.specs.Payloads.{IsEncoded, IsPayload, FitsWithin, Says, tree_of, null_payload, root_payload};
     ghost use Rattle.wire_trees.specs.Trees.{Tree as SpecTree, null, capability};
     ghost use Rattle.wire_trees.specs.Views.{view};
     ghost use Rattle.capn_wire.specs.Walking.{capability_at};
-    ghost use Rattle.wire_writing.specs.Placing.{written};
+    ghost use Rattle.wire_writing.specs.Placing.{one_segment, written};
     ghost use Rattle.wire_trees.specs.Writable.{refusal};
 
     /// Reads a message of the encoding that goes with `caps` capabilities: "Serialization Over a Stream"
@@ -100,6 +100,17 @@ impl Payload {
         Ok(payload)
     }
 
+    /// The payload of these words, in one segment, which say something.
+    pub fn of_segment(alloc: Global, words: &[u64], caps: u32) -> Result<Payload, Memory>
+        requires few { length words.now ≤ 65536 }
+        requires encoded { IsEncoded (record { bytes = one_segment words.now; caps = caps }) }
+        ensures { IfOk result (λ p. p ≡ record { bytes = one_segment words.now; caps = caps }) }
+    {
+        let bytes = message_of(alloc, words)?;
+        let payload = Payload::sharing(alloc, bytes, caps)?;
+        Ok(payload)
+    }
+
     /// The payload of a null pointer, which goes with no capabilities.
     pub fn null(alloc: Global) -> Result<Payload, Memory>
         ensures { IfOk result (λ p. (p ≡ null_payload) × (tree_of p ≡ null)) }
@@ -135,6 +146,17 @@ impl Payload {
         *caps
     }
 
+    /// How many words a visit of its contents counts, where these nest at most so deep.
+    pub fn words_within(&self, levels: u32) -> Option<u32>
+        requires { levels ≤ 64 }
+        ensures { IfSome result (λ n. FitsWithin self.now levels n) }
+    {
+        match visited_within(self.bytes(), self.caps(), levels) {
+            Ok(words) => Some(words),
+            Err(_) => None,
+        }
+    }
+
     /// What stands at a path: a capability, null, or something else.
     pub fn cap_at(&self, path: &[Op]) -> CapAt
         ensures { result ≡ capability_at (tree_of self.now) path.now }
@@ -158,13 +180,6 @@ impl Payload {
         };
         let tree = build_tree(alloc, &message, self.caps)?;
         Ok(tree)
-    }
-
-    /// How many payloads share its bytes: itself, and its copies that are still there.
-    pub fn owners(&self) -> usize
-        ensures { 0 < result }
-    {
-        Arc::strong_count(&self.bytes)
     }
 
     /// The same payload again. It shares the bytes, unless there are too many owners to count.

@@ -1,10 +1,13 @@
 ghost use Rattle.std.specs.Prelude.{◌≡◌, [], ◌∷◌, ◌++◌, length, ◌==◌, OnOk, OnErr, IfOk, IfErr};
 
 use capn_wire::Memory;
-use std::alloc::Global;
+use std::alloc::{AllocFailed, Global};
 use std::marker::Model;
+use std::ops::Deref;
+use std::{slice, vec};
 
-/// A list, seen by contracts as its items. It keeps the allocator that it was made with.
+/// A list, seen by contracts as its items. It keeps the allocator that it was made with. All that only looks at a vector is
+/// there for it too (`iter`, `get`, `first`, an index), and it is handed on as a slice by `&items`.
 #[derive(Drop)]
 pub struct Items<T> {
     items: Vec<T>,
@@ -16,6 +19,55 @@ impl<T> Model for Items<T> {
     ghost Value = { List T };
 
     ghost view = { λ a. a.items.items };
+}
+
+impl<T> Deref for Items<T> {
+    type Target = Vec<T>;
+
+    ghost use Rattle.std.specs.Prelude.{◌≡◌};
+
+    ghost deref_gives = { λ list vector. vector.items ≡ list };
+
+    #[inline(always)]
+    fn deref(&self) -> &Vec<T> {
+        &self.items
+    }
+}
+
+impl<'a, T> IntoIterator for &'a Items<T> {
+    type Item = &'a T;
+
+    type IntoIter = slice::Iter<'a, T>;
+
+    ghost use Rattle.std.specs.Prelude.{◌≡◌, ◌<◌, ◌^◌, length};
+    ghost use Rattle.std.specs.Iterator.Runs.{EveryRun, ItemsMapTo};
+    ghost use Rattle.std.specs.Slice.Iter.{iter_rest, iter_steps};
+
+    ghost into_iter_gives = { λ list it. (iter_rest it ≡ list.now) × (length (iter_rest it) < 2 ^ 64)
+        × EveryRun (iter_steps {A = T}) (λ p. ItemsMapTo p (λ x. x.now) (iter_rest p.from)) };
+
+    #[inline(always)]
+    fn into_iter(self) -> slice::Iter<'a, T> {
+        self.items.as_slice().iter()
+    }
+}
+
+impl<T: Drop> IntoIterator for Items<T> {
+    type Item = T;
+
+    type IntoIter = vec::IntoIter<T>;
+
+    ghost use Rattle.std.specs.Prelude.{◌≡◌, ◌<◌, ◌^◌};
+    ghost use Rattle.std.specs.Iterator.Runs.{EveryRun, ItemsAre};
+    ghost use Rattle.std.specs.declared.alloc.Global.{Global};
+    ghost use Rattle.std.specs.Vec.Iter.{into_iter_items, into_iter_len, into_iter_steps};
+
+    ghost into_iter_gives = { λ list rest. (into_iter_items rest ≡ list) × (into_iter_len rest < 2 ^ 64)
+        × EveryRun (into_iter_steps {X = T} {Z = Global}) (λ p. ItemsAre p (into_iter_items p.from)) };
+
+    fn into_iter(self) -> vec::IntoIter<T> {
+        self.into_vec().into_iter()
+    }
 }
 
 impl<T> Items<T> {
@@ -43,18 +95,16 @@ impl<T> Items<T> {
         items
     }
 
-    /// The list of one item; handed back where there is no memory for it.
-    pub fn one(alloc: Global, item: T) -> Result<Self, T>
+    /// The list of one item; it comes back where there is no memory for it.
+    pub fn one(alloc: Global, item: T) -> Result<Self, AllocFailed<T>>
     where
         T: Drop,
         ensures ok { IfOk result (λ items. items ≡ item ∷ []) }
-        ensures back { IfErr result (λ back. back ≡ item) }
+        ensures back { IfErr result (λ refused. refused.value ≡ item) }
     {
         let mut items = Vec::new(alloc);
-        match items.push(item) {
-            Ok(()) => Ok(Items { items }),
-            Err(refused) => Err(refused.value),
-        }
+        items.push(item)?;
+        Ok(Items { items })
     }
 
     /// How many items there are.
@@ -79,15 +129,12 @@ impl<T> Items<T> {
     }
 
     /// Puts an item at the end. Where memory is refused, the list stays as it was and the item comes back.
-    pub fn push(&mut self, item: T) -> Result<(), T>
+    pub fn push(&mut self, item: T) -> Result<(), AllocFailed<T>>
         ensures ok { OnOk result (self.new ≡ self.old ++ item ∷ []) }
-        ensures back { IfErr result (λ back. back ≡ item) }
+        ensures back { IfErr result (λ refused. refused.value ≡ item) }
         ensures err { OnErr result (self.new ≡ self.old) }
     {
-        match self.items.push(item) {
-            Ok(()) => Ok(()),
-            Err(refused) => Err(refused.value),
-        }
+        self.items.push(item)
     }
 }
 

@@ -9,7 +9,7 @@ mod parts;
 mod path;
 mod text;
 
-pub use capn_wire::{CapAt, Memory, Op, Payload, PayloadFault, Pointers, Tree};
+pub use capn_wire::{CapAt, Memory, Op, Payload, PayloadFault, Pointers, PushError, Tree};
 pub use exception::{Exception, ExceptionKind};
 pub use ids::{
     AnswerId, CallId, EmbargoId, ExportId, ImportId, ObjectId, PromiseId, QuestionId, RefId, Stamp,
@@ -17,7 +17,7 @@ pub use ids::{
 };
 pub use items::Items;
 pub use message::{
-    Call, Disembargo, DisembargoContext, Finish, Frame, Message, PlainMessage, Release, Resolve,
+    Call, Disembargo, DisembargoContext, Finish, Message, PlainMessage, Release, Resolve,
     ResolvedTo, Return, ReturnBody,
 };
 pub use parts::{Descriptor, Target};

@@ -311,27 +311,3 @@ impl Message {
         }
     }
 }
-
-/// A message on its way between two threads, with its numbers. It is no part of the standard.
-#[derive(Drop)]
-pub struct Frame {
-    /// How many frames its sender made before it.
-    pub seq: u64,
-    /// How many of the peer's frames its sender had received when it made this one.
-    pub ack: u64,
-    pub message: Message,
-}
-
-impl Frame {
-    /// The same frame, in memory of its own.
-    pub fn copy(&self, alloc: Global) -> Result<Self, Memory>
-        ensures { IfOk result (λ copy. copy ≡ self.now) }
-    {
-        let message = self.message.copy(alloc)?;
-        Ok(Frame {
-            seq: self.seq,
-            ack: self.ack,
-            message,
-        })
-    }
-}

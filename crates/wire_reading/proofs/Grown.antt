@@ -59,7 +59,7 @@ far_grows m b s (Some size) i v r w e =
     let c = bind_ok (pad_at m b s i) (λ content. Ok (content, a.0)) (r, w) a.2 in
     grows_on v a.0 w (visit_grows v (pad_words b) a.0 a.1) (same_words c.0 r a.0 w c.2)
 
-leads_grow : (m : List (List ℕ)) (caps s i v : ℕ) (p : Pointer) (r : Referent) (w : ℕ) → leads m caps s i p v ≡ Ok (r, w) → Grows v w
+pub leads_grow : (m : List (List ℕ)) (caps s i v : ℕ) (p : Pointer) (r : Referent) (w : ℕ) → leads m caps s i p v ≡ Ok (r, w) → Grows v w
 unfolding leads
 leads_grow m caps s i v pointer.Null r w e = same_words referent.Null r v w e
 leads_grow m caps s i v (pointer.Content offset shape) r w e = same_words (referent.Content (record { segment = s; start = target i offset; shape = shape })) r v w e

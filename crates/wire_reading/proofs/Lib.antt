@@ -1,10 +1,13 @@
 pub mod Building
 pub mod Bytes
+pub mod Counted
 pub mod Depths
+pub mod Fine
 pub mod Framed
 pub mod Grown
 pub mod Held
 pub mod Joining
+pub mod Levels
 pub mod Places
 pub mod Rooted
 pub mod Shown

@@ -100,6 +100,15 @@ root_of m caps =
 unfoldable pub message_of : List ℕ → ℕ → Reading Tree
 message_of bytes caps = framing bytes >>= λ m. root_of m caps
 
+-- the same, where contents nest at most so deep
+unfoldable pub root_within : List (List ℕ) → ℕ → ℕ → Reading Tree
+root_within m caps levels =
+    if length (segment_of m 0) == 0 then Err OutOfBounds
+    else reading m caps levels 0 0 0
+
+unfoldable pub message_within : List ℕ → ℕ → ℕ → Reading Tree
+message_within bytes caps levels = framing bytes >>= λ m. root_within m caps levels
+
 -- the visited words alone
 abbrev pub visited_of : {X : Type 0} → Reading X → Result ℕ PayloadFault
 visited_of (Ok x) = Ok x.1

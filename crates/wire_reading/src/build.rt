@@ -65,6 +65,21 @@ fn elements_at<E: Element + Drop>(
     Ok(E::list(values))
 }
 
+/// A list of bytes, which stand in the message as they are.
+fn bytes_at(
+    alloc: Global,
+    message: &Message,
+    segment: u32,
+    start: u32,
+    count: u32,
+) -> Result<Items, AllocError>
+    requires { EndsIn (length (segment_of message.now segment)) (start + (count * 8 + 63) / 64) }
+    ensures { IfOk result (λ x. items_view x ≡ packed 8 (elements (drop start (segment_of message.now segment)) 8 0 count)) }
+{
+    let bytes = Vec::from_slice(alloc, message.bytes(segment, start, count))?;
+    Ok(Items::Bytes(bytes))
+}
+
 /// The elements of a list without pointers.
 fn packed_items(
     alloc: Global,
@@ -80,7 +95,7 @@ fn packed_items(
     match width {
         Width::Void => Ok(Items::Void(count)),
         Width::Bit => elements_at::<bool>(alloc, message, segment, start, count),
-        Width::Byte => elements_at::<u8>(alloc, message, segment, start, count),
+        Width::Byte => bytes_at(alloc, message, segment, start, count),
         Width::TwoBytes => elements_at::<u16>(alloc, message, segment, start, count),
         Width::FourBytes => elements_at::<u32>(alloc, message, segment, start, count),
         Width::EightBytes => elements_at::<u64>(alloc, message, segment, start, count),

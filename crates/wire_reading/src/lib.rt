@@ -18,4 +18,4 @@ pub use build::build_tree;
 pub use message::Message;
 pub use place::{Kind, Place};
 pub use view::View;
-pub use walk::visited_words;
+pub use walk::{visited_within, visited_words};

@@ -2,7 +2,7 @@
 ghost use Rattle.std.specs.Prelude.{◌≡◌, ◌+◌, ◌*◌, ◌^◌, ◌≤◌, ◌<◌, length};
 ghost use Rattle.wire_reading.specs.Segments.{segment_of};
 ghost use Rattle.wire_reading.specs.Layouts.{EndsIn, IsWithin};
-ghost use Rattle.wire_reading.specs.Reading.{pointers_at, structs_at, content_of, reading, message_of, visited_of};
+ghost use Rattle.wire_reading.specs.Reading.{pointers_at, structs_at, content_of, reading, message_of, visited_of, message_within};
 
 use crate::layout::{Layout, Row, lay_out};
 use crate::message::Message;
@@ -11,15 +11,23 @@ use wire_trees::PayloadFault;
 use wire_trees::limits::MOST_LEVELS;
 
 /// The visited words of a message, or the first check that fails.
-#[tactic(auto, unfolding(crate::specs::Reading::message_of, crate::specs::Reading::root_of))]
+#[tactic(auto, unfolding(crate::specs::Reading::message_of, crate::specs::Reading::root_of, crate::specs::Reading::message_within, crate::specs::Reading::root_within))]
 pub fn visited_words(bytes: &[u8], caps: u32) -> Result<u32, PayloadFault>
     ensures { result ≡ visited_of (message_of bytes.now caps) }
+{
+    visited_within(bytes, caps, MOST_LEVELS)
+}
+
+/// The visited words of a message whose contents nest at most so deep, or the first check that fails.
+#[tactic(auto, unfolding(crate::specs::Reading::message_within, crate::specs::Reading::root_within))]
+pub fn visited_within(bytes: &[u8], caps: u32, levels: u32) -> Result<u32, PayloadFault>
+    ensures { result ≡ visited_of (message_within bytes.now caps levels) }
 {
     let message = Message::parse(bytes)?;
     if message.size(0).unwrap_or(0) == 0 {
         return Err(PayloadFault::OutOfBounds);
     }
-    walk_pointer(&message, caps, 0, 0, MOST_LEVELS, 0)
+    walk_pointer(&message, caps, 0, 0, levels, 0)
 }
 
 /// The pointer at a place, with contents nested at most `levels` deep.

@@ -4,6 +4,7 @@ ghost use Rattle.wire_trees.specs.Numbers.{number_of, write_number_of};
 ghost use Rattle.wire_trees.specs.declared.faults.PayloadFault.TheVariants as faults;
 ghost use Rattle.wire_trees.specs.declared.faults.WriteFault.TheVariants as write_faults;
 
+use crate::tree::Tree;
 use std::alloc::AllocError;
 use std::fmt;
 use thiserror::Error;
@@ -152,5 +153,24 @@ impl From<AllocError> for WriteFault {
 
     fn from(_refused: AllocError) -> WriteFault {
         WriteFault::Memory
+    }
+}
+
+/// Why a tree was not put behind other pointers, and the tree.
+#[derive(Debug, PartialEq, Eq, Drop, Error)]
+#[error("{fault}")]
+pub struct PushError {
+    /// `Depth` or `Memory`.
+    pub fault: WriteFault,
+    pub tree: Tree,
+}
+
+impl From<PushError> for WriteFault {
+    ghost use Rattle.std.specs.Prelude.{◌≡◌};
+
+    ghost from_gives = { λ refused e. e ≡ refused.fault };
+
+    fn from(refused: PushError) -> WriteFault {
+        refused.fault
     }
 }

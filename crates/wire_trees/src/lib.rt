@@ -10,7 +10,7 @@ mod tree;
 mod width;
 
 pub use element::Element;
-pub use faults::{PayloadFault, WriteFault};
+pub use faults::{PayloadFault, PushError, WriteFault};
 pub use measure::{Measure, measure_tree};
 pub use tree::{Fields, Items, Pointers, Tree, make_fields};
 pub use width::Width;

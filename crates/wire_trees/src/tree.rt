@@ -5,7 +5,7 @@ ghost use Rattle.wire_trees.specs.Trees.{list, packed};
 ghost use Rattle.wire_trees.specs.Views.{view, held, fields_view, trees_view};
 ghost use Rattle.wire_trees.specs.Writable.{is_deeper, are_deeper};
 
-use crate::faults::WriteFault;
+use crate::faults::{PushError, WriteFault};
 use crate::limits::MOST_HELD;
 use crate::measure::{Measure, measure_tree};
 use std::alloc::{AllocError, Global};
@@ -78,20 +78,24 @@ impl Pointers {
 
     /// Puts a pointer to a tree at the end. The tree comes back with `Depth` where it nests more than 127 levels deep,
     /// and with `Memory` where a growth was refused; the pointers are then as they were.
-    pub fn push(&mut self, tree: Tree) -> Result<(), (WriteFault, Tree)>
+    pub fn push(&mut self, tree: Tree) -> Result<(), PushError>
         ensures pushed { OnOk result (held self.new ≡ held self.old ++ tree ∷ []) }
         ensures fault { MatchResult result (λ _. is_deeper (view tree) 127 ≡ false)
-            (λ back. back.0 ≡ (if is_deeper (view tree) 127 then write_faults.Depth else write_faults.Memory)) }
-        ensures back { IfErr result (λ back. back.1 ≡ tree) }
+            (λ back. back.fault ≡ (if is_deeper (view tree) 127 then write_faults.Depth else write_faults.Memory)) }
+        ensures back { IfErr result (λ back. back.tree ≡ tree) }
         ensures same { OnErr result (held self.new ≡ held self.old) }
     {
         let measure = measure_tree(&tree, 0, MOST_HELD, Measure::start(0));
         if measure.is_too_deep {
-            return Err((WriteFault::Depth, tree));
+            let fault = WriteFault::Depth;
+            return Err(PushError { fault, tree });
         }
         match self.trees.push(tree) {
             Ok(()) => Ok(()),
-            Err(refused) => Err((WriteFault::Memory, refused.value)),
+            Err(refused) => Err(PushError {
+                fault: WriteFault::Memory,
+                tree: refused.value,
+            }),
         }
     }
 

@@ -1,7 +1,7 @@
 -- Words that were put into their places.
 use Rattle.std.proofs.Common.{◌≡◌, ℕ, zero, suc, ◌+◌, ◌-◌, ◌*◌, ◌/◌, ◌^◌, ◌<◌, ◌≤◌, min, List, [], ◌∷◌, ◌++◌, length, take, drop, set, get_or, refl, sym, ap, ◌∙◌, append_assoc, arith, inl, inr}
 use Rattle.std.specs.Prelude.{replicate}
-use Rattle.std.proofs.lemmas.List.{append-nil, length-append, length-take, length-take-le, length-drop, take_min, drop_min, take-append-drop, length-replicate, replicate-append-replicate, take_at, drop_at, take-append-le, drop-append-le, take_more_set, drop-set-lt, drop_more, drop-drop, drop_all, get_or-drop, get_or-take, get_or_past}
+use Rattle.std.proofs.lemmas.List.{append-nil, length-append, length-take, length-take-le, length-drop, take_min, drop_min, take-append-drop, length-replicate, take_at, drop_at, take-append-le, drop-append-le, take_more_set, drop-set-lt, drop_more, drop-drop, drop_all, get_or-drop, get_or-take, get_or_past}
 use Rattle.std.proofs.lemmas.Nat.{pow-add, pow_pos}
 use Rattle.std.proofs.lemmas.Bool.{cases_lt}
 use Rattle.std.proofs.Math.Nat.{pow-le-pow_right, mul-le-mul_right}
@@ -18,9 +18,6 @@ are_take b n xs fit i =
       | inl lt ↦ rw (get_or-take n xs i 0 lt) (fit i)
       | inr le ↦ rw (get_or_past (take n xs) i 0 (omega (arith, length-take n xs))) (pow_pos b)
     ]
-
-pub zeros_more : (front : List ℕ) (k : ℕ) → (front ++ replicate k 0) ++ 0 ∷ [] ≡ front ++ replicate (k + 1) 0
-zeros_more front k = append_assoc front (replicate k 0) (0 ∷ []) ∙ ap (λ (l : List ℕ). front ++ l) (replicate-append-replicate k 1 0)
 
 -- elements of so many bits each, joined, have all their bits together
 pub joined_below : (b : ℕ) (xs : List ℕ) → AreOf b xs → joined b xs < 2 ^ (length xs * b)

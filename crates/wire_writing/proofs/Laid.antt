@@ -102,9 +102,6 @@ small_number bits =
 pub narrow_1 : AreNarrow 1 1
 narrow_1 = record { fill = record { some = omega arith; whole = refl; most = omega arith }; is_size = refl }
 
-pub narrow_8 : AreNarrow 8 2
-narrow_8 = record { fill = record { some = omega arith; whole = refl; most = omega arith }; is_size = refl }
-
 pub narrow_16 : AreNarrow 16 3
 narrow_16 = record { fill = record { some = omega arith; whole = refl; most = omega arith }; is_size = refl }
 
@@ -119,6 +116,9 @@ pub packed_room : {A : Type 0} (bits : ℕ) (xs : List A) (f : A → ℕ) (es : 
 packed_room bits xs f es words room e h =
     let all : taken (parts (tree.list (tree.packed bits (map f xs))) 0) ≡ packed_size bits (length (map f xs)) = omega arith in
     room_for (subst (λ (x : Elements). HasRoom (taken (parts (tree.list x) 0)) words room) e h) (all ∙ ap (packed_size bits) (length-map xs f))
+
+pub bytes_room : (xs : List ℕ) (es : Elements) (words room : ℕ) → es ≡ tree.packed 8 xs → HasRoom (taken (parts (tree.list es) 0)) words room → HasRoom (packed_size 8 (length xs)) words room
+bytes_room xs es words room e h = room_for (subst (λ (x : Elements). HasRoom (taken (parts (tree.list x) 0)) words room) e h) (omega arith)
 
 pub eights_room : (xs : List ℕ) (es : Elements) (words room : ℕ) → es ≡ tree.packed 64 xs → HasRoom (taken (parts (tree.list es) 0)) words room → HasRoom (packed_size 64 (length xs)) words room
 eights_room xs es words room e h = room_for (subst (λ (x : Elements). HasRoom (taken (parts (tree.list x) 0)) words room) e h) (omega arith)

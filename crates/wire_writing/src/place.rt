@@ -9,6 +9,7 @@ ghost use Rattle.wire_writing.specs.Fitting.{Fits, FitsAll, FitsList, FitsStruct
 ghost use Rattle.wire_trees.specs.Writable.{parts, parts_of_all, parts_of_structs, words_taken, all_words, are_even};
 ghost use Rattle.wire_writing.specs.Laying.{HaveSizes, HasRoom, FillWords, AreNarrow, IsLaid, filled};
 
+use crate::little_endian::read_words;
 use std::alloc::{AllocError, Global};
 use wire_trees::{Element, Fields, Items, Tree};
 
@@ -97,9 +98,9 @@ fn push_zeros(words: &mut Vec<u64>, count: usize)
     ensures items { words.new.items ≡ words.old.items ++ replicate count 0 }
     ensures capacity { vec_capacity words.old ≤ vec_capacity words.new }
 {
-    for _ in 0..count {
-        words.push_reserved(0);
-    }
+    let Ok(()) = words.resize(words.len() + count, 0) else {
+        unreachable!()
+    };
 }
 
 fn push_eights(eights: &[u64], words: &mut Vec<u64>)
@@ -124,6 +125,34 @@ fn place_packed<E: Element>(elements: &[E], size: u64, at: usize, words: &mut Ve
     let next = words.len();
     push_packed(words, elements);
     word_of_list(distance(at, next), size, elements.len() as u64)
+}
+
+/// Lays down bytes, eight in each word.
+fn push_bytes(bytes: &[u8], words: &mut Vec<u64>)
+    requires small { packed_size 8 (length bytes.now) ≤ 65536 }
+    requires spare { length words.old.items + packed_size 8 (length bytes.now) ≤ vec_capacity words.old }
+    ensures items { words.new.items ≡ words.old.items ++ packed_words 8 (packed_size 8 (length bytes.now)) bytes.now }
+    ensures capacity { vec_capacity words.old ≤ vec_capacity words.new }
+    ensures fit { AreOf 8 bytes.now }
+{
+    u8::fit(bytes);
+    let (whole, rest) = bytes.split_at(bytes.len() / 8 * 8);
+    let next = words.len();
+    push_zeros(words, whole.len() / 8);
+    read_words(whole, words, next);
+    push_packed(words, rest);
+}
+
+/// The pointer at word `at` to a list of bytes, which are laid down behind all words.
+fn place_bytes(bytes: &[u8], at: usize, words: &mut Vec<u64>) -> u64
+    requires ahead { at < length words.old.items }
+    requires room { HasRoom (packed_size 8 (length bytes.now)) (length words.old.items) (vec_capacity words.old) }
+    ensures laid { IsLaid (placed_list (packed 8 bytes.now) at (length words.old.items)) result words.old.items words.new.items (vec_capacity words.old) (vec_capacity words.new) }
+    ensures fit { AreOf 8 bytes.now }
+{
+    let next = words.len();
+    push_bytes(bytes, words);
+    word_of_list(distance(at, next), 2, bytes.len() as u64)
 }
 
 /// The pointer at word `at` to a list of words, which are laid down behind all words.
@@ -185,7 +214,7 @@ fn place_items(items: &Items, at: usize, words: &mut Vec<u64>) -> u64
     match items {
         Items::Void(count) => word_of_list(distance(at, words.len()), 0, u64::from(*count)),
         Items::Bits(bits) => place_packed(bits.as_slice(), 1, at, words),
-        Items::Bytes(bytes) => place_packed(bytes.as_slice(), 2, at, words),
+        Items::Bytes(bytes) => place_bytes(bytes.as_slice(), at, words),
         Items::Twos(twos) => place_packed(twos.as_slice(), 3, at, words),
         Items::Fours(fours) => place_packed(fours.as_slice(), 4, at, words),
         Items::Eights(eights) => place_eights(eights.as_slice(), at, words),

@@ -1,7 +1,5 @@
 //! Writes a tree: the reasons not to, and the bytes of a message of one segment.
-ghost use Rattle.std.specs.Prelude.{◌≡◌, ◌+◌, ◌≤◌, ◌++◌, None, Err, length, IfOk, IfErr, OnOk, MatchOption};
-ghost use Rattle.std.specs.Vec.{vec_capacity};
-ghost use Rattle.byteorder.specs.Endian.{little_bytes};
+ghost use Rattle.std.specs.Prelude.{◌≡◌, ◌≤◌, None, Err, length, IfOk, IfErr, OnOk, MatchOption};
 ghost use Rattle.wire_trees.specs.declared.faults.WriteFault.TheVariants as faults;
 ghost use Rattle.wire_trees.specs.Views.{view};
 ghost use Rattle.wire_trees.specs.Writable.{refusal};
@@ -10,10 +8,11 @@ ghost use Rattle.wire_writing.specs.Fitting.{Fits};
 ghost use Rattle.wire_trees.specs.Widths.{AreOf};
 ghost use Rattle.wire_writing.specs.Placing.{one_segment, segment_for, written};
 
+use crate::little_endian::write_segment;
 use crate::place::place;
 use std::alloc::{AllocError, Global};
 use wire_trees::limits::{MOST_LEVELS, MOST_VISITED, MOST_WORDS};
-use wire_trees::{Measure, Tree, WriteFault, measure_tree};
+use wire_trees::{Element, Measure, Tree, WriteFault, measure_tree};
 
 /// The first reason not to write what was found, if there is one.
 fn refusal_of(measure: Measure) -> Option<WriteFault>
@@ -40,29 +39,15 @@ fn refusal_of(measure: Measure) -> Option<WriteFault>
     None
 }
 
-/// A word behind all bytes, in room that was made for it.
-fn push_word(bytes: &mut Vec<u8>, word: u64)
-    requires { length bytes.old.items + 8 ≤ vec_capacity bytes.old }
-    ensures items { bytes.new.items ≡ bytes.old.items ++ little_bytes 8 word }
-    ensures capacity { vec_capacity bytes.old ≤ vec_capacity bytes.new }
-{
-    let Ok(()) = bytes.extend_from_slice(&word.to_le_bytes()) else {
-        unreachable!()
-    };
-}
-
 /// The bytes of a message of one segment.
-fn message_of(alloc: Global, words: &[u64]) -> Result<Vec<u8>, AllocError>
+pub fn message_of(alloc: Global, words: &[u64]) -> Result<Vec<u8>, AllocError>
     requires { length words.now ≤ 65536 }
     ensures bytes { IfOk result (λ bytes. bytes.items ≡ one_segment words.now) }
     ensures fit { AreOf 64 words.now }
 {
-    let mut bytes = Vec::with_capacity(alloc, 8 + 8 * words.len())?;
-    // The table: no segment more than one, and its size.
-    push_word(&mut bytes, words.len() as u64 * 0x1_0000_0000);
-    for word in words {
-        push_word(&mut bytes, *word);
-    }
+    u64::fit(words);
+    let mut bytes = Vec::from_elem(alloc, 0, 8 + 8 * words.len())?;
+    write_segment(&mut bytes, words);
     Ok(bytes)
 }
 

@@ -25,7 +25,7 @@ fn sample(alloc: Global) -> Result<Payload, Fail> {
 fn put(pointers: &mut Pointers, tree: Tree) -> Result<(), Fail> {
     match pointers.push(tree) {
         Ok(()) => Ok(()),
-        Err((fault, _)) => Err(fault)?,
+        Err(refused) => Err(refused.fault)?,
     }
 }
 

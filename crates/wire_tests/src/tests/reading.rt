@@ -276,12 +276,9 @@ fn outlives_its_tree_and_copy(rt: &impl Abort, alloc: Global, payload: &Payload,
     if let Ok(tree) = payload.tree(alloc) {
         assert!(rt; is_three_numbers(&tree));
     }
-    assert_eq!(rt; payload.owners(), 1);
     if let Ok(copy) = payload.copy(alloc) {
         assert!(rt; copy == *payload);
-        assert_eq!(rt; copy.owners(), 2);
     }
-    assert_eq!(rt; payload.owners(), 1);
     assert_eq!(rt; payload.bytes(), bytes);
     assert_eq!(rt; payload.caps(), 0);
 }

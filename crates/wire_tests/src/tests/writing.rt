@@ -1,14 +1,15 @@
 //! Trees that are written.
 use crate::tests::bytes_of;
 use capn_wire::laws::write_and_read;
-use capn_wire::{Fields, Items, Payload, Pointers, Tree, WriteFault};
+use capn_wire::{Fields, Items, Payload, Pointers, PushError, Tree, WriteFault};
 use std::alloc::Global;
 use std::process::Abort;
 use std::test::Fail;
 
 /// One pointer more.
 fn point_to(pointers: &mut Pointers, tree: Tree) -> Result<(), WriteFault> {
-    pointers.push(tree).map_err(|(fault, _)| fault)
+    pointers.push(tree)?;
+    Ok(())
 }
 
 /// A struct without data, with one pointer.
@@ -267,7 +268,7 @@ fn refuses_to_write(rt: HostRuntime) -> Result<(), Fail> {
 fn builds_no_deeper_tree(rt: HostRuntime) -> Result<(), Fail> {
     let deepest = nested(rt.alloc(), Tree::Null, 128)?;
     let mut pointers = Pointers::new(rt.alloc());
-    let Err((fault, back)) = pointers.push(deepest) else {
+    let Err(PushError { fault, tree: back }) = pointers.push(deepest) else {
         assert!(rt; false, "a deeper tree was built");
         return Ok(());
     };

@@ -12,7 +12,7 @@ pub returns-in-Bit : goal.returns-in-Bit
 returns-in-Bit c = rw c.in-Bit.is c.elements_at.ensures
 
 pub returns-in-Byte : goal.returns-in-Byte
-returns-in-Byte c = rw c.in-Byte.is c.elements_at-in-Byte.ensures
+returns-in-Byte c = rw c.in-Byte.is c.bytes_at.ensures
 
 pub returns-in-TwoBytes : goal.returns-in-TwoBytes
 returns-in-TwoBytes c = rw c.in-TwoBytes.is c.elements_at-in-TwoBytes.ensures
@@ -26,8 +26,8 @@ returns-in-EightBytes c = rw c.in-EightBytes.is c.elements_at-in-EightBytes.ensu
 pub elements_at-requires-clause-within : goal.elements_at-requires-clause-within
 elements_at-requires-clause-within c = rw c.in-Bit.is at c.requires
 
-pub elements_at-requires-in-Byte-clause-within : goal.elements_at-requires-in-Byte-clause-within
-elements_at-requires-in-Byte-clause-within c = rw c.in-Byte.is at c.requires
+pub bytes_at-requires : goal.bytes_at-requires
+bytes_at-requires c = rw c.in-Byte.is at c.requires
 
 pub elements_at-requires-in-TwoBytes-clause-within : goal.elements_at-requires-in-TwoBytes-clause-within
 elements_at-requires-in-TwoBytes-clause-within c = rw c.in-TwoBytes.is at c.requires

@@ -19,7 +19,7 @@ use Rattle.wire_writing.specs.Laying.{HaveSizes, HasRoom, filled}
 use Rattle.wire_writing.proofs.Lengths.{length-placed_all}
 use Rattle.wire_trees.proofs.Counts.{trees_counted, structs_counted}
 use Rattle.wire_writing.proofs.Filled.{zeros_fit, filled_none, length-filled, length-put}
-use Rattle.wire_writing.proofs.Laid.{narrow_1, narrow_8, narrow_16, narrow_32, packed_room, eights_room, room_for, fields_placed, pointers_placed, list_placed, struct_placed, few_structs}
+use Rattle.wire_writing.proofs.Laid.{narrow_1, narrow_16, narrow_32, packed_room, bytes_room, eights_room, room_for, fields_placed, pointers_placed, list_placed, struct_placed, few_structs}
 use Rattle.wire_writing.proofs.Room.{sum_same, le_then, room_first, room_rest, slot_inside, slot_next, inside_next, struct_inside, struct_fits, section_fits, struct_next, struct_long, struct_there, list_long, list_there, pointers_there, list_spare, zeros_spare}
 use Rattle.wire_writing.proofs.Sized.{taken, taken_by, taken_by_all, trees_sizes, trees_taken, trees_fit, trees_placed, structs_sizes, structs_taken, structs_fit, structs_even, structs_placed}
 use Rattle.wire_trees.proofs.Viewed.{view_null, view_capability, view_struct, view_list, view_void, view_bits, view_bytes, view_twos, view_fours, view_eights, view_pointers, view_structs}
@@ -254,15 +254,15 @@ place_items-returns-in-Bits t c =
     let e = ap items_view c.in-Bits.is ∙ view_bits c.in-Bits.bits ∙ ap (λ (bs : List Bool). tree.packed 1 (map bit bs)) (sym c.as_slice.ensures.value) in
     record { laid = rw e c.place_packed.ensures.laid; fits = subst FitsList (sym e) ((width.Bit, refl), c.place_packed.ensures.fit) }
 
-pub place_items-place_packed-requires-in-Bytes : goal.place_items-place_packed-requires-in-Bytes
-place_items-place_packed-requires-in-Bytes t c =
-    let e = ap items_view c.in-Bytes.is ∙ view_bytes c.in-Bytes.bytes ∙ ap (tree.packed 8) (sym c.as_slice-in-Bytes.ensures.value ∙ sym (map-id c.as_slice-in-Bytes.result.now)) in
-    record { ahead = c.requires.ahead; narrow = narrow_8; room = packed_room 8 c.as_slice-in-Bytes.result.now (λ (x : ℕ). x) _ _ _ e c.requires.room }
+pub place_items-place_bytes-requires : goal.place_items-place_bytes-requires
+place_items-place_bytes-requires t c =
+    let e = ap items_view c.in-Bytes.is ∙ view_bytes c.in-Bytes.bytes ∙ ap (tree.packed 8) (sym c.as_slice-in-Bytes.ensures.value) in
+    record { ahead = c.requires.ahead; room = bytes_room c.as_slice-in-Bytes.result.now _ _ _ e c.requires.room }
 
 pub place_items-returns-in-Bytes : goal.place_items-returns-in-Bytes
 place_items-returns-in-Bytes t c =
-    let e = ap items_view c.in-Bytes.is ∙ view_bytes c.in-Bytes.bytes ∙ ap (tree.packed 8) (sym c.as_slice-in-Bytes.ensures.value ∙ sym (map-id c.as_slice-in-Bytes.result.now)) in
-    record { laid = rw e c.place_packed-in-Bytes.ensures.laid; fits = subst FitsList (sym e) ((width.Byte, refl), c.place_packed-in-Bytes.ensures.fit) }
+    let e = ap items_view c.in-Bytes.is ∙ view_bytes c.in-Bytes.bytes ∙ ap (tree.packed 8) (sym c.as_slice-in-Bytes.ensures.value) in
+    record { laid = rw e c.place_bytes.ensures.laid; fits = subst FitsList (sym e) ((width.Byte, refl), c.place_bytes.ensures.fit) }
 
 pub place_items-place_packed-requires-in-Twos : goal.place_items-place_packed-requires-in-Twos
 place_items-place_packed-requires-in-Twos t c =

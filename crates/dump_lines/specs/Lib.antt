@@ -1,0 +1,6 @@
+pub mod Words
+pub mod Trees
+pub mod Lines
+pub mod Conversations
+pub mod Reading
+pub mod Failures

@@ -1,0 +1,18 @@
+//! What a conversation says that was captured as bytes: a line of JSON for each message, in the form of trace lines
+//! (docs/messages.md).
+#![tactic(auto)]
+
+mod failure;
+mod hexadecimal;
+mod line;
+mod options;
+mod payloads;
+mod reading;
+mod saying;
+mod trees;
+mod write;
+
+pub use failure::{Failure, status, tell};
+pub use line::line_of;
+pub use options::Options;
+pub use reading::dump;

@@ -1,0 +1,7 @@
+//! What the frames of messages have room for: which commands of a vat can be carried to a peer in bytes, and
+//! which messages that came can be carried on.
+#![tactic(auto)]
+
+mod fitting;
+
+pub use fitting::{fits_envelope, fits_onward};
