@@ -1,14 +1,12 @@
-//! Two vats in one process: how an application uses `vat_core::Core`. It prints what happens (the file `stdout`). Vat b
+//! Two vats in one process: how an application uses a `vat::Host`. It prints what happens (the file `stdout`). Vat b
 //! has a registry, which promises the printer that somebody will publish. Vat a uses that printer before there is one,
 //! publishes a printer of its own, and then takes the short path to it.
 #![tactic(auto)]
 
-use anyhow::{Result, ensure};
-use rpc_msg::{CallId, Message, ObjectId, PromiseId, RefId, Vat};
-use std::mem;
-use vat_core::Core;
-use vat_journal::{Delivery, Ended};
-use vat_machine::{CallCommand, Effects, Level};
+use anyhow::{Result, bail};
+use vat::{
+    CallCommand, CallId, Command, Delivery, Host, Level, ObjectId, PromiseId, RefId, Vat, exchange,
+};
 
 // The methods of the registry, which is object 0 of vat b, and that of a printer.
 const GET: u16 = 0;
@@ -22,113 +20,97 @@ fn main(rt: HostRuntime) -> Result<()> {
     let mut b = Side::new(&rt, Vat::B, Some(ObjectId(0)))?;
 
     println!(rt; "a asks for the registry, and that for a printer, and prints, at once")?;
-    let (bootstrap, effects) = a.core.bootstrap()?;
-    a.keep(effects)?;
-    let registry = a.core.result_of(bootstrap)?;
+    let bootstrap = a.host.bootstrap()?;
+    let registry = a.host.result_of(bootstrap)?;
     let got = a.call(registry, GET, None)?;
-    let promised = a.core.result_of(got)?;
+    let promised = a.host.result_of(got)?;
     let _ = a.call(promised, PRINT, None)?;
-    exchange(&rt, &mut a, &mut b)?;
+    settle(&rt, &mut a, &mut b)?;
 
     println!(rt; "a publishes its own printer, and what waited at b comes back")?;
-    let own = a.core.host(ObjectId(1))?;
+    let own = a.host.host(ObjectId(1))?;
     let _ = a.call(registry, PUBLISH, Some(own))?;
-    exchange(&rt, &mut a, &mut b)?;
+    settle(&rt, &mut a, &mut b)?;
 
     println!(rt; "a prints by way of b, shortens the path, and prints again")?;
     let _ = a.call(promised, PRINT, None)?;
     for _ in 0..2 {
-        let (advanced, effects) = a.core.advance(promised)?;
-        a.keep(effects)?;
+        let advanced = a.host.advance(promised)?;
         println!(rt; "  the promised printer {advanced:?}")?;
     }
     let _ = a.call(promised, PRINT, None)?;
-    exchange(&rt, &mut a, &mut b)?;
+    settle(&rt, &mut a, &mut b)?;
 
     println!(rt; "a lets go of what it holds")?;
     a.let_go(&[registry, promised, own])?;
-    exchange(&rt, &mut a, &mut b)?;
-    let nothing_left = a.core.shares_nothing() && b.core.shares_nothing();
+    settle(&rt, &mut a, &mut b)?;
+    let nothing_left = a.host.core().shares_nothing() && b.host.core().shares_nothing();
     println!(rt; "  no question, answer, import or export is left: {nothing_left}")?;
+
+    println!(rt; "a goes down, and its Abort takes b down")?;
+    a.host.shut(0);
+    settle(&rt, &mut a, &mut b)?;
+    let (fault_of_a, fault_of_b) = (a.host.core().down(), b.host.core().down());
+    println!(rt; "  a by {fault_of_a:?}, b by {fault_of_b:?}")?;
     Ok(())
 }
 
-/// Carries messages both ways, more often than it takes until none is left.
-fn exchange(rt: &HostRuntime, a: &mut Side, b: &mut Side) -> Result<()> {
-    for _ in 0..9 {
-        a.follow(rt, b)?;
-        b.follow(rt, a)?;
+/// Hands messages over and lets both sides work, until nothing is left to do.
+fn settle(rt: &HostRuntime, a: &mut Side, b: &mut Side) -> Result<()> {
+    for _ in 0..99 {
+        if !exchange(&mut a.host, &mut b.host, 9) {
+            return Ok(());
+        }
+        b.work(rt)?;
+        a.work(rt)?;
     }
-    Ok(())
+    bail!("something is left to do")
 }
 
-/// A vat and its application: what the steps of its core left to do, and the printer that it promised.
+/// A vat and its application: the vat with what it is to do, and the promise of a printer.
 #[derive(Drop)]
 struct Side {
-    core: Core,
-    steps: Vec<(Vec<Message>, Vec<Delivery>, Vec<Ended>)>,
+    host: Host,
     promised: Option<PromiseId>,
 }
 
 impl Side {
     fn new(rt: &HostRuntime, vat: Vat, root: Option<ObjectId>) -> Result<Side> {
+        let host = Host::new(rt.alloc(), vat, Level::One, root)?;
         Ok(Side {
-            core: Core::new(rt.alloc(), vat, Level::One, root)?,
-            steps: Vec::new(rt.alloc()),
+            host,
             promised: None,
         })
     }
 
-    /// Keeps what a step leaves to do: messages for the other vat, calls to serve, and calls that have ended.
-    fn keep(&mut self, effects: Effects) -> Result<()> {
-        let Effects {
-            sends,
-            deliveries,
-            answers,
-            down,
-        } = effects;
-        ensure!(down.is_none(), "a vat went down: {down:?}");
-        self.steps.push((sends.into_vec(), deliveries.into_vec(), answers.into_vec()))?;
-        Ok(())
-    }
-
     fn call(&mut self, reference: RefId, method: u16, given: Option<RefId>) -> Result<CallId> {
-        let (payload, refs) = self.core.contents(given)?;
-        let (call, effects) = self.core.call(CallCommand {
+        let (payload, refs) = self.host.core().contents(given)?;
+        let call = self.host.call(CallCommand {
             reference,
             interface: 0,
             method,
             payload,
             refs,
         })?;
-        self.keep(effects)?;
         Ok(call)
     }
 
     fn let_go(&mut self, refs: &[RefId]) -> Result<()> {
         for reference in refs {
-            let effects = self.core.drop_ref(*reference)?;
-            self.keep(effects)?;
+            self.host.command(Command::DropRef(*reference))?;
         }
         Ok(())
     }
 
-    /// Does what the steps so far left to do: the other vat gets messages, calls are served, and ended ones are finished.
-    fn follow(&mut self, rt: &HostRuntime, other: &mut Side) -> Result<()> {
-        for (sends, tasks, answers) in mem::replace(&mut self.steps, Vec::new(rt.alloc())) {
-            for message in sends {
-                let effects = other.core.receive(message);
-                other.keep(effects)?;
-            }
-            for task in tasks {
-                self.serve(rt, task)?;
-            }
-            for ended in answers {
-                println!(rt; "  call {} has ended", ended.call.0)?;
-                let effects = self.core.finish(ended.call)?;
-                self.keep(effects)?;
-                self.let_go(ended.refs.as_slice())?;
-            }
+    /// Serves a call, if one came, and finishes an own one, if one has ended.
+    fn work(&mut self, rt: &HostRuntime) -> Result<()> {
+        if let Some(task) = self.host.next_delivery() {
+            self.serve(rt, task)?;
+        }
+        if let Some(ended) = self.host.next_ended() {
+            println!(rt; "  call {} has ended", ended.call.0)?;
+            self.host.command(Command::Finish(ended.call))?;
+            self.let_go(&ended.refs)?;
         }
         Ok(())
     }
@@ -139,15 +121,14 @@ impl Side {
         println!(rt; "  object {object}: method {method}, call {index} of its reference")?;
         let (taken, mut given) = (task.refs.as_slice(), None);
         if method == GET {
-            let (promise, printer) = self.core.promise()?;
+            let (promise, printer) = self.host.promise()?;
             (self.promised, given) = (Some(promise), Some(printer));
         } else if let (PUBLISH, Some(promise), [printer]) = (method, self.promised, taken) {
-            let effects = self.core.resolve(promise, *printer)?;
-            self.keep(effects)?;
+            self.host.command(Command::Resolve(promise, *printer))?;
         }
-        let (payload, refs) = self.core.contents(given)?;
-        let effects = self.core.answer(task.task, payload, refs)?;
-        self.keep(effects)?;
+        let (payload, refs) = self.host.core().contents(given)?;
+        self.host
+            .command(Command::Answer(task.task, payload, refs))?;
         self.let_go(taken)?;
         self.let_go(given.as_slice())
     }

@@ -1,0 +1,6 @@
+mod Falling
+mod Coming
+mod Pushing
+mod Pieces
+mod Saying
+mod Calling

@@ -1,0 +1,71 @@
+-- A connection: what each call of it does.
+use Rattle.std.specs.Prelude.{◌≡◌, ℕ, Bool, true, false, List, [], ◌∷◌, Option, Some, None, ◌⊎◌, refl}
+use Rattle.std.specs.Coded.{Coded, code_by, coded×, coded_ℕ, coded_list, coded_bool}
+use Rattle.rpc_msg.specs.declared.ids.ObjectId.{ObjectId}
+use Rattle.rpc_msg.specs.declared.ids.Vat.{Vat}
+use Rattle.wire_trees.specs.Numbers.{number_of}
+use Rattle.wire_trees.specs.declared.faults.PayloadFault.TheVariants.{Short}
+use Rattle.vat_machine.specs.declared.command.Level.{Level}
+use Rattle.vat_machine.specs.State.{start}
+use Rattle.vat_host.specs.Hosting.{Hosted, idle}
+use Rattle.rpc_frames.specs.Outflows.{nothing_out}
+use Rattle.vat_connection.specs.declared.event.Event.{Event}
+use Rattle.vat_connection.specs.declared.event.Event.TheVariants as event
+use Rattle.vat_connection.specs.Speaking.{Speaking, Falls, Says, given, speaking_code}
+use Rattle.vat_connection.specs.Hearing.{Follows}
+
+-- A vat with the bytes that it says; the bytes that wait for the rest of their frame; and whether the application was told that
+-- the vat is down.
+pub record Connected : Type 0 where
+  pub speaker : Speaking
+  pub waiting : List ℕ
+  pub told : Bool
+
+abbrev pub connected_code : Coded Connected
+connected_code =
+    code_by (Speaking × (List ℕ × Bool))
+    (coded× speaking_code (coded× (coded_list coded_ℕ) coded_bool))
+    (λ c. (c.speaker, (c.waiting, c.told)))
+    (λ p. record { speaker = p.0; waiting = p.1.0; told = p.1.1 })
+    (λ _. refl)
+
+-- Nothing has come, and nothing was said.
+abbrev pub fresh : Vat → Level → Option ObjectId → Connected
+fresh vat level bootstrap = record {
+  speaker = record { host = idle (start vat level bootstrap); out = nothing_out; heard = 0 };
+  waiting = [];
+  told = false;
+}
+
+abbrev pub with_host : Connected → Hosted → Connected
+with_host c host = record c { speaker = record (c.speaker) { host = host } }
+
+abbrev pub down : Connected → Option ℕ
+down c = c.speaker.host.core.down
+
+-- Bytes of the peer come: a vat that is up hears the frames that they make with those that waited.
+abbrev pub Receives : Connected → List ℕ → Connected → Type 0
+Receives old bytes new = Follows (down old) old.speaker old.waiting bytes new.speaker new.waiting × (new.told ≡ old.told)
+
+-- the number with which a vat goes down where the stream ends behind these bytes of a frame
+abbrev pub ends_with : List ℕ → ℕ
+ends_with [] = 0
+ends_with (b ∷ bytes) = number_of Short
+
+-- The stream ends.
+abbrev pub Finishes : Connected → Connected → Type 0
+Finishes old new = Falls old.speaker (ends_with old.waiting) new.speaker × (new ≡ record old { speaker = new.speaker })
+
+-- All that is to be sent is handed out.
+abbrev pub Gives : Connected → List ℕ → Connected → Type 0
+Gives old bytes new = (said : Speaking) × Says old.speaker said × (bytes ≡ said.out.bytes) × (new ≡ record old { speaker = given said })
+
+-- What is told: the oldest call to be served, then the oldest that ended, then once that the vat is down.
+abbrev pub Tells : Connected → Option Event → Connected → Type 0
+Tells old (Some (event.Served delivery)) new = old ≡ with_host new (record (new.speaker.host) { deliveries = delivery ∷ new.speaker.host.deliveries })
+Tells old (Some (event.Ended call)) new =
+    (old.speaker.host.deliveries ≡ []) × (old ≡ with_host new (record (new.speaker.host) { ended = call ∷ new.speaker.host.ended }))
+Tells old (Some (event.Down number)) new =
+    (old.speaker.host.deliveries ≡ []) × (old.speaker.host.ended ≡ []) × (old.told ≡ false) × (down old ≡ Some number) × (new ≡ record old { told = true })
+Tells old None new =
+    (old.speaker.host.deliveries ≡ []) × (old.speaker.host.ended ≡ []) × ((old.told ≡ true) ⊎ (down old ≡ None)) × (new ≡ old)

@@ -1,0 +1,139 @@
+//! A vat that speaks with another by bytes.
+ghost use Rattle.std.specs.Prelude.{◌≡◌, ◌⊎◌, IfOk, IfErr, not, length, ◌==◌, ◌||◌};
+ghost use Rattle.vat_host.specs.Hosting.{Does, Refuses};
+ghost use Rattle.vat_connection.specs.Calling.{Fits, IsTooLarge};
+ghost use Rattle.vat_connection.specs.Connecting.{Connected, Finishes, Gives, Receives, Tells, with_host, fresh};
+
+use crate::event::Event;
+use crate::hearing::hear_all;
+use crate::speaker::Speaker;
+use rpc_msg::{Memory, ObjectId, Vat};
+use rpc_stream::FrameReader;
+use std::alloc::Global;
+use std::marker::Model;
+use vat_host::{Core, Refused};
+use vat_machine::{Command, Granted, Level};
+
+/// The number with which a vat goes down where the stream ends between two frames.
+const ENDED: u16 = 0;
+
+/// A vat that speaks with another by bytes. It does no input and output of its own: what comes from the peer is handed to
+/// `received`, and what `outgoing` gives is to be sent.
+#[derive(Drop)]
+pub struct Connection {
+    pub(crate) speaker: Speaker,
+    reader: FrameReader,
+    told: bool,
+    alloc: Global,
+}
+
+impl Model for Connection {
+    ghost use Rattle.vat_connection.specs.Connecting.{Connected, connected_code};
+    ghost use Rattle.vat_connection.specs.Hearing.{Waits, held_of};
+
+    ghost Value = { Connected };
+
+    ghost coded = { connected_code };
+
+    ghost view = { λ a. record { speaker = a.speaker; waiting = held_of a.reader; told = a.told } };
+
+    ghost invariant = { λ a. Waits a.reader };
+}
+
+impl Connection {
+    /// A new vat, of that level and with that bootstrap object if it has one, of whose stream nothing has come. `Memory` where
+    /// the memory of its Abort was refused.
+    pub fn new(
+        alloc: Global,
+        vat: Vat,
+        level: Level,
+        bootstrap: Option<ObjectId>,
+    ) -> Result<Connection, Memory>
+        ensures { IfOk result (λ connection. connection ≡ fresh vat level bootstrap) }
+    {
+        let speaker = Speaker::new(alloc, vat, level, bootstrap)?;
+        Ok(Connection {
+            speaker,
+            reader: FrameReader::new(alloc),
+            told: false,
+            alloc,
+        })
+    }
+
+    /// Its core, to be asked.
+    pub fn core(&self) -> &Core
+        ensures { result.now ≡ self.now.speaker.host.core }
+    {
+        self.speaker.host.core()
+    }
+
+    /// Takes bytes of the peer, in any pieces: the vat hears each frame that is whole now, in order, and the rest waits. What
+    /// is no frame, or a frame that is at fault, takes the vat down with the fault's number, and want of memory with 33. A vat
+    /// that is down drops what comes.
+    pub fn received(&mut self, bytes: &[u8])
+        ensures { Receives self.old bytes.now self.new }
+    {
+        if self.speaker.is_down() {
+            return;
+        }
+        hear_all(&mut self.speaker, &mut self.reader, self.alloc, bytes);
+    }
+
+    /// The peer's stream has ended: takes a vat that is up down, with 0, or inside a frame with 2.
+    pub fn ended(&mut self)
+        ensures { Finishes self.old self.new }
+    {
+        let number = match self.reader.ended() {
+            Ok(()) => ENDED,
+            Err(fault) => fault.code(),
+        };
+        self.speaker.fall(number);
+    }
+
+    /// Whether anything is to be sent.
+    pub fn has_outgoing(&self) -> bool
+        ensures { result ≡ (not (length self.now.speaker.host.messages == 0) || not (length self.now.speaker.out.bytes == 0)) }
+    {
+        self.speaker.host.has_messages() || !self.speaker.out.bytes().is_empty()
+    }
+
+    /// Hands out the bytes that are to be sent to the peer, once: the frames of all messages that the vat has said by now.
+    /// Where a message has no frame, or memory is wanting for it, the vat goes down with 33, and of what it said from there on
+    /// an Abort alone is sent. After that of a vat that is down nothing more is.
+    pub fn outgoing(&mut self) -> Vec<u8>
+        ensures { Gives self.old result.items self.new }
+    {
+        self.speaker.say();
+        self.speaker.take_bytes()
+    }
+
+    /// What there is to tell, the oldest first: the calls to be served, then the own calls that ended, then once that the vat is
+    /// down.
+    pub fn next_event(&mut self) -> Option<Event>
+        ensures { Tells self.old result self.new }
+    {
+        if let Some(delivery) = self.speaker.host.next_delivery() {
+            return Some(Event::Served(delivery));
+        }
+        if let Some(ended) = self.speaker.host.next_ended() {
+            return Some(Event::Ended(ended));
+        }
+        if self.told {
+            return None;
+        }
+        let number = self.speaker.host.core().down()?;
+        self.told = true;
+        Some(Event::Down(number))
+    }
+
+    /// Takes a command of any kind, as `Host::command` does. Refused with `Full` too, where what it gives may be too large for
+    /// the frames that carry it (docs/messages.md, "What fits"). A command that is refused is handed back.
+    pub fn command(&mut self, command: Command) -> Result<Granted, Refused<Command>>
+        ensures done { IfOk result (λ granted. Does self.old.speaker.host command granted self.new.speaker.host × Fits command) }
+        ensures refused { IfErr result (λ e. Refuses self.old.speaker.host command e.refusal self.new.speaker.host ⊎ IsTooLarge self.old.speaker.host e.refusal self.new.speaker.host) }
+        ensures handed_back { IfErr result (λ e. e.back ≡ command) }
+        ensures rest { self.new ≡ with_host self.old self.new.speaker.host }
+    {
+        self.speaker.command(command)
+    }
+}

@@ -1,0 +1,14 @@
+//! What an application is told.
+
+use vat_journal::{Delivery, Ended};
+
+/// What an application is told of its vat.
+#[derive(Drop)]
+pub enum Event {
+    /// A call is to be served.
+    Served(Delivery),
+    /// An own call has ended.
+    Ended(Ended),
+    /// The vat went down, with that number. No call that has not ended ends any more.
+    Down(u16),
+}

@@ -1,0 +1,21 @@
+//! A vat that speaks with another by bytes, without input or output of its own (docs/embedding.md, "Over bytes"): the bytes of
+//! the peer are handed to it in any pieces, and the bytes for the peer are taken from it.
+//!
+//! - `connection.rt`: `Connection`, a vat with the streams of both directions, and what is told of it. `asks.rt`: calls.
+//! - `speaker.rt`: a vat with the bytes that it says. It hears frame by frame, and what it says becomes frames.
+//! - `hearing.rt`: the bytes that come become frames, and the vat hears each.
+//! - `event.rt`: what an application is told. `laws.rt`: that pieces do not matter, as a contract of a function that does nothing.
+//!
+//! Contracts see a connection as `Connected` (`specs/Connecting.antt`).
+#![tactic(auto)]
+
+mod asks;
+mod connection;
+mod event;
+mod hearing;
+mod laws;
+mod speaker;
+
+pub use connection::Connection;
+pub use event::Event;
+pub use laws::pieces_are_one;

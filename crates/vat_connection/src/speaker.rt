@@ -1,0 +1,220 @@
+//! A vat with the bytes that it says.
+ghost use Rattle.std.specs.Prelude.{◌≡◌, ◌⊎◌, Ok, Err, IfOk, IfErr, OnOk, is_some};
+ghost use Rattle.vat_machine.specs.declared.command.Command.TheVariants as command;
+ghost use Rattle.vat_machine.specs.declared.command.Refusal.TheVariants as refusal;
+ghost use Rattle.vat_machine.specs.State.{start};
+ghost use Rattle.vat_host.specs.Hosting.{Does, Refuses, idle, is_abort};
+ghost use Rattle.rpc_frames.specs.Outflows.{nothing_out};
+ghost use Rattle.vat_connection.specs.Calling.{Calls, Fits, IsTooLarge, call_of};
+ghost use Rattle.vat_connection.specs.Speaking.{Falls, Goes, HearsFrame, Passes, PassesOne, Says, given};
+
+use rpc_fits::fits_envelope;
+use rpc_frames::{Arrival, Outgoing, arrival_of};
+use rpc_msg::{CallId, Memory, Message, ObjectId, PlainMessage, RefId, Stamp, Vat};
+use std::alloc::Global;
+use std::marker::Model;
+use vat_host::{Host, Refused};
+use vat_machine::{CallCommand, Command, Granted, Level, Refusal};
+
+/// The fault of a vat that found no room, or no memory.
+pub(crate) const WANT_OF_ROOM: u16 = 33;
+
+/// A vat, the bytes that it says, and how many frames it has heard.
+#[derive(Drop)]
+pub(crate) struct Speaker {
+    pub(crate) host: Host,
+    pub(crate) out: Outgoing,
+    heard: u64,
+    alloc: Global,
+}
+
+impl Model for Speaker {
+    ghost use Rattle.vat_connection.specs.Speaking.{Speaking, speaking_code};
+
+    ghost Value = { Speaking };
+
+    ghost coded = { speaking_code };
+
+    ghost view = { λ a. record { host = a.host; out = a.out; heard = a.heard } };
+}
+
+impl Speaker {
+    /// A new vat that has heard and said nothing.
+    pub(crate) fn new(
+        alloc: Global,
+        vat: Vat,
+        level: Level,
+        bootstrap: Option<ObjectId>,
+    ) -> Result<Speaker, Memory>
+        ensures { IfOk result (λ speaker. speaker ≡ record { host = idle (start vat level bootstrap); out = nothing_out; heard = 0 }) }
+    {
+        let host = Host::new(alloc, vat, level, bootstrap)?;
+        Ok(Speaker {
+            host,
+            out: Outgoing::new(alloc),
+            heard: 0,
+            alloc,
+        })
+    }
+
+    pub(crate) fn is_down(&self) -> bool
+        ensures { result ≡ is_some self.now.host.core.down }
+    {
+        self.host.core().down().is_some()
+    }
+
+    /// Takes the vat down with that number, if it is up.
+    pub(crate) fn fall(&mut self, number: u16)
+        ensures { Falls self.old number self.new }
+    {
+        self.host.shut(number);
+    }
+
+    /// Takes a command of any kind, unless what it gives may be too large for the frames that carry it.
+    pub(crate) fn command(&mut self, command: Command) -> Result<Granted, Refused<Command>>
+        ensures done { IfOk result (λ granted. Does self.old.host command granted self.new.host × Fits command) }
+        ensures refused { IfErr result (λ e. Refuses self.old.host command e.refusal self.new.host ⊎ IsTooLarge self.old.host e.refusal self.new.host) }
+        ensures handed_back { IfErr result (λ e. e.back ≡ command) }
+        ensures rest { self.new ≡ record self.old { host = self.new.host } }
+    {
+        if !fits_envelope(&command) {
+            return Err(Refused {
+                refusal: Refusal::Full,
+                back: command,
+            });
+        }
+        match self.host.command(command) {
+            Ok(granted) => return Ok(granted),
+            Err(refused) => return Err(refused),
+        }
+    }
+
+    /// Makes a call, unless what it gives may be too large for the frames that carry it. Its reference takes the shorter path
+    /// before, if one is known.
+    pub(crate) fn call(&mut self, call: CallCommand) -> Result<CallId, Refused<CallCommand>>
+        ensures done { IfOk result (λ id. Calls self.old.host call (Ok id) self.new.host × Fits (command.Call call)) }
+        ensures refused { IfErr result (λ e. Calls self.old.host call (Err e.refusal) self.new.host ⊎ IsTooLarge self.old.host e.refusal self.new.host) }
+        ensures handed_back { IfErr result (λ e. e.back ≡ call) }
+        ensures rest { self.new ≡ record self.old { host = self.new.host } }
+    {
+        let call = match fitting(call) {
+            Ok(call) => call,
+            Err(refused) => return Err(refused),
+        };
+        let _ = self.host.advance(call.reference);
+        self.host.call(call)
+    }
+
+    /// Hears what a frame says, and keeps the frame that sends it back if it is not understood. A fault takes the vat down with
+    /// its number, and want of memory with 33.
+    pub(crate) fn hear(&mut self, frame: &[u8])
+        ensures { HearsFrame self.old frame.now self.new }
+    {
+        let stamp = Stamp {
+            vat: self.host.core().vat().other(),
+            reference: RefId(self.heard),
+            index: 0,
+        };
+        let Some(heard) = self.heard.checked_add(1) else {
+            return self.host.shut(WANT_OF_ROOM);
+        };
+        let arrival = match arrival_of(self.alloc, frame, stamp) {
+            Ok(arrival) => arrival,
+            Err(number) => return self.host.shut(number),
+        };
+        let Arrival { message, echo } = arrival;
+        let Ok(()) = self.out.keep(echo) else {
+            return self.host.shut(WANT_OF_ROOM);
+        };
+        self.heard = heard;
+        self.host.receive(message);
+    }
+
+    /// Hands out the bytes, once. Takes no memory.
+    pub(crate) fn take_bytes(&mut self) -> Vec<u8>
+        ensures taken { result.items ≡ self.old.out.bytes }
+        ensures left { self.new ≡ given self.old }
+    {
+        self.out.take()
+    }
+
+    /// Puts the frames of all messages that the vat has to send behind the bytes. Where one has no frame, or memory is wanting
+    /// for it, the vat goes down with 33, and of those behind it none is put but an Abort.
+    pub(crate) fn say(&mut self)
+        ensures { Says self.old self.new }
+    {
+        while let Some(message) = self.host.next_message() {
+            if !put(&mut self.out, message) {
+                self.host.shut(WANT_OF_ROOM);
+                return self.say_abort();
+            }
+        }
+    }
+
+    // Of what the vat has to send, an Abort alone is put.
+    #[cold]
+    #[inline(never)]
+    fn say_abort(&mut self)
+        ensures { Passes self.old self.new }
+    {
+        while let Some(message) = self.host.next_message() {
+            put_abort(&mut self.out, message);
+        }
+    }
+}
+
+fn call_in(command: Command) -> Option<CallCommand>
+    ensures { result ≡ call_of command }
+{
+    match command {
+        Command::Call(call) => Some(call),
+        _other => None,
+    }
+}
+
+// A call whose payload fits into each frame that carries it; else it is handed back.
+fn fitting(call: CallCommand) -> Result<CallCommand, Refused<CallCommand>>
+    ensures same { IfOk result (λ same. same ≡ call) }
+    ensures fits { OnOk result (Fits (command.Call call)) }
+    ensures refused { IfErr result (λ e. e.refusal ≡ refusal.Full) }
+    ensures handed_back { IfErr result (λ e. e.back ≡ call) }
+{
+    let command = Command::Call(call);
+    let fits = fits_envelope(&command);
+    let Some(call) = call_in(command) else {
+        unreachable!()
+    };
+    if fits {
+        return Ok(call);
+    }
+    Err(Refused {
+        refusal: Refusal::Full,
+        back: call,
+    })
+}
+
+// Puts the frame of a message behind the bytes, and says whether it could.
+fn put(out: &mut Outgoing, message: Message) -> bool
+    ensures { Goes result out.old message out.new }
+{
+    match out.write(&message) {
+        Ok(()) => return true,
+        Err(_) => return false,
+    }
+}
+
+// Puts the frame of an Abort, if it can, and of no other message.
+fn put_abort(out: &mut Outgoing, message: Message)
+    ensures { PassesOne (is_abort message) out.old message out.new }
+{
+    if is_abort(&message) {
+        let _ = put(out, message);
+        return;
+    }
+}
+
+fn is_abort(message: &Message) -> bool
+    ensures { result ≡ is_abort message.now }
+{
+    matches!(message, Message::Plain(PlainMessage::Abort(_)))
+}

@@ -1,0 +1,4 @@
+mod Doing
+mod Falling
+mod Going
+mod Waiting

@@ -1,0 +1,29 @@
+use Rattle.std.proofs.Common.{refl}
+use Rattle.vat_machine.specs.Steps.{Shuts}
+use Rattle.vat_host.proofs.Doing.{kept, obeyed, refuses}
+use Rattle.vat_host.proofs.host.Host.command.Goals as goal
+
+pub returns-in-Shut : goal.returns-in-Shut
+returns-in-Shut c = (c.shut.ensures.0, Shuts c.in-Shut.number c.in-Shut.is refl c.shut.ensures.1, c.shut.ensures.2)
+
+pub returns-in-Done : goal.returns-in-Done
+returns-in-Done c = (
+  c.in-Done.effects,
+  obeyed c.args.self.now c.self.inside.core c.command.new.self c.args.command c.in-Done.granted c.in-Done.effects
+      c.self.inside.kept.messages.0 c.self.inside.kept.deliveries.0 c.self.inside.kept.ended.0 c.self.view_is c.in-Done.ensures.obeys,
+  kept c.args.self.now c.self.inside.core c.command.new.self c.in-Done.effects
+      c.self.inside.kept.messages.0 c.make_place.new.self.messages.0 c.keep.new.self.messages.0
+      c.self.inside.kept.deliveries.0 c.make_place.new.self.deliveries.0 c.keep.new.self.deliveries.0
+      c.self.inside.kept.ended.0 c.make_place.new.self.ended.0 c.keep.new.self.ended.0
+      c.self.view_is c.make_place.ensures.messages c.make_place.ensures.deliveries c.make_place.ensures.ended
+      c.keep.ensures.messages c.keep.ensures.deliveries c.keep.ensures.ended,
+)
+
+pub returns-in-Refused : goal.returns-in-Refused
+returns-in-Refused c = (
+  refuses c.args.self.now c.self.inside.core c.command.new.self c.args.command c.in-Refused.refusal
+      c.self.inside.kept.messages.0 c.make_place.new.self.messages.0 c.self.inside.kept.deliveries.0 c.make_place.new.self.deliveries.0 c.self.inside.kept.ended.0 c.make_place.new.self.ended.0
+      c.self.view_is c.make_place.ensures.messages c.make_place.ensures.deliveries c.make_place.ensures.ended
+      c.in-Refused.ensures.unchanged c.in-Refused.ensures.obeys,
+  c.in-Refused.ensures.handed_back,
+)

@@ -1,0 +1,77 @@
+ghost use Rattle.std.specs.Prelude.{◌≡◌, ◌++◌, ◌∷◌, [], ◌⊎◌, length, map, None, Some, Err, IfOk, IfErr, MatchOption, MatchResult};
+ghost use Rattle.std.specs.List.{range_with_len};
+ghost use Rattle.rpc_msg.specs.Payloads.{tree_of};
+ghost use Rattle.wire_trees.specs.Trees.{capability, list, packed, struct};
+ghost use Rattle.wire_trees.specs.Views.{view, held, trees_view};
+ghost use Rattle.wire_trees.specs.Writable.{refusal};
+ghost use Rattle.wire_trees.specs.declared.faults.WriteFault.TheVariants as write_faults;
+ghost use Rattle.vat_payloads.specs.Contents.{AreFound, fault_of, said};
+
+use rpc_msg::{Items, Payload, Pointers, RefId, Tree};
+use std::alloc::Global;
+use wire_trees::WriteFault;
+
+// So many capabilities have a pointer each beside that of the text.
+const MOST_CAPS: usize = 65_534;
+
+/// What a call or an answer carries that says some numbers, a text, and some capabilities: a struct whose data words are
+/// the numbers, with the text as its pointer 0 and the capabilities as its pointers 1, 2 and so on; and the references that
+/// go with it, in their order. Refused with `TooLarge` where it has more than 65,534 references or 65,535 numbers, or would
+/// take more than 65,536 words, and with `Memory` where a growth was refused.
+pub fn contents(
+    alloc: Global,
+    numbers: &[u64],
+    text: &str,
+    refs: &[RefId],
+) -> Result<(Payload, Items<RefId>), WriteFault>
+    ensures said { IfOk result (λ made. tree_of made.0 ≡ said numbers.now text.now (length refs.now)) }
+    ensures caps { IfOk result (λ made. made.0.caps ≡ length refs.now) }
+    ensures refs { IfOk result (λ made. made.1 ≡ refs.now) }
+    ensures found { IfOk result (λ made. AreFound made.0 made.1 refs.now) }
+    ensures fault { MatchResult result (λ _. fault_of numbers.now text.now (length refs.now) ≡ None)
+        (λ e. (e ≡ write_faults.Memory) ⊎ (fault_of numbers.now text.now (length refs.now) ≡ Some e)) }
+{
+    if refs.len() > MOST_CAPS {
+        return Err(WriteFault::TooLarge);
+    }
+    let caps = refs.len() as u32;
+    let given = Vec::from_slice(alloc, refs)?;
+    let pointers = pointers_to(alloc, text, caps)?;
+    let words = Vec::from_slice(alloc, numbers)?;
+    let payload = write_struct(alloc, words, pointers, caps)?;
+    Ok((payload, Items::from_vec(given)))
+}
+
+// Apart, since a tree is let go at each exit.
+fn write_struct(
+    alloc: Global,
+    words: Vec<u64>,
+    pointers: Pointers,
+    caps: u32,
+) -> Result<Payload, WriteFault>
+    ensures caps { IfOk result (λ payload. payload.caps ≡ caps) }
+    ensures tree { IfOk result (λ payload. tree_of payload ≡ struct words.items (trees_view (held pointers))) }
+    ensures refused { MatchOption (refusal (struct words.items (trees_view (held pointers))) caps) (IfErr result (λ e. e ≡ write_faults.Memory)) (λ fault. result ≡ Err fault) }
+{
+    let tree = Tree::Struct { words, pointers };
+    Payload::write(alloc, &tree, caps)
+}
+
+// A pointer to the text, and one to each of so many capabilities.
+fn pointers_to(alloc: Global, text: &str, caps: u32) -> Result<Pointers, WriteFault>
+    ensures made { IfOk result (λ pointers. map view (held pointers) ≡ list (packed 8 (text.now ++ 0 ∷ [])) ∷ map capability (range_with_len 0 caps)) }
+    ensures memory { IfErr result (λ e. e ≡ write_faults.Memory) }
+{
+    let mut pointers = Pointers::new(alloc);
+    pointers.push(Tree::text(alloc, text)?)?;
+    for index in 0..caps {
+        pointers.push(capability(index))?;
+    }
+    Ok(pointers)
+}
+
+fn capability(index: u32) -> Tree
+    ensures { view result ≡ capability index }
+{
+    Tree::Cap(index)
+}
