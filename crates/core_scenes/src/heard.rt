@@ -1,5 +1,6 @@
 //! Messages of a peer that needn't be honest, in the words in which messages are told (`told.rt`). A payload is null where no
-//! capability is named, and else a struct whose only pointer is capability 0, whose descriptor is the first.
+//! capability is named, and else a struct whose only pointer is capability 0, whose descriptor is the first; the others go
+//! with it and stand nowhere in it.
 
 use anyhow::{Result, bail};
 use rpc_msg::{
@@ -129,21 +130,32 @@ fn contents(alloc: Global, words: &[&str]) -> Result<(Payload, Items<Descriptor>
             let descriptors = Vec::from_slice(alloc, &[Descriptor::None])?;
             Ok((Payload::null(alloc)?, Items::from_vec(descriptors)))
         }
-        [kind, number] => {
-            let descriptors = Vec::from_slice(alloc, &[descriptor(kind, number)?])?;
-            let payload = Payload::read(alloc, &GIVEN, 1)?;
+        words => {
+            let descriptors = descriptors(alloc, words)?;
+            let payload = Payload::read(alloc, &GIVEN, u32::try_from(descriptors.len())?)?;
             Ok((payload, Items::from_vec(descriptors)))
         }
-        _ => bail!("no payload"),
     }
 }
 
+fn descriptors(alloc: Global, words: &[&str]) -> Result<Vec<Descriptor>> {
+    let mut read = Vec::new(alloc);
+    for pair in words.chunks(2) {
+        let [kind, number] = pair else {
+            bail!("no descriptor");
+        };
+        read.push(descriptor(kind, number)?)?;
+    }
+    Ok(read)
+}
+
 fn descriptor(kind: &str, number: &str) -> Result<Descriptor> {
-    let export = ExportId(number.parse()?);
+    let number: u32 = number.parse()?;
     match kind {
-        "senderHosted" => Ok(Descriptor::SenderHosted(export)),
-        "senderPromise" => Ok(Descriptor::SenderPromise(export)),
-        "receiverHosted" => Ok(Descriptor::ReceiverHosted(export)),
+        "senderHosted" => Ok(Descriptor::SenderHosted(ExportId(number))),
+        "senderPromise" => Ok(Descriptor::SenderPromise(ExportId(number))),
+        "receiverHosted" => Ok(Descriptor::ReceiverHosted(ExportId(number))),
+        "receiverAnswer" => Ok(Descriptor::ReceiverAnswer(QuestionId(number), Path::root())),
         _ => bail!("no descriptor"),
     }
 }

@@ -5,6 +5,9 @@
 //! message that its peer needn't have sent (`heard.rt`). `b reject p overloaded busy` breaks a promise, and `a fail 0 failed
 //! x` fails a task, with that exception and not with that of a script. `100 times ..` plays a line so often, with the number
 //! of the turn for a `$`, and tells what is said at the last. All else are lines of a script (docs/script.md).
+//!
+//! `scene.rt` plays the lines, `told.rt` writes what is said (in the words of `journal_words`), `heard.rt` makes the
+//! messages of the peer.
 #![tactic(auto)]
 
 mod heard;

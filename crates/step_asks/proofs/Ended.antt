@@ -13,7 +13,7 @@ use Rattle.vat_machine.specs.Collecting.{IsLooseOutcome, CallerIsDone}
 use Rattle.vat_machine.specs.Progress.{Progress}
 use Rattle.vat_machine.specs.Settling.{known}
 use Rattle.laws_acts.proofs.Promises.{outcome_known}
-use Rattle.step_sweeps.specs.Thinking.{IsQuiet}
+use Rattle.step_ends.specs.Thinking.{IsQuiet}
 use Rattle.step_calls.specs.AtOnce.{EndsAtOnce, HasEnded}
 use Rattle.step_ends.proofs.Quietly.{quiet_behind}
 

@@ -18,8 +18,8 @@ use Rattle.laws_steps.proofs.Among.{named, in_refs}
 use Rattle.laws_steps.proofs.LeadsOn.{there_where_it_settles}
 use Rattle.laws_nodes.specs.Settling.{AllStop, Settling}
 use Rattle.laws_nodes.specs.Embargoes.{ArePaired, HasIts, IsOf, embargo_of}
-use Rattle.step_routes.specs.Fitting.{IsOpenThere}
-use Rattle.step_routes.specs.Prepared.{reason_limit}
+use Rattle.step_calls.specs.Fitting.{IsOpenThere}
+use Rattle.step_calls.specs.Prepared.{reason_limit}
 use Rattle.step_asks.specs.Calling.{broken_by, broken_through, broken_at}
 use Rattle.step_calls.specs.Ways.{GoesThrough, GoesBy, GoesSomewhere}
 use Rattle.laws_steps.proofs.Reached.{own_there}

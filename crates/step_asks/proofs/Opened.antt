@@ -25,7 +25,7 @@ use Rattle.vat_machine.specs.Steps.{Obeys}
 use Rattle.laws_acts.proofs.Promises.{promise_opens}
 use Rattle.laws_acts.proofs.Questions.{question_asked}
 use Rattle.vat_store.specs.Holding.{IsFresh}
-use Rattle.step_sweeps.specs.Thinking.{IsQuiet}
+use Rattle.step_ends.specs.Thinking.{IsQuiet}
 use Rattle.step_ends.proofs.Quietly.{quiet_behind, done_quietly, calm_with_ref}
 
 -- ---- A promise

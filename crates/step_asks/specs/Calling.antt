@@ -17,7 +17,7 @@ use Rattle.vat_machine.specs.Nodes.{settle}
 use Rattle.vat_machine.specs.Progress.{Progress, begin}
 use Rattle.vat_machine.specs.Commands.{Acts}
 use Rattle.vat_machine.specs.Settling.{Drains}
-use Rattle.step_routes.specs.Prepared.{reason_limit, IsPrepared}
+use Rattle.step_calls.specs.Prepared.{reason_limit, IsPrepared}
 use Rattle.step_calls.specs.AtOnce.{EndsAtOnce}
 use Rattle.step_asks.specs.declared.calling.Provided.{Provided}
 

@@ -10,7 +10,7 @@ ghost use Rattle.laws_steps.specs.NodesThere.{IsReached};
 ghost use Rattle.vat_store.specs.Holding.{state_of, IsSound};
 ghost use Rattle.vat_store.specs.Noted.{noted_of, nothing_noted};
 ghost use Rattle.step_base.specs.InProgress.{progress_of, IsReady};
-ghost use Rattle.step_sweeps.specs.Thinking.{IsQuiet};
+ghost use Rattle.step_ends.specs.Thinking.{IsQuiet};
 ghost use Rattle.step_ends.specs.Whole.{IsResting, Tries};
 ghost use Rattle.step_asks.specs.Calling.{broken_at, told_of, EndsIf, IsMade, IsProvided};
 
@@ -19,10 +19,8 @@ use laws_steps::nodes_are_there;
 use rpc_msg::{CallId, Exception, Memory, RefId};
 use std::alloc::Global;
 use step_base::Step;
-use step_calls::{call_kept, settle_ended};
-use step_ends::{Machine, begin_quietly};
-use step_routes::{Lists, exception_of};
-use step_sweeps::sweep;
+use step_calls::{Lists, call_kept, exception_of, settle_ended};
+use step_ends::{Machine, begin_quietly, sweep};
 use vat_machine::{CallCommand, Effects, Node, Reason};
 use vat_store::{Store, settle};
 

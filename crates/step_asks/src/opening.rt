@@ -7,8 +7,7 @@ ghost use Rattle.vat_store.specs.Holding.{state_of};
 ghost use Rattle.step_ends.specs.Whole.{IsResting, Tries};
 
 use rpc_msg::{CallId, Memory, PromiseId, RefId};
-use step_ends::{Machine, begin_quietly, end_silently};
-use step_sweeps::sweep;
+use step_ends::{Machine, begin_quietly, end_silently, sweep};
 use vat_machine::Effects;
 
 /// Makes a promise that is open, and a reference to it, where that is not refused, and says nothing. `Err` for want of
@@ -20,7 +19,7 @@ pub fn promise(machine: &mut Machine) -> Result<(PromiseId, RefId), Memory>
     ensures resting { IsResting machine.new }
 {
     begin_quietly(&mut machine.step, 3)?;
-    let made = step_commands::promise(&mut machine.step);
+    let made = step_ends::promise(&mut machine.step);
     end_silently(&mut machine.step);
     Ok(made)
 }
@@ -34,7 +33,7 @@ pub fn bootstrap(machine: &mut Machine) -> Result<(CallId, Effects), Memory>
     ensures resting { IsResting machine.new }
 {
     begin_quietly(&mut machine.step, 2)?;
-    let call = step_commands::bootstrap(&mut machine.step, machine.alloc);
+    let call = step_ends::bootstrap(&mut machine.step, machine.alloc);
     let Ok(effects) = sweep(&mut machine.step, &mut machine.thought) else {
         unreachable!()
     };

@@ -7,8 +7,7 @@ ghost use Rattle.step_ends.specs.Whole.{IsResting, Tries};
 
 use rpc_msg::CallId;
 use step_calls::StraightCall;
-use step_ends::{Machine, begin_quietly};
-use step_sweeps::sweep;
+use step_ends::{Machine, begin_quietly, sweep};
 use vat_machine::{CallCommand, Effects};
 
 /// Makes a call that goes to an import at once, as `call` does.

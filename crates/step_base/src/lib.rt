@@ -1,4 +1,13 @@
 //! A step of a vat in progress: what the vat holds, what was said so far, and the outcomes that are still to be settled.
+//!
+//! - `step.rt`: `Step`: its store, its outbox, and the outcomes that arose and are to be settled (`arisen.rt`).
+//! - `room.rt`: begins a step with room, and makes more.
+//! - `says.rt`: says what a step says.
+//!
+//! `progress_of` of `specs/InProgress` is what the machine sees of a step. `IsReady` is what holds of its parts together
+//! while it goes on: the store is sound; what is said and what arises has as much room as the store has slack, so that the
+//! slack is the one number of room; each question has room for its Finish and each import for its Release, so that the end
+//! of a step takes no memory.
 #![tactic(auto)]
 
 mod arisen;

@@ -1,3 +1,5 @@
 pub mod Ways
 pub mod AtOnce
 pub mod Straight
+pub use Rattle.step_routes.specs.Prepared
+pub use Rattle.step_routes.specs.Fitting

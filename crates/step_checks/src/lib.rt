@@ -1,5 +1,30 @@
 //! The checks of commands and of received messages: what a command is refused with, and which fault a message is. Nothing
 //! here takes memory or changes anything.
+//!
+//! - `refusals.rt`, `calls.rt`, `advancing.rt`: a `check_..` for each command: `Ok` where the machine refuses nothing, else
+//!   its refusal. `leading.rt`: where the references of a command lead. `exports.rt`: whether there is room for what a call
+//!   passes.
+//! - `faults.rt`: a function for each kind of message; `received.rt` those over any message.
+//! - `descriptors.rt`: one descriptor, and one id that is given back. `known.rt`: what is known of a wire.
+//! - `laws.rt`: that the parts of a check together are the machine's.
+//!
+//! What a peer may make long is not looked at twice. The machine looks at each descriptor with those before it in mind, and
+//! counts each id of a flag among all of them; both would be quadratic in code that takes no memory. So a message is
+//! checked in four parts (`specs/Parts`), and `laws.rt` proves that the first fault of the parts is the machine's:
+//!
+//! - `fault_before`: what comes before the descriptors; the whole fault of a Bootstrap, Resolve, Release or Disembargo:
+//!   this crate.
+//! - the descriptors: `fault_of_descriptor`, at each one where those before it were taken (`descriptors_in_turn`).
+//! - `fault_behind`: a call that would wait where no more may: this crate; the same before and after the descriptors are
+//!   taken.
+//! - the ids of a flag: `fault_of_one`, at each one where those before it were given back (`flags_in_turn`).
+//!
+//! A fault takes the vat down, so nothing has to be undone where the walk over descriptors or ids ends early.
+//!
+//! `check_call_whole` looks its reference up once, and then at all that a call is refused with but for the room in the
+//! exports, which comes last (`calls_are_refused`; `check_call_exports` of `exports.rt` looks at that). In no memory: each
+//! reference that goes out is compared with those before it, but where the table and all counts are far from their limits
+//! each is looked up once. Where the calls that wait are counted, none may be taken out to be routed.
 #![tactic(auto)]
 
 mod advancing;

@@ -1,5 +1,5 @@
 -- The ids that descriptors give, one descriptor after the other.
-use Rattle.std.proofs.Common.{◌≡◌, ℕ, ◌+◌, ◌<◌, Bool, true, false, not, ◌&&◌, zero, suc, List, [], ◌∷◌, ◌++◌, append_assoc, length, get_or, Option, None, Some, refl, sym, ap, ◌∙◌, arith}
+use Rattle.std.proofs.Common.{◌≡◌, ℕ, ◌+◌, ◌<◌, ◌≤◌, Bool, true, false, not, ◌&&◌, zero, suc, List, [], ◌∷◌, ◌++◌, append_assoc, length, take, get_or, Option, None, Some, refl, sym, ap, ◌∙◌, arith}
 use Rattle.std.specs.Prelude.{is_some, option_to_list}
 use Rattle.std.specs.List.{list_all}
 use Rattle.std.specs.FinMap as map
@@ -83,6 +83,23 @@ pub one_got_fails : (test : ℕ → Bool) (cs : List (Descriptor × Node)) (i : 
 one_got_fails test [] i none lt h = absurd (omega (arith, lt))
 one_got_fails test (x ∷ cs) zero none lt h = first_all test x cs ∙ and_first (list_all test (got_by x.0)) (list_all test (got cs)) h
 one_got_fails test (x ∷ cs) (suc i) none lt h = first_all test x cs ∙ and_second (list_all test (got_by x.0)) (list_all test (got cs)) (one_got_fails test cs i none (omega (arith, lt)) h)
+
+got_left : (a b : Bool) → (a && b) ≡ true → a ≡ true
+got_left true b so = refl
+got_left false b so = so
+
+got_right : (a b : Bool) → (a && b) ≡ true → b ≡ true
+got_right true b so = so
+got_right false b so = absurd (let e : false ≡ true = so in cc)
+
+-- What stands among those that pass passes.
+pub stands_passes_got : (test : ℕ → Bool) (cs : List (Descriptor × Node)) (i k : ℕ) (c : Descriptor × Node) → i ≤ length cs → k < i → c ≡ get_or cs k c → list_all test (got (take i cs)) ≡ true → list_all test (got_by c.0) ≡ true
+stands_passes_got test [] i k c within lt is all = absurd (omega (arith, within, lt))
+stands_passes_got test (x ∷ cs) zero k c within lt is all = absurd (omega (arith, lt))
+stands_passes_got test (x ∷ cs) (suc i) zero c within lt is all =
+    ap (λ (y : Descriptor × Node). list_all test (got_by y.0)) is ∙ got_left (list_all test (got_by x.0)) (list_all test (got (take i cs))) (sym (first_all test x (take i cs)) ∙ all)
+stands_passes_got test (x ∷ cs) (suc i) (suc k) c within lt is all =
+    stands_passes_got test cs i k c (omega (arith, within)) (omega (arith, lt)) is (got_right (list_all test (got_by x.0)) (list_all test (got (take i cs))) (sym (first_all test x (take i cs)) ∙ all))
 
 and_true : (b : Bool) → (b && true) ≡ b
 and_true true = refl

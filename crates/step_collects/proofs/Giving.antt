@@ -1,5 +1,5 @@
 -- One more id, at the end of a list.
-use Rattle.std.proofs.Common.{◌≡◌, ℕ, ◌+◌, ◌≤◌, ◌<◌, Bool, true, false, ◌&&◌, cond, zero, suc, List, [], ◌∷◌, ◌++◌, length, get_or, refl, sym, ap, ◌∙◌, arith}
+use Rattle.std.proofs.Common.{◌≡◌, ℕ, ◌+◌, ◌≤◌, ◌<◌, Bool, true, false, ◌&&◌, cond, zero, suc, List, [], ◌∷◌, ◌++◌, length, take, get_or, refl, sym, ap, ◌∙◌, arith}
 use Rattle.std.specs.Bool.{◌==◌}
 use Rattle.std.specs.List.{list_all}
 use Rattle.std.specs.FinMap as map
@@ -50,6 +50,21 @@ one_fails test (x ∷ es) (suc i) none lt h = both (test x.0) (list_all test (nu
   both : (a b : Bool) → b ≡ false → (a && b) ≡ false
   both true b g = g
   both false b g = refl
+
+and_left : (a b : Bool) → (a && b) ≡ true → a ≡ true
+and_left true b so = refl
+and_left false b so = so
+
+and_right : (a b : Bool) → (a && b) ≡ true → b ≡ true
+and_right true b so = so
+and_right false b so = absurd (let e : false ≡ true = so in cc)
+
+-- An id that stands among those that pass passes.
+pub stands_passes : (test : ℕ → Bool) (es : List ExportId) (i k : ℕ) (none : ExportId) → i ≤ length es → k < i → list_all test (numbers (take i es)) ≡ true → test ((get_or es k none).0) ≡ true
+stands_passes test [] i k none within lt all = absurd (omega (arith, within, lt))
+stands_passes test (x ∷ es) zero k none within lt all = absurd (omega (arith, lt))
+stands_passes test (x ∷ es) (suc i) zero none within lt all = and_left (test x.0) (list_all test (numbers (take i es))) all
+stands_passes test (x ∷ es) (suc i) (suc k) none within lt all = stands_passes test es i k none (omega (arith, within)) (omega (arith, lt)) (and_right (test x.0) (list_all test (numbers (take i es))) all)
 
 -- The flag of a level 1 vat for some ids.
 pub flagged : (s : State) (es : List ExportId) (b : Bool) → s.level ≡ One → (length es == 0) ≡ false → b ≡ list_all (is_spared s (numbers es)) (numbers es) → b ≡ flag_for s (numbers es)

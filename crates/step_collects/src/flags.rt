@@ -1,9 +1,10 @@
-ghost use Rattle.std.specs.Prelude.{◌≡◌, [], cond, nat_eq};
+ghost use Rattle.std.specs.Prelude.{◌≡◌, ◌≤◌, [], length, cond, nat_eq, IsTrue};
 ghost use Rattle.std.specs.List.{list_all};
 ghost use Rattle.std.specs.FinMap as map;
 ghost use Rattle.vat_machine.specs.Flags.{flag_for, give_back, give_each, is_spared, may_lose};
 ghost use Rattle.vat_machine.specs.Lists.{how_many};
 ghost use Rattle.vat_machine.specs.Progress.{numbers};
+ghost use Rattle.step_collects.specs.Standing.{StandsBefore};
 ghost use Rattle.vat_store.specs.Holding.{state_of, IsSound};
 
 use rpc_msg::ExportId;
@@ -12,8 +13,8 @@ use vat_machine::Level;
 use vat_store::Store;
 
 /// The release flag for descriptors of these ids, while their own place stands: there are some, and all may be given back.
-/// A level 0 vat always says true. Takes no memory. No call may be taken out to be routed. For each id it looks at all of
-/// them.
+/// A level 0 vat always says true. Takes no memory. No call may be taken out to be routed. It looks at all of them once for
+/// each id, however often that stands there, and for each place back to the last one of the same id.
 pub fn flag_for(store: &Store, ids: &[ExportId]) -> bool
     requires sound { IsSound store.now }
     requires none_taken { store.now.waits.taken ≡ [] }
@@ -30,12 +31,31 @@ fn all_spared(store: &Store, ids: &[ExportId]) -> bool
     requires none_taken { store.now.waits.taken ≡ [] }
     ensures { result ≡ list_all (is_spared (state_of store.now) (numbers ids.now)) (numbers ids.now) }
 {
-    for id in ids {
-        if !may_lose(store, *id, times_given(ids, *id)) {
+    for at in 0..ids.len() {
+        let id = ids[at];
+        if stands_before(ids, at, id) {
+            continue;
+        }
+        if !may_lose(store, id, times_given(ids, id)) {
             return false;
         }
     }
     true
+}
+
+// Whether the id stands before that place, looked for from there back.
+fn stands_before(ids: &[ExportId], place: usize, id: ExportId) -> bool
+    requires { place ≤ length ids.now }
+    ensures { IsTrue result → StandsBefore ids.now place id }
+{
+    let mut at = place;
+    while at > 0 {
+        at -= 1;
+        if ids[at].0 == id.0 {
+            return true;
+        }
+    }
+    false
 }
 
 /// Gives back what the release flag for these ids lets go, and answers the flag. Takes no memory. No call may be taken out

@@ -1,4 +1,4 @@
-ghost use Rattle.std.specs.Prelude.{◌≡◌, ◌≤◌, [], ◌∷◌, cond, nat_eq, not, option_to_list};
+ghost use Rattle.std.specs.Prelude.{◌≡◌, ◌≤◌, [], ◌∷◌, length, cond, nat_eq, not, option_to_list, IsTrue};
 ghost use Rattle.std.specs.List.{list_all};
 ghost use Rattle.std.specs.FinMap as map;
 ghost use Rattle.rpc_msg.specs.Messages.{given};
@@ -6,6 +6,7 @@ ghost use Rattle.vat_machine.specs.Flags.{flag_for, give_each, give_if, is_spare
 ghost use Rattle.vat_machine.specs.Lists.{how_many, is_empty};
 ghost use Rattle.vat_machine.specs.Progress.{numbers};
 ghost use Rattle.vat_machine.specs.Sweeping.{descriptors_said, got_of};
+ghost use Rattle.step_collects.specs.Standing.{StandsAmong};
 ghost use Rattle.vat_store.specs.Holding.{state_of, IsSound};
 
 use crate::flags::{as_number, may_lose};
@@ -65,12 +66,44 @@ fn all_got_spared(store: &Store, caps: &[(Descriptor, Node)]) -> bool
     requires none_taken { store.now.waits.taken ≡ [] }
     ensures { result ≡ list_all (is_spared (state_of store.now) (given (descriptors_said caps.now))) (given (descriptors_said caps.now)) }
 {
-    for cap in caps {
-        if !is_got_spared(store, caps, &cap.0) {
+    for at in 0..caps.len() {
+        let one = &caps[at].0;
+        if stands_among(caps, at, one) {
+            continue;
+        }
+        if !is_got_spared(store, caps, one) {
             return false;
         }
     }
     true
+}
+
+// Whether a descriptor before that place adds one to the count of the same export, looked for from there back.
+fn stands_among(caps: &[(Descriptor, Node)], place: usize, one: &Descriptor) -> bool
+    requires { place ≤ length caps.now }
+    ensures { IsTrue result → StandsAmong caps.now place one.now }
+{
+    let mut at = place;
+    while at > 0 {
+        at -= 1;
+        if gives_the_same(&caps[at].0, one) {
+            return true;
+        }
+    }
+    false
+}
+
+// Whether both descriptors add one to the count of the same export.
+fn gives_the_same(one: &Descriptor, other: &Descriptor) -> bool
+    ensures { IsTrue result → given (one.now ∷ []) ≡ given (other.now ∷ []) }
+{
+    let Some(id) = given_id(one) else {
+        return false;
+    };
+    let Some(same) = given_id(other) else {
+        return false;
+    };
+    id.0 == same.0
 }
 
 fn is_got_spared(store: &Store, caps: &[(Descriptor, Node)], one: &Descriptor) -> bool

@@ -1,4 +1,20 @@
 //! What no place names goes, and what the flags of a Return and of a Finish let go.
+//!
+//! - `going.rt`: `collect` lets go what no place names, one thing in a turn; it falls in the number of promises, outcomes
+//!   and imports.
+//! - `search.rt` takes noted keys until one is loose, and notes that one again, so that the store stays sound until it is
+//!   taken out. `loose.rt` says of one key whether it is.
+//! - `flags.rt`: the release flag for a list of ids, and what it gives back; `got.rt` the same for what a Return brought.
+//!   Both take no memory: each place is looked back from to the last one of the same id (`StandsBefore`), and all ids
+//!   are looked at once for each id that differs. An id without an import ends the search, so there are no more of those
+//!   than imports.
+//!
+//! What may have to go is noted, so nothing is scanned. Once nothing is noted, nothing is loose, since what would go but
+//! for its names is noted where it has none (`covered` of `IsSound`).
+//!
+//! What goes at the end of a step goes when Finishes are made already, and `IsReady` says that none is. So the loop
+//! (`collect_ending`) keeps `IsEnding`, which says no more than it needs, and `OnlyReleases` says what it leaves as it was;
+//! `collect` is that loop where no Finish is made.
 #![tactic(auto)]
 
 mod flags;

@@ -1,4 +1,5 @@
 pub mod BackComing
+pub mod GivenBack
 pub mod InTurn
 pub mod Opened
 pub mod Readied

@@ -14,6 +14,7 @@ use crate::calling::take_call;
 use crate::disembargoes::take_disembargo;
 use crate::echoes::take_unimplemented;
 use crate::ending::{take_finish, take_release};
+use crate::foreseeing::foresee;
 use crate::resolving::take_resolve;
 use crate::returns::take_return;
 use rpc_msg::{Message, PlainMessage};
@@ -80,7 +81,7 @@ fn take_unless(step: &mut Step, alloc: Global, plain: PlainMessage) -> Result<()
 
 /// Does what a received message does first, before outcomes that arose are settled. Makes the room for it. `Err` with the
 /// fault that the message is, or for want of room or of memory, which an Abort never needs; the step is only to be dropped
-/// then, and the vat goes down.
+/// then, and the vat goes down. All descriptors are checked before a full table of imports refuses one of them.
 pub fn take_message(step: &mut Step, alloc: Global, message: Message) -> Result<(), Fault>
     requires ready { IsReady step.old }
     requires none_taken { step.old.store.waits.taken ≡ [] }
@@ -90,6 +91,7 @@ pub fn take_message(step: &mut Step, alloc: Global, message: Message) -> Result<
     ensures taken { OnOk result (step.new.store.waits.taken ≡ []) }
     ensures ready { OnOk result (IsReady step.new) }
 {
+    foresee(&step.store, alloc, &message)?;
     match message {
         Message::Plain(plain) => take_unless(step, alloc, plain),
         Message::Unimplemented(plain) => take_unimplemented(step, alloc, plain),

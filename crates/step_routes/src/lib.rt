@@ -1,4 +1,18 @@
 //! Where a call goes: it reaches an object, waits, is sent on, or ends.
+//!
+//! - `routing.rt` chooses by where the node settles.
+//! - `deliver.rt`: a task at an object. `waiting.rt`: behind an open promise, or a field that is not known. `asking.rt`:
+//!   out as a question, for a kept outcome or for a call of the application. `broken.rt`: it ends.
+//! - `descriptors.rt`: what its capabilities are called in its message. `lists.rt`: the lists that it wants (`IsPrepared`
+//!   of `specs/Prepared`).
+//!
+//! Each piece is a free function over the step. A function whose name ends in `_kept` takes no memory: its caller made the
+//! slack, and the lists. `route_kept` finds the room that the machine asks for where a call goes, and asks for numbers at
+//! an object alone, and at a broken node for a text into which the reason fits (`fits`, with `IsOpenThere` of
+//! `specs/Fitting`); the calls that are taken out count among those that wait, so there may be none. `route` makes the room
+//! itself, and of the lists what the call wants where it goes: at an object one list, at a wire two, and the text of a
+//! reason at a broken node alone. `route_taken` and `route_held` route all calls that were taken out of a list, until none
+//! is left: their loops keep that what routes the calls that are left routes all.
 #![tactic(auto)]
 
 mod asking;

@@ -1,5 +1,22 @@
 //! What follows where an outcome becomes known or a promise is fixed: no capability leads to itself, the caller is told, the
 //! calls that waited are routed, and the exports get their Resolves.
+//!
+//! - `untangling.rt` fits the value of an outcome before it is kept (`fit`): its capabilities are gone through from the
+//!   last to the first, in their own list, and from each a walk by links tells whether it leads back to its own place; an
+//!   open promise takes the place of one that does. The machine's word for that speaks of walks of any length
+//!   (`TurnsBack`); the loop keeps that the walk turns back from where it stands exactly if it does from where it began
+//!   (`Walked` of `specs/Circles`).
+//! - `telling.rt` tells the application how a call ended, `returning.rt` the peer: what the Return says, then all goes that
+//!   no place names, then the flag.
+//! - `outcomes.rt` puts the pieces together (`settle_outcome`), each a function whose clause is the machine's word for it.
+//!   The Return's collecting may let outcomes go, but leaves those that stay as they were (`Leaves` of `proofs/Collected`);
+//!   that the outcome which is told stays is asked where its waiting calls are taken out, at no cost. The value is copied
+//!   once: the outcome keeps one, and the caller is told the other.
+//! - `draining.rt` settles those that arose, until none is left; each time one fewer is not known (`proofs/Fewer`).
+//! - `resolving.rt` sends the Resolves of a promise's exports, or of those of an outcome's fields, by rising id; where no
+//!   place names the promise or the outcome the table of exports is not looked at.
+//! - `fixing.rt` fixes a promise (`fix_promise`).
+//! - `promising.rt` is what the commands `resolve` and `reject` do first, `answering.rt` what `answer` and `fail` do.
 #![tactic(auto)]
 
 mod answering;

@@ -8,8 +8,7 @@ use crate::vat::Core;
 use rpc_msg::{ExportId, Items, Memory, RefId};
 use std::alloc::Global;
 use vat_journal::Counts;
-use vat_machine::Import;
-use vat_tables::{Exports, Keyed};
+use vat_tables::{Exports, Imports};
 
 impl Core {
     /// How many calls were made through a reference, if that is there. Takes no memory.
@@ -41,10 +40,7 @@ fn counts_of_exports(exports: &Exports, alloc: Global) -> Result<Items<(ExportId
 }
 
 // The ids and counts of the imports, by rising id.
-fn counts_of_imports(
-    imports: &Keyed<Import>,
-    alloc: Global,
-) -> Result<Items<(ExportId, u32)>, Memory>
+fn counts_of_imports(imports: &Imports, alloc: Global) -> Result<Items<(ExportId, u32)>, Memory>
     ensures { IfOk result (λ counts. counts ≡ of_map import_counts imports.now.entries) }
 {
     let ids = imports.ids(alloc)?;

@@ -1,4 +1,26 @@
 //! The core of a vat: what it holds for its connection, and each of its steps as the machine of `vat_machine` has it.
+//!
+//! - `vat.rt`: `Core` is a `Machine` of `step_ends`; contracts see the state of the machine that it holds (`state_of`). Its
+//!   invariant, `IsStanding` of `specs/Standing`, is that it rests between two steps and that its state is one to which a
+//!   vat comes (`IsReached` of `laws_steps`), so that what is proved of all such states may be taken from laws: that calls
+//!   have no outcome or question but their own, which `finish` wants. `proofs/Reaching` shows that each step leads on to
+//!   such a state.
+//! - `making.rt`: the commands that make references and promises and say nothing; `asking.rt`: those that ask the peer or
+//!   make a call; `letting.rt`: those that let something go or take the shorter path; `settling.rt`: those that settle a
+//!   promise or a task.
+//! - `obey.rt`: `command` takes a command of any kind and answers what the call of its name does; the files
+//!   `obey_asking.rt`, `obey_letting.rt`, `obey_making.rt` and `obey_settling.rt` put that together, in the same four
+//!   groups.
+//! - `queries.rt`: what can be asked of a core without a step, in the words of `Queries`; `counting.rt` the counts of
+//!   exports and imports.
+//! - `refused.rt`: a command that is refused hands its arguments back in a `Refused`, which is an error with the refusal's
+//!   text, so that an application may pass it on by `?`.
+//! - `contents.rt`: the payload and references of a message that gives one capability or none (`contents`).
+//!
+//! A command is first checked (`step_checks`), in the machine's order, and then done whole (`step_asks`, `step_ends`),
+//! which leaves want of memory as its only refusal; a call that goes to an import at once is checked and told apart by one
+//! look (`straight`). `recycle` takes the memory of effects back, and is no step. `Effects` are no `Drop`: an application
+//! takes them apart or gives them back.
 #![tactic(auto)]
 
 mod asking;

@@ -1,6 +1,13 @@
-//! Worked scenes, with values from the rules, and a long run. Each part of `stdin` stands behind a line with the name of the
-//! crate that plays it; `stdout` has what they print, worked out by hand.
+//! Worked scenes, with values from the rules. Each part of `stdin` stands behind a line with the name of what plays it; `stdout`
+//! has what they print, worked out by hand.
+//!
+//! A scene is a text and no test, since each test is a function to be proved. What needs little below it is played by a
+//! library, which is proved beside others as soon as what it stands on is; `script_scenes.rt` plays scripts, each a `Scene`
+//! of `script_scene.rt`.
 #![tactic(auto)]
+
+mod script_scene;
+mod script_scenes;
 
 use anyhow::{Result, bail};
 use std::io;
@@ -20,8 +27,7 @@ fn main(rt: HostRuntime) -> Result<()> {
             "core_scenes" => core_scenes::play(&rt, alloc, lines)?,
             "script_scenes" => script_scenes::play(&rt, alloc, lines)?,
             "trace_scenes" => trace_scenes::play(&rt, alloc, lines)?,
-            "long_run" => long_run::play(&rt, alloc)?,
-            _ => bail!("no crate plays {name}"),
+            _ => bail!("nothing plays {name}"),
         }
     }
     Ok(())

@@ -2,9 +2,9 @@ ghost use Rattle.std.specs.Prelude.{◌≡◌, []};
 
 use rpc_msg::{ObjectId, Vat};
 use std::alloc::Global;
-use vat_machine::{AnswerEntry, Import, Level, OwnCall, Question, Reference};
+use vat_machine::{Level, OwnCall, Question, Reference};
 use vat_names::Names;
-use vat_tables::{Exports, Keyed, Questions, Rising};
+use vat_tables::{Answers, Exports, Imports, Questions, Rising};
 use vat_waits::Waits;
 
 /// All that a vat's core holds. Its fields are open to the crates of the core; what holds of them together is `IsSound`
@@ -17,9 +17,9 @@ pub struct Store {
     /// What this vat asked, by ids of its own.
     pub questions: Questions<Question>,
     /// What the peer asked, by its ids.
-    pub answers: Keyed<AnswerEntry>,
+    pub answers: Answers,
     /// What the peer gave, by its ids.
-    pub imports: Keyed<Import>,
+    pub imports: Imports,
     /// What this vat gave the peer, by ids of its own.
     pub exports: Exports,
     pub refs: Rising<Reference>,
@@ -62,8 +62,8 @@ impl Store {
             level,
             bootstrap,
             questions: Questions::new(alloc),
-            answers: Keyed::new(alloc),
-            imports: Keyed::new(alloc),
+            answers: Answers::new(alloc),
+            imports: Imports::new(alloc),
             exports: Exports::new(alloc),
             refs: Rising::new(alloc),
             calls: Rising::new(alloc),

@@ -80,11 +80,3 @@ pub foresee_first : (size : ℕ) (counts : Node → Option ℕ) (xs : List Node)
 foresee_first size counts xs = meet_alike size counts (counts_at counts []) xs (λ k. sym (added_none (counts k)))
 
 -- ---- The fault where there is no memory
-
-pub full_if : (b : Bool) (f : TableFault) → f ≡ (if b then Full else Memory) → f ≡ Full → b ≡ true
-full_if true f is full = refl
-full_if false f is full = let e : Memory ≡ Full = sym is ∙ full in cc
-
-pub if_full : (b : Bool) (f : TableFault) → f ≡ (if b then Full else Memory) → b ≡ true → f ≡ Full
-if_full true f is met = is
-if_full false f is met = let e : false ≡ true = met in cc

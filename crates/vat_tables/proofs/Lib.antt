@@ -3,11 +3,9 @@ pub mod ExportLemmas
 pub mod FieldCounts
 pub mod Foreseeing
 pub mod HashTable
-pub mod ImportLemmas
 pub mod Indexing
 pub mod Keys
 pub mod Lending
-pub mod NamingEach
 pub mod NodeKeys
 pub mod Options
 pub mod PlacedTable

@@ -8,7 +8,6 @@ use Rattle.vat_tables.specs.contracts.keyed.Keyed as keyed
 use Rattle.vat_tables.specs.contracts.numbered.Numbered as numbered
 use Rattle.vat_tables.specs.contracts.rising.Rising as rising
 use Rattle.vat_tables.specs.contracts.questions.Questions as questions
-use Rattle.vat_tables.specs.contracts.answers.Answers as answers
 
 -- once the borrow ends, the key has the last value written through it, and no other entry changed
 abbrev pub lends_present : (T : RattleType) → MutBor (Table T.Denot) → ℕ → MutBor T.Denot → Fml
@@ -40,7 +39,3 @@ lends_rising T t number r = LendsIf (rising.the_row T) T t r (with_entry t.now n
 -- the same of a table of questions
 abbrev pub lends_question : (T : RattleType) → MutBor (Table T.Denot) → ℕ → Option (MutBor T.Denot) → Fml
 lends_question T t id r = LendsIf (questions.the_row T) T t r (with_entry t.now id) t.now
-
--- the same of a table of answers
-abbrev pub lends_answer : (T : RattleType) → MutBor (Table T.Denot) → ℕ → Option (MutBor T.Denot) → Fml
-lends_answer T t id r = LendsIf (answers.the_row T) T t r (with_entry t.now id) t.now

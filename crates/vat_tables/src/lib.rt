@@ -1,12 +1,16 @@
 //! The tables of a vat: its questions, answers, exports and imports, and the pool of its waiting calls.
+//!
+//! - `questions.rt`, `exports.rt`: the tables under ids that this vat picks. `keyed.rt`: those under ids that the peer picks,
+//!   the answers and the imports. `held_pool.rt`: the pool.
+//! - What they, and the crates above, keep entries in: `slots.rt` under ids that the table picks, `numbered.rt` under numbers,
+//!   `rising.rt` under numbers that rise, `picked.rt` under keys that the table picks. `index.rt` has ids by node.
+//! - `growth.rt`: how much memory a table is made. `fault.rt`: why one refuses.
 #![tactic(auto)]
 
-mod answers;
 mod exports;
 mod fault;
 mod growth;
 mod held_pool;
-mod imports;
 mod index;
 mod keyed;
 mod numbered;
@@ -15,12 +19,10 @@ mod questions;
 mod rising;
 mod slots;
 
-pub use answers::Answers;
 pub use exports::Exports;
 pub use fault::{PeerFault, TABLE_LIMIT, TableFault};
 pub use held_pool::{HeldPool, ListKey, POOL_LIMIT};
-pub use imports::{Import, Imports};
-pub use keyed::Keyed;
+pub use keyed::{Answers, Imports, Keyed};
 pub use numbered::Numbered;
 pub use picked::Picked;
 pub use questions::Questions;

@@ -39,9 +39,6 @@ const OLD_LINES: &[&str] = &[
     "{\"a\":{\"exports\":[],\"imports\":[]},\"b\":{\"exports\":[],\"imports\":[]},\"k\":\"tables\"}",
 ];
 
-/// How many these are.
-const LINES: usize = 27;
-
 fn played(alloc: Global, word: &str, input: &[u8]) -> Vec<u8> {
     let mut reader = input;
     let mut out = Vec::new(alloc);
@@ -166,29 +163,59 @@ fn an_upgraded_trace_is_that_of_version_2(rt: HostRuntime) {
     assert!(rt; upgraded.as_slice() == new(rt.alloc()).as_slice());
 }
 
-/// Each beginning of whole lines is good, and one that ends inside a line is at fault there.
+/// A call under an embargo: B resolves its promise to A's object while a call is on its way to it.
+const EMBARGO: &[u8] =
+    b"a bootstrap boot\na field reg boot -\na host own 5\na call get reg 7 2 own\ndeliver b\ndeliver b\nb promise p q\nb answer 0 q\ndeliver a\ndeliver a\na got pri get 0\na call two pri 7 3 -\nb take o 0 0\nb resolve p o\ndeliver a\na advance pri\na call three pri 7 4 -\ndeliver b\ndeliver b\ndeliver a\ndeliver a\ntables\n";
+
 #[test]
 fn a_trace_that_is_cut(rt: HostRuntime) {
-    let text = old(rt.alloc());
-    for number in 2..LINES {
-        let beginning = lines(rt.alloc(), &text, 1, number);
-        let said = if number <= 10 {
-            "ok: 0 delivered\n"
-        } else {
-            "ok: 1 delivered\n"
-        };
-        check(&rt, rt.alloc(), "check", &beginning, (0, said, ""));
-    }
-    for number in 1..=LINES {
-        is_at_fault_in(&rt, rt.alloc(), &text, number);
-    }
+    let alloc = rt.alloc();
+    each_cut(&rt, alloc, &old(alloc));
+    each_cut(&rt, alloc, &played(alloc, "run", EMBARGO));
 }
 
-/// Without the newline and the brace that end it, a line is no JSON.
-fn is_at_fault_in(rt: &impl Abort, alloc: Global, text: &[u8], number: usize) {
-    let mut cut = lines(alloc, text, 1, usize::saturating_add(number, 1));
-    let _newline = cut.pop();
-    let _brace = cut.pop();
+/// Each beginning of whole lines is good, with so many deliveries as it has lines that say one; and one that ends inside a line is
+/// at fault there: behind the line's first byte, in its middle, and where its last brace is gone.
+fn each_cut(rt: &impl Abort, alloc: Global, text: &[u8]) {
+    let mut delivered: usize = 0;
+    let mut number: usize = 0;
+    let mut whole = Vec::new(alloc);
+    for line in text.split(|byte| *byte == b'\n') {
+        if line.is_empty() {
+            break;
+        }
+        number = number.saturating_add(1);
+        for length in [1, line.len() / 2, line.len().saturating_sub(1)] {
+            is_at_fault_in(
+                rt,
+                alloc,
+                &whole,
+                line.get(0..length).unwrap_or_default(),
+                number,
+            );
+        }
+        if line
+            .windows(DELIVERED.len())
+            .any(|piece| piece == DELIVERED)
+        {
+            delivered = delivered.saturating_add(1);
+        }
+        let _room = whole.extend_from_slice(line);
+        let _room = whole.push(b'\n');
+        let mut said = String::new(alloc);
+        let _said = writeln!(said, "ok: {delivered} delivered");
+        check(rt, alloc, "check", &whole, (0, said.as_str(), ""));
+    }
+    assert!(rt; number > 20);
+}
+
+const DELIVERED: &[u8] = b"\"k\":\"delivered\"";
+
+/// Behind whole lines a part of the one with that number is no JSON.
+fn is_at_fault_in(rt: &impl Abort, alloc: Global, whole: &[u8], part: &[u8], number: usize) {
+    let mut cut = Vec::new(alloc);
+    let _room = cut.extend_from_slice(whole);
+    let _room = cut.extend_from_slice(part);
     let mut said = String::new(alloc);
     let _said = writeln!(said, "trace line {number}: fault 50");
     check(rt, alloc, "check", &cut, (2, "", said.as_str()));

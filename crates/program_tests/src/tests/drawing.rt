@@ -3,7 +3,8 @@ use crate::tests::streams::Cut;
 use crate::tests::traces::ONE_CALL;
 use std::alloc::Global;
 use std::process::Abort;
-use trace_picture::{Failure, Options, draw_trace, status};
+use std::str;
+use trace_picture::{Failure, Options, draw_trace, status, write_help};
 
 /// Nothing is drawn of an input, and that is said.
 fn check(rt: &impl Abort, alloc: Global, input: &[u8], said: &str) {
@@ -51,4 +52,25 @@ fn nothing_is_said_where_the_picture_breaks_off(rt: HostRuntime) {
     let drawn = draw_trace(rt.alloc(), Options::new(), &mut reader, &mut out);
     assert_eq!(rt; status(drawn, "-", &mut err), 2);
     assert!(rt; err.is_empty());
+}
+
+#[test]
+fn help_says_each_option(rt: HostRuntime) {
+    let mut out = Vec::new(rt.alloc());
+    let mut err = Vec::new(rt.alloc());
+    assert_eq!(rt; status(write_help(&mut out), "-", &mut err), 0);
+    assert!(rt; err.is_empty());
+    let Ok(help) = str::from_utf8(out.as_slice()) else {
+        panic!(rt; "no text");
+    };
+    for said in [
+        "usage: trace_chart FILE",
+        "--ref V/N ",
+        "--from N ",
+        "--to N ",
+    ] {
+        assert!(rt; help.contains(said), "{said}");
+    }
+    let mut cut = Cut { left: 3 };
+    assert_eq!(rt; write_help(&mut cut), Err(Failure::Unwritten));
 }

@@ -1,7 +1,9 @@
 //! Want of memory: to be run with each allocation refused, by `rt try --test --fail-alloc`.
+use crate::tests::traces::PROMISE;
 use std::alloc::Global;
 use std::process::Abort;
 use trace_check::Verdict;
+use trace_picture::{Options, draw_trace};
 use trace_program::{Failure, ScriptFault, play, trace_of_script};
 
 /// Calls wait for a promise, and for an embargo.
@@ -53,4 +55,26 @@ fn a_refused_growth_is_told_of_a_trace(rt: HostRuntime) {
     for (word, wanted) in WRITTEN {
         is_written_at_last(&rt, rt.alloc(), word, wanted);
     }
+}
+
+fn draw(alloc: Global, out: &mut Vec<u8>) -> Option<trace_picture::Failure> {
+    let mut reader = PROMISE.as_bytes();
+    draw_trace(alloc, Options::new(), &mut reader, out).err()
+}
+
+/// Where a growth is refused while a trace is drawn, nothing is written; all is at the next try.
+#[test]
+fn a_refused_growth_is_told_of_a_picture(rt: HostRuntime) {
+    let mut out = Vec::new(rt.alloc());
+    if let Some(failure) = draw(rt.alloc(), &mut out) {
+        assert!(rt;
+            matches!(
+                failure,
+                trace_picture::Failure::Memory | trace_picture::Failure::Unwritten
+            )
+        );
+        assert!(rt; out.is_empty());
+        assert!(rt; draw(rt.alloc(), &mut out).is_none());
+    }
+    assert!(rt; out.ends_with(b"</svg>\n"));
 }

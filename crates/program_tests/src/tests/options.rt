@@ -69,6 +69,8 @@ fn words_say_options_in_pairs(rt: HostRuntime) -> Result<(), AllocError> {
     Ok(())
 }
 
+/// In tenths of a pixel a digit and an a are taken for 77 wide, a space for 42, an ampersand for 100 and a W for 120; a
+/// label may be 4,800.
 #[test]
 fn a_label_stands_as_svg_has_it_and_long_ones_are_cut(rt: HostRuntime) -> Result<(), AllocError> {
     for (label, wanted) in [
@@ -76,13 +78,23 @@ fn a_label_stands_as_svg_has_it_and_long_ones_are_cut(rt: HostRuntime) -> Result
             "<a href=\"x\">&\u{1}b\n\u{ffff}é",
             "&lt;a href=&quot;x&quot;&gt;&amp; b  é",
         ),
+        // 4,795
         (
-            "123456789 123456789 123456789 123456789 123456789 123456789 123456789 12",
-            "123456789 123456789 123456789 123456789 123456789 123456789 123456789 12",
+            "123456789 123456789 123456789 123456789 123456789 123456789 12345",
+            "123456789 123456789 123456789 123456789 123456789 123456789 12345",
+        ),
+        // 4,741 up to the first ampersand
+        (
+            "123456789 123456789 123456789 123456789 123456789 123456789 123&&&",
+            "123456789 123456789 123456789 123456789 123456789 123456789 123&amp;…",
         ),
         (
-            "123456789 123456789 123456789 123456789 123456789 123456789 123456789 1&&&",
-            "<title>123456789 123456789 123456789 123456789 123456789 123456789 123456789 1&amp;&amp;&amp;</title>123456789 123456789 123456789 123456789 123456789 123456789 123456789 1&amp;…",
+            "WWWWWWWWWWWWWWWWWWWWWWWWWWWWWWWWWWWWWWWW",
+            "WWWWWWWWWWWWWWWWWWWWWWWWWWWWWWWWWWWWWWWW",
+        ),
+        (
+            "WWWWWWWWWWWWWWWWWWWWWWWWWWWWWWWWWWWWWWWWa",
+            "WWWWWWWWWWWWWWWWWWWWWWWWWWWWWWWWWWWWWWWW…",
         ),
     ] {
         let mut svg = String::new(rt.alloc());

@@ -94,7 +94,7 @@ const SCRIPTS: &[(&str, &[u8], Output)] = &[
     (
         "play",
         b"",
-        (2, "", "usage: vat_trace run|check|show|upgrade FILE\n"),
+        (2, "", "usage: vat_trace run|pair|check|show|upgrade FILE\n"),
     ),
 ];
 

@@ -3,7 +3,7 @@ use rpc_msg::{ExportId, ObjectId, Path, QuestionId};
 use std::alloc::Global;
 use std::process::Abort;
 use vat_machine::{Node, Reason};
-use vat_tables::{Answers, Exports, Imports, PeerFault, Questions, TABLE_LIMIT, TableFault};
+use vat_tables::{Exports, Keyed, PeerFault, Questions, TABLE_LIMIT, TableFault};
 
 // No clause says what the small functions here do: a test is proved quicker where nothing is known of the tables that
 // it compares.
@@ -90,7 +90,7 @@ fn are_full(rt: &impl Abort, questions: &mut Questions<usize>) {
     assert_eq!(rt; add(questions, 7), Ok(QuestionId(5)));
 }
 
-fn owe(answers: &mut Answers<u64>, id: QuestionId, entry: u64) -> Result<(), TableFault> {
+fn owe(answers: &mut Keyed<u64>, id: u32, entry: u64) -> Result<(), TableFault> {
     if answers.get(id).is_some() {
         return Ok(());
     }
@@ -100,33 +100,33 @@ fn owe(answers: &mut Answers<u64>, id: QuestionId, entry: u64) -> Result<(), Tab
     }
 }
 
-fn make_odd(answers: &mut Answers<u64>, id: QuestionId) {
+fn make_odd(answers: &mut Keyed<u64>, id: u32) {
     if let Some(entry) = answers.get_mut(id) {
         *entry += 1 - *entry % 2;
     }
 }
 
-fn answer(answers: &Answers<u64>, id: QuestionId) -> Option<u64> {
+fn answer(answers: &Keyed<u64>, id: u32) -> Option<u64> {
     answers.get(id).copied()
 }
 
-fn close_answer(answers: &mut Answers<u64>, id: QuestionId) -> Option<u64> {
+fn close_answer(answers: &mut Keyed<u64>, id: u32) -> Option<u64> {
     answers.close(id)
 }
 
 #[test]
 fn an_answer_is_owed_under_the_peers_id(rt: HostRuntime) -> Result<(), TableFault> {
-    let mut answers = Answers::new(rt.alloc());
+    let mut answers = Keyed::new(rt.alloc());
     answers.reserve(1)?;
     owes(&rt, &mut answers)
 }
 
-fn owes(rt: &impl Abort, answers: &mut Answers<u64>) -> Result<(), TableFault> {
-    let id = QuestionId(4_000_000_000);
+fn owes(rt: &impl Abort, answers: &mut Keyed<u64>) -> Result<(), TableFault> {
+    let id = 4_000_000_000;
     owe(answers, id, 1)?;
     make_odd(answers, id);
     assert_eq!(rt; answer(answers, id), Some(1));
-    assert_eq!(rt; answer(answers, QuestionId(0)), None);
+    assert_eq!(rt; answer(answers, 0), None);
     assert_eq!(rt; close_answer(answers, id), Some(1));
     assert_eq!(rt; close_answer(answers, id), None);
     Ok(())
@@ -208,70 +208,6 @@ fn is_named_again(
     let again = name(exports, &field())?;
     assert_eq!(rt; count(exports, again), Some(1));
     Ok(())
-}
-
-fn receive(imports: &mut Imports<u8>, id: ExportId, kind: u8) -> Result<(), TableFault> {
-    imports.receive(id, kind)
-}
-
-fn hold(imports: &mut Imports<u8>, id: ExportId) -> Result<(), TableFault> {
-    if imports.get(id).is_none() {
-        return Ok(());
-    }
-    imports.hold(id)
-}
-
-fn unhold(imports: &mut Imports<u8>, id: ExportId) -> Option<u32> {
-    imports.unhold(id)
-}
-
-fn kind(imports: &Imports<u8>, id: ExportId) -> Option<u8> {
-    imports.get(id).map(|import| import.kind)
-}
-
-fn close_import(imports: &mut Imports<u8>, id: ExportId) -> Option<u32> {
-    imports.close(id).map(|import| import.count)
-}
-
-fn was_received(alloc: Global, imports: &Imports<u8>, wanted: &[(ExportId, u32)]) -> Option<bool> {
-    match imports.counts(alloc) {
-        Ok(counts) => Some(counts.as_slice() == wanted),
-        Err(_) => None,
-    }
-}
-
-const IMPORT: ExportId = ExportId(70_000);
-
-const ANOTHER: ExportId = ExportId(5);
-
-#[test]
-fn an_import_is_released_with_its_whole_count(rt: HostRuntime) -> Result<(), TableFault> {
-    let mut imports = Imports::new(rt.alloc());
-    imports.reserve(1)?;
-    two_imports(&mut imports)?;
-    let counted = was_received(rt.alloc(), &imports, &[(ANOTHER, 1), (IMPORT, 2)]);
-    assert!(rt; counted.ok_or(TableFault::Memory)?);
-    is_let_go(&rt, &mut imports);
-    Ok(())
-}
-
-/// One import that is received twice and held twice, and one that is received once.
-fn two_imports(imports: &mut Imports<u8>) -> Result<(), TableFault> {
-    receive(imports, IMPORT, 1)?;
-    receive(imports, IMPORT, 2)?;
-    receive(imports, ANOTHER, 3)?;
-    hold(imports, IMPORT)?;
-    hold(imports, IMPORT)
-}
-
-fn is_let_go(rt: &impl Abort, imports: &mut Imports<u8>) {
-    assert_eq!(rt; kind(imports, IMPORT), Some(1));
-    assert_eq!(rt; unhold(imports, IMPORT), None);
-    assert_eq!(rt; unhold(imports, IMPORT), Some(2));
-    assert_eq!(rt; unhold(imports, IMPORT), None);
-    assert!(rt; kind(imports, IMPORT).is_none());
-    assert_eq!(rt; unhold(imports, ANOTHER), None);
-    assert_eq!(rt; close_import(imports, ANOTHER), Some(1));
 }
 
 #[test]

@@ -139,7 +139,7 @@ fn new_pair(alloc: Global) -> Result<Pair, Memory> {
 fn one(alloc: Global, reference: u64) -> Result<Items<RefId>, Memory> {
     match Items::one(alloc, RefId(reference)) {
         Ok(refs) => Ok(refs),
-        Err(reference) => match Items::one(alloc, reference) {
+        Err(refused) => match Items::one(alloc, refused.value) {
             Ok(refs) => Ok(refs),
             Err(_) => Err(Memory),
         },

@@ -5,5 +5,5 @@ use Rattle.vat_machine.specs.Progress.{numbers}
 use Rattle.vat_store.specs.Holding.{state_of}
 use Rattle.step_collects.proofs.flags.all_spared.Given as goal
 
-abbrev pub invariant-loop-id : goal.invariant-loop-id
-invariant-loop-id l = list_all (is_spared (state_of l.store) (numbers l.ids)) (numbers (take l.id-index l.ids)) ≡ true
+abbrev pub invariant-loop-at : goal.invariant-loop-at
+invariant-loop-at l = list_all (is_spared (state_of l.store) (numbers l.ids)) (numbers (take l.at l.ids)) ≡ true

@@ -5,5 +5,5 @@ use Rattle.vat_store.specs.Holding.{state_of}
 use Rattle.step_collects.proofs.Getting.{got}
 use Rattle.step_collects.proofs.got.all_got_spared.Given as goal
 
-abbrev pub invariant-loop-cap : goal.invariant-loop-cap
-invariant-loop-cap l = list_all (is_spared (state_of l.store) (got l.caps)) (got (take l.cap-index l.caps)) ≡ true
+abbrev pub invariant-loop-at : goal.invariant-loop-at
+invariant-loop-at l = list_all (is_spared (state_of l.store) (got l.caps)) (got (take l.at l.caps)) ≡ true

@@ -2,12 +2,9 @@
 //! further in (`journal_words`), as is worked out from the rules of docs/protocol.md.
 //!
 //! A line `scene ..` begins a scene, and an empty line ends it.
-#![tactic(auto)]
 
-mod scene;
-
+use crate::script_scene::Scene;
 use anyhow::Result;
-use scene::Scene;
 use std::alloc::Global;
 
 pub fn play(rt: &impl Print, alloc: Global, lines: &str) -> Result<()> {
