@@ -60,7 +60,7 @@ const SCENES: &[Scene] = &[
         2,
         &[
             "\"k\":\"delivered\",\"method\":1,\"object\":0,",
-            "{\"return\":{\"answer\":1,\"body\":\"canceled\",\"release\":false}}",
+            "{\"return\":{\"answer\":1,\"body\":\"canceled\",\"releaseParamCaps\":false}}",
             "\"k\":\"delivered\",\"method\":2,\"object\":9,",
         ],
     ),
@@ -68,8 +68,8 @@ const SCENES: &[Scene] = &[
         FINISHED_FIRST,
         2,
         &[
-            "{\"finish\":{\"question\":1,\"release\":false}}",
-            "{\"return\":{\"answer\":1,\"body\":\"canceled\",\"release\":false}}",
+            "{\"finish\":{\"question\":1,\"releaseResultCaps\":false}}",
+            "{\"return\":{\"answer\":1,\"body\":\"canceled\",\"releaseParamCaps\":false}}",
         ],
     ),
 ];
