@@ -52,8 +52,10 @@ fn made(connection: &mut Connection, command: Command) -> Result<RefId, Fail> {
 /// Hands all that one has to send to the other, in pieces of that length, and gives how many bytes.
 fn carry(from: &mut Connection, to: &mut Connection, piece: usize) -> usize {
     let bytes = from.outgoing();
-    for part in bytes.chunks(piece) {
-        to.received(part);
+    if piece > 0 {
+        for part in bytes.chunks(piece) {
+            to.received(part);
+        }
     }
     bytes.len()
 }
