@@ -1,7 +1,9 @@
 //! The largest contents and reasons that fit, and the smallest that don't.
-use rpc_fits::fits_envelope;
+use rpc_fits::{fits_envelope, fits_onward};
 use rpc_msg::{
-    Exception, ExceptionKind, Items, Payload, Pointers, PromiseId, RefId, TaskId, Text, Tree,
+    Call, Exception, ExceptionKind, ExportId, Items, Message, Payload, PlainMessage, Pointers,
+    PromiseId, QuestionId, RefId, Resolve, ResolvedTo, Return, ReturnBody, Stamp, Target, TaskId,
+    Text, Tree, Vat,
 };
 use std::alloc::Global;
 use std::test::Fail;
@@ -59,6 +61,37 @@ fn reason(alloc: Global, bytes: usize) -> Result<Exception, Fail> {
     })
 }
 
+fn called(alloc: Global, payload: Payload) -> Message {
+    Message::Plain(PlainMessage::Call(Call {
+        question: QuestionId(0),
+        target: Target::ImportedCap(ExportId(0)),
+        interface: 1,
+        method: 2,
+        payload,
+        descriptors: Items::new(alloc),
+        stamp: Stamp {
+            vat: Vat::A,
+            reference: RefId(0),
+            index: 0,
+        },
+    }))
+}
+
+fn returned(body: ReturnBody) -> Message {
+    Message::Plain(PlainMessage::Return(Return {
+        answer: QuestionId(0),
+        release_param_caps: false,
+        body,
+    }))
+}
+
+fn resolved(exception: Exception) -> Message {
+    Message::Plain(PlainMessage::Resolve(Resolve {
+        promise: ExportId(0),
+        to: ResolvedTo::Exception(exception),
+    }))
+}
+
 #[test]
 fn contents_fit_up_to_61_levels(rt: HostRuntime) -> Result<(), Fail> {
     let alloc = rt.alloc();
@@ -89,5 +122,35 @@ fn reasons_fit_up_to_their_room(rt: HostRuntime) -> Result<(), Fail> {
     assert!(rt; fits_envelope(&Command::Reject(PromiseId(0), reason(alloc, 524_215)?)));
     assert!(rt; !fits_envelope(&Command::Reject(PromiseId(0), reason(alloc, 524_216)?)));
     assert!(rt; fits_envelope(&Command::Bootstrap));
+    Ok(())
+}
+
+#[test]
+fn a_call_that_came_fits_onward_up_to_its_words(rt: HostRuntime) -> Result<(), Fail> {
+    let alloc = rt.alloc();
+    for (words, fits) in [(65_504, true), (65_505, false)] {
+        let message = called(alloc, long(alloc, words, 0)?);
+        assert!(rt; fits_onward(&message) == fits);
+    }
+    Ok(())
+}
+
+#[test]
+fn results_that_came_fit_onward_up_to_their_words(rt: HostRuntime) -> Result<(), Fail> {
+    let alloc = rt.alloc();
+    for (words, fits) in [(65_528, true), (65_529, false)] {
+        let message = returned(ReturnBody::Results(long(alloc, words, 0)?, Items::new(alloc)));
+        assert!(rt; fits_onward(&message) == fits);
+    }
+    Ok(())
+}
+
+#[test]
+fn a_reason_that_came_fits_onward_up_to_its_room(rt: HostRuntime) -> Result<(), Fail> {
+    let alloc = rt.alloc();
+    for (bytes, fits) in [(524_215, true), (524_216, false)] {
+        let message = resolved(reason(alloc, bytes)?);
+        assert!(rt; fits_onward(&message) == fits);
+    }
     Ok(())
 }
