@@ -1,4 +1,5 @@
 pub mod CallParts
+pub mod Counting
 pub mod FaultParts
 pub mod InTurn
 pub mod OneMore

@@ -13,6 +13,7 @@ use crate::exports::check_call_exports;
 use crate::laws::calls_are_refused;
 use crate::refusals::{has_caps, has_level, has_number, has_question_room, has_refs, is_up};
 use rpc_msg::RefId;
+use std::alloc::Global;
 use vat_machine::{CallCommand, Node, Reference, Refusal};
 use vat_store::{Store, settle};
 use vat_tables::POOL_LIMIT;
@@ -91,7 +92,7 @@ fn has_call_room(store: &Store, caps: usize, reference: &Reference) -> Result<()
 }
 
 // By where it goes: over a wire its capabilities go out.
-fn has_room_over(store: &Store, refs: &[RefId], node: Node) -> Result<(), Refusal>
+fn has_room_over(store: &Store, alloc: Global, refs: &[RefId], node: Node) -> Result<(), Refusal>
     requires sound { IsSound store.now }
     ensures ok { OnOk result (exports_lack_at (state_of store.now) (heads (state_of store.now) refs.now) node ≡ false) }
     ensures err { IfErr result (λ r. (r ≡ refusal.Full) × (exports_lack_at (state_of store.now) (heads (state_of store.now) refs.now) node ≡ true)) }
@@ -100,21 +101,26 @@ fn has_room_over(store: &Store, refs: &[RefId], node: Node) -> Result<(), Refusa
         Node::Object(_) => Ok(()),
         Node::Promise(_) => Ok(()),
         Node::Field(_, _) => Ok(()),
-        Node::Import(_) => check_call_exports(store, refs),
-        Node::Pipe(_, _) => check_call_exports(store, refs),
+        Node::Import(_) => check_call_exports(store, alloc, refs),
+        Node::Pipe(_, _) => check_call_exports(store, alloc, refs),
         Node::Broken(_) => Ok(()),
     }
 }
 
 // Where the call goes over a wire, the exports have room for its capabilities.
-fn has_export_room(store: &Store, refs: &[RefId], reference: &Reference) -> Result<(), Refusal>
+fn has_export_room(
+    store: &Store,
+    alloc: Global,
+    refs: &[RefId],
+    reference: &Reference,
+) -> Result<(), Refusal>
     requires sound { IsSound store.now }
     ensures ok { OnOk result (exports_lack (state_of store.now) (heads (state_of store.now) refs.now) (Some reference.now) ≡ false) }
     ensures err { IfErr result (λ r. (r ≡ refusal.Full) × (exports_lack (state_of store.now) (heads (state_of store.now) refs.now) (Some reference.now) ≡ true)) }
 {
     match reference.embargo {
         Some(_) => Ok(()),
-        None => has_room_over(store, refs, settle(store, reference.head)),
+        None => has_room_over(store, alloc, refs, settle(store, reference.head)),
     }
 }
 
@@ -140,8 +146,8 @@ fn check_call_through(
     has_call_room(store, call.refs.len(), reference)
 }
 
-/// Whether `call` is refused, and with what. Takes no memory.
-pub fn check_call_whole(store: &Store, call: &CallCommand) -> Result<(), Refusal>
+/// Whether `call` is refused, and with what. Memory is taken only near a limit of the exports, and never wanting.
+pub fn check_call_whole(store: &Store, alloc: Global, call: &CallCommand) -> Result<(), Refusal>
     requires sound { IsSound store.now }
     requires handed_out { store.now.waits.taken ≡ [] }
     ensures ok { OnOk result (refused (state_of store.now) (command.Call call.now) ≡ None) }
@@ -153,5 +159,5 @@ pub fn check_call_whole(store: &Store, call: &CallCommand) -> Result<(), Refusal
     let Some(reference) = found else {
         return Ok(());
     };
-    has_export_room(store, call.refs.as_slice(), reference)
+    has_export_room(store, alloc, call.refs.as_slice(), reference)
 }

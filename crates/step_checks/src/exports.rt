@@ -1,14 +1,18 @@
-ghost use Rattle.std.specs.Prelude.{◌≡◌, ◌≤◌, ◌∷◌, [], true, false, if◌then◌else◌, option_to_list, IfSome, IfErr, OnOk};
+ghost use Rattle.std.specs.Prelude.{◌≡◌, ◌≤◌, ◌∷◌, ◌++◌, [], List, true, false, if◌then◌else◌, option_to_list, IfSome, IfOk, IfErr, OnOk};
 ghost use Rattle.std.specs.FinMap as map;
 ghost use Rattle.vat_machine.specs.declared.command.Refusal.TheVariants as refusal;
+ghost use Rattle.vat_machine.specs.declared.node.Node.{Node as ANode};
 ghost use Rattle.vat_machine.specs.Commands.{heads};
 ghost use Rattle.vat_machine.specs.Fullness.{is_exportable, going_out, exports_lack_room};
 ghost use Rattle.vat_machine.specs.Nodes.{settle};
 ghost use Rattle.vat_store.specs.Holding.{state_of, IsSound};
 ghost use Rattle.step_checks.specs.Sending.{sent_out, times_among, Leaves, AreFar};
+ghost use Rattle.step_checks.specs.Counted.{Counts};
 
 use crate::leading::head_of;
-use rpc_msg::RefId;
+use crate::times::Times;
+use rpc_msg::{Memory, RefId};
+use std::alloc::Global;
 use vat_machine::{Node, Refusal};
 use vat_store::{Store, settle};
 use vat_tables::TABLE_LIMIT;
@@ -75,8 +79,47 @@ fn size_behind(store: &Store, before: &[RefId], id: RefId, size: usize) -> Optio
     Some(next)
 }
 
-// Whether sending these references meets a limit of the exports: each is compared with those before it.
-fn exports_lack(store: &Store, refs: &[RefId]) -> bool
+// The same where all that were sent before are counted; the node is counted with them. `Err` where memory is wanting.
+fn size_counted(
+    store: &Store,
+    times: &mut Times,
+    id: RefId,
+    size: usize,
+) -> Result<Option<usize>, Memory>
+    requires sound { IsSound store.now }
+    requires size { size ≤ TABLE_LIMIT }
+    ensures within { IfOk result (λ found. IfSome found (λ next. next ≤ TABLE_LIMIT)) }
+    ensures leaves { IfOk result (λ found. (before : List ANode) → Counts times.old before → Leaves (state_of store.now) before (sent_out (state_of store.now) (id ∷ [])) size found) }
+    ensures counts { OnOk result ((before : List ANode) → Counts times.old before → Counts times.new (before ++ sent_out (state_of store.now) (id ∷ []))) }
+{
+    let Some(node) = sent_node(store, id) else {
+        return Ok(Some(size));
+    };
+    let before = times.count(&node)?;
+    let found = store.exports.size_after(&node, before, size);
+    Ok(found)
+}
+
+// Whether sending these references meets a limit of the exports: what was sent is counted by node. `Err` where memory is
+// wanting.
+fn counted_lack(store: &Store, alloc: Global, refs: &[RefId]) -> Result<bool, Memory>
+    requires { IsSound store.now }
+    ensures { IfOk result (λ lack. lack ≡ exports_lack_room (state_of store.now) (sent_out (state_of store.now) refs.now)) }
+{
+    let mut times = Times::new(alloc);
+    let mut size = store.exports.len();
+    for id in refs {
+        let found = size_counted(store, &mut times, *id, size)?;
+        let Some(next) = found else {
+            return Ok(true);
+        };
+        size = next;
+    }
+    Ok(false)
+}
+
+// The same in no memory: each is compared with those before it.
+fn compared_lack(store: &Store, refs: &[RefId]) -> bool
     requires { IsSound store.now }
     ensures { result ≡ exports_lack_room (state_of store.now) (sent_out (state_of store.now) refs.now) }
 {
@@ -122,9 +165,20 @@ fn are_far(store: &Store, refs: &[RefId]) -> bool
     true
 }
 
+fn exports_lack(store: &Store, alloc: Global, refs: &[RefId]) -> bool
+    requires { IsSound store.now }
+    ensures { result ≡ exports_lack_room (state_of store.now) (sent_out (state_of store.now) refs.now) }
+{
+    match counted_lack(store, alloc, refs) {
+        Ok(lack) => lack,
+        Err(_) => compared_lack(store, refs),
+    }
+}
+
 /// Whether the exports have room for these references in a message: `Full` where the table of exports, or the count of one,
-/// would pass its limit, and there alone. Takes no memory.
-pub fn check_call_exports(store: &Store, refs: &[RefId]) -> Result<(), Refusal>
+/// would pass its limit, and there alone. Near a limit it takes memory, to count what is sent; where that is refused,
+/// references are compared with one another.
+pub fn check_call_exports(store: &Store, alloc: Global, refs: &[RefId]) -> Result<(), Refusal>
     requires { IsSound store.now }
     ensures ok { OnOk result (exports_lack_room (state_of store.now) (going_out (state_of store.now) (heads (state_of store.now) refs.now)) ≡ false) }
     ensures err { IfErr result (λ r. (r ≡ refusal.Full) × (exports_lack_room (state_of store.now) (going_out (state_of store.now) (heads (state_of store.now) refs.now)) ≡ true)) }
@@ -132,7 +186,7 @@ pub fn check_call_exports(store: &Store, refs: &[RefId]) -> Result<(), Refusal>
     if are_far(store, refs) {
         return Ok(());
     }
-    if exports_lack(store, refs) {
+    if exports_lack(store, alloc, refs) {
         return Err(Refusal::Full);
     }
     Ok(())

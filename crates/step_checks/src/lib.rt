@@ -1,9 +1,9 @@
 //! The checks of commands and of received messages: what a command is refused with, and which fault a message is. Nothing
-//! here takes memory or changes anything.
+//! here changes anything, or needs memory.
 //!
 //! - `refusals.rt`, `calls.rt`, `advancing.rt`: a `check_..` for each command: `Ok` where the machine refuses nothing, else
 //!   its refusal. `leading.rt`: where the references of a command lead. `exports.rt`: whether there is room for what a call
-//!   passes.
+//!   passes; `times.rt` counts it by node.
 //! - `faults.rt`: a function for each kind of message; `received.rt` those over any message.
 //! - `descriptors.rt`: one descriptor, and one id that is given back. `known.rt`: what is known of a wire.
 //! - `laws.rt`: that the parts of a check together are the machine's.
@@ -22,9 +22,10 @@
 //! A fault takes the vat down, so nothing has to be undone where the walk over descriptors or ids ends early.
 //!
 //! `check_call_whole` looks its reference up once, and then at all that a call is refused with but for the room in the
-//! exports, which comes last (`calls_are_refused`; `check_call_exports` of `exports.rt` looks at that). In no memory: each
-//! reference that goes out is compared with those before it, but where the table and all counts are far from their limits
-//! each is looked up once. Where the calls that wait are counted, none may be taken out to be routed.
+//! exports, which comes last (`calls_are_refused`; `check_call_exports` of `exports.rt` looks at that). Where the table and
+//! all counts are far from their limits, each reference that goes out is looked up once. Else they are counted by node; only
+//! where there is no memory for that is each compared with those before it. Where the calls that wait are counted, none may
+//! be taken out to be routed.
 #![tactic(auto)]
 
 mod advancing;
@@ -37,6 +38,7 @@ mod laws;
 mod leading;
 mod received;
 mod refusals;
+mod times;
 
 pub use advancing::check_advance;
 pub use calls::check_call_whole;

@@ -7,3 +7,4 @@ pub mod Known
 pub mod Resolves
 pub mod Said
 pub mod Told
+pub mod Walks

@@ -1,12 +1,9 @@
 -- How it is found out whether a capability of an outcome leads to itself. What is said here is said whoever is to be told
 -- of the outcome, and whatever waits for it: where its fields lead does not turn on either.
-use Rattle.std.specs.Prelude.{◌≡◌, ◌≤◌, ℕ, take, drop, length, Bool, true, false, cond, nat_eq, Option, unwrap_or, slice_get, List, [], ◌++◌}
+use Rattle.std.specs.Prelude.{◌≡◌, ◌≤◌, ℕ, take, drop, length, Bool, true, false, unwrap_or, slice_get, List, [], ◌++◌}
 use Rattle.std.specs.FinMap as map
 use Rattle.finite_maps.specs.Tally.{Map}
-use Rattle.rpc_msg.specs.CapAt.{CapAt}
-use Rattle.rpc_msg.specs.CapAt.TheVariants.{Cap, Null, NotCap}
 use Rattle.rpc_msg.specs.Payloads.{Contents as Payload}
-use Rattle.vat_machine.specs.Payloads.{cap_at}
 use Rattle.vat_machine.specs.declared.node.Node.{Node}
 use Rattle.vat_machine.specs.declared.node.Node.TheVariants as node
 use Rattle.vat_machine.specs.declared.node.Reason.TheVariants.{NotACapability}
@@ -17,7 +14,6 @@ use Rattle.vat_machine.specs.declared.calls.HeldCall.{HeldCall}
 use Rattle.vat_machine.specs.declared.calls.Value.{Value}
 use Rattle.vat_machine.specs.State.{State}
 use Rattle.vat_machine.specs.Progress.{Progress, with_state}
-use Rattle.vat_machine.specs.Nodes.{link}
 use Rattle.vat_machine.specs.Settling.{TurnsBack, behind, Untangles, Fits}
 
 -- ---- The machine's words
@@ -27,9 +23,6 @@ FitsWith s o v fit new = (who : Caller) (waiting : List HeldCall) → Fits s o w
 
 abbrev pub UntanglesWith : State → ℕ → Payload → ℕ → List Node → List Node → State → Type 0
 UntanglesWith s o payload i caps out new = (who : Caller) (waiting : List HeldCall) → Untangles s o who waiting payload i caps out new
-
-abbrev pub LinksBehind : State → ℕ → Payload → ℕ → List Node → Node → Option Node → Type 0
-LinksBehind s o payload i rest n found = (who : Caller) (waiting : List HeldCall) → found ≡ link (behind s o who waiting payload i rest) n
 
 abbrev pub Turns : State → ℕ → Payload → ℕ → List Node → Node → Type 0
 Turns s o payload i rest n = (who : Caller) (waiting : List HeldCall) → TurnsBack (behind s o who waiting payload i rest) o payload i n
@@ -41,29 +34,6 @@ NeverTurns s o payload i rest n = (who : Caller) (waiting : List HeldCall) → �
 abbrev pub TurnsIf : Bool → State → ℕ → Payload → ℕ → List Node → Node → Type 0
 TurnsIf true s o payload i rest n = Turns s o payload i rest n
 TurnsIf false s o payload i rest n = NeverTurns s o payload i rest n
-
--- ---- Where a walk stands
-
-abbrev pub is_cap : ℕ → CapAt → Bool
-is_cap i (Cap j) = nat_eq j i
-is_cap i Null = false
-is_cap i NotCap = false
-
--- A field of that outcome at whose path that capability stands.
-abbrev pub is_there : ℕ → Payload → ℕ → Node → Bool
-is_there o payload i (node.Object x) = false
-is_there o payload i (node.Promise p) = false
-is_there o payload i (node.Field k path) = cond (nat_eq k o) (is_cap i (cap_at payload path)) false
-is_there o payload i (node.Import e) = false
-is_there o payload i (node.Pipe q path) = false
-is_there o payload i (node.Broken reason) = false
-
--- The walk from n came to m, and turns back from there where it does from n.
-abbrev pub Walked : State → ℕ → Payload → ℕ → List Node → Node → Node → Type 0
-Walked s o payload i rest n m =
-    (who : Caller) (waiting : List HeldCall) →
-    (TurnsBack (behind s o who waiting payload i rest) o payload i m → TurnsBack (behind s o who waiting payload i rest) o payload i n)
-    × (TurnsBack (behind s o who waiting payload i rest) o payload i n → TurnsBack (behind s o who waiting payload i rest) o payload i m)
 
 -- ---- What changes
 

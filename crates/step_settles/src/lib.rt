@@ -4,8 +4,10 @@
 //! - `untangling.rt` fits the value of an outcome before it is kept (`fit`): its capabilities are gone through from the
 //!   last to the first, in their own list, and from each a walk by links tells whether it leads back to its own place; an
 //!   open promise takes the place of one that does. The machine's word for that speaks of walks of any length
-//!   (`TurnsBack`); the loop keeps that the walk turns back from where it stands exactly if it does from where it began
-//!   (`Walked` of `specs/Circles`).
+//!   (`TurnsBack`). A walk by links is made up to a field of the outcome, whence it comes to the outcome's capabilities
+//!   exactly as from where it began (`Walked` of `specs/Ends`); from there what is kept of that field's capability is asked.
+//! - `ends.rt` keeps where the walk from each capability came to (`Ends`). Since it came to one before it, and is shortened
+//!   each time, no walk from field to field is made again and again.
 //! - `telling.rt` tells the application how a call ended, `returning.rt` the peer: what the Return says, then all goes that
 //!   no place names, then the flag.
 //! - `outcomes.rt` puts the pieces together (`settle_outcome`), each a function whose clause is the machine's word for it.
@@ -21,6 +23,7 @@
 
 mod answering;
 mod draining;
+mod ends;
 mod fixing;
 mod outcomes;
 mod promising;

@@ -30,7 +30,7 @@ pub fn settle_outcome(step: &mut Step, alloc: Global, key: u64, value: Value) ->
     let Some(caller) = step.store.waits.caller(key) else {
         return Err(Memory);
     };
-    let fitted = fit(step, key, value)?;
+    let fitted = fit(step, alloc, key, value)?;
     let told = copy_value(alloc, &fitted)?;
     make_known(step, key, fitted)?;
     tells(step, alloc, caller, told)?;

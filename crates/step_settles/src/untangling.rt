@@ -1,22 +1,23 @@
-ghost use Rattle.std.specs.Prelude.{◌≡◌, ◌++◌, None, suc, IfOk, OnOk};
+ghost use Rattle.std.specs.Prelude.{◌≡◌, ℕ, List, None, suc, option_map, IfOk, OnOk};
 ghost use Rattle.std.specs.FinMap as map;
-ghost use Rattle.vat_machine.specs.Nodes.{node_of_cap};
-ghost use Rattle.vat_machine.specs.Payloads.{cap_at};
+ghost use Rattle.vat_machine.specs.declared.node.Node.{Node};
 ghost use Rattle.vat_machine.specs.Progress.{with_state};
-ghost use Rattle.vat_machine.specs.Settling.{absent};
 ghost use Rattle.vat_store.specs.Holding.{state_of};
 ghost use Rattle.step_base.specs.InProgress.{progress_of, IsReady};
-ghost use Rattle.step_settles.specs.Circles.{FitsWith, UntanglesWith, LinksBehind, TurnsIf, is_there, cap_of, with_promise, with_promises};
+ghost use Rattle.step_settles.specs.Circles.{FitsWith, UntanglesWith, with_promise, with_promises};
+ghost use Rattle.step_settles.specs.Ends.{Falls, KnowsEnds, KeepsEnds, EndsAt, WalksTo, path_in, is_in, is_at};
 
-use rpc_msg::{CapAt, Items, Memory, Op, Payload};
+use crate::ends::Ends;
+use rpc_msg::{CapAt, Items, Memory, Path, Payload};
+use std::alloc::Global;
 use step_base::Step;
-use vat_machine::{Node, Reason, Value};
+use vat_machine::{Node, Value};
 use vat_store::Store;
 
 /// The value that an outcome takes under that key: where a capability would lead to itself by those behind it, an open
 /// promise that no command settles takes its place. Of the step only promises change. `Err` for want of memory; the step
-/// is only to be dropped then. Takes no memory where no capability leads to itself.
-pub fn fit(step: &mut Step, key: u64, value: Value) -> Result<Value, Memory>
+/// is only to be dropped then. Takes no memory where no capability leads to a field of the outcome.
+pub fn fit(step: &mut Step, alloc: Global, key: u64, value: Value) -> Result<Value, Memory>
     requires ready { IsReady step.old }
     ensures fits { IfOk result (λ fit. FitsWith (state_of step.old.store) key value fit (state_of step.new.store)) }
     ensures only { OnOk result (state_of step.new.store ≡ record (state_of step.old.store) { promises = step.new.store.waits.promises }) }
@@ -27,15 +28,17 @@ pub fn fit(step: &mut Step, key: u64, value: Value) -> Result<Value, Memory>
     match value {
         Value::Exception(exception) => Ok(Value::Exception(exception)),
         Value::Results(payload, caps) => {
-            let fit = untangle(step, key, &payload, caps)?;
+            let fit = untangle(step, alloc, key, &payload, caps)?;
             Ok(Value::Results(payload, fit))
         }
     }
 }
 
-// The capabilities of an outcome, where none leads to itself, in the list in which they stood.
+// The capabilities of an outcome, where none leads to itself, in the list in which they stood. Each walk is made once: from
+// where it comes to a capability that stands, what was kept of that one is known.
 fn untangle(
     step: &mut Step,
+    alloc: Global,
     key: u64,
     payload: &Payload,
     caps: Items<Node>,
@@ -47,17 +50,30 @@ fn untangle(
     ensures ready { OnOk result (IsReady step.new) }
 {
     let mut fit = caps.into_vec();
+    let mut ends = Ends::new(alloc);
     let mut at = fit.len();
     while at > 0 {
         at -= 1;
         let node = fit[at];
-        let turns = turns_back(&step.store, key, payload, at, &fit[at + 1..], node)?;
-        if turns {
+        let end = end_from(&step.store, key, payload, at, &mut ends, node)?;
+        if is_at(end, at) {
             let promise = new_promise(step)?;
             fit[at] = Node::Promise(promise);
+            ends.keep(at, None)?;
+        } else {
+            ends.keep(at, end)?;
         }
     }
     Ok(Items::from_vec(fit))
+}
+
+fn is_at(end: Option<usize>, at: usize) -> bool
+    ensures { result ≡ is_at at end }
+{
+    match end {
+        Some(index) => index == at,
+        None => false,
+    }
 }
 
 // Opens a promise that no command settles.
@@ -73,94 +89,74 @@ fn new_promise(step: &mut Step) -> Result<u64, Memory>
     Ok(key)
 }
 
-// Whether a capability leads to itself by those behind it. `Err` where the walk is longer than all links together, which
-// no vat comes to: nothing there leads to itself, so no link is passed twice.
-fn turns_back(
+// Where the walk from a node ends by the capabilities behind that index: at a field of which of the others, if of one.
+fn end_from(
     store: &Store,
     key: u64,
     payload: &Payload,
     at: usize,
-    behind: &[Node],
+    ends: &mut Ends,
     node: Node,
-) -> Result<bool, Memory>
-    ensures { IfOk result (λ turns. TurnsIf turns (state_of store.now) key payload.now at behind.now node) }
+) -> Result<Option<usize>, Memory>
+    requires { Falls ends.old }
+    ensures end { IfOk result (λ end. (rest : List Node) → KnowsEnds (state_of store.now) key payload.now (suc at) rest ends.old → EndsAt (state_of store.now) key payload.now (suc at) rest node end) }
+    ensures known { KeepsEnds (suc at) ends.old ends.new }
+    ensures falls { Falls ends.new }
 {
-    let Some(links) = store.links.checked_add(behind.len() as u64) else {
-        return Err(Memory);
+    let Some(path) = walk_to(store, key, node)? else {
+        return Ok(None);
     };
-    let mut left = links;
+    match payload.cap_at(path.as_slice()) {
+        CapAt::Cap(index) => Ok(ends.end_of(at, index as usize)),
+        CapAt::Null => Ok(None),
+        CapAt::NotCap => Ok(None),
+    }
+}
+
+// The path of the outcome's field to which the walk from a node comes, if to one. `Err` where the walk is longer than all
+// links together, which no vat comes to: nothing there leads to itself, so no link is passed twice.
+fn walk_to(store: &Store, key: u64, node: Node) -> Result<Option<Path>, Memory>
+    ensures { IfOk result (λ path. WalksTo (state_of store.now) key node path) }
+{
+    let mut left = store.links;
     let mut walked = node;
-    let mut there = is_there(key, payload, at, node);
+    let mut there = is_in(key, node);
     while !there {
         let from = walked;
-        let Some(found) = link_behind(store, key, payload, at, behind, from) else {
-            return Ok(false);
+        let Some(found) = vat_store::link(store, from) else {
+            return Ok(None);
         };
         if left == 0 {
             return Err(Memory);
         }
         left -= 1;
         walked = found;
-        there = is_there(key, payload, at, found);
+        there = is_in(key, found);
     }
-    Ok(true)
+    Ok(path_in(key, walked))
 }
 
-// Whether a node is a field of the outcome at whose path that capability stands.
-fn is_there(key: u64, payload: &Payload, at: usize, node: Node) -> bool
-    ensures { result ≡ is_there key payload.now at node }
+fn is_in(key: u64, node: Node) -> bool
+    ensures { result ≡ is_in key node }
+{
+    match node {
+        Node::Field(outcome, _) => outcome == key,
+        Node::Object(_) => false,
+        Node::Promise(_) => false,
+        Node::Import(_) => false,
+        Node::Pipe(_, _) => false,
+        Node::Broken(_) => false,
+    }
+}
+
+fn path_in(key: u64, node: Node) -> Option<Path>
+    ensures { result ≡ path_in key node }
 {
     let Node::Field(outcome, path) = node else {
-        return false;
+        return None;
     };
-    if outcome != key {
-        return false;
+    if outcome == key {
+        return Some(path);
     }
-    match payload.cap_at(path.as_slice()) {
-        CapAt::Cap(index) => index as usize == at,
-        CapAt::Null => false,
-        CapAt::NotCap => false,
-    }
-}
-
-// Where the link of a node leads, where of the outcome only the capabilities behind that index stand.
-fn link_behind(
-    store: &Store,
-    key: u64,
-    payload: &Payload,
-    at: usize,
-    behind: &[Node],
-    node: Node,
-) -> Option<Node>
-    ensures { LinksBehind (state_of store.now) key payload.now at behind.now node result }
-{
-    let Node::Field(outcome, path) = node else {
-        return vat_store::link(store, node);
-    };
-    if outcome != key {
-        return vat_store::link(store, node);
-    }
-    Some(node_behind(payload, at, behind, path.as_slice()))
-}
-
-fn node_behind(payload: &Payload, at: usize, behind: &[Node], path: &[Op]) -> Node
-    ensures { result ≡ node_of_cap (absent (suc at) ++ behind.now) (cap_at payload.now path.now) }
-{
-    match payload.cap_at(path) {
-        CapAt::Cap(index) => cap_behind(at, behind, index as usize),
-        CapAt::Null => Node::Broken(Reason::NullCapability),
-        CapAt::NotCap => Node::Broken(Reason::NotACapability),
-    }
-}
-
-fn cap_behind(at: usize, behind: &[Node], index: usize) -> Node
-    ensures { result ≡ cap_of (absent (suc at) ++ behind.now) index }
-{
-    if index <= at {
-        return Node::Broken(Reason::NotACapability);
-    }
-    match behind.get(index - at - 1) {
-        Some(node) => *node,
-        None => Node::Broken(Reason::NotACapability),
-    }
+    None
 }

@@ -12,7 +12,7 @@ use Rattle.trace_check.specs.declared.releases.Released.TheVariants as released
 use Rattle.trace_check.specs.declared.releases.Flagged.{Flagged}
 use Rattle.trace_check.specs.declared.releases.Releases.{Releases}
 use Rattle.trace_check.specs.Counts.{CountsById, count_of, Sending, gives, releases, of_each}
-use Rattle.trace_check.specs.Kept.{amount, Lists, Grows, list_at, released_in, weight, sent_sum, got_sum, IsIn, AllIn, direct, direct_sum, IsReleased, added_by, adds}
+use Rattle.trace_check.specs.Kept.{amount, Lists, Grows, list_at, released_in, weight, sent_sum, got_sum, sum_by, more_sent, more_got, IsIn, AllIn, direct, direct_sum, IsReleased, added_by, adds}
 use Rattle.trace_check.proofs.Counting.{count_of-append, count_of_more}
 
 -- ---- Lists
@@ -130,11 +130,21 @@ got_set ls e (x ∷ xs) (suc i) k old new is same more = omega (arith, got_set l
 
 -- ---- So many times
 
-pub sent_more : (ls : Lists) (e : ℕ) (xs : List Flagged) (i : ℕ) (d : Flagged) → i < length xs → sent_sum ls e (take (i + 1) xs) ≡ sent_sum ls e (take i xs) + (get_or xs i d).sent * weight ls e (get_or xs i d).list
-sent_more ls e xs i d within = ap (sent_sum ls e) (take_more xs i d within) ∙ sent_push ls e (take i xs) (get_or xs i d)
+pub sum_push : (f : Flagged → ℕ) (ls : Lists) (e : ℕ) (xs : List Flagged) (x : Flagged) → sum_by f ls e (xs ++ x ∷ []) ≡ sum_by f ls e xs + f x * weight ls e x.list
+sum_push f ls e [] x = omega arith
+sum_push f ls e (y ∷ xs) x = omega (arith, sum_push f ls e xs x)
 
-pub got_more : (ls : Lists) (e : ℕ) (xs : List Flagged) (i : ℕ) (d : Flagged) → i < length xs → got_sum ls e (take (i + 1) xs) ≡ got_sum ls e (take i xs) + (get_or xs i d).got * weight ls e (get_or xs i d).list
-got_more ls e xs i d within = ap (got_sum ls e) (take_more xs i d within) ∙ got_push ls e (take i xs) (get_or xs i d)
+pub sum_more : (f : Flagged → ℕ) (ls : Lists) (e : ℕ) (xs : List Flagged) (i : ℕ) (d : Flagged) → i < length xs → sum_by f ls e (take (i + 1) xs) ≡ sum_by f ls e (take i xs) + f (get_or xs i d) * weight ls e (get_or xs i d).list
+sum_more f ls e xs i d within = ap (sum_by f ls e) (take_more xs i d within) ∙ sum_push f ls e (take i xs) (get_or xs i d)
+
+-- What is more on the one side and what there was on the other are the same.
+evened : (sent got w : ℕ) → (sent - got) * w + got * w ≡ (got - sent) * w + sent * w
+evened sent got w =
+    sym (add-mul (sent - got) got w) ∙ ap (λ (n : ℕ). n * w) (let e : (sent - got) + got ≡ (got - sent) + sent = omega arith in e) ∙ add-mul (got - sent) sent w
+
+pub sums_even : (ls : Lists) (e : ℕ) (xs : List Flagged) → sum_by more_sent ls e xs + got_sum ls e xs ≡ sum_by more_got ls e xs + sent_sum ls e xs
+sums_even ls e [] = refl
+sums_even ls e (x ∷ xs) = omega (arith, evened x.sent x.got (weight ls e x.list), sums_even ls e xs)
 
 times_choice : (b : Bool) (t n : ℕ) → t * cond b n 0 ≡ cond b (t * n) 0
 times_choice true t n = refl
@@ -151,7 +161,7 @@ times_more t e xs i d within =
 one_time : (n : ℕ) → 1 * n ≡ n
 one_time n = omega arith
 
-no_time : (n : ℕ) → 0 * n ≡ 0
+pub no_time : (n : ℕ) → 0 * n ≡ 0
 no_time n = omega arith
 
 weight_is : (ls : Lists) (e n : ℕ) (x : CountsById) → slice_get ls n ≡ Some x → weight ls e n ≡ count_of e x
@@ -182,12 +192,12 @@ module _ (ls : Lists) (r n : Releases) (named much : ℕ → ℕ) (x : CountsByI
 -- ---- All are counted
 
 pub is_counted : (ls : Lists) (r n : Releases) (named much : ℕ → ℕ) → ((e : ℕ) → named e ≤ much e) → n.flagged.items ≡ []
-    → ((e : ℕ) → amount n.counted e ≡ (amount r.counted e + sent_sum ls e r.flagged.items) - got_sum ls e r.flagged.items)
+    → ((e : ℕ) → amount n.counted e ≡ (amount r.counted e + sum_by more_sent ls e r.flagged.items) - sum_by more_got ls e r.flagged.items)
     → IsReleased ls r named much → IsReleased ls n named much
 is_counted ls r n named much most none counts is = record {
   all_in = subst (AllIn ls) (sym none) tt;
-  least = λ e. omega (arith, is.even e, counts e, most e);
-  even = λ e. omega (arith, is.even e, counts e, ap (sent_sum ls e) none, ap (got_sum ls e) none);
+  least = λ e. omega (arith, is.even e, counts e, most e, sums_even ls e r.flagged.items);
+  even = λ e. omega (arith, is.even e, counts e, sums_even ls e r.flagged.items, ap (sent_sum ls e) none, ap (got_sum ls e) none);
 }
 
 pub all_counted : (ls : Lists) (r : Releases) (named much : ℕ → ℕ) → r.flagged.items ≡ [] → IsReleased ls r named much → (e : ℕ) → amount r.counted e ≡ much e

@@ -1,5 +1,5 @@
 -- What the fields of a checker say.
-use Rattle.std.specs.Prelude.{◌≡◌, ℕ, ◌+◌, ◌*◌, Bool, true, false, cond, Option, None, Some, nat_eq, List, [], ◌∷◌, ◌++◌, ◌&&◌, map, length, drop, filter, ◌≤◌, slice_get}
+use Rattle.std.specs.Prelude.{◌-◌, ◌≡◌, ℕ, ◌+◌, ◌*◌, Bool, true, false, cond, Option, None, Some, nat_eq, List, [], ◌∷◌, ◌++◌, ◌&&◌, map, length, drop, filter, ◌≤◌, slice_get}
 use Rattle.std.specs.BTreeMap.{get}
 use Rattle.std.specs.Ordering.{nat_cmp}
 use Rattle.std.specs.Option.{unwrap_or}
@@ -83,6 +83,18 @@ sent_sum ls e (x ∷ xs) = x.sent * weight ls e x.list + sent_sum ls e xs
 abbrev pub got_sum : Lists → ℕ → List Flagged → ℕ
 got_sum ls e [] = 0
 got_sum ls e (x ∷ xs) = x.got * weight ls e x.list + got_sum ls e xs
+
+-- How much oftener messages that release a list were sent than received, and received than sent.
+abbrev pub more_sent : Flagged → ℕ
+more_sent x = x.sent - x.got
+
+abbrev pub more_got : Flagged → ℕ
+more_got x = x.got - x.sent
+
+-- What the lists have, each so many times.
+abbrev pub sum_by : (Flagged → ℕ) → Lists → ℕ → List Flagged → ℕ
+sum_by f ls e [] = 0
+sum_by f ls e (x ∷ xs) = f x * weight ls e x.list + sum_by f ls e xs
 
 abbrev pub IsIn : Lists → ℕ → Type 0
 IsIn ls n = (ids : CountsById) × (slice_get ls n ≡ Some ids)

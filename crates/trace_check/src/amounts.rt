@@ -86,6 +86,9 @@ impl Amounts {
     pub(crate) fn add_times(&mut self, counts: &[(ExportId, u32)], times: u64) -> Result<(), Memory>
         ensures { OnOk result ((e : ℕ) → amount self.new e ≡ amount self.old e + times * count_of e counts.now) }
     {
+        if times == 0 {
+            return Ok(());
+        }
         for (id, count) in counts {
             let Some(more) = times.checked_mul(u64::from(*count)) else {
                 return Err(Memory);
@@ -103,6 +106,9 @@ impl Amounts {
     ) -> Result<(), Memory>
         ensures { OnOk result ((e : ℕ) → amount self.new e ≡ amount self.old e - times * count_of e counts.now) }
     {
+        if times == 0 {
+            return Ok(());
+        }
         for (id, count) in counts {
             let Some(less) = times.checked_mul(u64::from(*count)) else {
                 return Err(Memory);

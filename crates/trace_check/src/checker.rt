@@ -35,7 +35,7 @@ impl Checker {
 
     /// Takes the next entry. The work does not grow with the number of entries but for the depth of trees, nor that of a
     /// true flag with the ids that it releases; that of a `Tables` entry grows with those that it says, that messages on
-    /// their way name, and that are in lists which flags released, or no longer release, since the last such entry.
+    /// their way name, and that are in lists which flags release oftener, or less often, than at the last such entry.
     /// `Memory` where a growth was refused, and where entries or counts are more than 64 bits can say.
     pub fn take(mut self, alloc: Global, entry: &JournalEntry) -> Result<Self, Memory>
         ensures { IfOk result (λ new. (h : List Entry) → HasTaken self h → HasTaken new (h ++ entry.now ∷ [])) }

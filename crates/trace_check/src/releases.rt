@@ -1,5 +1,5 @@
 ghost use Rattle.std.specs.Prelude.{◌≡◌, ◌≤◌, ◌+◌, ◌*◌, ◌-◌, [], ℕ, List, Some, IfSome, OnOk, slice_get};
-ghost use Rattle.trace_check.specs.Kept.{amount, weight, sent_sum, got_sum, IsIn, AllIn, Lists, direct, IsReleased, released_in};
+ghost use Rattle.trace_check.specs.Kept.{amount, weight, sent_sum, got_sum, sum_by, more_sent, more_got, IsIn, AllIn, Lists, direct, IsReleased, released_in};
 ghost use Rattle.std.specs.Option.{unwrap_or};
 ghost use Rattle.trace_check.specs.Counts.{CountsById, count_of};
 
@@ -23,6 +23,22 @@ pub(crate) struct Flagged {
     pub(crate) list: usize,
     pub(crate) sent: u64,
     pub(crate) got: u64,
+}
+
+impl Flagged {
+    // How much oftener they were sent.
+    fn more_sent(self) -> u64
+        ensures { result ≡ more_sent self }
+    {
+        self.sent.saturating_sub(self.got)
+    }
+
+    // How much oftener they were received.
+    fn more_got(self) -> u64
+        ensures { result ≡ more_got self }
+    {
+        self.got.saturating_sub(self.sent)
+    }
 }
 
 /// What the messages on their way to a vat release of its exports. A list that is released is counted only when somebody
@@ -134,28 +150,30 @@ impl Releases {
     }
 }
 
+// Adds the lists that were sent oftener than received. A list of which as many were received takes no work.
 fn add_sent(
     counted: &mut Amounts,
     lists: &[Items<(ExportId, u32)>],
     flagged: &[Flagged],
 ) -> Result<(), Memory>
-    ensures { OnOk result ((e : ℕ) → amount counted.new e ≡ amount counted.old e + sent_sum lists.now e flagged.now) }
+    ensures { OnOk result ((e : ℕ) → amount counted.new e ≡ amount counted.old e + sum_by more_sent lists.now e flagged.now) }
 {
     for one in flagged {
-        counted.add_times(list_of(lists, one.list), one.sent)?;
+        counted.add_times(list_of(lists, one.list), one.more_sent())?;
     }
     Ok(())
 }
 
+// Takes the lists away that were received oftener than sent.
 fn take_got(
     counted: &mut Amounts,
     lists: &[Items<(ExportId, u32)>],
     flagged: &[Flagged],
 ) -> Result<(), Memory>
-    ensures { OnOk result ((e : ℕ) → amount counted.new e ≡ amount counted.old e - got_sum lists.now e flagged.now) }
+    ensures { OnOk result ((e : ℕ) → amount counted.new e ≡ amount counted.old e - sum_by more_got lists.now e flagged.now) }
 {
     for one in flagged {
-        counted.take_times(list_of(lists, one.list), one.got)?;
+        counted.take_times(list_of(lists, one.list), one.more_got())?;
     }
     Ok(())
 }

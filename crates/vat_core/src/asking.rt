@@ -63,7 +63,7 @@ impl Core {
                 back: call,
             });
         };
-        if let Err(refusal) = check_call_whole(store, &call) {
+        if let Err(refusal) = check_call_whole(store, self.machine.alloc, &call) {
             return Err(Refused {
                 refusal,
                 back: call,

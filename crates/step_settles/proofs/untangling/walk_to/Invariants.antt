@@ -1,12 +1,12 @@
 use Rattle.std.proofs.Common.{◌≡◌}
 use Rattle.vat_store.specs.Holding.{state_of}
-use Rattle.step_settles.specs.Circles.{is_there, Walked}
-use Rattle.step_settles.proofs.untangling.turns_back.Given as goal
+use Rattle.step_settles.specs.Ends.{is_in, Walked}
+use Rattle.step_settles.proofs.untangling.walk_to.Given as goal
 
 abbrev pub invariant-loop-there : goal.invariant-loop-there
 invariant-loop-there l = record {
-  there : l.there ≡ is_there l.key l.payload l.at l.walked;
-  walked : Walked (state_of l.store) l.key l.payload l.at l.behind l.fn.node l.walked;
+  there : l.there ≡ is_in l.key l.walked;
+  walked : Walked (state_of l.store) l.key l.fn.node l.walked;
 }
 
 abbrev pub decreases-loop-there : goal.decreases-loop-there

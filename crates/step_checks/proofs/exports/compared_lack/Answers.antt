@@ -1,7 +1,7 @@
 use Rattle.std.proofs.Common.{get_or, refl, sym}
 use Rattle.vat_store.specs.Holding.{state_of}
 use Rattle.step_checks.proofs.Outgoing.{foreseen_next, foreseen_met, foreseen_all}
-use Rattle.step_checks.proofs.exports.exports_lack.Goals as goal
+use Rattle.step_checks.proofs.exports.compared_lack.Goals as goal
 
 pub returns-in_default : goal.returns-in_default
 returns-in_default c =

@@ -1,7 +1,7 @@
 use Rattle.std.proofs.Common.{◌≤◌}
 use Rattle.vat_store.specs.Holding.{state_of}
 use Rattle.step_checks.proofs.Outgoing.{Foreseen}
-use Rattle.step_checks.proofs.exports.exports_lack.Given as goal
+use Rattle.step_checks.proofs.exports.compared_lack.Given as goal
 
 abbrev pub invariant-loop-at : goal.invariant-loop-at
 invariant-loop-at l = record {
