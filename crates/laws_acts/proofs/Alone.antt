@@ -1,12 +1,12 @@
 -- What the words of the machine change of a state: one table, and nothing else.
 use Rattle.std.proofs.Common.{◌≡◌, inl, inr, ℕ, ◌+◌, Bool, true, false, List, [], ◌∷◌, Option, None, Some, refl, sym, ap, subst, ◌∙◌}
 use Rattle.std.specs.FinMap as map
-use Rattle.rpc_msg.specs.declared.parts.Descriptor.{Descriptor}
-use Rattle.rpc_msg.specs.declared.parts.Descriptor.TheVariants as descriptor
-use Rattle.rpc_msg.specs.declared.message.ReturnBody.{ReturnBody}
-use Rattle.rpc_msg.specs.declared.message.ResolvedTo.{ResolvedTo}
-use Rattle.rpc_msg.specs.declared.message.ResolvedTo.TheVariants as resolved
-use Rattle.rpc_msg.specs.Payloads.{Contents as Payload}
+use Rattle.vat_machine.specs.rpc_msg.specs.declared.parts.Descriptor.{Descriptor}
+use Rattle.vat_machine.specs.rpc_msg.specs.declared.parts.Descriptor.TheVariants as descriptor
+use Rattle.vat_machine.specs.rpc_msg.specs.declared.message.ReturnBody.{ReturnBody}
+use Rattle.vat_machine.specs.rpc_msg.specs.declared.message.ResolvedTo.{ResolvedTo}
+use Rattle.vat_machine.specs.rpc_msg.specs.declared.message.ResolvedTo.TheVariants as resolved
+use Rattle.vat_machine.specs.rpc_msg.specs.Payloads.{Contents as Payload}
 use Rattle.finite_maps.specs.Tally.{Map}
 use Rattle.vat_machine.specs.declared.node.Node.{Node}
 use Rattle.vat_machine.specs.declared.node.Node.TheVariants as node

@@ -1,9 +1,9 @@
 -- What is known where no check fails.
 use Rattle.std.proofs.Common.{◌≡◌, ℕ, Bool, true, false, is_some, List, [], ◌∷◌, Option, None, Some, refl, subst}
 use Rattle.std.specs.FinMap as map
-use Rattle.rpc_msg.specs.declared.ids.PromiseId.{PromiseId}
-use Rattle.rpc_msg.specs.declared.ids.RefId.{RefId}
-use Rattle.vat_journal.specs.History.{if_so}
+use Rattle.vat_machine.specs.rpc_msg.specs.declared.ids.PromiseId.{PromiseId}
+use Rattle.vat_machine.specs.rpc_msg.specs.declared.ids.RefId.{RefId}
+use Rattle.vat_machine.specs.vat_journal.specs.History.{if_so}
 use Rattle.vat_machine.specs.declared.command.Command.TheVariants as command
 use Rattle.vat_machine.specs.declared.command.Refusal.TheVariants as refusal
 use Rattle.vat_machine.specs.declared.entries.Reference.{Reference}

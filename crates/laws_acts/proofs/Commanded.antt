@@ -1,19 +1,19 @@
 -- What a command does first is its first act, and then acts.
 use Rattle.std.proofs.Common.{◌≡◌, ◌≢◌, inl, inr, ℕ, true, false, List, [], ◌∷◌, Option, None, Some, refl, ap, ◌∙◌}
 use Rattle.std.specs.FinMap as map
-use Rattle.rpc_msg.specs.declared.ids.CallId.{CallId}
-use Rattle.rpc_msg.specs.declared.ids.EmbargoId.{EmbargoId}
-use Rattle.rpc_msg.specs.declared.ids.PromiseId.{PromiseId}
-use Rattle.rpc_msg.specs.declared.ids.RefId.{RefId}
-use Rattle.rpc_msg.specs.declared.ids.TaskId.{TaskId}
-use Rattle.rpc_msg.specs.Op.{Op}
-use Rattle.rpc_msg.specs.Payloads.{Contents as Payload}
-use Rattle.rpc_msg.specs.declared.parts.Descriptor.{Descriptor}
-use Rattle.rpc_msg.specs.declared.parts.Descriptor.TheVariants as descriptor
-use Rattle.rpc_msg.specs.declared.parts.Target.{Target}
-use Rattle.rpc_msg.specs.declared.parts.Target.TheVariants.{ImportedCap, PromisedAnswer}
-use Rattle.rpc_msg.specs.declared.exception.Exception.{Exception}
-use Rattle.vat_journal.specs.declared.report.Advanced.TheVariants as advanced
+use Rattle.vat_machine.specs.rpc_msg.specs.declared.ids.CallId.{CallId}
+use Rattle.vat_machine.specs.rpc_msg.specs.declared.ids.EmbargoId.{EmbargoId}
+use Rattle.vat_machine.specs.rpc_msg.specs.declared.ids.PromiseId.{PromiseId}
+use Rattle.vat_machine.specs.rpc_msg.specs.declared.ids.RefId.{RefId}
+use Rattle.vat_machine.specs.rpc_msg.specs.declared.ids.TaskId.{TaskId}
+use Rattle.vat_machine.specs.rpc_msg.specs.Op.{Op}
+use Rattle.vat_machine.specs.rpc_msg.specs.Payloads.{Contents as Payload}
+use Rattle.vat_machine.specs.rpc_msg.specs.declared.parts.Descriptor.{Descriptor}
+use Rattle.vat_machine.specs.rpc_msg.specs.declared.parts.Descriptor.TheVariants as descriptor
+use Rattle.vat_machine.specs.rpc_msg.specs.declared.parts.Target.{Target}
+use Rattle.vat_machine.specs.rpc_msg.specs.declared.parts.Target.TheVariants.{ImportedCap, PromisedAnswer}
+use Rattle.vat_machine.specs.rpc_msg.specs.declared.exception.Exception.{Exception}
+use Rattle.vat_machine.specs.vat_journal.specs.declared.report.Advanced.TheVariants as advanced
 use Rattle.vat_machine.specs.declared.node.Node.{Node}
 use Rattle.vat_machine.specs.declared.node.Node.TheVariants as node
 use Rattle.vat_machine.specs.declared.node.Reason.TheVariants.{BrokenPromise}

@@ -1,6 +1,6 @@
 -- How a law of every step is proved by acts: it holds of the first act, each act keeps it, and it is read off the end.
 use Rattle.std.proofs.Common.{◌≡◌, ℕ, Option, None, Some, Result}
-use Rattle.rpc_msg.specs.declared.message.Message.{Message}
+use Rattle.vat_machine.specs.rpc_msg.specs.declared.message.Message.{Message}
 use Rattle.vat_machine.specs.declared.command.Command.{Command}
 use Rattle.vat_machine.specs.declared.command.Granted.{Granted}
 use Rattle.vat_machine.specs.declared.command.Refusal.{Refusal}

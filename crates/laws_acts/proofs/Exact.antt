@@ -1,11 +1,11 @@
 -- A delivery, a report, a Return and a Finish, as what they change of a progress and no more.
 use Rattle.std.proofs.Common.{◌≡◌, ℕ, ◌+◌, [], ◌∷◌, ◌++◌, ap}
 use Rattle.std.specs.FinMap as map
-use Rattle.rpc_msg.specs.declared.ids.ObjectId.{ObjectId}
-use Rattle.rpc_msg.specs.declared.message.PlainMessage.{PlainMessage}
-use Rattle.rpc_msg.specs.declared.message.PlainMessage.TheVariants as plain
-use Rattle.rpc_msg.specs.Messages.{given}
-use Rattle.vat_journal.specs.declared.report.Ended.{Ended}
+use Rattle.vat_machine.specs.rpc_msg.specs.declared.ids.ObjectId.{ObjectId}
+use Rattle.vat_machine.specs.rpc_msg.specs.declared.message.PlainMessage.{PlainMessage}
+use Rattle.vat_machine.specs.rpc_msg.specs.declared.message.PlainMessage.TheVariants as plain
+use Rattle.vat_machine.specs.rpc_msg.specs.Messages.{given}
+use Rattle.vat_machine.specs.vat_journal.specs.declared.report.Ended.{Ended}
 use Rattle.vat_machine.specs.declared.calls.WaitingCall.{WaitingCall}
 use Rattle.vat_machine.specs.declared.calls.Value.{Value}
 use Rattle.vat_machine.specs.declared.entries.AnswerEntry.{AnswerEntry}

@@ -3,8 +3,8 @@ use Rattle.std.proofs.Common.{◌≡◌, ℕ, Bool, List, [], ◌∷◌, Option,
 use Rattle.std.specs.Ordering.{nat_cmp}
 use Rattle.std.specs.FinMap as map
 use Rattle.vat_machine.specs.declared.node.Node.{Node}
-use Rattle.rpc_msg.specs.declared.ids.Vat.{Vat}
-use Rattle.rpc_msg.specs.declared.ids.ObjectId.{ObjectId}
+use Rattle.vat_machine.specs.rpc_msg.specs.declared.ids.Vat.{Vat}
+use Rattle.vat_machine.specs.rpc_msg.specs.declared.ids.ObjectId.{ObjectId}
 use Rattle.vat_machine.specs.declared.command.Level.{Level}
 use Rattle.vat_machine.specs.State.{start}
 use Rattle.vat_machine.specs.Lists.{how_many, from_each}

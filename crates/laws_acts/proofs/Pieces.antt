@@ -4,11 +4,11 @@ use Rattle.std.proofs.Common.{◌≡◌, ◌⊎◌, inl, inr, ℕ, Bool, true, f
 use Rattle.std.specs.FinMap as map
 use Rattle.finite_maps.specs.Tally.{Map}
 use Rattle.finite_maps.proofs.Gets.{get-insert_same, get-remove_same, get-remove_other}
-use Rattle.rpc_msg.specs.declared.ids.QuestionId.{QuestionId}
-use Rattle.rpc_msg.specs.declared.parts.Target.{Target}
-use Rattle.rpc_msg.specs.declared.parts.Target.TheVariants.{ImportedCap, PromisedAnswer}
-use Rattle.rpc_msg.specs.declared.exception.Exception.{Exception}
-use Rattle.rpc_msg.specs.declared.message.ResolvedTo.TheVariants as resolved
+use Rattle.vat_machine.specs.rpc_msg.specs.declared.ids.QuestionId.{QuestionId}
+use Rattle.vat_machine.specs.rpc_msg.specs.declared.parts.Target.{Target}
+use Rattle.vat_machine.specs.rpc_msg.specs.declared.parts.Target.TheVariants.{ImportedCap, PromisedAnswer}
+use Rattle.vat_machine.specs.rpc_msg.specs.declared.exception.Exception.{Exception}
+use Rattle.vat_machine.specs.rpc_msg.specs.declared.message.ResolvedTo.TheVariants as resolved
 use Rattle.vat_machine.specs.declared.node.Node.{Node}
 use Rattle.vat_machine.specs.declared.node.Node.TheVariants as node
 use Rattle.vat_machine.specs.declared.calls.WaitingCall.{WaitingCall}

@@ -1,7 +1,7 @@
 -- What changes of questions and answers let come and go among the places of a vat.
 use Rattle.std.proofs.Common.{◌≡◌, ℕ, Bool, true, false, List, [], ◌++◌, Option, None, Some, refl, ap, subst, arith}
 use Rattle.std.specs.FinMap as map
-use Rattle.rpc_msg.specs.declared.ids.ExportId.{ExportId}
+use Rattle.vat_machine.specs.rpc_msg.specs.declared.ids.ExportId.{ExportId}
 use Rattle.vat_machine.specs.declared.entries.Question.{Question}
 use Rattle.vat_machine.specs.declared.entries.AnswerEntry.{AnswerEntry}
 use Rattle.vat_machine.specs.declared.entries.Returned.{Returned}

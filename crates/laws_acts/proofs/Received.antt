@@ -1,18 +1,18 @@
 -- What a received message does first is its first act, and then acts.
 use Rattle.std.proofs.Common.{◌≡◌, ◌⊎◌, inl, inr, ℕ, Bool, true, false, is_some, not, nat_eq, length, List, [], ◌∷◌, Option, None, Some, refl, sym, ap, subst, ◌∙◌}
 use Rattle.std.specs.FinMap as map
-use Rattle.vat_journal.specs.History.{if_so}
-use Rattle.rpc_msg.specs.declared.ids.EmbargoId.{EmbargoId}
-use Rattle.rpc_msg.specs.declared.parts.Target.{Target}
-use Rattle.rpc_msg.specs.declared.message.Call.{Call}
-use Rattle.rpc_msg.specs.declared.message.Return.{Return}
-use Rattle.rpc_msg.specs.declared.message.Finish.{Finish}
-use Rattle.rpc_msg.specs.declared.message.DisembargoContext.{DisembargoContext}
-use Rattle.rpc_msg.specs.declared.message.DisembargoContext.TheVariants.{SenderLoopback, ReceiverLoopback}
-use Rattle.rpc_msg.specs.declared.message.PlainMessage.{PlainMessage}
-use Rattle.rpc_msg.specs.declared.message.PlainMessage.TheVariants as plain
-use Rattle.rpc_msg.specs.declared.message.Message.{Message}
-use Rattle.rpc_msg.specs.declared.message.Message.TheVariants as message
+use Rattle.vat_machine.specs.vat_journal.specs.History.{if_so}
+use Rattle.vat_machine.specs.rpc_msg.specs.declared.ids.EmbargoId.{EmbargoId}
+use Rattle.vat_machine.specs.rpc_msg.specs.declared.parts.Target.{Target}
+use Rattle.vat_machine.specs.rpc_msg.specs.declared.message.Call.{Call}
+use Rattle.vat_machine.specs.rpc_msg.specs.declared.message.Return.{Return}
+use Rattle.vat_machine.specs.rpc_msg.specs.declared.message.Finish.{Finish}
+use Rattle.vat_machine.specs.rpc_msg.specs.declared.message.DisembargoContext.{DisembargoContext}
+use Rattle.vat_machine.specs.rpc_msg.specs.declared.message.DisembargoContext.TheVariants.{SenderLoopback, ReceiverLoopback}
+use Rattle.vat_machine.specs.rpc_msg.specs.declared.message.PlainMessage.{PlainMessage}
+use Rattle.vat_machine.specs.rpc_msg.specs.declared.message.PlainMessage.TheVariants as plain
+use Rattle.vat_machine.specs.rpc_msg.specs.declared.message.Message.{Message}
+use Rattle.vat_machine.specs.rpc_msg.specs.declared.message.Message.TheVariants as message
 use Rattle.vat_machine.specs.declared.command.Level.{Level}
 use Rattle.vat_machine.specs.declared.command.Level.TheVariants.{Zero, One}
 use Rattle.vat_machine.specs.declared.command.Effects.{Effects}

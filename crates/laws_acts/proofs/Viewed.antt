@@ -2,8 +2,8 @@
 use Rattle.std.proofs.Common.{◌≡◌, ◌≢◌, ◌⊎◌, inl, inr, ℕ, true, false, List, [], ◌∷◌, Option, None, Some, refl, sym, ap, subst, ◌∙◌}
 use Rattle.std.specs.FinMap as map
 use Rattle.finite_maps.specs.Tally.{Map}
-use Rattle.rpc_msg.specs.declared.exception.Exception.{Exception}
-use Rattle.rpc_msg.specs.declared.message.ResolvedTo.TheVariants as resolved
+use Rattle.vat_machine.specs.rpc_msg.specs.declared.exception.Exception.{Exception}
+use Rattle.vat_machine.specs.rpc_msg.specs.declared.message.ResolvedTo.TheVariants as resolved
 use Rattle.vat_machine.specs.declared.node.Node.{Node}
 use Rattle.vat_machine.specs.declared.node.Node.TheVariants as node
 use Rattle.vat_machine.specs.declared.calls.WaitingCall.{WaitingCall}

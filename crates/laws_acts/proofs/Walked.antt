@@ -1,12 +1,12 @@
 -- What a command or a message does first, in the words of `Acts`; with the acts that follow, each step is acts.
 use Rattle.std.proofs.Common.{◌≡◌, ◌⊎◌, inl, inr, true, false, None, Some, refl, sym, ap, subst, ◌∙◌}
 use Rattle.std.specs.FinMap as map
-use Rattle.rpc_msg.specs.declared.message.DisembargoContext.TheVariants.{SenderLoopback, ReceiverLoopback}
-use Rattle.rpc_msg.specs.declared.message.Return.{Return}
-use Rattle.rpc_msg.specs.declared.message.PlainMessage.{PlainMessage}
-use Rattle.rpc_msg.specs.declared.message.PlainMessage.TheVariants as plain
-use Rattle.rpc_msg.specs.declared.message.Message.{Message}
-use Rattle.rpc_msg.specs.declared.message.Message.TheVariants as message
+use Rattle.vat_machine.specs.rpc_msg.specs.declared.message.DisembargoContext.TheVariants.{SenderLoopback, ReceiverLoopback}
+use Rattle.vat_machine.specs.rpc_msg.specs.declared.message.Return.{Return}
+use Rattle.vat_machine.specs.rpc_msg.specs.declared.message.PlainMessage.{PlainMessage}
+use Rattle.vat_machine.specs.rpc_msg.specs.declared.message.PlainMessage.TheVariants as plain
+use Rattle.vat_machine.specs.rpc_msg.specs.declared.message.Message.{Message}
+use Rattle.vat_machine.specs.rpc_msg.specs.declared.message.Message.TheVariants as message
 use Rattle.vat_machine.specs.declared.node.Node.TheVariants as node
 use Rattle.vat_machine.specs.declared.node.Reason.TheVariants.{BrokenPromise}
 use Rattle.vat_machine.specs.declared.command.Command.{Command}

@@ -2,17 +2,17 @@
 -- becomes known and is told to its caller is one of them, where `SmallActs` has several.
 use Rattle.std.specs.Prelude.{◌≡◌, ℕ, ◌+◌, false, Option, None, Some, List, [], ◌∷◌, ◌++◌}
 use Rattle.std.specs.FinMap as map
-use Rattle.rpc_msg.specs.declared.ids.ObjectId.{ObjectId}
-use Rattle.rpc_msg.specs.declared.parts.Target.{Target}
-use Rattle.rpc_msg.specs.declared.exception.Exception.{Exception}
-use Rattle.rpc_msg.specs.declared.ids.EmbargoId.{EmbargoId}
-use Rattle.rpc_msg.specs.declared.message.DisembargoContext.TheVariants.{SenderLoopback, ReceiverLoopback}
-use Rattle.rpc_msg.specs.declared.message.PlainMessage.TheVariants as plain
+use Rattle.vat_machine.specs.rpc_msg.specs.declared.ids.ObjectId.{ObjectId}
+use Rattle.vat_machine.specs.rpc_msg.specs.declared.parts.Target.{Target}
+use Rattle.vat_machine.specs.rpc_msg.specs.declared.exception.Exception.{Exception}
+use Rattle.vat_machine.specs.rpc_msg.specs.declared.ids.EmbargoId.{EmbargoId}
+use Rattle.vat_machine.specs.rpc_msg.specs.declared.message.DisembargoContext.TheVariants.{SenderLoopback, ReceiverLoopback}
+use Rattle.vat_machine.specs.rpc_msg.specs.declared.message.PlainMessage.TheVariants as plain
 use Rattle.vat_machine.specs.Descriptors.{take_all, taken_of}
 use Rattle.vat_machine.specs.Flags.{obey, lower_by}
 use Rattle.vat_machine.specs.Faults.{gave}
-use Rattle.rpc_msg.specs.declared.message.Return.{Return}
-use Rattle.rpc_msg.specs.declared.message.PlainMessage.{PlainMessage}
+use Rattle.vat_machine.specs.rpc_msg.specs.declared.message.Return.{Return}
+use Rattle.vat_machine.specs.rpc_msg.specs.declared.message.PlainMessage.{PlainMessage}
 use Rattle.vat_machine.specs.declared.node.Node.{Node}
 use Rattle.vat_machine.specs.declared.calls.Request.{Request}
 use Rattle.vat_machine.specs.declared.calls.WaitingCall.{WaitingCall}
@@ -32,9 +32,9 @@ use Rattle.vat_machine.specs.declared.entries.AnswerEntry.{AnswerEntry}
 use Rattle.vat_machine.specs.declared.entries.Reference.{Reference}
 use Rattle.vat_machine.specs.declared.entries.Embargo.{Embargo}
 use Rattle.vat_machine.specs.declared.command.Level.TheVariants.{One}
-use Rattle.rpc_msg.specs.declared.message.Message.TheVariants as message
-use Rattle.rpc_msg.specs.declared.message.DisembargoContext.{DisembargoContext}
-use Rattle.rpc_msg.specs.Messages.{descriptors_of_body}
+use Rattle.vat_machine.specs.rpc_msg.specs.declared.message.Message.TheVariants as message
+use Rattle.vat_machine.specs.rpc_msg.specs.declared.message.DisembargoContext.{DisembargoContext}
+use Rattle.vat_machine.specs.rpc_msg.specs.Messages.{descriptors_of_body}
 use Rattle.vat_machine.specs.declared.entries.Finishing.TheVariants as finishing
 use Rattle.vat_machine.specs.Steps.{staying_up, Does, Handles}
 use Rattle.vat_machine.specs.Faults.{fault_of}

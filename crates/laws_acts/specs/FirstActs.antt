@@ -1,24 +1,24 @@
 -- The first act of a command: what it does itself, exactly. What follows from it is done by the acts of `SmallActs`.
 use Rattle.std.specs.Prelude.{◌≡◌, ◌≢◌, ℕ, ◌+◌, Bool, true, false, None, Some, List, [], ◌∷◌, ◌++◌}
 use Rattle.std.specs.FinMap as map
-use Rattle.rpc_msg.specs.declared.ids.CallId.{CallId}
-use Rattle.rpc_msg.specs.declared.ids.EmbargoId.{EmbargoId}
-use Rattle.rpc_msg.specs.declared.ids.ObjectId.{ObjectId}
-use Rattle.rpc_msg.specs.declared.ids.PromiseId.{PromiseId}
-use Rattle.rpc_msg.specs.declared.ids.RefId.{RefId}
-use Rattle.rpc_msg.specs.declared.ids.TaskId.{TaskId}
-use Rattle.rpc_msg.specs.Op.{Op}
-use Rattle.rpc_msg.specs.Payloads.{Contents as Payload}
-use Rattle.rpc_msg.specs.declared.parts.Descriptor.{Descriptor}
-use Rattle.rpc_msg.specs.declared.parts.Descriptor.TheVariants as descriptor
-use Rattle.rpc_msg.specs.declared.parts.Target.{Target}
-use Rattle.rpc_msg.specs.declared.exception.Exception.{Exception}
-use Rattle.rpc_msg.specs.declared.message.DisembargoContext.TheVariants.{SenderLoopback}
-use Rattle.rpc_msg.specs.declared.message.PlainMessage.{PlainMessage}
-use Rattle.rpc_msg.specs.declared.message.PlainMessage.TheVariants as plain
-use Rattle.rpc_msg.specs.Messages.{given}
+use Rattle.vat_machine.specs.rpc_msg.specs.declared.ids.CallId.{CallId}
+use Rattle.vat_machine.specs.rpc_msg.specs.declared.ids.EmbargoId.{EmbargoId}
+use Rattle.vat_machine.specs.rpc_msg.specs.declared.ids.ObjectId.{ObjectId}
+use Rattle.vat_machine.specs.rpc_msg.specs.declared.ids.PromiseId.{PromiseId}
+use Rattle.vat_machine.specs.rpc_msg.specs.declared.ids.RefId.{RefId}
+use Rattle.vat_machine.specs.rpc_msg.specs.declared.ids.TaskId.{TaskId}
+use Rattle.vat_machine.specs.rpc_msg.specs.Op.{Op}
+use Rattle.vat_machine.specs.rpc_msg.specs.Payloads.{Contents as Payload}
+use Rattle.vat_machine.specs.rpc_msg.specs.declared.parts.Descriptor.{Descriptor}
+use Rattle.vat_machine.specs.rpc_msg.specs.declared.parts.Descriptor.TheVariants as descriptor
+use Rattle.vat_machine.specs.rpc_msg.specs.declared.parts.Target.{Target}
+use Rattle.vat_machine.specs.rpc_msg.specs.declared.exception.Exception.{Exception}
+use Rattle.vat_machine.specs.rpc_msg.specs.declared.message.DisembargoContext.TheVariants.{SenderLoopback}
+use Rattle.vat_machine.specs.rpc_msg.specs.declared.message.PlainMessage.{PlainMessage}
+use Rattle.vat_machine.specs.rpc_msg.specs.declared.message.PlainMessage.TheVariants as plain
+use Rattle.vat_machine.specs.rpc_msg.specs.Messages.{given}
 use Rattle.finite_maps.specs.Tally.{Map}
-use Rattle.vat_journal.specs.declared.report.Advanced.TheVariants as advanced
+use Rattle.vat_machine.specs.vat_journal.specs.declared.report.Advanced.TheVariants as advanced
 use Rattle.vat_machine.specs.declared.node.Node.{Node}
 use Rattle.vat_machine.specs.declared.node.Node.TheVariants as node
 use Rattle.vat_machine.specs.declared.node.Reason.{Reason}

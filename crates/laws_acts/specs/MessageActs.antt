@@ -1,22 +1,22 @@
 -- The first act of a received message: what it does itself, exactly. What follows from it is done by the acts of `SmallActs`.
 use Rattle.std.specs.Prelude.{◌≡◌, ◌⊎◌, ℕ, Bool, true, false, cond, None, Some, List, [], ◌∷◌, ◌++◌}
 use Rattle.std.specs.FinMap as map
-use Rattle.rpc_msg.specs.declared.ids.CallId.{CallId}
-use Rattle.rpc_msg.specs.declared.ids.EmbargoId.{EmbargoId}
-use Rattle.rpc_msg.specs.declared.ids.QuestionId.{QuestionId}
-use Rattle.rpc_msg.specs.declared.parts.Descriptor.{Descriptor}
-use Rattle.rpc_msg.specs.declared.parts.Target.{Target}
-use Rattle.rpc_msg.specs.declared.message.Call.{Call}
-use Rattle.rpc_msg.specs.declared.message.Return.{Return}
-use Rattle.rpc_msg.specs.declared.message.Finish.{Finish}
-use Rattle.rpc_msg.specs.declared.message.Resolve.{Resolve}
-use Rattle.rpc_msg.specs.declared.message.Release.{Release}
-use Rattle.rpc_msg.specs.declared.message.DisembargoContext.TheVariants.{SenderLoopback, ReceiverLoopback}
-use Rattle.rpc_msg.specs.declared.message.PlainMessage.{PlainMessage}
-use Rattle.rpc_msg.specs.declared.message.PlainMessage.TheVariants as plain
-use Rattle.rpc_msg.specs.declared.message.Message.{Message}
-use Rattle.rpc_msg.specs.declared.message.Message.TheVariants as message
-use Rattle.rpc_msg.specs.Messages.{descriptors_of_body}
+use Rattle.vat_machine.specs.rpc_msg.specs.declared.ids.CallId.{CallId}
+use Rattle.vat_machine.specs.rpc_msg.specs.declared.ids.EmbargoId.{EmbargoId}
+use Rattle.vat_machine.specs.rpc_msg.specs.declared.ids.QuestionId.{QuestionId}
+use Rattle.vat_machine.specs.rpc_msg.specs.declared.parts.Descriptor.{Descriptor}
+use Rattle.vat_machine.specs.rpc_msg.specs.declared.parts.Target.{Target}
+use Rattle.vat_machine.specs.rpc_msg.specs.declared.message.Call.{Call}
+use Rattle.vat_machine.specs.rpc_msg.specs.declared.message.Return.{Return}
+use Rattle.vat_machine.specs.rpc_msg.specs.declared.message.Finish.{Finish}
+use Rattle.vat_machine.specs.rpc_msg.specs.declared.message.Resolve.{Resolve}
+use Rattle.vat_machine.specs.rpc_msg.specs.declared.message.Release.{Release}
+use Rattle.vat_machine.specs.rpc_msg.specs.declared.message.DisembargoContext.TheVariants.{SenderLoopback, ReceiverLoopback}
+use Rattle.vat_machine.specs.rpc_msg.specs.declared.message.PlainMessage.{PlainMessage}
+use Rattle.vat_machine.specs.rpc_msg.specs.declared.message.PlainMessage.TheVariants as plain
+use Rattle.vat_machine.specs.rpc_msg.specs.declared.message.Message.{Message}
+use Rattle.vat_machine.specs.rpc_msg.specs.declared.message.Message.TheVariants as message
+use Rattle.vat_machine.specs.rpc_msg.specs.Messages.{descriptors_of_body}
 use Rattle.vat_machine.specs.declared.calls.Caller.TheVariants as caller
 use Rattle.vat_machine.specs.declared.entries.Role.TheVariants as role
 use Rattle.vat_machine.specs.declared.entries.Finishing.TheVariants as finishing

@@ -12,3 +12,5 @@ pub use laws::{steps_are_acts, steps_are_small_acts};
 pub use places::{
     loose_by_names_that_went, places_follow_tables, taken_calls_stay_named, unnamed_has_no_export,
 };
+pub use vat_machine;
+pub use vat_machine::{rpc_msg, vat_journal};

@@ -5,18 +5,18 @@ use Rattle.std.specs.Ordering.{nat_cmp, eq_by_cmp}
 use Rattle.std.specs.Cmp.{nat_cmp_total}
 use Rattle.std.specs.FinMap as map
 use Rattle.std.specs.FinMap.Entries as entries
-use Rattle.rpc_msg.specs.declared.parts.Descriptor.{Descriptor}
-use Rattle.rpc_msg.specs.Op.{Op}
-use Rattle.rpc_msg.specs.Op.TheVariants as op
-use Rattle.vat_machine.specs.declared.node.Node.{Node}
-use Rattle.vat_machine.specs.declared.node.Node.TheVariants as node
-use Rattle.vat_machine.specs.declared.entries.Export.{Export}
-use Rattle.vat_machine.specs.State.{State}
-use Rattle.vat_machine.specs.Nodes.{link, settle, same_op, same_path, is_same_node}
-use Rattle.vat_machine.specs.Descriptors.{IsOther, ExportedAs, Exported, Described, DescribesAll}
-use Rattle.vat_machine.specs.Limits.{table_limit, count_limit, export_count}
-use Rattle.vat_machine.specs.Fullness.{is_exportable, going_out, count_among, count_of, name_lacks_room, size_then, one_more, counts_then, names_lack_room}
-use Rattle.vat_machine.proofs.Following.{settles_alike}
+use Rattle.laws_acts.specs.rpc_msg.specs.declared.parts.Descriptor.{Descriptor}
+use Rattle.laws_acts.specs.rpc_msg.specs.Op.{Op}
+use Rattle.laws_acts.specs.rpc_msg.specs.Op.TheVariants as op
+use Rattle.laws_acts.specs.vat_machine.specs.declared.node.Node.{Node}
+use Rattle.laws_acts.specs.vat_machine.specs.declared.node.Node.TheVariants as node
+use Rattle.laws_acts.specs.vat_machine.specs.declared.entries.Export.{Export}
+use Rattle.laws_acts.specs.vat_machine.specs.State.{State}
+use Rattle.laws_acts.specs.vat_machine.specs.Nodes.{link, settle, same_op, same_path, is_same_node}
+use Rattle.laws_acts.specs.vat_machine.specs.Descriptors.{IsOther, ExportedAs, Exported, Described, DescribesAll}
+use Rattle.laws_acts.specs.vat_machine.specs.Limits.{table_limit, count_limit, export_count}
+use Rattle.laws_acts.specs.vat_machine.specs.Fullness.{is_exportable, going_out, count_among, count_of, name_lacks_room, size_then, one_more, counts_then, names_lack_room}
+use Rattle.laws_acts.specs.vat_machine.proofs.Following.{settles_alike}
 use Rattle.laws_steps.specs.Room.{HasOneEach, ExportsFit, RoomIsExact}
 use Rattle.finite_maps.proofs.Tested.{equal, itself, get_put, get_other}
 use Rattle.finite_maps.proofs.Gets.{get-insert_same}

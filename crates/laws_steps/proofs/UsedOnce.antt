@@ -2,20 +2,20 @@
 use Rattle.std.proofs.Common.{◌≡◌, ◌⊎◌, inl, inr, ℕ, ◌+◌, ◌≤◌, ◌<◌, Bool, true, false, cond, nat_eq, List, [], ◌∷◌, Option, None, Some, refl, sym, ap, ◌∙◌, arith}
 use Rattle.std.specs.Ordering.{nat_cmp}
 use Rattle.std.specs.FinMap as map
-use Rattle.rpc_msg.specs.declared.message.Message.{Message}
+use Rattle.laws_acts.specs.rpc_msg.specs.declared.message.Message.{Message}
 use Rattle.finite_maps.specs.Tally.{Map}
-use Rattle.vat_machine.specs.declared.node.Node.{Node}
-use Rattle.vat_machine.specs.declared.command.Command.{Command}
-use Rattle.vat_machine.specs.declared.command.Granted.{Granted}
-use Rattle.vat_machine.specs.declared.command.Effects.{Effects}
-use Rattle.vat_machine.specs.State.{State, start}
-use Rattle.vat_machine.specs.Lists.{update, updated}
-use Rattle.vat_machine.specs.Progress.{with_refs, caps_of, quiet}
-use Rattle.vat_machine.specs.Messages.{unembargoed}
-use Rattle.vat_machine.specs.Down.{fallen}
-use Rattle.vat_machine.specs.Faults.{fault_of}
-use Rattle.vat_machine.specs.Laws.{OfEachStep}
-use Rattle.vat_machine.specs.Steps.{Does, Handles}
+use Rattle.laws_acts.specs.vat_machine.specs.declared.node.Node.{Node}
+use Rattle.laws_acts.specs.vat_machine.specs.declared.command.Command.{Command}
+use Rattle.laws_acts.specs.vat_machine.specs.declared.command.Granted.{Granted}
+use Rattle.laws_acts.specs.vat_machine.specs.declared.command.Effects.{Effects}
+use Rattle.laws_acts.specs.vat_machine.specs.State.{State, start}
+use Rattle.laws_acts.specs.vat_machine.specs.Lists.{update, updated}
+use Rattle.laws_acts.specs.vat_machine.specs.Progress.{with_refs, caps_of, quiet}
+use Rattle.laws_acts.specs.vat_machine.specs.Messages.{unembargoed}
+use Rattle.laws_acts.specs.vat_machine.specs.Down.{fallen}
+use Rattle.laws_acts.specs.vat_machine.specs.Faults.{fault_of}
+use Rattle.laws_acts.specs.vat_machine.specs.Laws.{OfEachStep}
+use Rattle.laws_acts.specs.vat_machine.specs.Steps.{Does, Handles}
 use Rattle.laws_acts.specs.Moments.{Moment, beginning}
 use Rattle.laws_acts.specs.FirstActs.{Starts}
 use Rattle.laws_acts.specs.FirstActs as first

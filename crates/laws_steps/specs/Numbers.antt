@@ -2,13 +2,13 @@
 -- vat holds").
 use Rattle.std.specs.Prelude.{◌≡◌, ℕ, ◌<◌, ◌≤◌, Option, None}
 use Rattle.std.specs.FinMap as map
-use Rattle.rpc_msg.specs.declared.ids.Vat.{Vat}
-use Rattle.rpc_msg.specs.declared.ids.ObjectId.{ObjectId}
+use Rattle.laws_acts.specs.rpc_msg.specs.declared.ids.Vat.{Vat}
+use Rattle.laws_acts.specs.rpc_msg.specs.declared.ids.ObjectId.{ObjectId}
 use Rattle.finite_maps.specs.Tally.{Map}
-use Rattle.vat_machine.specs.declared.command.Level.{Level}
-use Rattle.vat_machine.specs.declared.command.Effects.{Effects}
-use Rattle.vat_machine.specs.State.{State, start}
-use Rattle.vat_machine.specs.Laws.{OfEachStep}
+use Rattle.laws_acts.specs.vat_machine.specs.declared.command.Level.{Level}
+use Rattle.laws_acts.specs.vat_machine.specs.declared.command.Effects.{Effects}
+use Rattle.laws_acts.specs.vat_machine.specs.State.{State, start}
+use Rattle.laws_acts.specs.vat_machine.specs.Laws.{OfEachStep}
 
 -- No entry has that number, or a greater one.
 abbrev pub AllBelow : {X : Type 0} → Map X → ℕ → Type 0

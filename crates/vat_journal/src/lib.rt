@@ -8,3 +8,4 @@ mod report;
 pub use entry::{Counts, JournalEntry, MadeCall, Origin};
 pub use laws::one_call_is_read;
 pub use report::{Advanced, Delivery, Ended, Outcome};
+pub use rpc_msg;

@@ -1,7 +1,7 @@
 -- No call is pending exactly where none is through the reference.
 use Rattle.std.proofs.Common.{◌≡◌, Bool, true, false, not, ◌||◌, cond, List, [], ◌∷◌, refl}
 use Rattle.std.specs.List.{list_any}
-use Rattle.rpc_msg.specs.declared.ids.Stamp.{Stamp}
+use Rattle.vat_journal.specs.rpc_msg.specs.declared.ids.Stamp.{Stamp}
 use Rattle.vat_journal.specs.History.{Ref}
 use Rattle.vat_machine.specs.Queries.{is_through}
 use Rattle.vat_machine.specs.Pending.{through, open_calls}

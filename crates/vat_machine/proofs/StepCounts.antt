@@ -1,13 +1,13 @@
 -- The count of an export, over a command and over the end of each step: it rises by the descriptors that are sent.
 use Rattle.std.proofs.Common.{◌≡◌, ◌+◌, inl, inr, ℕ, List, [], ◌∷◌, Option, None, Some, arith}
 use Rattle.std.specs.FinMap as map
-use Rattle.rpc_msg.specs.declared.ids.EmbargoId.{EmbargoId}
-use Rattle.rpc_msg.specs.Op.{Op}
-use Rattle.rpc_msg.specs.declared.parts.Descriptor.{Descriptor}
-use Rattle.rpc_msg.specs.declared.parts.Descriptor.TheVariants as descriptor
-use Rattle.rpc_msg.specs.declared.parts.Target.{Target}
-use Rattle.rpc_msg.specs.declared.exception.Exception.{Exception}
-use Rattle.rpc_msg.specs.declared.message.PlainMessage.TheVariants as plain
+use Rattle.vat_journal.specs.rpc_msg.specs.declared.ids.EmbargoId.{EmbargoId}
+use Rattle.vat_journal.specs.rpc_msg.specs.Op.{Op}
+use Rattle.vat_journal.specs.rpc_msg.specs.declared.parts.Descriptor.{Descriptor}
+use Rattle.vat_journal.specs.rpc_msg.specs.declared.parts.Descriptor.TheVariants as descriptor
+use Rattle.vat_journal.specs.rpc_msg.specs.declared.parts.Target.{Target}
+use Rattle.vat_journal.specs.rpc_msg.specs.declared.exception.Exception.{Exception}
+use Rattle.vat_journal.specs.rpc_msg.specs.declared.message.PlainMessage.TheVariants as plain
 use Rattle.vat_machine.specs.declared.node.Node.{Node}
 use Rattle.vat_machine.specs.declared.node.Node.TheVariants as node
 use Rattle.vat_machine.specs.declared.command.Command.{Command}

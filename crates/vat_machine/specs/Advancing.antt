@@ -2,16 +2,16 @@
 -- Resolve and Disembargo).
 use Rattle.std.specs.Prelude.{◌≡◌, ◌≢◌, ◌⊎◌, ℕ, zero, suc, Option, None, Some, List, [], ◌∷◌}
 use Rattle.std.specs.FinMap as map
-use Rattle.rpc_msg.specs.declared.ids.EmbargoId.{EmbargoId}
-use Rattle.rpc_msg.specs.Op.{Op}
-use Rattle.rpc_msg.specs.CapAt.{CapAt}
-use Rattle.rpc_msg.specs.CapAt.TheVariants.{Cap, Null, NotCap}
-use Rattle.rpc_msg.specs.declared.parts.Descriptor.{Descriptor}
-use Rattle.rpc_msg.specs.declared.parts.Descriptor.TheVariants as descriptor
-use Rattle.rpc_msg.specs.declared.parts.Target.{Target}
-use Rattle.rpc_msg.specs.declared.parts.Target.TheVariants.{ImportedCap, PromisedAnswer}
-use Rattle.rpc_msg.specs.declared.message.DisembargoContext.TheVariants.{SenderLoopback}
-use Rattle.rpc_msg.specs.declared.message.PlainMessage.TheVariants as plain
+use Rattle.vat_journal.specs.rpc_msg.specs.declared.ids.EmbargoId.{EmbargoId}
+use Rattle.vat_journal.specs.rpc_msg.specs.Op.{Op}
+use Rattle.vat_journal.specs.rpc_msg.specs.CapAt.{CapAt}
+use Rattle.vat_journal.specs.rpc_msg.specs.CapAt.TheVariants.{Cap, Null, NotCap}
+use Rattle.vat_journal.specs.rpc_msg.specs.declared.parts.Descriptor.{Descriptor}
+use Rattle.vat_journal.specs.rpc_msg.specs.declared.parts.Descriptor.TheVariants as descriptor
+use Rattle.vat_journal.specs.rpc_msg.specs.declared.parts.Target.{Target}
+use Rattle.vat_journal.specs.rpc_msg.specs.declared.parts.Target.TheVariants.{ImportedCap, PromisedAnswer}
+use Rattle.vat_journal.specs.rpc_msg.specs.declared.message.DisembargoContext.TheVariants.{SenderLoopback}
+use Rattle.vat_journal.specs.rpc_msg.specs.declared.message.PlainMessage.TheVariants as plain
 use Rattle.vat_journal.specs.declared.report.Advanced.{Advanced}
 use Rattle.vat_journal.specs.declared.report.Advanced.TheVariants as advanced
 use Rattle.vat_machine.specs.declared.node.Node.{Node}

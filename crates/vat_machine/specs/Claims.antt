@@ -7,11 +7,11 @@
 use Rattle.std.specs.Prelude.{◌≡◌, ◌≢◌, ◌↔◌, ℕ, ◌+◌, ◌<◌, Bool, true, false, ◌&&◌, nat_eq, Option, None, Some, IsSome, cond, List, [], ◌∷◌, ◌++◌, All, length, codes}
 use Rattle.std.specs.List.{list_any}
 use Rattle.std.specs.FinMap as map
-use Rattle.rpc_msg.specs.declared.ids.Vat.{Vat}
-use Rattle.rpc_msg.specs.declared.ids.RefId.{RefId}
-use Rattle.rpc_msg.specs.declared.ids.ObjectId.{ObjectId}
-use Rattle.rpc_msg.specs.declared.ids.Stamp.{Stamp}
-use Rattle.rpc_msg.specs.Vats.{other_vat}
+use Rattle.vat_journal.specs.rpc_msg.specs.declared.ids.Vat.{Vat}
+use Rattle.vat_journal.specs.rpc_msg.specs.declared.ids.RefId.{RefId}
+use Rattle.vat_journal.specs.rpc_msg.specs.declared.ids.ObjectId.{ObjectId}
+use Rattle.vat_journal.specs.rpc_msg.specs.declared.ids.Stamp.{Stamp}
+use Rattle.vat_journal.specs.rpc_msg.specs.Vats.{other_vat}
 use Rattle.vat_journal.specs.declared.report.Delivery.{Delivery}
 use Rattle.vat_journal.specs.declared.report.Ended.{Ended}
 use Rattle.vat_journal.specs.declared.report.Outcome.{Outcome}

@@ -2,12 +2,12 @@
 -- (docs/protocol.md, "Descriptors"; rpc.capnp, CapDescriptor).
 use Rattle.std.specs.Prelude.{◌≡◌, ◌≢◌, ℕ, ◌+◌, nat_eq, Option, None, Some, List, [], ◌∷◌}
 use Rattle.std.specs.FinMap as map
-use Rattle.rpc_msg.specs.declared.parts.Descriptor.{Descriptor}
-use Rattle.rpc_msg.specs.declared.parts.Descriptor.TheVariants as descriptor
-use Rattle.rpc_msg.specs.Op.{Op}
-use Rattle.rpc_msg.specs.declared.message.Message.{Message}
-use Rattle.rpc_msg.specs.Messages.{given, descriptors_of}
-use Rattle.rpc_msg.specs.Paths.{fields}
+use Rattle.vat_journal.specs.rpc_msg.specs.declared.parts.Descriptor.{Descriptor}
+use Rattle.vat_journal.specs.rpc_msg.specs.declared.parts.Descriptor.TheVariants as descriptor
+use Rattle.vat_journal.specs.rpc_msg.specs.Op.{Op}
+use Rattle.vat_journal.specs.rpc_msg.specs.declared.message.Message.{Message}
+use Rattle.vat_journal.specs.rpc_msg.specs.Messages.{given, descriptors_of}
+use Rattle.vat_journal.specs.rpc_msg.specs.Paths.{fields}
 use Rattle.vat_machine.specs.declared.node.Node.{Node}
 use Rattle.vat_machine.specs.declared.node.Node.TheVariants as node
 use Rattle.vat_machine.specs.declared.node.Reason.TheVariants.{NullCapability}

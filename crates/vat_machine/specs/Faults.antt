@@ -3,22 +3,22 @@
 use Rattle.std.specs.Prelude.{ℕ, Bool, true, false, not, ◌&&◌, ◌||◌, nat_eq, nat_lt, nat_le, Option, None, Some, is_some, List, [], ◌∷◌, length}
 use Rattle.std.specs.List.{list_any}
 use Rattle.std.specs.FinMap as map
-use Rattle.rpc_msg.specs.declared.ids.ExportId.{ExportId}
-use Rattle.rpc_msg.specs.declared.parts.Descriptor.{Descriptor}
-use Rattle.rpc_msg.specs.declared.parts.Descriptor.TheVariants as descriptor
-use Rattle.rpc_msg.specs.declared.parts.Target.{Target}
-use Rattle.rpc_msg.specs.declared.parts.Target.TheVariants.{ImportedCap, PromisedAnswer}
-use Rattle.rpc_msg.specs.declared.message.ReturnBody.{ReturnBody}
-use Rattle.rpc_msg.specs.declared.message.ReturnBody.TheVariants as body
-use Rattle.rpc_msg.specs.declared.message.ResolvedTo.{ResolvedTo}
-use Rattle.rpc_msg.specs.declared.message.ResolvedTo.TheVariants as resolved
-use Rattle.rpc_msg.specs.declared.message.DisembargoContext.{DisembargoContext}
-use Rattle.rpc_msg.specs.declared.message.DisembargoContext.TheVariants.{SenderLoopback, ReceiverLoopback}
-use Rattle.rpc_msg.specs.declared.message.PlainMessage.{PlainMessage}
-use Rattle.rpc_msg.specs.declared.message.PlainMessage.TheVariants as plain
-use Rattle.rpc_msg.specs.declared.message.Message.{Message}
-use Rattle.rpc_msg.specs.declared.message.Message.TheVariants as message
-use Rattle.rpc_msg.specs.Messages.{given}
+use Rattle.vat_journal.specs.rpc_msg.specs.declared.ids.ExportId.{ExportId}
+use Rattle.vat_journal.specs.rpc_msg.specs.declared.parts.Descriptor.{Descriptor}
+use Rattle.vat_journal.specs.rpc_msg.specs.declared.parts.Descriptor.TheVariants as descriptor
+use Rattle.vat_journal.specs.rpc_msg.specs.declared.parts.Target.{Target}
+use Rattle.vat_journal.specs.rpc_msg.specs.declared.parts.Target.TheVariants.{ImportedCap, PromisedAnswer}
+use Rattle.vat_journal.specs.rpc_msg.specs.declared.message.ReturnBody.{ReturnBody}
+use Rattle.vat_journal.specs.rpc_msg.specs.declared.message.ReturnBody.TheVariants as body
+use Rattle.vat_journal.specs.rpc_msg.specs.declared.message.ResolvedTo.{ResolvedTo}
+use Rattle.vat_journal.specs.rpc_msg.specs.declared.message.ResolvedTo.TheVariants as resolved
+use Rattle.vat_journal.specs.rpc_msg.specs.declared.message.DisembargoContext.{DisembargoContext}
+use Rattle.vat_journal.specs.rpc_msg.specs.declared.message.DisembargoContext.TheVariants.{SenderLoopback, ReceiverLoopback}
+use Rattle.vat_journal.specs.rpc_msg.specs.declared.message.PlainMessage.{PlainMessage}
+use Rattle.vat_journal.specs.rpc_msg.specs.declared.message.PlainMessage.TheVariants as plain
+use Rattle.vat_journal.specs.rpc_msg.specs.declared.message.Message.{Message}
+use Rattle.vat_journal.specs.rpc_msg.specs.declared.message.Message.TheVariants as message
+use Rattle.vat_journal.specs.rpc_msg.specs.Messages.{given}
 use Rattle.vat_journal.specs.History.{or_rest, if_so}
 use Rattle.vat_machine.specs.declared.command.Level.{Level}
 use Rattle.vat_machine.specs.declared.command.Level.TheVariants.{Zero, One}

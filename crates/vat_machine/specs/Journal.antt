@@ -1,7 +1,7 @@
 -- The journal of two vats: a function of what happened (docs/protocol.md, "Two vats"; docs/trace.md).
 use Rattle.std.specs.Prelude.{ℕ, Bool, cond, Option, None, Some, Result, Ok, Err, List, [], ◌∷◌, ◌++◌, map, length}
-use Rattle.rpc_msg.specs.declared.ids.Vat.{Vat}
-use Rattle.rpc_msg.specs.declared.ids.RefId.{RefId}
+use Rattle.vat_journal.specs.rpc_msg.specs.declared.ids.Vat.{Vat}
+use Rattle.vat_journal.specs.rpc_msg.specs.declared.ids.RefId.{RefId}
 use Rattle.vat_journal.specs.declared.report.Outcome.TheVariants as outcome
 use Rattle.vat_journal.specs.declared.entry.Origin.{Origin}
 use Rattle.vat_journal.specs.declared.entry.Origin.TheVariants as origin

@@ -1,9 +1,9 @@
 -- What is proved of the machine and of two vats.
 use Rattle.std.specs.Prelude.{◌≡◌, ℕ, zero, suc, ◌+◌, false, None, Some, IsSome, Result}
 use Rattle.std.specs.FinMap as map
-use Rattle.rpc_msg.specs.declared.message.PlainMessage.{PlainMessage}
-use Rattle.rpc_msg.specs.declared.message.Message.TheVariants as message
-use Rattle.rpc_msg.specs.declared.message.Message.{Message}
+use Rattle.vat_journal.specs.rpc_msg.specs.declared.message.PlainMessage.{PlainMessage}
+use Rattle.vat_journal.specs.rpc_msg.specs.declared.message.Message.TheVariants as message
+use Rattle.vat_journal.specs.rpc_msg.specs.declared.message.Message.{Message}
 use Rattle.vat_machine.specs.declared.command.Command.{Command}
 use Rattle.vat_machine.specs.declared.command.Granted.{Granted}
 use Rattle.vat_machine.specs.declared.command.Refusal.{Refusal}

@@ -66,3 +66,5 @@ pub mod UnderWay
 pub mod Pending
 pub mod Claims
 pub mod Laws
+pub use Rattle.vat_journal.specs.rpc_msg as rpc_msg
+pub use Rattle.vat_journal as vat_journal

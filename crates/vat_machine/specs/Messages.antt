@@ -2,24 +2,24 @@
 -- machine").
 use Rattle.std.specs.Prelude.{◌≡◌, ℕ, Bool, true, false, Option, None, Some, List, [], ◌∷◌, codes}
 use Rattle.std.specs.FinMap as map
-use Rattle.rpc_msg.specs.declared.ids.EmbargoId.{EmbargoId}
-use Rattle.rpc_msg.specs.declared.ids.ExportId.{ExportId}
-use Rattle.rpc_msg.specs.declared.ids.ObjectId.{ObjectId}
-use Rattle.rpc_msg.specs.declared.parts.Target.{Target}
-use Rattle.rpc_msg.specs.declared.exception.ExceptionKind.TheVariants as exception_kind
-use Rattle.rpc_msg.specs.declared.message.Call.{Call}
-use Rattle.rpc_msg.specs.declared.message.Return.{Return}
-use Rattle.rpc_msg.specs.declared.message.ReturnBody.{ReturnBody}
-use Rattle.rpc_msg.specs.declared.message.ReturnBody.TheVariants as body
-use Rattle.rpc_msg.specs.declared.message.ResolvedTo.{ResolvedTo}
-use Rattle.rpc_msg.specs.declared.message.ResolvedTo.TheVariants as resolved
-use Rattle.rpc_msg.specs.declared.message.DisembargoContext.{DisembargoContext}
-use Rattle.rpc_msg.specs.declared.message.DisembargoContext.TheVariants.{SenderLoopback, ReceiverLoopback}
-use Rattle.rpc_msg.specs.declared.message.PlainMessage.{PlainMessage}
-use Rattle.rpc_msg.specs.declared.message.PlainMessage.TheVariants as plain
-use Rattle.rpc_msg.specs.declared.message.Message.{Message}
-use Rattle.rpc_msg.specs.declared.message.Message.TheVariants as message
-use Rattle.rpc_msg.specs.Messages.{descriptors_of_body}
+use Rattle.vat_journal.specs.rpc_msg.specs.declared.ids.EmbargoId.{EmbargoId}
+use Rattle.vat_journal.specs.rpc_msg.specs.declared.ids.ExportId.{ExportId}
+use Rattle.vat_journal.specs.rpc_msg.specs.declared.ids.ObjectId.{ObjectId}
+use Rattle.vat_journal.specs.rpc_msg.specs.declared.parts.Target.{Target}
+use Rattle.vat_journal.specs.rpc_msg.specs.declared.exception.ExceptionKind.TheVariants as exception_kind
+use Rattle.vat_journal.specs.rpc_msg.specs.declared.message.Call.{Call}
+use Rattle.vat_journal.specs.rpc_msg.specs.declared.message.Return.{Return}
+use Rattle.vat_journal.specs.rpc_msg.specs.declared.message.ReturnBody.{ReturnBody}
+use Rattle.vat_journal.specs.rpc_msg.specs.declared.message.ReturnBody.TheVariants as body
+use Rattle.vat_journal.specs.rpc_msg.specs.declared.message.ResolvedTo.{ResolvedTo}
+use Rattle.vat_journal.specs.rpc_msg.specs.declared.message.ResolvedTo.TheVariants as resolved
+use Rattle.vat_journal.specs.rpc_msg.specs.declared.message.DisembargoContext.{DisembargoContext}
+use Rattle.vat_journal.specs.rpc_msg.specs.declared.message.DisembargoContext.TheVariants.{SenderLoopback, ReceiverLoopback}
+use Rattle.vat_journal.specs.rpc_msg.specs.declared.message.PlainMessage.{PlainMessage}
+use Rattle.vat_journal.specs.rpc_msg.specs.declared.message.PlainMessage.TheVariants as plain
+use Rattle.vat_journal.specs.rpc_msg.specs.declared.message.Message.{Message}
+use Rattle.vat_journal.specs.rpc_msg.specs.declared.message.Message.TheVariants as message
+use Rattle.vat_journal.specs.rpc_msg.specs.Messages.{descriptors_of_body}
 use Rattle.finite_maps.specs.Tally.{Map}
 use Rattle.vat_machine.specs.Payloads.{bootstrap_payload}
 use Rattle.vat_machine.specs.Lists.{update}

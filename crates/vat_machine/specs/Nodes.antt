@@ -1,10 +1,10 @@
 -- Where a node settles: where it leads within its vat (docs/protocol.md, "Where a node leads").
 use Rattle.std.specs.Prelude.{ℕ, zero, suc, ◌+◌, Bool, true, false, ◌&&◌, nat_eq, Option, None, Some, unwrap_or, List, [], ◌∷◌, length, slice_get}
 use Rattle.std.specs.FinMap as map
-use Rattle.rpc_msg.specs.Op.{Op}
-use Rattle.rpc_msg.specs.Op.TheVariants.{Noop, Field}
-use Rattle.rpc_msg.specs.CapAt.{CapAt}
-use Rattle.rpc_msg.specs.CapAt.TheVariants.{Cap, Null, NotCap}
+use Rattle.vat_journal.specs.rpc_msg.specs.Op.{Op}
+use Rattle.vat_journal.specs.rpc_msg.specs.Op.TheVariants.{Noop, Field}
+use Rattle.vat_journal.specs.rpc_msg.specs.CapAt.{CapAt}
+use Rattle.vat_journal.specs.rpc_msg.specs.CapAt.TheVariants.{Cap, Null, NotCap}
 use Rattle.vat_machine.specs.Payloads.{cap_at}
 use Rattle.vat_machine.specs.declared.node.Node.{Node}
 use Rattle.vat_machine.specs.declared.node.Node.TheVariants as node

@@ -2,10 +2,10 @@
 -- on its way (docs/protocol.md, "What is promised").
 use Rattle.std.specs.Prelude.{Bool, not, cond, List, [], ◌∷◌, ◌++◌}
 use Rattle.std.specs.List.{list_any}
-use Rattle.rpc_msg.specs.declared.ids.Stamp.{Stamp}
-use Rattle.rpc_msg.specs.declared.message.PlainMessage.TheVariants as plain
-use Rattle.rpc_msg.specs.declared.message.Message.{Message}
-use Rattle.rpc_msg.specs.declared.message.Message.TheVariants as message
+use Rattle.vat_journal.specs.rpc_msg.specs.declared.ids.Stamp.{Stamp}
+use Rattle.vat_journal.specs.rpc_msg.specs.declared.message.PlainMessage.TheVariants as plain
+use Rattle.vat_journal.specs.rpc_msg.specs.declared.message.Message.{Message}
+use Rattle.vat_journal.specs.rpc_msg.specs.declared.message.Message.TheVariants as message
 use Rattle.vat_journal.specs.History.{Ref}
 use Rattle.vat_machine.specs.Queries.{waiting, is_through}
 use Rattle.vat_machine.specs.World.{World}

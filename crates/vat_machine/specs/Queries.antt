@@ -2,8 +2,8 @@
 use Rattle.std.specs.Prelude.{ℕ, ◌==◌, Bool, ◌&&◌, is_none, List, [], ◌∷◌, ◌++◌}
 use Rattle.std.specs.List.{list_any}
 use Rattle.std.specs.FinMap as map
-use Rattle.rpc_msg.specs.declared.ids.ExportId.{ExportId}
-use Rattle.rpc_msg.specs.declared.ids.Stamp.{Stamp}
+use Rattle.vat_journal.specs.rpc_msg.specs.declared.ids.ExportId.{ExportId}
+use Rattle.vat_journal.specs.rpc_msg.specs.declared.ids.Stamp.{Stamp}
 use Rattle.vat_journal.specs.declared.entry.Counts.{Counts}
 use Rattle.vat_journal.specs.History.{Ref, same_ref, caller}
 use Rattle.vat_machine.specs.declared.calls.WaitingCall.{WaitingCall}

@@ -4,8 +4,8 @@
 use Rattle.std.specs.Prelude.{ℕ, Bool, true, false, not, ◌&&◌, nat_eq, nat_lt, Option, None, Some, is_some, List, [], ◌∷◌, ◌++◌, length}
 use Rattle.std.specs.List.{list_all}
 use Rattle.std.specs.FinMap as map
-use Rattle.rpc_msg.specs.declared.ids.RefId.{RefId}
-use Rattle.rpc_msg.specs.Payloads.{Contents as Payload}
+use Rattle.vat_journal.specs.rpc_msg.specs.declared.ids.RefId.{RefId}
+use Rattle.vat_journal.specs.rpc_msg.specs.Payloads.{Contents as Payload}
 use Rattle.vat_journal.specs.History.{if_so}
 use Rattle.vat_machine.specs.declared.command.Command.{Command}
 use Rattle.vat_machine.specs.declared.command.Command.TheVariants as command

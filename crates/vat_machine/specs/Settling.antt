@@ -1,19 +1,19 @@
 -- An outcome becomes known, or a promise is fixed (docs/protocol.md, "Settling"; rpc.capnp, Return and Resolve).
 use Rattle.std.specs.Prelude.{◌≡◌, ◌⊎◌, ℕ, zero, suc, ◌+◌, Bool, true, false, cond, Option, None, Some, List, [], ◌∷◌, ◌++◌}
 use Rattle.std.specs.FinMap as map
-use Rattle.rpc_msg.specs.declared.ids.QuestionId.{QuestionId}
-use Rattle.rpc_msg.specs.Op.{Op}
-use Rattle.rpc_msg.specs.CapAt.TheVariants.{Cap}
-use Rattle.rpc_msg.specs.declared.parts.Descriptor.{Descriptor}
-use Rattle.rpc_msg.specs.declared.exception.Exception.{Exception}
-use Rattle.rpc_msg.specs.Payloads.{Contents as Payload}
-use Rattle.rpc_msg.specs.declared.message.ReturnBody.{ReturnBody}
-use Rattle.rpc_msg.specs.declared.message.ReturnBody.TheVariants as body
-use Rattle.rpc_msg.specs.declared.message.ResolvedTo.{ResolvedTo}
-use Rattle.rpc_msg.specs.declared.message.ResolvedTo.TheVariants as resolved
-use Rattle.rpc_msg.specs.declared.message.PlainMessage.{PlainMessage}
-use Rattle.rpc_msg.specs.declared.message.PlainMessage.TheVariants as plain
-use Rattle.rpc_msg.specs.Messages.{given}
+use Rattle.vat_journal.specs.rpc_msg.specs.declared.ids.QuestionId.{QuestionId}
+use Rattle.vat_journal.specs.rpc_msg.specs.Op.{Op}
+use Rattle.vat_journal.specs.rpc_msg.specs.CapAt.TheVariants.{Cap}
+use Rattle.vat_journal.specs.rpc_msg.specs.declared.parts.Descriptor.{Descriptor}
+use Rattle.vat_journal.specs.rpc_msg.specs.declared.exception.Exception.{Exception}
+use Rattle.vat_journal.specs.rpc_msg.specs.Payloads.{Contents as Payload}
+use Rattle.vat_journal.specs.rpc_msg.specs.declared.message.ReturnBody.{ReturnBody}
+use Rattle.vat_journal.specs.rpc_msg.specs.declared.message.ReturnBody.TheVariants as body
+use Rattle.vat_journal.specs.rpc_msg.specs.declared.message.ResolvedTo.{ResolvedTo}
+use Rattle.vat_journal.specs.rpc_msg.specs.declared.message.ResolvedTo.TheVariants as resolved
+use Rattle.vat_journal.specs.rpc_msg.specs.declared.message.PlainMessage.{PlainMessage}
+use Rattle.vat_journal.specs.rpc_msg.specs.declared.message.PlainMessage.TheVariants as plain
+use Rattle.vat_journal.specs.rpc_msg.specs.Messages.{given}
 use Rattle.finite_maps.specs.Tally.{Map}
 use Rattle.vat_machine.specs.Payloads.{cap_at}
 use Rattle.vat_machine.specs.declared.node.Node.{Node}

@@ -3,8 +3,8 @@ use Rattle.std.specs.Prelude.{ℕ, Option, None, refl}
 use Rattle.std.specs.FinMap.{empty, code}
 use Rattle.std.specs.Coded.{Coded, code_by, coded×, coded_ℕ, coded_option}
 use Rattle.finite_maps.specs.Tally.{Map}
-use Rattle.rpc_msg.specs.contracts.ids.Vat as vat_row
-use Rattle.rpc_msg.specs.contracts.ids.ObjectId as object_id_row
+use Rattle.vat_journal.specs.rpc_msg.specs.contracts.ids.Vat as vat_row
+use Rattle.vat_journal.specs.rpc_msg.specs.contracts.ids.ObjectId as object_id_row
 use Rattle.vat_machine.specs.contracts.command.Level as level_row
 use Rattle.vat_machine.specs.contracts.entries.Question as question_row
 use Rattle.vat_machine.specs.contracts.entries.AnswerEntry as answer_row
@@ -15,8 +15,8 @@ use Rattle.vat_machine.specs.contracts.calls.OwnCall as own_call_row
 use Rattle.vat_machine.specs.contracts.calls.Promise as promise_row
 use Rattle.vat_machine.specs.contracts.calls.KeptOutcome as outcome_row
 use Rattle.vat_machine.specs.contracts.entries.Embargo as embargo_row
-use Rattle.rpc_msg.specs.declared.ids.Vat.{Vat}
-use Rattle.rpc_msg.specs.declared.ids.ObjectId.{ObjectId}
+use Rattle.vat_journal.specs.rpc_msg.specs.declared.ids.Vat.{Vat}
+use Rattle.vat_journal.specs.rpc_msg.specs.declared.ids.ObjectId.{ObjectId}
 use Rattle.vat_machine.specs.declared.command.Level.{Level}
 use Rattle.vat_machine.specs.declared.entries.Question.{Question}
 use Rattle.vat_machine.specs.declared.entries.AnswerEntry.{AnswerEntry}

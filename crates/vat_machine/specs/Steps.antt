@@ -1,10 +1,10 @@
 -- The step of a core: what a command answers, sends and leaves, and what a received message does (docs/protocol.md,
 -- "What a step is").
 use Rattle.std.specs.Prelude.{◌≡◌, ℕ, None, Some, IsSome, Result, Ok, Err}
-use Rattle.rpc_msg.specs.declared.message.PlainMessage.{PlainMessage}
-use Rattle.rpc_msg.specs.declared.message.PlainMessage.TheVariants as plain
-use Rattle.rpc_msg.specs.declared.message.Message.{Message}
-use Rattle.rpc_msg.specs.declared.message.Message.TheVariants as message
+use Rattle.vat_journal.specs.rpc_msg.specs.declared.message.PlainMessage.{PlainMessage}
+use Rattle.vat_journal.specs.rpc_msg.specs.declared.message.PlainMessage.TheVariants as plain
+use Rattle.vat_journal.specs.rpc_msg.specs.declared.message.Message.{Message}
+use Rattle.vat_journal.specs.rpc_msg.specs.declared.message.Message.TheVariants as message
 use Rattle.vat_machine.specs.declared.command.Command.{Command}
 use Rattle.vat_machine.specs.declared.command.Command.TheVariants as command
 use Rattle.vat_machine.specs.declared.command.Granted.{Granted}

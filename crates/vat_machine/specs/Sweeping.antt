@@ -2,9 +2,9 @@
 -- export id (docs/protocol.md, "The end of a step"; rpc.capnp, Finish and Release).
 use Rattle.std.specs.Prelude.{◌≡◌, ℕ, Option, None, Some, IsSome, List, [], ◌∷◌}
 use Rattle.std.specs.FinMap as map
-use Rattle.rpc_msg.specs.declared.parts.Descriptor.{Descriptor}
-use Rattle.rpc_msg.specs.declared.message.PlainMessage.TheVariants as plain
-use Rattle.rpc_msg.specs.Messages.{given}
+use Rattle.vat_journal.specs.rpc_msg.specs.declared.parts.Descriptor.{Descriptor}
+use Rattle.vat_journal.specs.rpc_msg.specs.declared.message.PlainMessage.TheVariants as plain
+use Rattle.vat_journal.specs.rpc_msg.specs.Messages.{given}
 use Rattle.vat_machine.specs.declared.node.Node.{Node}
 use Rattle.vat_machine.specs.declared.entries.Question.{Question}
 use Rattle.vat_machine.specs.declared.entries.Returned.{Returned}

@@ -2,12 +2,12 @@
 -- count (docs/protocol.md, "Counts").
 use Rattle.std.specs.Prelude.{ℕ, ◌+◌, Bool, true, false, cond, nat_eq, Option, None, Some, List, [], ◌∷◌}
 use Rattle.std.specs.FinMap as map
-use Rattle.rpc_msg.specs.declared.ids.Vat.{Vat}
-use Rattle.rpc_msg.specs.declared.message.PlainMessage.{PlainMessage}
-use Rattle.rpc_msg.specs.declared.message.PlainMessage.TheVariants as plain
-use Rattle.rpc_msg.specs.declared.message.Message.{Message}
-use Rattle.rpc_msg.specs.declared.message.Message.TheVariants as message
-use Rattle.rpc_msg.specs.Vats.{other_vat}
+use Rattle.vat_journal.specs.rpc_msg.specs.declared.ids.Vat.{Vat}
+use Rattle.vat_journal.specs.rpc_msg.specs.declared.message.PlainMessage.{PlainMessage}
+use Rattle.vat_journal.specs.rpc_msg.specs.declared.message.PlainMessage.TheVariants as plain
+use Rattle.vat_journal.specs.rpc_msg.specs.declared.message.Message.{Message}
+use Rattle.vat_journal.specs.rpc_msg.specs.declared.message.Message.TheVariants as message
+use Rattle.vat_journal.specs.rpc_msg.specs.Vats.{other_vat}
 use Rattle.vat_machine.specs.declared.entries.Question.{Question}
 use Rattle.vat_machine.specs.declared.entries.AnswerEntry.{AnswerEntry}
 use Rattle.vat_machine.specs.Lists.{how_many}

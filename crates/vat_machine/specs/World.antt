@@ -1,10 +1,10 @@
 -- Two vats and the messages on their way between them: what may happen (docs/protocol.md, "Two vats").
 use Rattle.std.specs.Prelude.{◌≡◌, ℕ, Bool, true, false, cond, ◌&&◌, is_some, Option, None, Some, Result, Ok, List, [], ◌∷◌, ◌++◌}
-use Rattle.rpc_msg.specs.declared.ids.Vat.{Vat}
-use Rattle.rpc_msg.specs.declared.ids.Vat.TheVariants.{A, B}
-use Rattle.rpc_msg.specs.declared.ids.ObjectId.{ObjectId}
-use Rattle.rpc_msg.specs.declared.message.Message.{Message}
-use Rattle.rpc_msg.specs.Vats.{other_vat}
+use Rattle.vat_journal.specs.rpc_msg.specs.declared.ids.Vat.{Vat}
+use Rattle.vat_journal.specs.rpc_msg.specs.declared.ids.Vat.TheVariants.{A, B}
+use Rattle.vat_journal.specs.rpc_msg.specs.declared.ids.ObjectId.{ObjectId}
+use Rattle.vat_journal.specs.rpc_msg.specs.declared.message.Message.{Message}
+use Rattle.vat_journal.specs.rpc_msg.specs.Vats.{other_vat}
 use Rattle.vat_journal.specs.declared.report.Advanced.TheVariants as advanced
 use Rattle.vat_journal.specs.declared.entry.JournalEntry.{JournalEntry}
 use Rattle.vat_journal.specs.declared.entry.JournalEntry.TheVariants as entry

@@ -1,5 +1,5 @@
 use crate::node::Node;
-use rpc_msg::{CallId, Exception, Items, Path, Payload, QuestionId, Stamp};
+use vat_journal::rpc_msg::{CallId, Exception, Items, Path, Payload, QuestionId, Stamp};
 
 /// What is called, with the nodes of its capabilities.
 #[derive(Drop)]

@@ -1,10 +1,10 @@
 ghost use Rattle.std.specs.Prelude.{◌≡◌};
 ghost use Rattle.vat_machine.specs.Numbers.{refusal_number};
 
-use rpc_msg::{
+use thiserror::Error;
+use vat_journal::rpc_msg::{
     CallId, Exception, Items, Memory, Message, ObjectId, Op, Payload, PromiseId, RefId, TaskId,
 };
-use thiserror::Error;
 use vat_journal::{Advanced, Delivery, Ended};
 
 /// How much of the protocol a vat speaks (`rpc.capnp`, its levels).

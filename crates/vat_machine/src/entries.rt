@@ -1,6 +1,8 @@
 use crate::calls::WaitingCall;
 use crate::node::Node;
-use rpc_msg::{CallId, Descriptor, EmbargoId, Exception, ExportId, Items, Payload, RefId};
+use vat_journal::rpc_msg::{
+    CallId, Descriptor, EmbargoId, Exception, ExportId, Items, Payload, RefId,
+};
 
 /// What a question was asked for.
 #[derive(Clone, Copy, Debug, PartialEq, Eq, Drop)]

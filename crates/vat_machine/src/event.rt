@@ -1,5 +1,5 @@
 use crate::command::Command;
-use rpc_msg::Vat;
+use vat_journal::rpc_msg::Vat;
 
 /// What may happen to two vats.
 #[derive(Drop)]

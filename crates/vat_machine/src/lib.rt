@@ -24,3 +24,5 @@ pub use event::Event;
 pub use fault::Fault;
 pub use laws::{down_stays_down, idle_is_none_pending, sends_raise_counts, settles_where_it_leads};
 pub use node::{Node, Reason};
+pub use vat_journal;
+pub use vat_journal::rpc_msg;

@@ -1,4 +1,4 @@
-use rpc_msg::{ExportId, ObjectId, Path, QuestionId};
+use vat_journal::rpc_msg::{ExportId, ObjectId, Path, QuestionId};
 
 /// Why a node is broken.
 #[derive(Clone, Copy, Debug, PartialEq, Eq, PartialOrd, Ord, Hash, Drop)]
