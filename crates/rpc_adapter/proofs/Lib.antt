@@ -1,0 +1,4 @@
+mod Finding
+mod Longer
+mod TailMap
+mod Turned

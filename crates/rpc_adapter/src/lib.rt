@@ -1,0 +1,21 @@
+//! Between the envelopes of a peer of another make and a vat of the profile (docs/messages.md, "Peers of other make"):
+//! what the vat hears of what came, and what goes to the peer for a message of the vat.
+//!
+//! - `adapter.rt`: [`Adapter`], its two calls. `heard.rt`: what they give. `errors.rt`: what they refuse.
+//! - `tails.rt`: the peer's tail calls that are open.
+//! - `turning.rt`: the outcome of a tail call, as it stands in the Return that takes it. `paths.rt`: the capabilities of a
+//!   payload, by the paths that lead to them.
+//!
+//! `specs/Adapting.antt` says what each envelope and each message comes to.
+#![tactic(auto)]
+
+mod adapter;
+mod errors;
+mod heard;
+mod paths;
+mod tails;
+mod turning;
+
+pub use adapter::Adapter;
+pub use errors::{AdapterError, AdapterFault};
+pub use heard::{Heard, Inbound, Outbound, Said};
