@@ -4,3 +4,4 @@ mod Pushing
 mod Pieces
 mod Saying
 mod Calling
+mod Giving

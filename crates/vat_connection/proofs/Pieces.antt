@@ -2,7 +2,6 @@
 use Rattle.std.proofs.Common.{◌≡◌, ℕ, List, [], ◌∷◌, ◌++◌, Option, Some, None, inl, inr, refl, sym, ap, subst, ◌∙◌, append_assoc}
 use Rattle.std.specs.List.{AllByRecursion, concat}
 use Rattle.wire_trees.specs.Numbers.{number_of}
-use Rattle.wire_trees.specs.declared.faults.PayloadFault.{PayloadFault}
 use Rattle.rpc_stream.specs.declared.front.Front.{Front}
 use Rattle.rpc_stream.specs.declared.front.Front.TheVariants as front
 use Rattle.rpc_stream.specs.Fronts.{front_of, IsFrame}

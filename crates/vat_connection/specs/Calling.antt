@@ -1,6 +1,9 @@
 -- Commands: what they give fits into frames, and a call's reference takes the shorter path before.
-use Rattle.std.specs.Prelude.{◌≡◌, IsOk, Option, Some, None, Result, Ok, Err, ◌⊎◌}
+use Rattle.std.specs.Prelude.{◌≡◌, IsOk, List, Option, Some, None, Result, Ok, Err, ◌⊎◌}
+use Rattle.rpc_msg.specs.Payloads.{Contents}
+use Rattle.rpc_msg.specs.declared.exception.Exception.{Exception}
 use Rattle.rpc_msg.specs.declared.ids.CallId.{CallId}
+use Rattle.rpc_msg.specs.declared.ids.RefId.{RefId}
 use Rattle.vat_journal.specs.declared.report.Advanced.{Advanced}
 use Rattle.vat_machine.specs.declared.command.CallCommand.{CallCommand}
 use Rattle.vat_machine.specs.declared.command.Command.TheVariants as command
@@ -26,20 +29,34 @@ abbrev pub call_of : Command → Option CallCommand
 call_of (command.Call c) = Some c
 call_of c = None
 
--- What comes of a command that gives something.
+-- the results that a command gives to a task
+abbrev pub results_of : Command → Option (Contents × List RefId)
+results_of (command.Answer task payload refs) = Some (payload, refs)
+results_of c = None
+
+-- the exception that a command gives to a task or a promise
+abbrev pub exception_of : Command → Option Exception
+exception_of (command.Fail task exception) = Some exception
+exception_of (command.Reject promise exception) = Some exception
+exception_of c = None
+
+-- What comes of a command: it is done and gives something, or it is refused.
 abbrev pub Obeys : Hosted → Command → Result Granted Refusal → Hosted → Type 0
 Obeys old c (Ok granted) new = Does old c granted new
 Obeys old c (Err r) new = Refuses old c r new
 
-abbrev pub advanced : Result Advanced Refusal → Result Granted Refusal
-advanced (Ok became) = Ok (granted.Advanced became)
-advanced (Err r) = Err r
+-- What comes of a command whose contents may be too large: where it is done, what it gives fits.
+abbrev pub ObeysToFit : Hosted → Command → Result Granted Refusal → Hosted → Type 0
+ObeysToFit old c (Ok granted) new = Does old c granted new × Fits c
+ObeysToFit old c (Err r) new = Refuses old c r new ⊎ IsTooLarge old r new
 
-abbrev pub called : Result CallId Refusal → Result Granted Refusal
-called (Ok id) = Ok (granted.Call id)
-called (Err r) = Err r
+-- What a command answers, told by what the call of its name answers: what that gives, or why it is refused.
+abbrev pub answered : {A E : Type 0} → Result A E → (A → Granted) → (E → Refusal) → Result Granted Refusal
+answered (Ok x) gives why = Ok (gives x)
+answered (Err e) gives why = Err (why e)
 
 -- A call is made, once its reference took the shorter path, if it could.
 abbrev pub Calls : Hosted → CallCommand → Result CallId Refusal → Hosted → Type 0
 Calls old c result new =
-    (mid : Hosted) × (became : Result Advanced Refusal) × Obeys old (command.Advance c.reference) (advanced became) mid × Obeys mid (command.Call c) (called result) new
+    (mid : Hosted) × (became : Result Advanced Refusal)
+    × Obeys old (command.Advance c.reference) (answered became granted.Advanced (λ r. r)) mid × Obeys mid (command.Call c) (answered result granted.Call (λ r. r)) new

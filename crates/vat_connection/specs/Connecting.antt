@@ -1,16 +1,20 @@
 -- A connection: what each call of it does.
-use Rattle.std.specs.Prelude.{◌≡◌, ℕ, Bool, true, false, List, [], ◌∷◌, Option, Some, None, ◌⊎◌, refl}
+use Rattle.std.specs.Prelude.{◌≡◌, ℕ, Bool, true, false, List, [], ◌∷◌, Option, Some, None, Result, ◌⊎◌, refl}
 use Rattle.std.specs.Coded.{Coded, code_by, coded×, coded_ℕ, coded_list, coded_bool}
 use Rattle.rpc_msg.specs.declared.ids.ObjectId.{ObjectId}
 use Rattle.rpc_msg.specs.declared.ids.Vat.{Vat}
 use Rattle.wire_trees.specs.Numbers.{number_of}
 use Rattle.wire_trees.specs.declared.faults.PayloadFault.TheVariants.{Short}
+use Rattle.vat_machine.specs.declared.command.Command.{Command}
+use Rattle.vat_machine.specs.declared.command.Granted.{Granted}
 use Rattle.vat_machine.specs.declared.command.Level.{Level}
+use Rattle.vat_machine.specs.declared.command.Refusal.{Refusal}
 use Rattle.vat_machine.specs.State.{start}
 use Rattle.vat_host.specs.Hosting.{Hosted, idle}
 use Rattle.rpc_frames.specs.Outflows.{nothing_out}
 use Rattle.vat_connection.specs.declared.event.Event.{Event}
 use Rattle.vat_connection.specs.declared.event.Event.TheVariants as event
+use Rattle.vat_connection.specs.Calling.{Obeys, ObeysToFit}
 use Rattle.vat_connection.specs.Speaking.{Speaking, Falls, Says, given, speaking_code}
 use Rattle.vat_connection.specs.Hearing.{Follows}
 
@@ -52,13 +56,25 @@ abbrev pub ends_with : List ℕ → ℕ
 ends_with [] = 0
 ends_with (b ∷ bytes) = number_of Short
 
+-- The vat is taken down with that number, if it is up.
+abbrev pub IsShut : Connected → ℕ → Connected → Type 0
+IsShut old number new = Falls old.speaker number new.speaker × (new ≡ record old { speaker = new.speaker })
+
 -- The stream ends.
 abbrev pub Finishes : Connected → Connected → Type 0
-Finishes old new = Falls old.speaker (ends_with old.waiting) new.speaker × (new ≡ record old { speaker = new.speaker })
+Finishes old new = IsShut old (ends_with old.waiting) new
 
 -- All that is to be sent is handed out.
 abbrev pub Gives : Connected → List ℕ → Connected → Type 0
 Gives old bytes new = (said : Speaking) × Says old.speaker said × (bytes ≡ said.out.bytes) × (new ≡ record old { speaker = given said })
+
+-- The vat is told what a command asks, and the streams stay as they are.
+abbrev pub Asks : Connected → Command → Result Granted Refusal → Connected → Type 0
+Asks old c answer new = Obeys old.speaker.host c answer new.speaker.host × (new ≡ with_host old new.speaker.host)
+
+-- The same of a command whose contents may be too large.
+abbrev pub AsksToFit : Connected → Command → Result Granted Refusal → Connected → Type 0
+AsksToFit old c answer new = ObeysToFit old.speaker.host c answer new.speaker.host × (new ≡ with_host old new.speaker.host)
 
 -- What is told: the oldest call to be served, then the oldest that ended, then once that the vat is down.
 abbrev pub Tells : Connected → Option Event → Connected → Type 0

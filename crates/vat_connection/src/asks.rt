@@ -1,13 +1,15 @@
-//! Calls.
-ghost use Rattle.std.specs.Prelude.{◌≡◌, ◌⊎◌, Ok, Err, IfOk, IfErr};
+//! The commands that give something, by name.
+ghost use Rattle.std.specs.Prelude.{◌≡◌, ◌⊎◌, [], Ok, Err, IfOk, IfErr};
 ghost use Rattle.vat_machine.specs.declared.command.Command.TheVariants as command;
-ghost use Rattle.vat_connection.specs.Calling.{Calls, Fits, IsTooLarge};
-ghost use Rattle.vat_connection.specs.Connecting.{with_host};
+ghost use Rattle.vat_machine.specs.declared.command.Granted.TheVariants as granted;
+ghost use Rattle.vat_connection.specs.Calling.{Calls, Fits, IsTooLarge, answered};
+ghost use Rattle.vat_connection.specs.Connecting.{Asks, with_host};
 
 use crate::connection::Connection;
-use rpc_msg::CallId;
+use rpc_msg::{CallId, Items, ObjectId, Op, PromiseId, RefId};
 use vat_host::Refused;
-use vat_machine::CallCommand;
+use vat_journal::Advanced;
+use vat_machine::{CallCommand, Refusal};
 
 impl Connection {
     /// Makes a call through a reference, as `Host::call` does: gives the number of the call. The reference takes the shorter
@@ -20,5 +22,50 @@ impl Connection {
         ensures rest { self.new ≡ with_host self.old self.new.speaker.host }
     {
         self.speaker.call(call)
+    }
+
+    /// Asks the peer for its bootstrap object, as `Host::bootstrap` does: gives the number of the call. A refusal changes
+    /// nothing.
+    pub fn bootstrap(&mut self) -> Result<CallId, Refusal>
+        ensures { Asks self.old command.Bootstrap (answered result granted.Call (λ r. r)) self.new }
+    {
+        self.speaker.host.bootstrap()
+    }
+
+    /// Makes a reference to an object of the application, as `Host::host` does: gives its number. A refusal changes nothing.
+    pub fn host(&mut self, object: ObjectId) -> Result<RefId, Refusal>
+        ensures { Asks self.old (command.Host object) (answered result granted.Reference (λ r. r)) self.new }
+    {
+        self.speaker.host.host(object)
+    }
+
+    /// Makes a reference to what stands at a path of the results of a call, as `Host::field` does: gives its number. A refusal
+    /// changes nothing, and the path is handed back.
+    pub fn field(&mut self, id: CallId, path: Items<Op>) -> Result<RefId, Refused<Items<Op>>>
+        ensures asks { Asks self.old (command.Field id path) (answered result granted.Reference (λ e. e.refusal)) self.new }
+        ensures handed_back { IfErr result (λ e. e.back ≡ path) }
+    {
+        self.speaker.host.field(id, path)
+    }
+
+    /// Makes a reference to what a call gives, as `Host::result_of` does: gives its number. A refusal changes nothing.
+    pub fn result_of(&mut self, id: CallId) -> Result<RefId, Refusal>
+        ensures { Asks self.old (command.Field id []) (answered result granted.Reference (λ r. r)) self.new }
+    {
+        self.speaker.host.result_of(id)
+    }
+
+    /// Makes a promise, and a reference to it, as `Host::promise` does: gives their numbers. A refusal changes nothing.
+    pub fn promise(&mut self) -> Result<(PromiseId, RefId), Refusal>
+        ensures { Asks self.old command.Promise (answered result (λ made. granted.Promise made.0 made.1) (λ r. r)) self.new }
+    {
+        self.speaker.host.promise()
+    }
+
+    /// Lets a reference take the shorter path, as `Host::advance` does: gives what became of it. A refusal changes nothing.
+    pub fn advance(&mut self, id: RefId) -> Result<Advanced, Refusal>
+        ensures { Asks self.old (command.Advance id) (answered result granted.Advanced (λ r. r)) self.new }
+    {
+        self.speaker.host.advance(id)
     }
 }

@@ -1,12 +1,13 @@
 //! A vat that speaks with another by bytes, without input or output of its own (docs/embedding.md, "Over bytes"): the bytes of
 //! the peer are handed to it in any pieces, and the bytes for the peer are taken from it.
 //!
-//! - `connection.rt`: `Connection`, a vat with the streams of both directions, and what is told of it. `asks.rt`: calls.
+//! - `connection.rt`: `Connection`, a vat with the streams of both directions, and what is told of it. `asks.rt`: the commands that
+//!   give something, by name. `settling.rt`: those that give nothing.
 //! - `speaker.rt`: a vat with the bytes that it says. It hears frame by frame, and what it says becomes frames.
 //! - `hearing.rt`: the bytes that come become frames, and the vat hears each.
 //! - `event.rt`: what an application is told. `laws.rt`: that pieces do not matter, as a contract of a function that does nothing.
 //!
-//! Contracts see a connection as `Connected` (`specs/Connecting.antt`).
+//! Contracts see a connection as `Connected` (`specs/Connecting.antt`). What its calls name of the crates below is given out here.
 #![tactic(auto)]
 
 mod asks;
@@ -14,8 +15,16 @@ mod connection;
 mod event;
 mod hearing;
 mod laws;
+mod settling;
 mod speaker;
 
 pub use connection::Connection;
 pub use event::Event;
 pub use laws::pieces_are_one;
+pub use rpc_msg::{
+    CallId, Exception, ExceptionKind, Items, Memory, ObjectId, Op, Payload, PromiseId, RefId,
+    TaskId, Text, Vat,
+};
+pub use vat_host::{Core, Refused};
+pub use vat_journal::{Advanced, Delivery, Ended, Outcome};
+pub use vat_machine::{CallCommand, Command, Granted, Level, Refusal};

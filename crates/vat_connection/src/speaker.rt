@@ -5,7 +5,7 @@ ghost use Rattle.vat_machine.specs.declared.command.Refusal.TheVariants as refus
 ghost use Rattle.vat_machine.specs.State.{start};
 ghost use Rattle.vat_host.specs.Hosting.{Does, Refuses, idle, is_abort};
 ghost use Rattle.rpc_frames.specs.Outflows.{nothing_out};
-ghost use Rattle.vat_connection.specs.Calling.{Calls, Fits, IsTooLarge, call_of};
+ghost use Rattle.vat_connection.specs.Calling.{Calls, Fits, IsTooLarge, Obeys, call_of};
 ghost use Rattle.vat_connection.specs.Speaking.{Falls, Goes, HearsFrame, Passes, PassesOne, Says, given};
 
 use rpc_fits::fits_envelope;
@@ -86,6 +86,17 @@ impl Speaker {
         match self.host.command(command) {
             Ok(granted) => return Ok(granted),
             Err(refused) => return Err(refused),
+        }
+    }
+
+    /// Takes a command that carries neither a payload nor a text.
+    pub(crate) fn obey(&mut self, command: Command) -> Result<Granted, Refusal>
+        ensures obeys { Obeys self.old.host command result self.new.host }
+        ensures rest { self.new ≡ record self.old { host = self.new.host } }
+    {
+        match self.host.command(command) {
+            Ok(granted) => return Ok(granted),
+            Err(refused) => return Err(refused.refusal),
         }
     }
 

@@ -1,6 +1,6 @@
 use Rattle.std.proofs.Common.{◌≡◌, ◌<◌, List, ℕ, ◌++◌, drop, sym, ap, subst, ◌∙◌}
 use Rattle.rpc_stream.specs.Readers.{Reader}
-use Rattle.vat_connection.specs.Speaking.{Speaking, Falls, HearsFrame}
+use Rattle.vat_connection.specs.Speaking.{Falls, HearsFrame}
 use Rattle.vat_connection.specs.Hearing.{Comes, held_of}
 use Rattle.vat_connection.proofs.Coming.{hears}
 use Rattle.vat_connection.proofs.Pushing.{failed, given, is_waiting, moved, new_waits, stays, waits_after}

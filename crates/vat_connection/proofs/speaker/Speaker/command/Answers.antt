@@ -1,4 +1,4 @@
-use Rattle.std.proofs.Common.{◌⊎◌, inl, refl, ap, subst}
+use Rattle.std.proofs.Common.{inl, refl, ap, subst}
 use Rattle.vat_host.specs.Hosting.{Hosted, Does, Refuses}
 use Rattle.vat_connection.specs.Speaking.{Speaking}
 use Rattle.vat_connection.proofs.speaker.Speaker.command.Goals as goal
