@@ -3,42 +3,39 @@ ghost use Rattle.std.specs.Prelude.{IfOk};
 ghost use Rattle.rpc_msg.specs.declared.ids.Vat.TheVariants.{A, B};
 ghost use Rattle.link_driver.specs.Ends.{IsNewCore};
 
-use anyhow::{Result, bail};
+use crate::astray::Astray;
 use link_driver::{EndA, EndB, Turn, VatEnd, link};
 use rpc_msg::{CallId, Items, ObjectId, Payload, RefId, TaskId, Vat};
 use std::alloc::Global;
 use vat_core::Core;
 use vat_machine::{CallCommand, Effects, Level};
 
-/// How many places a ring has.
-const PLACES: usize = 256;
-
-/// The ends of two new vats; B has a bootstrap object.
-pub(crate) fn linked(alloc: Global) -> Result<(EndA, EndB)> {
+/// The ends of two new vats, over rings of that many places; B has a bootstrap object.
+pub(crate) fn linked(alloc: Global, places: usize) -> Result<(EndA, EndB), Astray> {
     let a = new_a(alloc)?;
     let b = new_b(alloc)?;
-    match link(alloc, a, b, PLACES) {
+    match link(alloc, a, b, places) {
         Ok(ends) => Ok(ends),
-        Err((_, _, _)) => bail!("out of memory"),
+        Err((fault, _, _)) => Err(Astray::NoLink(fault)),
     }
 }
 
-fn new_a(alloc: Global) -> Result<Core>
+fn new_a(alloc: Global) -> Result<Core, Astray>
     ensures { IfOk result (λ core. IsNewCore A core) }
 {
     let core = Core::new(alloc, Vat::A, Level::One, None)?;
     if !core.is_new() {
-        bail!("a new core is not new");
+        return Err(Astray::Otherwise);
     }
     Ok(core)
 }
 
-fn new_b(alloc: Global) -> Result<Core>
+fn new_b(alloc: Global) -> Result<Core, Astray>
     ensures { IfOk result (λ core. IsNewCore B core) }
 {
     let core = Core::new(alloc, Vat::B, Level::One, Some(ObjectId(0)))?;
     if !core.is_new() {
-        bail!("a new core is not new");
+        return Err(Astray::Otherwise);
     }
     Ok(core)
 }
@@ -69,20 +66,20 @@ pub(crate) fn did<V>(end: &mut VatEnd<V>, effects: Effects) -> Done {
 
 /// A turn, or nothing where no frame is there.
 #[inline(always)]
-fn turn<V>(end: &mut VatEnd<V>) -> Result<Option<Done>> {
+pub(crate) fn turn<V>(end: &mut VatEnd<V>) -> Result<Option<Done>, Astray> {
     match end.turn() {
         Turn::Handled(effects) => Ok(Some(did(end, effects))),
         Turn::Idle => Ok(None),
-        Turn::Down(number) => bail!("a vat went down: {number}"),
+        Turn::Down(number) => Err(Astray::Down(number)),
     }
 }
 
 /// A turn that finds a frame.
 #[inline(always)]
-pub(crate) fn taken<V>(end: &mut VatEnd<V>) -> Result<Done> {
+pub(crate) fn taken<V>(end: &mut VatEnd<V>) -> Result<Done, Astray> {
     match turn(end)? {
         Some(done) => Ok(done),
-        None => bail!("no frame came"),
+        None => Err(Astray::NoFrame),
     }
 }
 
@@ -93,7 +90,7 @@ pub(crate) fn call<V>(
     alloc: Global,
     null: &Payload,
     reference: RefId,
-) -> Result<CallId> {
+) -> Result<CallId, Astray> {
     let call = CallCommand {
         reference,
         interface: 0,
@@ -106,7 +103,7 @@ pub(crate) fn call<V>(
             let _ = did(end, effects);
             Ok(call)
         }
-        Err(refused) => bail!("a call was refused: {}", refused.refusal),
+        Err(refused) => Err(Astray::Refused(refused.refusal)),
     }
 }
 
@@ -116,39 +113,31 @@ pub(crate) fn answer<V>(
     alloc: Global,
     null: &Payload,
     task: TaskId,
-) -> Result<()> {
+) -> Result<(), Astray> {
     match end.answer(task, null.copy(alloc)?, Items::new(alloc)) {
         Ok(effects) => {
             let _ = did(end, effects);
             Ok(())
         }
-        Err(refused) => bail!("an answer was refused: {}", refused.refusal),
+        Err(refused) => Err(Astray::Refused(refused.refusal)),
     }
 }
 
 #[inline(always)]
-pub(crate) fn finish<V>(end: &mut VatEnd<V>, call: CallId) -> Result<()> {
-    match end.finish(call) {
-        Ok(effects) => {
-            let _ = did(end, effects);
-            Ok(())
-        }
-        Err(refusal) => bail!("a finish was refused: {refusal}"),
-    }
+pub(crate) fn finish<V>(end: &mut VatEnd<V>, call: CallId) -> Result<(), Astray> {
+    let effects = end.finish(call)?;
+    let _ = did(end, effects);
+    Ok(())
 }
 
 /// Vat a comes to hold a reference to the other's bootstrap object; one thread drives both.
-pub(crate) fn meet(a: &mut EndA, b: &mut EndB) -> Result<RefId> {
-    match a.bootstrap() {
-        Ok((_, effects)) => {
-            let _ = did(a, effects);
-        }
-        Err(refusal) => bail!("a bootstrap was refused: {refusal}"),
-    }
+pub(crate) fn meet(a: &mut EndA, b: &mut EndB) -> Result<RefId, Astray> {
+    let (_, effects) = a.bootstrap()?;
+    let _ = did(a, effects);
     taken(b)?;
     let done = taken(a)?;
     let (Some(call), Some(root)) = (done.ended, done.given) else {
-        bail!("no object came");
+        return Err(Astray::Otherwise);
     };
     finish(a, call)?;
     taken(b)?;

@@ -1,12 +1,16 @@
 //! Round trips over two ends that one thread drives.
 
+use crate::astray::Astray;
 use crate::linked::{answer, call, finish, linked, meet, taken};
-use anyhow::{Result, bail};
+use anyhow::Result;
 use link_driver::{EndA, EndB};
 use rpc_msg::{Payload, RefId};
 use std::alloc::Global;
 use std::rt::Clock;
 use std::time::Instant;
+
+/// How many places a ring has.
+const PLACES: usize = 256;
 
 /// Prints how many round trips take place in a second, of so many over each of so many links, one after the other. Each call is
 /// made, delivered, answered, told and finished, and is six entries of two logs. Making a link and letting it go is not timed.
@@ -18,7 +22,7 @@ pub(crate) fn measure(
 ) -> Result<()> {
     let mut nanos: u128 = 0;
     for _ in 0..links {
-        let (mut a, mut b) = linked(alloc)?;
+        let (mut a, mut b) = linked(alloc, PLACES)?;
         let null = Payload::null(alloc)?;
         let root = meet(&mut a, &mut b)?;
         let start = Instant::now(rt)?;
@@ -39,14 +43,14 @@ fn round_trip(
     alloc: Global,
     null: &Payload,
     root: RefId,
-) -> Result<()> {
+) -> Result<(), Astray> {
     let made = call(a, alloc, null, root)?;
     let Some(task) = taken(b)?.task else {
-        bail!("no call came");
+        return Err(Astray::Otherwise);
     };
     answer(b, alloc, null, task)?;
     if taken(a)?.ended != Some(made) {
-        bail!("the call has not ended");
+        return Err(Astray::Otherwise);
     }
     finish(a, made)?;
     taken(b)?;

@@ -10,6 +10,7 @@ use crate::ends::VatEnd;
 use crate::granted::promise_in;
 use link_sides::{Answer, Refused};
 use rpc_msg::{CallId, Items, ObjectId, Op, PromiseId, RefId};
+use std::alloc::Global;
 use vat_machine::{Command, Refusal};
 
 // What is refused is refused as `vat_core::Core` says, or with `Down`. One that is refused with `Down` may have taken the vat down
@@ -56,6 +57,19 @@ impl<V> VatEnd<V> {
                 },
             ) => Err(Refused { refusal, back }),
             Err(_) => unreachable!(),
+        }
+    }
+
+    /// Makes a reference to what a call gives, if that is one capability, as `field` does with an empty path: gives its number.
+    /// Refused as `Core::result_of` is, or with `Down`.
+    pub fn result_of(&mut self, alloc: Global, id: CallId) -> Result<RefId, Refusal>
+        ensures end { IsSameEnd self.old.end self.new.end }
+        ensures done { IfOk result (λ made. Takes self.old.end (command.Field id []) (answer.Done (granted.Reference made) quiet) self.new.end) }
+        ensures refused { IfErr result (λ r. Takes self.old.end (command.Field id []) (answer.Refused r (command.Field id [])) self.new.end) }
+    {
+        match self.field(id, Items::new(alloc)) {
+            Ok(made) => Ok(made),
+            Err(refused) => Err(refused.refusal),
         }
     }
 
