@@ -8,7 +8,8 @@ use Rattle.rpc_stream.specs.Readers.{Reader}
 use Rattle.rpc_stream.specs.Streams.{IsSplit}
 use Rattle.dump_lines.specs.declared.failure.Failure.{Failure}
 use Rattle.dump_lines.specs.declared.failure.Failure.TheVariants as failure
-use Rattle.dump_lines.specs.Conversations.{IsInput, StreamStops, LinesStop, Says, frame_line}
+use Rattle.file_texts.specs.Texts.{IsInput}
+use Rattle.dump_lines.specs.Conversations.{StreamStops, LinesStop, Says, frame_line}
 use Rattle.dump_lines.specs.Reading.{held_of, IsOpen, SaidTo, GoesOn, Begun}
 use Rattle.dump_lines.proofs.Parts.{said_none}
 

@@ -1,8 +1,9 @@
 -- What is said of a captured conversation: docs/messages.md, "Looking into a captured conversation". Its parts are the frames
 -- of a stream, or the lines of an input in hexadecimal.
-use Rattle.std.specs.Prelude.{◌≡◌, ℕ, ◌+◌, ◌-◌, ◌^◌, ◌<◌, ◌==◌, ◌⊎◌, min, Bool, true, false, List, [], ◌∷◌, ◌++◌, length, take, Option, Some, None, IfSome, Result, Ok, Err, IsErr}
+use Rattle.std.specs.Prelude.{◌≡◌, ℕ, ◌+◌, ◌-◌, ◌^◌, ◌<◌, ◌==◌, ◌⊎◌, min, Bool, true, false, List, [], ◌∷◌, ◌++◌, length, take, Option, Some, None, Result, Ok, Err, IsErr}
 use Rattle.std.specs.List.{before_first, after_first}
 use Rattle.std.specs.Io.KnownBytes.{Appends}
+use Rattle.file_texts.specs.Texts.{IsInput}
 use Rattle.hex.specs.Hex.{decode_of}
 use Rattle.hex.specs.declared.error.FromHexError.{FromHexError}
 use Rattle.serde_json.specs.Written.{compact_text}
@@ -140,10 +141,6 @@ Says IsCut line Stops old new (Err why) = (why ≡ failure.Unwritten) ⊎ Stoppe
 abbrev pub SaysBy : Bool → Bool → List ℕ → Option (List ℕ) → Option (List ℕ) → Result (Unit {0}) Failure → Type 0
 SaysBy false trees input old new result = Says (IsSplit input) (frame_line trees) StreamStops old new result
 SaysBy true trees input old new result = Says (IsLines input) (digits_line trees) LinesStop old new result
-
--- what a reader gives: the bytes that it had, where these are known
-abbrev pub IsInput : Option (List ℕ) → List ℕ → Type 0
-IsInput bytes input = IfSome bytes (λ b. input ≡ b)
 
 -- What is said of a conversation that a reader gives, where an output held `old` and holds `new`.
 abbrev pub Dumps : Options → Option (List ℕ) → Option (List ℕ) → Option (List ℕ) → Result (Unit {0}) Failure → Type 0

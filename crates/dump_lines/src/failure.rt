@@ -6,7 +6,7 @@ ghost use Rattle.dump_lines.specs.Failures.{said_of, status_after};
 use rpc_stream::StreamError;
 use std::alloc::AllocError;
 use std::io;
-use std::io::{ErrorKind, Write};
+use std::io::Write;
 
 /// How the program is called.
 const USAGE: &str = "usage: rpc_dump [--hex] [--payloads] [FILE]";
@@ -43,19 +43,8 @@ impl From<AllocError> for Failure {
 }
 
 impl Failure {
-    ghost use Rattle.std.specs.Prelude.{◌≡◌, ◌⊎◌};
+    ghost use Rattle.std.specs.Prelude.{◌≡◌};
     ghost use Rattle.dump_lines.specs.Failures.{of_stream as failure_of_stream};
-    ghost use Rattle.dump_lines.specs.declared.failure.Failure.TheVariants as failure;
-
-    /// Why a reader gave nothing.
-    pub fn of_read(kind: ErrorKind) -> Failure
-        ensures { (result ≡ failure.Memory) ⊎ (result ≡ failure.Unreadable) }
-    {
-        match kind {
-            ErrorKind::OutOfMemory => Failure::Memory,
-            _ => Failure::Unreadable,
-        }
-    }
 
     /// Why the stream takes nothing more, where the message with that number would come.
     pub fn of_stream(error: StreamError, number: u64) -> Failure

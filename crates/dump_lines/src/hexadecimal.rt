@@ -1,10 +1,12 @@
 //! A conversation in hexadecimal, a frame a line, read and said.
 ghost use Rattle.std.specs.Prelude.{◌≡◌, ◌⊎◌, ◌<◌, ℕ, List, length, IfSome, IfOk, IfErr};
 ghost use Rattle.std.specs.List.{position, before_first, after_first};
-ghost use Rattle.dump_lines.specs.Conversations.{IsInput, IsLines, LinesStop, Says, digits_line, is_newline};
+ghost use Rattle.file_texts.specs.Texts.{IsInput};
+ghost use Rattle.dump_lines.specs.Conversations.{IsLines, LinesStop, Says, digits_line, is_newline};
 
 use crate::failure::Failure;
 use crate::saying::say_digits;
+use file_texts::unread;
 use std::alloc::Global;
 use std::io::{Read, Write};
 
@@ -28,7 +30,7 @@ fn read_all<R: Read>(alloc: Global, reader: &mut R) -> Result<Vec<u8>, Failure>
     let mut input = Vec::new(alloc);
     match reader.read_to_end(&mut input) {
         Ok(_) => Ok(input),
-        Err(error) => Err(Failure::of_read(error.kind())),
+        Err(error) => Err(unread(&error, Failure::Unreadable)),
     }
 }
 

@@ -2,13 +2,15 @@
 ghost use Rattle.std.specs.Prelude.{◌≡◌, ◌⊎◌, ◌<◌, ◌≤◌, ◌++◌, ℕ, List, [], length, take, drop, IfOk, IfErr, OnOk, Option};
 ghost use Rattle.std.specs.Io.KnownBytes.{Consumes, IsAtEnd};
 ghost use Rattle.rpc_stream.specs.Streams.{IsSplit};
-ghost use Rattle.dump_lines.specs.Conversations.{IsInput, Says, StreamStops, Dumps, frame_line};
+ghost use Rattle.file_texts.specs.Texts.{IsInput};
+ghost use Rattle.dump_lines.specs.Conversations.{Says, StreamStops, Dumps, frame_line};
 ghost use Rattle.dump_lines.specs.Reading.{held_of, IsSound, IsOpen, SaidTo, GoesOn};
 
 use crate::failure::Failure;
 use crate::hexadecimal::dump_hex;
 use crate::options::Options;
 use crate::saying::say_frame;
+use file_texts::unread;
 use rpc_stream::{FrameReader, fronts_stay};
 use std::alloc::{AllocError, Global};
 use std::io::{ErrorKind, Read, Write};
@@ -91,7 +93,7 @@ fn read_some<R: Read>(reader: &mut R, room: &mut [u8]) -> Result<usize, Failure>
             Ok(count) => return Ok(count),
             Err(error) => match error.kind() {
                 ErrorKind::Interrupted => {}
-                kind => return Err(Failure::of_read(kind)),
+                _ => return Err(unread(&error, Failure::Unreadable)),
             },
         }
     }

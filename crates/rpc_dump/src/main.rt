@@ -2,12 +2,12 @@
 #![tactic(auto)]
 
 use dump_lines::{Failure, Options, dump, status, tell};
+use file_texts::unread;
 use std::alloc::AllocError;
+use std::env;
 use std::env::Args;
 use std::fs::File;
-use std::io::ErrorKind;
 use std::process::ExitCode;
-use std::{env, io};
 
 /// `rpc_dump [--hex] [--payloads] [FILE]`; without a file the bytes are read from standard input.
 fn main(rt: HostRuntime) -> ExitCode {
@@ -56,14 +56,6 @@ fn options_of(words: &[String]) -> Option<Options> {
         options = options.with(word.as_str())?;
     }
     Some(options)
-}
-
-/// Why something could not be read: for want of memory, or `otherwise`.
-fn unread(error: &io::Error, otherwise: Failure) -> Failure {
-    match error.kind() {
-        ErrorKind::OutOfMemory => Failure::Memory,
-        _ => otherwise,
-    }
 }
 
 fn on_file(rt: &HostRuntime, options: Options, name: &str) -> Result<(), Failure> {

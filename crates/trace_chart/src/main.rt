@@ -1,11 +1,11 @@
 //! Draws a trace as a sequence diagram, in SVG on standard output (`docs/trace.md`, "A picture of a trace").
 #![tactic(auto)]
 
+use file_texts::unread;
+use std::env;
 use std::env::Args;
 use std::fs::File;
-use std::io::ErrorKind;
 use std::process::ExitCode;
-use std::{env, io};
 use trace_picture::{Failure, Options, draw_trace, status, write_help};
 
 /// `trace_chart FILE [--ref V/N] [--from N] [--to N]`, or `trace_chart --help`; without arguments the trace is read from
@@ -25,14 +25,6 @@ fn main(rt: HostRuntime) -> ExitCode {
     }
     let drawn = draw_named(&rt, name.as_str(), words);
     ended(&rt, drawn, name.as_str())
-}
-
-/// Why something could not be read: for want of memory, or `otherwise`.
-fn unread(error: &io::Error, otherwise: Failure) -> Failure {
-    match error.kind() {
-        ErrorKind::OutOfMemory => Failure::Memory,
-        _ => otherwise,
-    }
 }
 
 fn draw_named(rt: &HostRuntime, name: &str, words: Args) -> Result<(), Failure> {

@@ -1,27 +1,29 @@
 -- Why the program does not draw, what it says of it, and its status (docs/trace.md, "A picture of a trace").
-use Rattle.std.specs.Prelude.{ℕ, ◌≡◌, ◌⊎◌, Option, IfSome, Result, Ok, Err, List, [], ◌∷◌, ◌++◌, codes, decimal}
-use Rattle.std.specs.Str.{IsUtf8}
+use Rattle.std.specs.Prelude.{ℕ, ◌≡◌, ◌⊎◌, Option, Result, Ok, Err, List, [], ◌∷◌, ◌++◌, codes, decimal}
+use Rattle.file_texts.specs.declared.fault.TextFault.{TextFault}
+use Rattle.file_texts.specs.declared.fault.TextFault.TheVariants as text
+use Rattle.file_texts.specs.Texts.{IsInput, HasNoText}
 use Rattle.trace_json.specs.Faults.{number_of_fault}
 use Rattle.trace_file.specs.declared.fault.FileFault.{FileFault}
 use Rattle.trace_file.specs.declared.fault.FileFault.TheVariants as file
 use Rattle.trace_file.specs.Faults.{IsFileFault}
 use Rattle.trace_picture.specs.declared.fault.Failure.{Failure}
 use Rattle.trace_picture.specs.declared.fault.Failure.TheVariants as failure
-use Rattle.trace_picture.specs.Drawn.{IsInput, IsSomeTrace}
+use Rattle.trace_picture.specs.Drawn.{IsSomeTrace}
 
--- What is said of a text's fault.
+-- What is said of the faults of a trace and of a file.
 abbrev pub of_file : FileFault → Failure
 of_file file.Memory = failure.Memory
 of_file (file.Line number fault) = failure.Line number fault
 
--- Why a file has no text. Of want of memory and of a reader that fails nothing more can be said.
+abbrev pub of_text : TextFault → Failure
+of_text text.Memory = failure.Memory
+of_text text.Unreadable = failure.Unreadable
+of_text text.NotText = failure.NotText
+
+-- Why a file has no text.
 abbrev pub ReadFails : Option (List ℕ) → Failure → Type 0
-ReadFails bytes failure.Memory = Unit {0}
-ReadFails bytes failure.Unreadable = Unit {0}
-ReadFails bytes failure.NotText = (input : List ℕ) × IsInput bytes input × ¬ IsUtf8 input
-ReadFails bytes failure.Usage = ⊥
-ReadFails bytes (failure.Line number fault) = ⊥
-ReadFails bytes failure.Unwritten = ⊥
+ReadFails bytes why = (fault : TextFault) × HasNoText bytes fault × (why ≡ of_text fault)
 
 -- Why a text has no picture: its fault.
 abbrev pub TextFails : List ℕ → Failure → Type 0

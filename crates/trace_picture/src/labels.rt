@@ -12,7 +12,7 @@ fn write_references(
     references: &Items<RefId>,
 ) -> Result<(), AllocError> {
     let plural = if references.len() > 1 { "s" } else { "" };
-    for (place, reference) in references.as_slice().iter().enumerate() {
+    for (place, reference) in references.iter().enumerate() {
         if place == 0 {
             write!(text, " with {which}{plural} {}", reference.0)?;
         } else {
@@ -231,7 +231,7 @@ fn write_counts(text: &mut String, counts: &Items<(ExportId, u32)>) -> Result<()
     if counts.is_empty() {
         return text.push_str("none");
     }
-    for (place, (id, count)) in counts.as_slice().iter().enumerate() {
+    for (place, (id, count)) in counts.iter().enumerate() {
         text.push_str(if place == 0 { "" } else { ", " })?;
         write!(text, "{} by {count}", id.0)?;
     }

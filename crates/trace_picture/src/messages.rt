@@ -123,7 +123,7 @@ fn write_finish(
 
 /// The capabilities of a payload, as the wire has them; nothing where there are none.
 fn write_descriptors(text: &mut String, descriptors: &Items<Descriptor>) -> Result<(), AllocError> {
-    for (place, descriptor) in descriptors.as_slice().iter().enumerate() {
+    for (place, descriptor) in descriptors.iter().enumerate() {
         text.push_str(if place == 0 { " with " } else { ", " })?;
         write_descriptor(text, descriptor)?;
     }

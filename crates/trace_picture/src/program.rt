@@ -1,15 +1,17 @@
-ghost use Rattle.std.specs.Prelude.{◌≡◌, ◌⊎◌, ℕ, List, IfOk, IfErr, OnOk, string_bytes};
+ghost use Rattle.std.specs.Prelude.{◌≡◌, ◌⊎◌, ℕ, List, IfOk, IfErr, OnOk};
 ghost use Rattle.std.specs.Io.KnownBytes.{Appends};
-ghost use Rattle.trace_picture.specs.Drawn.{IsInput, IsSomeTrace};
-ghost use Rattle.trace_picture.specs.Failures.{Fails, ReadFails, TextFails, said_of, status_of, help_text};
+ghost use Rattle.file_texts.specs.Texts.{IsInput};
+ghost use Rattle.trace_picture.specs.Drawn.{IsSomeTrace};
+ghost use Rattle.trace_picture.specs.Failures.{Fails, TextFails, said_of, status_of, help_text};
 
 use crate::chart::Chart;
 use crate::draw::picture;
 use crate::fault::Failure;
 use crate::options::Options;
+use file_texts::{read_text, write_text};
 use std::alloc::Global;
 use std::io;
-use std::io::{ErrorKind, Read, Write};
+use std::io::{Read, Write};
 use trace_file::follow;
 
 /// The status of a program that did what it was asked.
@@ -42,7 +44,8 @@ pub fn draw_trace<R: Read, W: Write>(
 {
     let trace = read_text(alloc, reader)?;
     let svg = svg_of(alloc, trace.as_str(), options)?;
-    write_text(out, svg.as_str())
+    write_text(out, svg.as_str())?;
+    Ok(())
 }
 
 /// Writes what the program is for. `Unwritten` where `out` fails, which may have taken a part of it.
@@ -50,7 +53,8 @@ pub fn write_help<W: Write>(out: &mut W) -> Result<(), Failure>
     ensures written { OnOk result (Appends (W.contents out.old) (W.contents out.new) help_text) }
     ensures fails { IfErr result (λ why. why ≡ Failure.Unwritten) }
 {
-    write_text(out, HELP)
+    write_text(out, HELP)?;
+    Ok(())
 }
 
 /// The status with which the program ends. A failure is said on `err`, where that can be written.
@@ -82,24 +86,6 @@ fn tell<E: Write>(failure: Failure, name: &str, err: &mut E) -> io::Result<()>
     }
 }
 
-fn read_text<R: Read>(alloc: Global, reader: &mut R) -> Result<String, Failure>
-    ensures text { IfOk result (λ text. IsInput (R.remaining reader.old) (string_bytes text)) }
-    ensures fails { IfErr result (λ why. ReadFails (R.remaining reader.old) why) }
-{
-    let mut bytes = Vec::new(alloc);
-    match reader.read_to_end(&mut bytes) {
-        Ok(_) => {}
-        Err(error) => match error.kind() {
-            ErrorKind::OutOfMemory => return Err(Failure::Memory),
-            _ => return Err(Failure::Unreadable),
-        },
-    }
-    match String::from_utf8(bytes) {
-        Ok(text) => Ok(text),
-        Err(_) => Err(Failure::NotText),
-    }
-}
-
 /// The picture of a whole trace, or its first fault.
 fn svg_of(alloc: Global, trace: &str, options: Options) -> Result<String, Failure>
     ensures drawn { IfOk result (λ svg. IsSomeTrace trace.now) }
@@ -118,14 +104,4 @@ fn svg_by(alloc: Global, trace: &str, chart: &mut Chart) -> Result<String, Failu
     chart.finish(alloc)?;
     let svg = picture(alloc, chart)?;
     Ok(svg)
-}
-
-fn write_text<W: Write>(out: &mut W, text: &str) -> Result<(), Failure>
-    ensures written { OnOk result (Appends (W.contents out.old) (W.contents out.new) text.now) }
-    ensures fails { IfErr result (λ why. why ≡ Failure.Unwritten) }
-{
-    match out.write_all(text.as_bytes()) {
-        Ok(()) => Ok(()),
-        Err(_) => Err(Failure::Unwritten),
-    }
 }

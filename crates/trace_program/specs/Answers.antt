@@ -1,5 +1,5 @@
 -- What the program prints for a word and an input, and its status (docs/trace.md, "The program").
-use Rattle.std.specs.Prelude.{ℕ, ◌≡◌, Option, IfSome, List, []}
+use Rattle.std.specs.Prelude.{ℕ, ◌≡◌, List, []}
 use Rattle.vat_journal.specs.declared.entry.JournalEntry.{JournalEntry}
 use Rattle.trace_write.specs.declared.version.TraceVersion.{TraceVersion}
 use Rattle.trace_write.specs.declared.version.TraceVersion.TheVariants.{Two}
@@ -12,10 +12,6 @@ use Rattle.trace_file.specs.Shown.{Shows}
 use Rattle.trace_program.specs.declared.words.Word.{Word}
 use Rattle.trace_program.specs.declared.words.Word.TheVariants.{Run, Check, Show, Upgrade}
 use Rattle.trace_program.specs.Traces.{Prints}
-
--- What a reader gave: the bytes that it had, where these are known.
-abbrev pub IsInput : Option (List ℕ) → List ℕ → Type 0
-IsInput bytes input = IfSome bytes (λ b. input ≡ b)
 
 -- 3 where an entry breaks a law.
 abbrev pub status_of : Verdict → ℕ

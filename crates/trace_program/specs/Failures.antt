@@ -1,6 +1,8 @@
 -- Why the program does not do what it was asked, what it says of it, and its status (docs/trace.md, "Traces as files").
 use Rattle.std.specs.Prelude.{ℕ, ◌≡◌, ◌⊎◌, Option, None, Some, Result, Ok, Err, List, [], ◌∷◌, ◌++◌, codes, decimal}
-use Rattle.std.specs.Str.{IsUtf8}
+use Rattle.file_texts.specs.declared.fault.TextFault.{TextFault}
+use Rattle.file_texts.specs.declared.fault.TextFault.TheVariants as text
+use Rattle.file_texts.specs.Texts.{IsInput, HasNoText}
 use Rattle.trace_json.specs.Faults.{number_of_fault}
 use Rattle.trace_file.specs.declared.fault.FileFault.{FileFault}
 use Rattle.trace_file.specs.declared.fault.FileFault.TheVariants as file
@@ -12,9 +14,9 @@ use Rattle.trace_program.specs.declared.fault.Failure.TheVariants as failure
 use Rattle.trace_program.specs.declared.words.Word.{Word}
 use Rattle.trace_program.specs.declared.words.Word.TheVariants.{Run, Check, Show, Upgrade}
 use Rattle.trace_program.specs.Traces.{Faults}
-use Rattle.trace_program.specs.Answers.{IsInput, Answers}
+use Rattle.trace_program.specs.Answers.{Answers}
 
--- What is said of the faults of a script and of a trace.
+-- What is said of the faults of a script, of a trace and of a file.
 abbrev pub of_script : ScriptFault → Failure
 of_script script.Memory = failure.Memory
 of_script script.NotText = failure.NotText
@@ -25,15 +27,14 @@ abbrev pub of_file : FileFault → Failure
 of_file file.Memory = failure.Memory
 of_file (file.Line number fault) = failure.Trace number fault
 
--- Why a file has no text. Of want of memory and of a reader that fails nothing more can be said.
+abbrev pub of_text : TextFault → Failure
+of_text text.Memory = failure.Memory
+of_text text.Unreadable = failure.Unreadable
+of_text text.NotText = failure.NotText
+
+-- Why a file has no text.
 abbrev pub ReadFails : Option (List ℕ) → Failure → Type 0
-ReadFails bytes failure.Memory = Unit {0}
-ReadFails bytes failure.Unreadable = Unit {0}
-ReadFails bytes failure.NotText = (input : List ℕ) × IsInput bytes input × ¬ IsUtf8 input
-ReadFails bytes failure.Usage = ⊥
-ReadFails bytes (failure.Script number) = ⊥
-ReadFails bytes (failure.Trace number fault) = ⊥
-ReadFails bytes failure.Unwritten = ⊥
+ReadFails bytes why = (fault : TextFault) × HasNoText bytes fault × (why ≡ of_text fault)
 
 -- Why a script is not played, and a text no trace: its fault.
 abbrev pub ScriptFails : List ℕ → Failure → Type 0

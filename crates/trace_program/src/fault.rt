@@ -1,6 +1,8 @@
 ghost use Rattle.trace_program.specs.declared.fault.Failure.TheVariants as failure;
 
+use file_texts::{TextFault, Unwritten};
 use rpc_msg::Memory;
+use std::alloc::AllocError;
 use thiserror::Error;
 use trace_file::FileFault;
 use trace_json::TraceFault;
@@ -69,6 +71,41 @@ impl From<FileFault> for Failure {
             FileFault::Memory => Failure::Memory,
             FileFault::Line(number, fault) => Failure::Trace(number, fault),
         }
+    }
+}
+
+impl From<TextFault> for Failure {
+    ghost use Rattle.std.specs.Prelude.{◌≡◌};
+    ghost use Rattle.trace_program.specs.Failures.{of_text};
+
+    ghost from_gives = { λ fault why. why ≡ of_text fault };
+
+    fn from(fault: TextFault) -> Failure {
+        match fault {
+            TextFault::Memory => Failure::Memory,
+            TextFault::Unreadable => Failure::Unreadable,
+            TextFault::NotText => Failure::NotText,
+        }
+    }
+}
+
+impl From<Unwritten> for Failure {
+    ghost use Rattle.std.specs.Prelude.{◌≡◌};
+
+    ghost from_gives = { λ _ why. why ≡ failure.Unwritten };
+
+    fn from(_fault: Unwritten) -> Failure {
+        Failure::Unwritten
+    }
+}
+
+impl From<AllocError> for Failure {
+    ghost use Rattle.std.specs.Prelude.{◌≡◌};
+
+    ghost from_gives = { λ _ why. why ≡ failure.Memory };
+
+    fn from(_fault: AllocError) -> Failure {
+        Failure::Memory
     }
 }
 

@@ -7,8 +7,7 @@
 //! - `words.rt`: the program's words; `answering.rt`: what it answers to each; `fault.rt`: why it fails.
 //! - `program.rt`: the program without its handles: `vat_trace` gives it arguments, files and streams.
 //!
-//! The word `pair` stands in the program `vat_trace`, which takes from here how a text is read and written, and how a journal
-//! is printed.
+//! The word `pair` stands in the program `vat_trace`, which takes from here how a journal is printed.
 #![tactic(auto)]
 
 mod answering;
@@ -22,6 +21,6 @@ mod words;
 pub use answering::{Printed, print_checked};
 pub use fault::{Failure, ScriptFault};
 pub use playing::play_lines;
-pub use program::{play, read_text, status, write_text};
+pub use program::{play, status};
 pub use run::{CheckedTrace, checked, trace_of_script};
 pub use words::Word;

@@ -9,7 +9,7 @@ use rpc_msg::{Memory, Payload, Vat};
 use std::alloc::Global;
 use vat_machine::{Effects, Refusal};
 use vat_script::{Act, GiveFault, Line, LineCommand, Names};
-use vat_world::{Answer, StepAnswer, World, WorldEvent};
+use vat_world::{Answer, StepAnswer, World, WorldEvent, vat_of};
 
 /// Plays the lines in order. `Unnamed` where a line names something that is not there when its turn comes, with its
 /// number, counted from 1, and the first such thing; what stands before it was played. `Memory` where a growth of the
@@ -67,7 +67,7 @@ fn happen(
 ) -> Result<(), Memory>
     ensures { OnOk result ((answer : StepAnswer) × Steps world.old event answer world.new × (names.new ≡ told names.old line.now answer)) }
 {
-    let vat = acting(&event);
+    let vat = vat_of(&event);
     let answer = world.step(event);
     if is_refused_memory(&answer) {
         world.give_back(vat, answer);
@@ -76,12 +76,6 @@ fn happen(
     let kept = keep(alloc, names, line, &answer);
     world.give_back(vat, answer);
     kept
-}
-
-fn acting(event: &WorldEvent) -> Vat {
-    match event {
-        WorldEvent::Command(vat, _) | WorldEvent::Deliver(vat) => *vat,
-    }
 }
 
 fn is_refused_memory(answer: &StepAnswer) -> bool {

@@ -1,16 +1,18 @@
-ghost use Rattle.std.specs.Prelude.{◌≡◌, ◌⊎◌, ℕ, List, Some, IfOk, IfErr, OnOk, string_bytes};
+ghost use Rattle.std.specs.Prelude.{◌≡◌, ◌⊎◌, ℕ, List, Some, IfOk, IfErr, OnOk};
 ghost use Rattle.std.specs.Io.KnownBytes.{Appends};
 ghost use Rattle.trace_program.specs.declared.words.Word.{Word};
 ghost use Rattle.trace_program.specs.Words.{word_of};
-ghost use Rattle.trace_program.specs.Answers.{IsInput, Answers};
-ghost use Rattle.trace_program.specs.Failures.{Fails, ReadFails, said_of, status_after};
+ghost use Rattle.file_texts.specs.Texts.{IsInput};
+ghost use Rattle.trace_program.specs.Answers.{Answers};
+ghost use Rattle.trace_program.specs.Failures.{Fails, said_of, status_after};
 
 use crate::answering::answer;
 use crate::fault::Failure;
 use crate::words::Word;
+use file_texts::{read_text, write_text};
 use std::alloc::Global;
 use std::io;
-use std::io::{ErrorKind, Read, Write};
+use std::io::{Read, Write};
 
 /// The status of a program that failed.
 const FAILED: u8 = 2;
@@ -70,36 +72,5 @@ fn tell<E: Write>(failure: Failure, name: &str, err: &mut E) -> io::Result<()>
             writeln!(err, "trace line {number}: fault {}", fault.number())
         }
         Failure::Unwritten => Ok(()),
-    }
-}
-
-/// The whole text of a file. `Unreadable` where the reader fails, `NotText` where the bytes are not UTF-8, `Memory` where a
-/// growth was refused.
-pub fn read_text<R: Read>(alloc: Global, reader: &mut R) -> Result<String, Failure>
-    ensures text { IfOk result (λ text. IsInput (R.remaining reader.old) (string_bytes text)) }
-    ensures fails { IfErr result (λ why. ReadFails (R.remaining reader.old) why) }
-{
-    let mut bytes = Vec::new(alloc);
-    match reader.read_to_end(&mut bytes) {
-        Ok(_) => {}
-        Err(error) => match error.kind() {
-            ErrorKind::OutOfMemory => return Err(Failure::Memory),
-            _ => return Err(Failure::Unreadable),
-        },
-    }
-    match String::from_utf8(bytes) {
-        Ok(text) => Ok(text),
-        Err(_) => Err(Failure::NotText),
-    }
-}
-
-/// Writes a text. `Unwritten` where that fails, which may have taken a part of it.
-pub fn write_text<W: Write>(out: &mut W, text: &str) -> Result<(), Failure>
-    ensures written { OnOk result (Appends (W.contents out.old) (W.contents out.new) text.now) }
-    ensures fails { IfErr result (λ why. why ≡ Failure.Unwritten) }
-{
-    match out.write_all(text.as_bytes()) {
-        Ok(()) => Ok(()),
-        Err(_) => Err(Failure::Unwritten),
     }
 }

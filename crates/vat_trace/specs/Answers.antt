@@ -4,7 +4,7 @@ use Rattle.trace_check.specs.declared.verdict.Verdict.{Verdict}
 use Rattle.trace_program.specs.declared.fault.ScriptFault.{ScriptFault}
 use Rattle.trace_program.specs.declared.fault.Failure.{Failure}
 use Rattle.trace_program.specs.declared.fault.Failure.TheVariants as failure
-use Rattle.trace_program.specs.Answers.{IsInput}
+use Rattle.file_texts.specs.Texts.{IsInput}
 use Rattle.trace_program.specs.Failures.{ReadFails, of_script}
 use Rattle.vat_trace.specs.Printed.{PrintsPair, FaultsPair}
 

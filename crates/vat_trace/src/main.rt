@@ -17,13 +17,13 @@ mod wanting;
 mod working;
 
 use crate::program::play_pair;
+use file_texts::unread;
+use std::env;
 use std::fs::File;
-use std::io::ErrorKind;
 use std::process::ExitCode;
 use std::sync::Wait;
 use std::thread::Threads;
 use std::time::Clock;
-use std::{env, io};
 use trace_program::{Failure, Word, play, status};
 
 /// `vat_trace run|pair|check|show|upgrade FILE`; without arguments the script is read from standard input.
@@ -48,14 +48,6 @@ fn main(rt: HostRuntime) -> ExitCode {
         word => on_file(&rt, word, name.as_str()),
     };
     ended(&rt, played, name.as_str())
-}
-
-/// Why something could not be read: for want of memory, or `otherwise`.
-fn unread(error: &io::Error, otherwise: Failure) -> Failure {
-    match error.kind() {
-        ErrorKind::OutOfMemory => Failure::Memory,
-        _ => otherwise,
-    }
 }
 
 fn on_input(rt: &HostRuntime) -> Result<u8, Failure> {

@@ -50,6 +50,11 @@ new_seen root_a root_b = record { world = new_world root_a root_b; journal = [];
 
 -- ---- Events
 
+-- the vat at which it happens
+abbrev pub vat_of : Event → Vat
+vat_of (event.Command v c) = v
+vat_of (event.Deliver v) = v
+
 -- What an event answers: what the definitions say, but for the messages, which are on their way. The arguments of a
 -- command that is refused are handed back.
 abbrev pub given_by : Event → StepAnswer → Given

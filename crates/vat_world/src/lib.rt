@@ -24,4 +24,4 @@ pub use answer::StepAnswer;
 pub use vat_journal::JournalEntry;
 pub use vat_machine::Event as WorldEvent;
 pub use vat_telling::Answer;
-pub use world::World;
+pub use world::{World, vat_of};

@@ -7,7 +7,7 @@ ghost use Rattle.vat_machine.specs.declared.event.Event.TheVariants as event;
 ghost use Rattle.laws_sound.specs.Promised.{AreEachAtOne, AreInFull, DownsAreKnown, DownsAreTold, MeansForGood, RefusesNothing, history_of};
 ghost use Rattle.laws_verdicts.specs.Good.{IsGood};
 ghost use Rattle.vat_journal.specs.declared.entry.JournalEntry.TheVariants as entry;
-ghost use Rattle.vat_world.specs.World.{AllCame, IsReached, KeepsBootstraps, KeepsPromises, Steps, Runs, new_seen, shut, told};
+ghost use Rattle.vat_world.specs.World.{AllCame, IsReached, KeepsBootstraps, KeepsPromises, Steps, Runs, new_seen, shut, told, vat_of};
 
 use crate::answer::StepAnswer;
 use crate::side::Side;
@@ -147,7 +147,7 @@ impl World {
     {
         bootstraps_stay();
         for event in events {
-            let vat = acting(&event);
+            let vat = vat_of(&event);
             let answer = self.step(event);
             self.give_back(vat, answer);
         }
@@ -298,7 +298,10 @@ impl World {
     }
 }
 
-fn acting(event: &Event) -> Vat {
+/// The vat at which an event happens.
+pub fn vat_of(event: &Event) -> Vat
+    ensures { result ≡ vat_of event.now }
+{
     match event {
         Event::Command(vat, _) | Event::Deliver(vat) => *vat,
     }
