@@ -19,7 +19,7 @@ COLUMNS = [
     ("traces, scripts, programs", "#e6f1de", set()),
 ]
 # Names whose first word would put them elsewhere.
-PROGRAMS = {"vat_trace", "vat_script", "vat_scenes"}
+PROGRAMS = {"vat_trace", "vat_script", "vat_scenes", "vat_serve"}
 
 
 def crates():
