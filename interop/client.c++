@@ -1,5 +1,6 @@
 // client ADDRESS SCENARIO: plays a scenario with the registry that is served there, and ends with status 0 where all was as it
-// has to be. client ADDRESS soak SEED, client ADDRESS soak-promises SEED: plays a drawn conversation. client: lists the scenarios.
+// has to be. client ADDRESS soak SEED, client ADDRESS soak-promises SEED: plays a drawn conversation. client ADDRESS bench CALLS:
+// measures. client: lists the scenarios.
 #include "scenarios.h"
 #include <iostream>
 
@@ -8,6 +9,8 @@ namespace interop {
 void play(Peer& peer, const std::string& name, uint seed) {
   if (name == "soak" || name == "soak-promises") {
     soak(peer, seed, name == "soak-promises");
+  } else if (name == "bench") {
+    bench(peer, seed);
   } else {
     auto scenario = SCENARIOS.find(name);
     KJ_REQUIRE(scenario != SCENARIOS.end(), "no such scenario", name.c_str());
@@ -22,7 +25,7 @@ int run(int words, char** word) {
     return 0;
   }
   if (words < 3 || words > 4) {
-    std::cerr << "usage: client [ADDRESS SCENARIO [SEED]]" << std::endl;
+    std::cerr << "usage: client [ADDRESS SCENARIO [NUMBER]]" << std::endl;
     return 2;
   }
   auto io = kj::setupAsyncIo();

@@ -13,4 +13,7 @@ extern const std::map<std::string, Scenario> SCENARIOS;
 // A conversation that is drawn: the same seed draws the same. With `promises` there are own promises among what it gives away.
 void soak(Peer& peer, uint seed, bool promises);
 
+// Says on standard output how many calls a second were answered, one at a time and many at once.
+void bench(Peer& peer, uint calls);
+
 }  // namespace interop

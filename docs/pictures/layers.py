@@ -15,11 +15,11 @@ BOX, HIGH, GAP, ROW, EDGE = 122, 26, 10, 58, 24
 # The columns, from left to right: a title, a colour, and the first words of the names in it.
 COLUMNS = [
     ("laws", "#e8e2f4", {"laws", "call", "order", "log", "finite", "machine"}),
-    ("the vat", "#dcebf7", {"wire", "capn", "rpc", "vat", "store", "step", "ring"}),
+    ("the vat", "#dcebf7", {"wire", "capn", "rpc", "vat", "store", "step", "ring", "loose", "lovendak"}),
     ("traces, scripts, programs", "#e6f1de", set()),
 ]
 # Names whose first word would put them elsewhere.
-PROGRAMS = {"vat_trace", "vat_script", "vat_scenes", "vat_serve"}
+PROGRAMS = {"vat_trace", "vat_script", "vat_scenes", "vat_serve", "vat_call", "call_script"}
 
 
 def crates():

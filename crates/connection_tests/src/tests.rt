@@ -1,8 +1,8 @@
-//! Two connections that exchange bytes, and one whose peer sends what is no conversation.
+//! Two connections that exchange bytes, one whose peer sends what is no conversation, and one whose peer makes a tail call.
 use rpc_msg::{CallId, Items, ObjectId, RefId, Vat};
 use std::alloc::Global;
 use std::test::Fail;
-use vat_connection::{Connection, Event};
+use vat_connection::{Connection, Delivery, Event};
 use vat_machine::{CallCommand, Command, Granted, Level, Refusal};
 use vat_payloads::contents;
 
@@ -27,6 +27,34 @@ const AT_FAULT: [(&[u8], u16); 4] = [
     (&[0, 0, 0, 0, 1, 0, 1, 0], 4),
     (&EMPTY, 63),
     (&[255, 255, 255, 255, 1], 3),
+];
+
+/// Bootstrap, question 0.
+const BOOTSTRAP: [u8; 48] = [
+    0, 0, 0, 0, 5, 0, 0, 0, 0, 0, 0, 0, 1, 0, 1, 0, 8, 0, 0, 0, 0, 0, 0, 0, 0, 0, 0, 0, 1, 0, 1, 0,
+    0, 0, 0, 0, 0, 0, 0, 0, 0, 0, 0, 0, 0, 0, 0, 0,
+];
+
+/// A Call to what question 0 gives, question 1, whose results are to stay (`sendResultsTo.yourself`).
+const TAIL_CALL: [u8; 128] = [
+    0, 0, 0, 0, 15, 0, 0, 0, 0, 0, 0, 0, 1, 0, 1, 0, 2, 0, 0, 0, 0, 0, 0, 0, 0, 0, 0, 0, 3, 0, 3,
+    0, 1, 0, 0, 0, 2, 0, 1, 0, 1, 0, 0, 0, 0, 0, 0, 0, 0, 0, 0, 0, 0, 0, 0, 0, 8, 0, 0, 0, 1, 0, 1,
+    0, 20, 0, 0, 0, 0, 0, 2, 0, 0, 0, 0, 0, 0, 0, 0, 0, 0, 0, 0, 0, 1, 0, 0, 0, 0, 0, 0, 0, 1, 0,
+    1, 0, 0, 0, 0, 0, 0, 0, 0, 0, 0, 0, 0, 0, 0, 0, 0, 0, 0, 0, 0, 0, 0, 0, 0, 0, 0, 0, 0, 0, 0, 0,
+    0, 0,
+];
+
+/// A Return for question 0 of the other side, with the results of question 1 (`takeFromOtherQuestion`).
+const TAKE: [u8; 56] = [
+    0, 0, 0, 0, 6, 0, 0, 0, 0, 0, 0, 0, 1, 0, 1, 0, 3, 0, 0, 0, 0, 0, 0, 0, 0, 0, 0, 0, 2, 0, 1, 0,
+    0, 0, 0, 0, 0, 0, 4, 0, 1, 0, 0, 0, 0, 0, 0, 0, 0, 0, 0, 0, 0, 0, 0, 0,
+];
+
+/// Finishes of questions 1 and 0.
+const FINISHES: [u8; 80] = [
+    0, 0, 0, 0, 4, 0, 0, 0, 0, 0, 0, 0, 1, 0, 1, 0, 4, 0, 0, 0, 0, 0, 0, 0, 0, 0, 0, 0, 1, 0, 0, 0,
+    1, 0, 0, 0, 0, 0, 0, 0, 0, 0, 0, 0, 4, 0, 0, 0, 0, 0, 0, 0, 1, 0, 1, 0, 4, 0, 0, 0, 0, 0, 0, 0,
+    0, 0, 0, 0, 1, 0, 0, 0, 0, 0, 0, 0, 0, 0, 0, 0,
 ];
 
 fn vat(alloc: Global, vat: Vat, root: Option<ObjectId>) -> Result<Connection, Fail> {
@@ -60,68 +88,105 @@ fn carry(from: &mut Connection, to: &mut Connection, piece: usize) -> usize {
     bytes.len()
 }
 
+fn let_go(connection: &mut Connection, refs: &[RefId]) -> Result<(), Fail> {
+    for reference in refs {
+        connection.command(Command::DropRef(*reference))?;
+    }
+    Ok(())
+}
+
+fn answer_task(alloc: Global, connection: &mut Connection, task: &Delivery) -> Result<(), Fail> {
+    let refs = task.refs.as_slice();
+    let (payload, given) = contents(alloc, &[7], "seven", refs)?;
+    connection.command(Command::Answer(task.task, payload, given))?;
+    let_go(connection, refs)
+}
+
 /// What the served call of a connection is answered with: the references that came with it.
 fn answer(alloc: Global, connection: &mut Connection) -> Result<(), Fail> {
     let Some(Event::Served(task)) = connection.next_event() else {
         return Err("no call")?;
     };
-    let (payload, refs) = contents(alloc, &[7], "seven", &task.refs)?;
-    connection.command(Command::Answer(task.task, payload, refs))?;
-    for reference in &task.refs {
-        connection.command(Command::DropRef(*reference))?;
-    }
-    Ok(())
+    answer_task(alloc, connection, &task)
+}
+
+/// The call that has ended, and what it gave.
+fn ended(connection: &mut Connection) -> Result<(CallId, Items<RefId>), Fail> {
+    let Some(Event::Ended(ended)) = connection.next_event() else {
+        return Err("no end")?;
+    };
+    Ok((ended.call, ended.refs))
 }
 
 /// Finishes a call that has ended, and drops what it gave.
 fn finish(connection: &mut Connection) -> Result<(), Fail> {
-    let Some(Event::Ended(ended)) = connection.next_event() else {
-        return Err("no end")?;
-    };
-    connection.command(Command::Finish(ended.call))?;
-    for reference in &ended.refs {
-        connection.command(Command::DropRef(*reference))?;
-    }
-    Ok(())
+    let (call, refs) = ended(connection)?;
+    connection.command(Command::Finish(call))?;
+    let_go(connection, refs.as_slice())
 }
 
-/// A call with a reference, answered and let go, by pieces of that length: the bytes that went over, and whether nothing is left.
-fn converse(alloc: Global, piece: usize) -> Result<([usize; 4], bool), Fail> {
-    let mut a = vat(alloc, Vat::A, None)?;
-    let mut b = vat(alloc, Vat::B, Some(ObjectId(0)))?;
-    let bootstrap = asked(&mut a)?;
-    let object = made(&mut a, Command::Field(bootstrap, Items::new(alloc)))?;
-    let own = made(&mut a, Command::Host(ObjectId(1)))?;
-    let (payload, refs) = contents(alloc, &[7], "seven", &[own])?;
-    let call = CallCommand {
-        reference: object,
+/// A reference to the peer's bootstrap object, and one to an object of its own.
+fn referred(alloc: Global, connection: &mut Connection) -> Result<(RefId, RefId), Fail> {
+    let bootstrap = asked(connection)?;
+    let object = made(connection, Command::Field(bootstrap, Items::new(alloc)))?;
+    let own = made(connection, Command::Host(ObjectId(1)))?;
+    Ok((object, own))
+}
+
+/// A call that says these numbers and a word, with these references.
+fn call(
+    alloc: Global,
+    reference: RefId,
+    numbers: &[u64],
+    given: &[RefId],
+) -> Result<CallCommand, Fail> {
+    let (payload, refs) = contents(alloc, numbers, "seven", given)?;
+    Ok(CallCommand {
+        reference,
         interface: 1,
         method: 2,
         payload,
         refs,
-    };
-    a.call(call)?;
-    let asked = carry(&mut a, &mut b, piece);
-    answer(alloc, &mut b)?;
-    let answered = carry(&mut b, &mut a, piece);
-    finish(&mut a)?;
-    finish(&mut a)?;
-    a.command(Command::DropRef(object))?;
-    a.command(Command::DropRef(own))?;
-    let finished = carry(&mut a, &mut b, piece);
-    let released = carry(&mut b, &mut a, piece);
-    let nothing = a.core().shares_nothing() && b.core().shares_nothing();
-    Ok(([asked, answered, finished, released], nothing))
+    })
+}
+
+/// A call with a reference, answered and let go, by pieces of that length: the bytes that went over.
+fn converse(
+    alloc: Global,
+    a: &mut Connection,
+    b: &mut Connection,
+    piece: usize,
+) -> Result<[usize; 4], Fail> {
+    let (object, own) = referred(alloc, a)?;
+    a.call(call(alloc, object, &[7], &[own])?)?;
+    let asked = carry(a, b, piece);
+    answer(alloc, b)?;
+    let answered = carry(b, a, piece);
+    finish(a)?;
+    finish(a)?;
+    let_go(a, &[object, own])?;
+    let finished = carry(a, b, piece);
+    let released = carry(b, a, piece);
+    Ok([asked, answered, finished, released])
+}
+
+/// The bytes of a whole conversation, after which the two share nothing.
+fn conversation(alloc: Global, piece: usize) -> Result<[usize; 4], Fail> {
+    let mut a = vat(alloc, Vat::A, None)?;
+    let mut b = vat(alloc, Vat::B, Some(ObjectId(0)))?;
+    let sent = converse(alloc, &mut a, &mut b, piece)?;
+    if a.core().shares_nothing() && b.core().shares_nothing() {
+        return Ok(sent);
+    }
+    Err("something is left")?
 }
 
 #[test]
 fn pieces_of_any_length_say_the_same(rt: HostRuntime) -> Result<(), Fail> {
-    let (whole, nothing) = converse(rt.alloc(), 4_096)?;
-    assert!(rt; nothing);
+    let whole = conversation(rt.alloc(), 4_096)?;
     for piece in 1..99 {
-        let (sent, nothing) = converse(rt.alloc(), piece)?;
-        assert!(rt; nothing);
-        assert!(rt; sent == whole);
+        let sent = conversation(rt.alloc(), piece)?;
+        assert!(rt; sent == whole, "pieces of {piece}");
     }
     Ok(())
 }
@@ -170,30 +235,50 @@ fn the_stream_ends(rt: HostRuntime) -> Result<(), Fail> {
     Ok(())
 }
 
+/// Whether a call of so many numbers is made, or refused since it has no room.
+fn fits(
+    alloc: Global,
+    connection: &mut Connection,
+    reference: RefId,
+    count: usize,
+) -> Result<bool, Fail> {
+    let mut numbers = Vec::new(alloc);
+    for _ in 0..count {
+        numbers.push(7)?;
+    }
+    match connection.call(call(alloc, reference, numbers.as_slice(), &[])?) {
+        Ok(_) => Ok(true),
+        Err(refused) if refused.refusal == Refusal::Full => Ok(false),
+        Err(refused) => Err(refused.refusal)?,
+    }
+}
+
 #[test]
 fn a_payload_too_large_for_a_frame_is_refused(rt: HostRuntime) -> Result<(), Fail> {
     let mut a = vat(rt.alloc(), Vat::A, None)?;
-    let bootstrap = asked(&mut a)?;
-    let reference = made(&mut a, Command::Field(bootstrap, Items::new(rt.alloc())))?;
-    for (count, fits) in [(65_502, true), (65_505, false)] {
-        let mut numbers = Vec::new(rt.alloc());
-        for _ in 0..count {
-            numbers.push(7)?;
-        }
-        let (payload, refs) = contents(rt.alloc(), &numbers, "", &[])?;
-        let call = CallCommand {
-            reference,
-            interface: 1,
-            method: 2,
-            payload,
-            refs,
-        };
-        match a.call(call) {
-            Ok(_) => assert!(rt; fits),
-            Err(refused) => assert!(rt; !fits && refused.refusal == Refusal::Full),
-        }
+    let (reference, _) = referred(rt.alloc(), &mut a)?;
+    for (count, wanted) in [(65_502, true), (65_505, false)] {
+        assert!(rt; fits(rt.alloc(), &mut a, reference, count)? == wanted);
     }
     assert!(rt; 8 * 65_502 < a.outgoing().len());
     assert!(rt; a.core().down().is_none());
+    Ok(())
+}
+
+/// The peer asks for the bootstrap object, makes a tail call to it, and gives that call's results as those of this vat's own call.
+#[test]
+fn a_tail_call_ends_an_own_call(rt: HostRuntime) -> Result<(), Fail> {
+    let mut a = vat(rt.alloc(), Vat::A, Some(ObjectId(0)))?;
+    let own = asked(&mut a)?;
+    for bytes in [BOOTSTRAP.as_slice(), TAIL_CALL.as_slice(), TAKE.as_slice()] {
+        a.received(bytes);
+    }
+    answer(rt.alloc(), &mut a)?;
+    let (call, _) = ended(&mut a)?;
+    assert!(rt; call == own);
+    a.command(Command::Finish(own))?;
+    a.received(&FINISHES);
+    assert!(rt; a.next_event().is_none());
+    assert!(rt; a.core().shares_nothing());
     Ok(())
 }

@@ -1,4 +1,4 @@
-//! The tests of `rpc_frames`: what a vat hears of a frame, and the bytes that go out.
+//! The tests of `rpc_frames`: the bytes that go out.
 #![tactic(auto)]
 
 #[cfg(test)]

@@ -1,8 +1,7 @@
-//! A frame that is understood, and one that is not, each from its bytes to those that go out.
-use rpc_bytes::encode;
-use rpc_frames::{Arrival, Outgoing, arrival_of};
+//! What goes out: messages, what was not understood, and that results are kept.
+use rpc_bytes::{Envelope, SentElsewhere, decode};
+use rpc_frames::Outgoing;
 use rpc_msg::{Finish, Message, PlainMessage, QuestionId, RefId, Stamp, Vat};
-use std::alloc::Global;
 use std::test::Fail;
 
 const STAMP: Stamp = Stamp {
@@ -22,48 +21,44 @@ const SENT_BACK: [u8; 48] = [
     9, 0, 0, 0, 0, 0, 0, 0, 0, 0, 0, 0, 0, 0, 0, 0,
 ];
 
-fn arrived(alloc: Global, bytes: &[u8]) -> Result<Arrival, Fail> {
-    match arrival_of(alloc, bytes, STAMP) {
-        Ok(arrival) => return Ok(arrival),
-        Err(_) => return Err("a fault")?,
-    }
-}
+/// A Finish, number 4: question 6, and the flag's bit is not set.
+const FINISH: [u8; 40] = [
+    0, 0, 0, 0, 4, 0, 0, 0, 0, 0, 0, 0, 1, 0, 1, 0, 4, 0, 0, 0, 0, 0, 0, 0, 0, 0, 0, 0, 1, 0, 0, 0,
+    6, 0, 0, 0, 0, 0, 0, 0,
+];
 
-/// The bytes that go out for what a vat says, where this stood in a frame before.
-fn said(alloc: Global, arrival: Arrival, says: Option<Message>) -> Result<Vec<u8>, Fail> {
-    let Arrival { message, echo } = arrival;
-    let mut out = Outgoing::new(alloc);
-    out.keep(echo)?;
-    let says = says.unwrap_or(message);
-    out.write(&says)?;
-    Ok(out.take())
-}
+/// A Return, number 3: answer 7, the flag's bit is set, and number 3 in its union.
+const KEPT: [u8; 56] = [
+    0, 0, 0, 0, 6, 0, 0, 0, 0, 0, 0, 0, 1, 0, 1, 0, 3, 0, 0, 0, 0, 0, 0, 0, 0, 0, 0, 0, 2, 0, 1, 0,
+    7, 0, 0, 0, 1, 0, 3, 0, 0, 0, 0, 0, 0, 0, 0, 0, 0, 0, 0, 0, 0, 0, 0, 0,
+];
 
 #[test]
 fn what_is_not_understood_goes_back_whole(rt: HostRuntime) -> Result<(), Fail> {
-    let arrival = arrived(rt.alloc(), &STRANGE)?;
-    assert!(rt; matches!(&arrival.message, Message::Plain(PlainMessage::Other(9))));
-    let says = Message::Unimplemented(PlainMessage::Other(9));
-    let bytes = said(rt.alloc(), arrival, Some(says))?;
-    assert!(rt; bytes.as_slice() == SENT_BACK.as_slice());
+    let mut out = Outgoing::new(rt.alloc());
+    match decode(rt.alloc(), &STRANGE, STAMP)? {
+        Envelope::Unknown(unknown) => out.keep(Some(unknown.original))?,
+        _ => return Err("it is understood")?,
+    }
+    out.write(&Message::Unimplemented(PlainMessage::Other(9)))?;
+    assert!(rt; out.bytes() == SENT_BACK.as_slice());
     Ok(())
 }
 
 #[test]
-fn a_message_has_its_frame(rt: HostRuntime) -> Result<(), Fail> {
-    let finish = Message::Plain(PlainMessage::Finish(Finish {
+fn what_goes_out_is_handed_out_once(rt: HostRuntime) -> Result<(), Fail> {
+    let mut out = Outgoing::new(rt.alloc());
+    out.keep(None)?;
+    out.write(&Message::Plain(PlainMessage::Finish(Finish {
         question: QuestionId(6),
         release_result_caps: true,
-    }));
-    let frame = encode(rt.alloc(), &finish)?;
-    let arrival = arrived(rt.alloc(), frame.bytes())?;
-    assert!(rt; arrival.echo.is_none());
-    let bytes = said(rt.alloc(), arrival, None)?;
-    assert!(rt; bytes.as_slice() == frame.bytes());
+    })))?;
+    let finish = out.take();
+    assert!(rt; finish.as_slice() == FINISH.as_slice());
+    out.write_sent_elsewhere(SentElsewhere {
+        answer: QuestionId(7),
+        release_param_caps: false,
+    })?;
+    assert!(rt; out.bytes() == KEPT.as_slice());
     Ok(())
-}
-
-#[test]
-fn what_is_no_frame_has_its_number(rt: HostRuntime) {
-    assert!(rt; matches!(arrival_of(rt.alloc(), &[0, 0, 0], STAMP), Err(2)));
 }

@@ -1,4 +1,5 @@
 mod Finding
 mod Longer
+mod Nulled
 mod TailMap
 mod Turned

@@ -32,6 +32,7 @@ use Rattle.rpc_adapter.specs.declared.heard.Inbound.{Inbound}
 use Rattle.rpc_adapter.specs.declared.heard.Said.{Said}
 use Rattle.rpc_adapter.specs.declared.heard.Said.TheVariants as said
 use Rattle.rpc_adapter.specs.declared.heard.Outbound.{Outbound}
+use Rattle.rpc_adapter.specs.Nulling.{nulled_call, nulled_return}
 use Rattle.rpc_adapter.specs.Turning.{turned}
 
 -- The peer's tail calls that are open, by their questions.
@@ -132,9 +133,10 @@ told_by r body.Canceled = said.Message (message.Plain (plain.Return r))
 abbrev pub told : Return → Said
 told r = told_by r r.body
 
--- A Return goes, of a tail call or of no such call. What was held of a tail call follows it.
+-- A Return goes, of a tail call or of no such call. What was held of a tail call follows it. A pointer to a capability that is not
+-- there goes as null.
 abbrev pub gives : Adapting → Return → Option Tail → Going
-gives s r None = says s (message.Plain (plain.Return r))
+gives s r None = says s (message.Plain (plain.Return (nulled_return r)))
 gives s r (Some Asked) = record { state = with_tail s r.answer (Kept r.body); said = Some (told r); heard = [] }
 gives s r (Some (Taken taker)) = record { state = with_tail s r.answer Told; said = Some (told r); heard = return_to taker r.answer r.body ∷ [] }
 gives s r (Some (Finishing taker)) = record {
@@ -143,11 +145,12 @@ gives s r (Some (Finishing taker)) = record {
   heard = return_to taker r.answer r.body ∷ finish_of r.answer ∷ [];
 }
 gives s r (Some Finished) = record { state = without_tail s r.answer; said = Some (told r); heard = [] }
-gives s r (Some (Kept b)) = says s (message.Plain (plain.Return r))
-gives s r (Some Told) = says s (message.Plain (plain.Return r))
+gives s r (Some (Kept b)) = says s (message.Plain (plain.Return (nulled_return r)))
+gives s r (Some Told) = says s (message.Plain (plain.Return (nulled_return r)))
 
 abbrev pub goes_plain : Adapting → PlainMessage → Going
 goes_plain s (plain.Return r) = gives s r (finite.get s.tails r.answer.0)
+goes_plain s (plain.Call c) = says s (message.Plain (plain.Call (nulled_call c)))
 goes_plain s m = says s (message.Plain m)
 
 -- A Release that the vat does not understand is not sent back: its sender may be unable to go on then.

@@ -9,6 +9,7 @@ ghost use Rattle.rpc_adapter.specs.declared.tails.Tail.TheVariants.{Asked};
 
 use crate::errors::{AdapterError, AdapterFault};
 use crate::heard::{Heard, Inbound, Outbound, Said};
+use crate::nulling::{null_call, null_return};
 use crate::tails::{Tail, Tails, Taker};
 use crate::turning::turn;
 use rpc_bytes::{Envelope, SentElsewhere, TakenFromOther};
@@ -153,6 +154,10 @@ impl Adapter {
     {
         match message {
             PlainMessage::Return(said) => self.give(said),
+            PlainMessage::Call(call) => {
+                let call = null_call(self.alloc, call)?;
+                Ok(plainly(Message::Plain(PlainMessage::Call(call))))
+            }
             _ => Ok(plainly(Message::Plain(message))),
         }
     }
@@ -178,8 +183,10 @@ impl Adapter {
                 self.tails.remove(id);
                 return Ok(told(&said, Heard::Nothing));
             }
-            _ => return Ok(plainly(Message::Plain(PlainMessage::Return(said)))),
+            _ => {}
         }
+        let said = null_return(self.alloc, said)?;
+        Ok(plainly(Message::Plain(PlainMessage::Return(said))))
     }
 
     // A Return of a tail call goes that nothing takes so far.

@@ -5,6 +5,8 @@
 //! - `tails.rt`: the peer's tail calls that are open.
 //! - `turning.rt`: the outcome of a tail call, as it stands in the Return that takes it. `paths.rt`: the capabilities of a
 //!   payload, by the paths that lead to them.
+//! - `nulling.rt`: payloads as they go to the peer, with null in place of pointers to capabilities that are not there.
+//! - `laws.rt`: that it stands aside, as a contract of a function that does nothing.
 //!
 //! `specs/Adapting.antt` says what each envelope and each message comes to.
 #![tactic(auto)]
@@ -12,6 +14,8 @@
 mod adapter;
 mod errors;
 mod heard;
+mod laws;
+mod nulling;
 mod paths;
 mod tails;
 mod turning;
@@ -19,3 +23,4 @@ mod turning;
 pub use adapter::Adapter;
 pub use errors::{AdapterError, AdapterFault};
 pub use heard::{Heard, Inbound, Outbound, Said};
+pub use laws::stands_aside;

@@ -5,3 +5,4 @@ pub mod Back
 pub mod Decoded
 pub mod OneSegment
 pub mod BareFrames
+pub mod KeptBack

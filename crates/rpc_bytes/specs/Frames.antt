@@ -13,13 +13,14 @@ use Rattle.rpc_msg.specs.declared.message.Message.{Message}
 use Rattle.rpc_msg.specs.declared.message.Message.TheVariants as message
 use Rattle.rpc_parts.specs.Blocks.{one}
 use Rattle.rpc_parts.specs.Exceptions.{exception_tree}
+use Rattle.rpc_bytes.specs.declared.envelope.SentElsewhere.{SentElsewhere}
 use Rattle.rpc_bytes.specs.declared.errors.EncodeFault.{EncodeFault}
 use Rattle.rpc_bytes.specs.declared.errors.EncodeFault.TheVariants.{NumberAlone, Unwritable}
 use Rattle.rpc_bytes.specs.declared.errors.EncodeError.{EncodeError}
 use Rattle.rpc_bytes.specs.declared.errors.EncodeError.TheVariants as errors
 use Rattle.rpc_bytes.specs.Decoding.{any_caps}
 use Rattle.rpc_bytes.specs.Questions.{bootstrap_tree, call_tree, finish_tree}
-use Rattle.rpc_bytes.specs.Returns.{return_tree}
+use Rattle.rpc_bytes.specs.Returns.{return_tree, sent_elsewhere_tree}
 use Rattle.rpc_bytes.specs.Exports.{resolve_tree, release_tree, disembargo_tree}
 
 -- what is written, or the first reason that it isn't
@@ -70,6 +71,10 @@ refused_as write.Traversal = errors.Fault (Unwritable write.Traversal)
 -- the frame of a message
 abbrev pub message_frame : Message → Written Contents
 message_frame m = message_tree m >>= frame_of
+
+-- the frame of a Return that says that the results of a tail call are kept
+abbrev pub sent_elsewhere_frame : SentElsewhere → Written Contents
+sent_elsewhere_frame s = frame_of (envelope 3 (sent_elsewhere_tree s))
 
 -- the frame of the Unimplemented that has this message in it, whole. One that nests deeper than a tree may behind a
 -- pointer (docs/encoding.md) is too deep before all else.

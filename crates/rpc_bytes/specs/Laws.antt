@@ -15,9 +15,11 @@ use Rattle.rpc_msg.specs.declared.message.PlainMessage.TheVariants as plain
 use Rattle.rpc_msg.specs.declared.message.Message.{Message}
 use Rattle.rpc_msg.specs.declared.message.Message.TheVariants as message
 use Rattle.rpc_parts.specs.Fitting.{rewritten, FitsTarget, FitsDescriptor, FitsPayload}
-use Rattle.rpc_bytes.specs.Envelopes.{profile}
+use Rattle.rpc_bytes.specs.declared.envelope.SentElsewhere.{SentElsewhere}
+use Rattle.rpc_bytes.specs.Envelopes.{profile, sent_elsewhere}
 use Rattle.rpc_bytes.specs.Decoding.{envelope_of}
-use Rattle.rpc_bytes.specs.Frames.{message_tree}
+use Rattle.rpc_bytes.specs.Frames.{envelope, message_tree}
+use Rattle.rpc_bytes.specs.Returns.{sent_elsewhere_tree}
 
 -- ---- what is read back: contents as they are laid out anew, and another stamp
 
@@ -85,3 +87,7 @@ Fits (message.Unimplemented m) = FitsPlain m
 -- The tree of a message says that message, but for the stamp and how contents are laid out.
 abbrev pub ReadBack : Type 0
 ReadBack = (stamp : Stamp) (m : Message) (t : Tree) → Fits m → message_tree m ≡ Ok t → envelope_of stamp t ≡ Ok (profile (stamped stamp m))
+
+-- So does that of a Return which says that results are kept.
+abbrev pub KeptReadBack : Type 0
+KeptReadBack = (stamp : Stamp) (s : SentElsewhere) → s.answer.0 < 2 ^ 32 → envelope_of stamp (envelope 3 (sent_elsewhere_tree s)) ≡ Ok (sent_elsewhere s)

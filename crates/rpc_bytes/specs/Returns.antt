@@ -12,6 +12,7 @@ use Rattle.rpc_parts.specs.Reading.{Read, ◌>>=◌, unknown, fault}
 use Rattle.rpc_parts.specs.Exceptions.{exception_at, exception_tree}
 use Rattle.rpc_parts.specs.Payloads.{payload_at, payload_tree}
 use Rattle.rpc_bytes.specs.declared.envelope.Known.{Known}
+use Rattle.rpc_bytes.specs.declared.envelope.SentElsewhere.{SentElsewhere}
 use Rattle.rpc_bytes.specs.declared.envelope.Known.TheVariants as known
 use Rattle.rpc_bytes.specs.Questions.{flag_bit}
 
@@ -69,3 +70,7 @@ body_tree body.Canceled = null
 
 abbrev pub return_tree : Return → Tree
 return_tree r = struct ((r.answer.0 + flag_bit r.release_param_caps + 2 ^ 48 * body_number r.body) ∷ 0 ∷ []) (one (body_tree r.body))
+
+-- resultsSentElsewhere @5
+abbrev pub sent_elsewhere_tree : SentElsewhere → Tree
+sent_elsewhere_tree s = struct ((s.answer.0 + flag_bit s.release_param_caps + 2 ^ 48 * 3) ∷ 0 ∷ []) (one null)

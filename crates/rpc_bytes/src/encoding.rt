@@ -4,13 +4,14 @@ ghost use Rattle.wire_trees.specs.Views.{view};
 ghost use Rattle.wire_trees.specs.declared.faults.WriteFault.TheVariants as write_faults;
 ghost use Rattle.rpc_msg.specs.Payloads.{IsEncoded, tree_of};
 ghost use Rattle.rpc_parts.specs.Fitting.{IsWithin};
-ghost use Rattle.rpc_bytes.specs.Frames.{envelope, plain_tree, message_tree, frame_of, message_frame, echo_frame, Writes, refused_as};
+ghost use Rattle.rpc_bytes.specs.Frames.{envelope, plain_tree, message_tree, frame_of, message_frame, echo_frame, sent_elsewhere_frame, Writes, refused_as};
 
 use crate::bare::bare_frame;
+use crate::envelope::SentElsewhere;
 use crate::errors::{EncodeError, EncodeFault};
 use crate::exports::{tree_of_disembargo, tree_of_release, tree_of_resolve};
 use crate::questions::{tree_of_bootstrap, tree_of_call, tree_of_finish};
-use crate::returns::tree_of_return;
+use crate::returns::{tree_of_return, tree_of_sent_elsewhere};
 use rpc_msg::{Message, Payload, PlainMessage};
 use rpc_parts::{tree_of_exception, with_one};
 use std::alloc::Global;
@@ -95,6 +96,19 @@ pub fn encode(alloc: Global, message: &Message) -> Result<Payload, EncodeError>
         }
     }
     let tree = tree_of_message(alloc, message)?;
+    let payload = frame(alloc, &tree)?;
+    Ok(payload)
+}
+
+/// The frame of a Return that says that the results of a tail call are kept (`resultsSentElsewhere`). `Memory` comes where
+/// memory runs out.
+#[cold]
+#[inline(never)]
+pub fn encode_sent_elsewhere(alloc: Global, said: SentElsewhere) -> Result<Payload, EncodeError>
+    ensures frame { Writes (λ p. p) result (sent_elsewhere_frame said) }
+{
+    let tree = tree_of_sent_elsewhere(alloc, said)?;
+    let tree = with_one(alloc, &[3], tree)?;
     let payload = frame(alloc, &tree)?;
     Ok(payload)
 }

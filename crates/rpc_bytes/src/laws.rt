@@ -2,7 +2,7 @@
 ghost use Rattle.std.specs.Prelude.{◌≡◌, IfOk, MatchResult};
 ghost use Rattle.rpc_bytes.specs.declared.errors.DecodeError.TheVariants as errors;
 ghost use Rattle.rpc_bytes.specs.Envelopes.{profile, seen_envelope};
-ghost use Rattle.rpc_bytes.specs.Laws.{Fits, stamped, ReadBack};
+ghost use Rattle.rpc_bytes.specs.Laws.{Fits, stamped, KeptReadBack, ReadBack};
 
 use crate::decoding::decode;
 use crate::encoding::encode;
@@ -15,6 +15,11 @@ use std::alloc::Global;
 /// are laid out.
 pub fn trees_read_back()
     ensures { ReadBack }
+{}
+
+/// The tree of a Return that says that results are kept says so.
+pub fn kept_reads_back()
+    ensures { KeptReadBack }
 {}
 
 /// Encodes a message, and decodes the frame: where it is encoded, that gives the message, with this stamp and with its

@@ -26,7 +26,7 @@ mod questions;
 mod returns;
 
 pub use decoding::{decode, decode_tree};
-pub use encoding::{ANY_CAPS, echo, encode};
+pub use encoding::{ANY_CAPS, echo, encode, encode_sent_elsewhere};
 pub use envelope::{Envelope, SentElsewhere, TakenFromOther, Unknown};
 pub use errors::{DecodeError, EncodeError, EncodeFault};
 pub use rpc_parts::EnvelopeFault;

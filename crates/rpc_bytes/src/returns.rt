@@ -5,7 +5,7 @@ ghost use Rattle.wire_reading.specs.Reading.{element};
 ghost use Rattle.rpc_parts.specs.Blocks.{seen};
 ghost use Rattle.rpc_parts.specs.Fitting.{IsWithin};
 ghost use Rattle.rpc_parts.specs.Reading.{Gives};
-ghost use Rattle.rpc_bytes.specs.Returns.{body_by, understood, return_of, return_by, return_at, body_number, body_tree, return_tree};
+ghost use Rattle.rpc_bytes.specs.Returns.{body_by, understood, return_of, return_by, return_at, body_number, body_tree, return_tree, sent_elsewhere_tree};
 
 use crate::envelope::{Known, SentElsewhere, TakenFromOther};
 use crate::questions::bit_of_flag;
@@ -109,4 +109,15 @@ pub fn tree_of_return(alloc: Global, said: &Return) -> Result<Tree, Memory>
         + bit_of_flag(said.release_param_caps)
         + 0x1_0000_0000_0000 * number_of_body(&said.body);
     with_one(alloc, &[word, 0], body)
+}
+
+pub fn tree_of_sent_elsewhere(alloc: Global, said: SentElsewhere) -> Result<Tree, Memory>
+    ensures tree { IfOk result (λ t. view t ≡ sent_elsewhere_tree said) }
+    ensures depth { IfOk result (λ t. IsWithin 66 (view t)) }
+{
+    let word = u64::from(said.answer.0)
+        + bit_of_flag(said.release_param_caps)
+        + 0x1_0000_0000_0000 * 3;
+    let tree = with_one(alloc, &[word, 0], Tree::Null)?;
+    Ok(tree)
 }

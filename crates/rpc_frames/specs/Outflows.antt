@@ -1,11 +1,13 @@
 -- The bytes that go out of a vat (docs/messages.md).
 use Rattle.std.specs.Prelude.{◌≡◌, ℕ, Bool, true, false, List, [], ◌∷◌, ◌++◌, Option, None, Some, Result, Ok, Err}
+use Rattle.wire_trees.specs.Trees.{Tree}
 use Rattle.rpc_msg.specs.Payloads.{Contents}
 use Rattle.rpc_msg.specs.declared.message.Message.{Message}
 use Rattle.rpc_msg.specs.declared.message.Message.TheVariants as message
 use Rattle.rpc_msg.specs.declared.message.PlainMessage.TheVariants as plain
 use Rattle.rpc_bytes.specs.declared.errors.EncodeError.{EncodeError}
-use Rattle.rpc_bytes.specs.Frames.{Written, ◌>>=◌, Fails, message_frame}
+use Rattle.rpc_bytes.specs.declared.envelope.SentElsewhere.{SentElsewhere}
+use Rattle.rpc_bytes.specs.Frames.{Written, ◌>>=◌, Fails, echo_frame, message_frame, sent_elsewhere_frame}
 
 -- The bytes that go out, and the frames that are kept to send back what was not understood.
 pub record Outflow : Type 0 where
@@ -15,10 +17,28 @@ pub record Outflow : Type 0 where
 abbrev pub nothing_out : Outflow
 nothing_out = record { bytes = []; echoes = [] }
 
--- One more is kept, if there is one.
-abbrev pub keeping : Outflow → Option Contents → Outflow
-keeping old None = old
-keeping old (Some echo) = record old { echoes = old.echoes ++ echo ∷ [] }
+-- ---- what is kept
+
+abbrev pub KeptBy : Outflow → Written Contents → Outflow → Type 0
+KeptBy old (Ok echo) new = new ≡ record old { echoes = old.echoes ++ echo ∷ [] }
+KeptBy old (Err f) new = ⊥
+
+-- The frame that sends back what was not understood is kept behind the others, if there is any.
+abbrev pub Kept : Outflow → Option Tree → Outflow → Type 0
+Kept old None new = new ≡ old
+Kept old (Some t) new = KeptBy old (echo_frame t) new
+
+-- why it has no frame
+abbrev pub HasNone : EncodeError → Option Tree → Type 0
+HasNone e None = ⊥
+HasNone e (Some t) = Fails e (echo_frame t)
+
+-- What comes of keeping it: it is kept, or it has no frame or memory is wanting, and nothing changes.
+abbrev pub Keeps : Outflow → Option Tree → Result (Unit {0}) EncodeError → Outflow → Type 0
+Keeps old original (Ok u) new = Kept old original new
+Keeps old original (Err e) new = HasNone e original × (new ≡ old)
+
+-- ---- what goes out
 
 -- it sends back what is a number alone
 abbrev pub is_alone : Message → Bool
@@ -52,7 +72,16 @@ PutBy old (Err f) new = ⊥
 abbrev pub Put : Outflow → Message → Outflow → Type 0
 Put old m new = PutBy old (frame_for old.echoes m) new
 
+-- A Return goes out that says that the results of a tail call are kept.
+abbrev pub PutElsewhere : Outflow → SentElsewhere → Outflow → Type 0
+PutElsewhere old s new = PutBy old (framed old.echoes (sent_elsewhere_frame s)) new
+
 -- What comes of writing a message: it goes out, or it has no frame or memory is wanting, and nothing changes.
 abbrev pub Puts : Outflow → Message → Result (Unit {0}) EncodeError → Outflow → Type 0
 Puts old m (Ok u) new = Put old m new
 Puts old m (Err e) new = Fails e (frame_for old.echoes m) × (new ≡ old)
+
+-- The same of such a Return.
+abbrev pub PutsElsewhere : Outflow → SentElsewhere → Result (Unit {0}) EncodeError → Outflow → Type 0
+PutsElsewhere old s (Ok u) new = PutElsewhere old s new
+PutsElsewhere old s (Err e) new = Fails e (sent_elsewhere_frame s) × (new ≡ old)

@@ -1,14 +1,9 @@
-//! Between a stream's frames and a vat: what each frame that comes has the vat hear, and the bytes that go out for what the
-//! vat says (docs/messages.md).
+//! Between a vat and a stream: the bytes that go out for what the vat says (docs/messages.md).
 //!
-//! - `arrival.rt`: a frame is a message that the vat hears, or a fault. What is not understood is `Other` to the vat, with the
-//!   frame that sends it back beside it.
-//! - `outgoing.rt`: the bytes that go out, message by message. Where the vat says Unimplemented of an `Other`, the frame that
-//!   was kept for it goes out.
+//! - `outgoing.rt`: the bytes that go out, message by message. Where the vat says Unimplemented of an `Other`, the frame that was
+//!   kept for it goes out, so that what was not understood goes back whole.
 #![tactic(auto)]
 
-mod arrival;
 mod outgoing;
 
-pub use arrival::{Arrival, arrival_of};
 pub use outgoing::Outgoing;

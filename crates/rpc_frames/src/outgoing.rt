@@ -1,9 +1,11 @@
 //! The bytes that go out.
 ghost use Rattle.std.specs.Prelude.{◌≡◌, [], ◌++◌, OnOk, OnErr};
-ghost use Rattle.rpc_frames.specs.Outflows.{Puts, is_alone, keeping, nothing_out};
+ghost use Rattle.std.specs.Option.{option_map};
+ghost use Rattle.wire_trees.specs.Views.{view};
+ghost use Rattle.rpc_frames.specs.Outflows.{Keeps, Puts, PutsElsewhere, is_alone, nothing_out};
 
-use rpc_bytes::{EncodeError, encode};
-use rpc_msg::{Memory, Message, Payload, PlainMessage};
+use rpc_bytes::{EncodeError, SentElsewhere, echo, encode, encode_sent_elsewhere};
+use rpc_msg::{Memory, Message, Payload, PlainMessage, Tree};
 use std::alloc::Global;
 use std::collections::VecDeque;
 use std::marker::Model;
@@ -52,18 +54,18 @@ impl Outgoing {
         mem::replace(&mut self.bytes, Vec::new(self.alloc))
     }
 
-    /// Keeps the frame that sends back what was not understood, if there is one, behind the others. `Memory` leaves all as it
-    /// was.
-    pub fn keep(&mut self, echo: Option<Payload>) -> Result<(), Memory>
-        ensures ok { OnOk result (self.new ≡ keeping self.old echo) }
-        ensures err { OnErr result (self.new ≡ self.old) }
+    /// Keeps the frame that sends back, whole, what was not understood, if there is any, behind the others. A `Fault` where it
+    /// is too large to be sent back, and `Memory`, leave all as it was.
+    pub fn keep(&mut self, original: Option<Tree>) -> Result<(), EncodeError>
+        ensures { Keeps self.old (option_map view original) result self.new }
     {
-        let Some(echo) = echo else {
+        let Some(original) = original else {
             return Ok(());
         };
-        match self.echoes.push_back(echo) {
+        let frame = echo(self.alloc, original)?;
+        match self.echoes.push_back(frame) {
             Ok(()) => Ok(()),
-            Err(_) => Err(Memory),
+            Err(_) => Err(EncodeError::Memory),
         }
     }
 
@@ -80,6 +82,16 @@ impl Outgoing {
             }
         }
         let frame = encode(self.alloc, message)?;
+        append(&mut self.bytes, frame.bytes())?;
+        Ok(())
+    }
+
+    /// Puts the frame of a Return that says that the results of a tail call are kept behind the bytes. `Memory` leaves all as it
+    /// was.
+    pub fn write_sent_elsewhere(&mut self, said: SentElsewhere) -> Result<(), EncodeError>
+        ensures { PutsElsewhere self.old said result self.new }
+    {
+        let frame = encode_sent_elsewhere(self.alloc, said)?;
         append(&mut self.bytes, frame.bytes())?;
         Ok(())
     }

@@ -5,11 +5,15 @@ use Rattle.std.specs.FinMap as map
 use Rattle.finite_maps.specs.Tally.{Map}
 use Rattle.finite_maps.proofs.Lens.{len_gone}
 use Rattle.vat_machine.specs.declared.calls.Promise.{Promise}
+use Rattle.vat_machine.specs.declared.calls.Promise.TheVariants as promise
 use Rattle.vat_machine.specs.declared.calls.KeptOutcome.{KeptOutcome}
+use Rattle.vat_machine.specs.declared.calls.Value.{Value}
 use Rattle.vat_machine.specs.declared.entries.Import.{Import}
 use Rattle.vat_machine.specs.State.{State}
+use Rattle.vat_machine.specs.Nodes.{is_promise, is_field}
+use Rattle.vat_machine.specs.Places.{names}
 use Rattle.vat_machine.specs.Progress.{Progress, with_state}
-use Rattle.vat_machine.specs.Collecting.{IsLoosePromise, IsLooseOutcome, IsLooseImport, IsTight, Collects, Tight, Goes, PromiseGoes, OutcomeGoes, ImportGoes, release}
+use Rattle.vat_machine.specs.Collecting.{IsLoosePromise, IsLooseOutcome, IsLooseValue, IsLooseImport, IsTight, Collects, Tight, Goes, PromiseGoes, OutcomeGoes, ImportGoes, release}
 use Rattle.vat_outbox.specs.Outgoing.{Outgoing, with_release}
 use Rattle.vat_store.specs.declared.store.Store.{Store}
 use Rattle.vat_store.specs.Holding.{state_of, IsSound, IsThere}
@@ -31,6 +35,20 @@ loose_outcome s k (Some x) h = tt
 loose_import : (s : State) (e : ℕ) (o : Option Import) → IsLooseImport s e o → IsThere o
 loose_import s e None h = absurd h
 loose_import s e (Some x) h = tt
+
+-- Nor does any place name it.
+pub unnamed_promise : (s : State) (p : ℕ) (o : Option Promise) → IsLoosePromise s p o → names s (is_promise p) ≡ 0
+unnamed_promise s p None h = absurd h
+unnamed_promise s p (Some (promise.Open calls)) h = absurd h
+unnamed_promise s p (Some (promise.Fixed to)) h = h
+
+pub unnamed_outcome : (s : State) (k : ℕ) (o : Option KeptOutcome) → IsLooseOutcome s k o → names s (is_field k) ≡ 0
+unnamed_outcome s k None h = absurd h
+unnamed_outcome s k (Some x) h = by x.value h
+  where
+    by : (v : Option Value) → IsLooseValue s k x v → names s (is_field k) ≡ 0
+    by None h = absurd h
+    by (Some v) h = h.2
 
 to_release : (m : Map ℕ) (e n : ℕ) (o : Option Import) → Some n ≡ whole_count o → map.insert m e n ≡ release m e o
 to_release m e n None h = absurd (let g : ◌≡◌ {A = Option ℕ} (Some n) None = h in cc)

@@ -17,10 +17,30 @@ use step_routes::route_taken;
 use store_names::lift_from;
 use store_waits::lift;
 use vat_machine::Fault;
-use vat_store::settle;
+use vat_store::{settle, shorten};
 
 // A Disembargo on its way out goes back, to the wire to which its target settles.
 fn bounce(step: &mut Step, target: Target, id: EmbargoId) -> Result<(), Memory>
+    requires { IsReady step.old }
+    ensures bounces { OnOk result (Bounces (progress_of step.old) id (wire_target (settle (state_of step.old.store) (target_node (state_of step.old.store) target))) (progress_of step.new)) }
+    ensures taken { OnOk result (step.new.store.waits.taken ≡ step.old.store.waits.taken) }
+    ensures ready { OnOk result (IsReady step.new) }
+{
+    shorten_target(step, &target);
+    bounce_back(step, target, id)
+}
+
+// Has the target of a message lead at once to where it leads, as far as there is memory for that.
+fn shorten_target(step: &mut Step, target: &Target)
+    requires { IsReady step.old }
+    ensures { step.new ≡ step.old }
+{
+    let node = target_node(&step.store, target);
+    shorten(&mut step.store, node);
+}
+
+// The same as `bounce`, where the way from the target is short.
+fn bounce_back(step: &mut Step, target: Target, id: EmbargoId) -> Result<(), Memory>
     requires { IsReady step.old }
     ensures bounces { OnOk result (Bounces (progress_of step.old) id (wire_target (settle (state_of step.old.store) (target_node (state_of step.old.store) target))) (progress_of step.new)) }
     ensures taken { OnOk result (step.new.store.waits.taken ≡ step.old.store.waits.taken) }

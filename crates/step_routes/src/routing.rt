@@ -121,7 +121,7 @@ fn route_within(
     Ok(())
 }
 
-// Routes a call that goes to no object at once.
+// Routes a call that goes to no object at once. The way that it goes is short from now on.
 fn route_settled(
     step: &mut Step,
     alloc: Global,
@@ -134,7 +134,7 @@ fn route_settled(
     ensures taken { OnOk result (step.new.store.waits.taken ≡ step.old.store.waits.taken) }
     ensures ready { OnOk result (IsReady step.new) }
 {
-    let at = vat_store::settle(&step.store, node);
+    let at = vat_store::shorten(&mut step.store, node);
     route_on(step, alloc, call, at)
 }
 

@@ -24,6 +24,7 @@ use Rattle.vat_machine.specs.declared.calls.Value.TheVariants as value
 use Rattle.vat_machine.specs.State.{State}
 use Rattle.vat_machine.specs.Nodes.{link, next, follow, node_of_cap, field_of, field_link, promise_link, value_of}
 use Rattle.vat_machine.specs.Settling.{known, TurnsBack, absent, behind}
+use Rattle.vat_waits.specs.Links as ways
 use Rattle.step_settles.specs.Circles.{Turns, NeverTurns, cap_of, with_promise}
 use Rattle.step_settles.specs.Ends.{standing, LeadsIn, Leads, IsBefore, EndsAt, is_at, end_at, Falls, KnowsEnds, IsKept, KeepsEnds, ComesTo, FindsEnd, Walked, WalksTo, path_in, is_in}
 
@@ -403,11 +404,34 @@ module _ (s : State) (o : ℕ) (n : Node) where
       let e : link t m ≡ Some l = link_same s o who w v m off ∙ sym leads in
       let k = walked who w v payload j in (λ h. k.0 (turns_from t o payload j m l e h), λ h. turns_on t o payload j m (Some l) e off (k.1 h))
 
+  -- A node that leads on is not in the outcome, which is not known.
+  leads_off : value_of (map.get s.outcomes o) ≡ None → (m l : Node) → link s m ≡ Some l → is_in o m ≡ false
+  leads_off unknown (node.Object x) l e = refl
+  leads_off unknown (node.Promise p) l e = refl
+  leads_off unknown (node.Field k path) l e = by (nat_eq k o) refl
+    where
+      by : (b : Bool) → nat_eq k o ≡ b → b ≡ false
+      by false is = refl
+      by true is =
+          let none : field_link path (value_of (map.get s.outcomes k)) ≡ None = ap (λ (j : ℕ). field_link path (value_of (map.get s.outcomes j))) (equal k o is) ∙ ap (field_link path) unknown in
+          absurd (let f : ◌≡◌ {A = Option Node} None (Some l) = sym none ∙ e in cc)
+  leads_off unknown (node.Import x) l e = refl
+  leads_off unknown (node.Pipe q path) l e = refl
+  leads_off unknown (node.Broken reason) l e = refl
+
+  -- Many links at once.
+  pub goes_far : value_of (map.get s.outcomes o) ≡ None → (k : ℕ) (m l : Node) → Walked s o n m → ways.Leads (link s) k m l → Walked s o n l
+  goes_far unknown zero m l walked way = subst (λ (x : Node). Walked s o n x) way walked
+  goes_far unknown (suc k) m l walked way = goes_far unknown k way.0 l (goes_further m way.0 walked (leads_off unknown m way.0 way.1) (sym way.1)) way.2
+
   pub walk_ends : (m : Node) → Walked s o n m → is_in o m ≡ false → None ≡ link s m → WalksTo s o n None
   walk_ends m walked off ends = λ who w v payload j h.
       let t : State = known s o who w v in
       let e : link t m ≡ None = link_same s o who w v m off ∙ sym ends in
       let k = walked who w v payload j in turns_on t o payload j m None e off (k.1 h)
+
+  pub walk_stops : (m : Node) (path : Option (List Op)) → Walked s o n m → is_in o m ≡ false → (path ≡ None) × (link s m ≡ None) → WalksTo s o n path
+  walk_stops m path walked off h = subst (λ (x : Option (List Op)). WalksTo s o n x) (sym h.0) (walk_ends m walked off (sym h.1))
 
   pub walk_comes : (m : Node) (path : Option (List Op)) → Walked s o n m → is_in o m ≡ true → path ≡ path_in o m → WalksTo s o n path
   walk_comes (node.Object x) path walked is e = absurd (let f : false ≡ true = is in cc)

@@ -1,6 +1,7 @@
 ghost use Rattle.std.specs.Prelude.{◌≡◌, ℕ, List, None, suc, option_map, IfOk, OnOk};
 ghost use Rattle.std.specs.FinMap as map;
 ghost use Rattle.vat_machine.specs.declared.node.Node.{Node};
+ghost use Rattle.vat_machine.specs.Nodes.{link};
 ghost use Rattle.vat_machine.specs.Progress.{with_state};
 ghost use Rattle.vat_store.specs.Holding.{state_of};
 ghost use Rattle.step_base.specs.InProgress.{progress_of, IsReady};
@@ -113,27 +114,39 @@ fn end_from(
     }
 }
 
-// The path of the outcome's field to which the walk from a node comes, if to one. `Err` where the walk is longer than all
-// links together, which no vat comes to: nothing there leads to itself, so no link is passed twice.
+// The path of the outcome's field to which the walk from a node comes, if to one. The outcome is not known yet, so no field of
+// it is passed where links are followed many at once. `Err` where it is known, or where the walk is longer than all links
+// together, which no vat comes to: nothing there leads to itself, so no link is passed twice.
 fn walk_to(store: &Store, key: u64, node: Node) -> Result<Option<Path>, Memory>
     ensures { IfOk result (λ path. WalksTo (state_of store.now) key node path) }
 {
+    let None = store.waits.value(key) else {
+        return Err(Memory);
+    };
     let mut left = store.links;
     let mut walked = node;
     let mut there = is_in(key, node);
     while !there {
-        let from = walked;
-        let Some(found) = vat_store::link(store, from) else {
-            return Ok(None);
+        let (from, last) = (walked, walked);
+        let Some(hop) = store.waits.hop(from, left) else {
+            return no_further(store, last);
         };
-        if left == 0 {
-            return Err(Memory);
-        }
-        left -= 1;
+        let found = hop.to;
+        left -= hop.far;
         walked = found;
         there = is_in(key, found);
     }
     Ok(path_in(key, walked))
+}
+
+// No path, where a node has no link.
+fn no_further(store: &Store, node: Node) -> Result<Option<Path>, Memory>
+    ensures { IfOk result (λ path. (path ≡ None) × (link (state_of store.now) node ≡ None)) }
+{
+    match vat_store::link(store, node) {
+        None => Ok(None),
+        Some(_) => Err(Memory),
+    }
 }
 
 fn is_in(key: u64, node: Node) -> bool

@@ -5,3 +5,4 @@ pub mod Lifting
 pub mod Linked
 pub mod Promising
 pub mod Unnoted
+pub mod Unled

@@ -2,6 +2,8 @@ ghost use Rattle.std.specs.Prelude.{◌≡◌, ◌≢◌, ◌+◌, ◌-◌, ◌<
 ghost use Rattle.std.specs.FinMap as map;
 ghost use Rattle.vat_machine.specs.Commands.{with_outcome};
 ghost use Rattle.vat_machine.specs.Limits.{held_limit};
+ghost use Rattle.vat_machine.specs.Nodes.{is_field};
+ghost use Rattle.vat_machine.specs.Places.{names};
 ghost use Rattle.vat_machine.specs.Progress.{Progress, with_state, caps_of};
 ghost use Rattle.vat_machine.specs.Routing.{WaitsForField};
 ghost use Rattle.vat_waits.specs.Changes.{HasNoneWaiting, outcome_parts};
@@ -13,8 +15,8 @@ ghost use Rattle.store_waits.specs.Noting.{noted_unnamed};
 
 use crate::naming::{caps_if_known, caps_of, note_unnamed};
 use rpc_msg::{Memory, Path};
-use vat_machine::{Caller, Value, WaitingCall};
-use vat_store::Store;
+use vat_machine::{Caller, Node, Value, WaitingCall};
+use vat_store::{Store, shorten};
 use vat_tables::{POOL_LIMIT, TableFault};
 
 /// Opens an outcome that is not known yet, of which that caller is to be told, and gives its key, which was free. Takes no
@@ -76,9 +78,28 @@ pub fn hold_for_field(
 }
 
 /// Notes what an outcome is that was not known before; its capabilities are named. Where no field of it is named, it may
-/// have to go, and is noted. Takes no memory, but one of the slack, and one for each capability. `Err` where there is no
-/// such outcome, or it is known; nothing is changed then.
+/// have to go, and is noted. Takes one of the slack, and one for each capability, and no memory that it needs: but where
+/// there is memory, each capability leads on from now on at once to where it leads. `Err` where there is no such outcome,
+/// or it is known; nothing is changed then.
 pub fn know(store: &mut Store, key: u64, value: Value) -> Result<(), Memory>
+    requires sound { IsSound store.old }
+    requires slack { length (caps_of value) < store.old.slack }
+    ensures ok { OnOk result (Knows (state_of store.old) key value (map.get (state_of store.old).outcomes key) (state_of store.new)) }
+    ensures never { IsUnknown (map.get (state_of store.old).outcomes key) → IsOk result }
+    ensures taken { store.new.waits.taken ≡ store.old.waits.taken }
+    ensures left { OnOk result (store.new.slack ≡ store.old.slack - (length (caps_of value) + 1)) }
+    ensures noted { OnOk result (noted_of store.new.names ≡ noted_of (noted_unnamed (named_all store.old.names (caps_of value)) key)) }
+    ensures same { OnErr result (store.new ≡ store.old) }
+    ensures sound { IsSound store.new }
+{
+    let count = caps_of(&value).len();
+    know_value(store, key, value)?;
+    shorten_caps(store, key, count);
+    Ok(())
+}
+
+// The same, and each capability leads on by its links.
+fn know_value(store: &mut Store, key: u64, value: Value) -> Result<(), Memory>
     requires sound { IsSound store.old }
     requires slack { length (caps_of value) < store.old.slack }
     ensures ok { OnOk result (Knows (state_of store.old) key value (map.get (state_of store.old).outcomes key) (state_of store.new)) }
@@ -109,6 +130,25 @@ pub fn know(store: &mut Store, key: u64, value: Value) -> Result<(), Memory>
     Ok(())
 }
 
+// Has each capability of an outcome lead at once to where it leads.
+fn shorten_caps(store: &mut Store, key: u64, count: usize)
+    requires { IsSound store.old }
+    ensures { store.new ≡ store.old }
+{
+    for index in 0..count {
+        let Some(node) = cap_of(store, key, index) else {
+            return;
+        };
+        shorten(store, node);
+    }
+}
+
+// A capability of a known outcome.
+fn cap_of(store: &Store, key: u64, index: usize) -> Option<Node> {
+    let caps = caps_of(store.waits.value(key)?);
+    Some(*caps.get(index)?)
+}
+
 /// Takes out the calls that wait for an outcome. Where no field of it is named, it may have to go, and is noted. Takes no
 /// memory, but one of the slack. `Err` where there is no such outcome, or calls that were taken out before are not all
 /// handed out; nothing is changed then.
@@ -128,11 +168,12 @@ pub fn take_held(store: &mut Store, key: u64) -> Result<(), Memory>
     Ok(())
 }
 
-/// Takes out the outcome with that key, if there is one, for which no call may wait, and says whose it was and what. Its
-/// capabilities are named once less. Takes no memory.
+/// Takes out the outcome with that key, if there is one, for which no call may wait, and of which no place may name a field,
+/// and says whose it was and what. Its capabilities are named once less. Takes no memory.
 pub fn remove_outcome(store: &mut Store, key: u64) -> Option<(Caller, Option<Value>)>
     requires sound { IsSound store.old }
     requires none_waiting { HasNoneWaiting (map.get (state_of store.old).outcomes key) }
+    requires unnamed { names (state_of store.old) (is_field key) ≡ 0 }
     ensures value { result ≡ outcome_parts (map.get (state_of store.old).outcomes key) }
     ensures state { state_of store.new ≡ record (state_of store.old) { outcomes = map.remove (state_of store.old).outcomes key } }
     ensures taken { store.new.waits.taken ≡ store.old.waits.taken }

@@ -4,7 +4,8 @@ ghost use Rattle.vat_machine.specs.declared.calls.Promise.TheVariants as promise
 ghost use Rattle.vat_machine.specs.Limits.{held_limit};
 ghost use Rattle.vat_machine.specs.Progress.{Progress, with_state};
 ghost use Rattle.vat_machine.specs.Routing.{WaitsForPromise};
-ghost use Rattle.vat_machine.specs.Nodes.{promise_link};
+ghost use Rattle.vat_machine.specs.Nodes.{promise_link, is_promise};
+ghost use Rattle.vat_machine.specs.Places.{names};
 ghost use Rattle.vat_waits.specs.Changes.{IsOpen};
 ghost use Rattle.vat_store.specs.Holding.{state_of, IsSound};
 ghost use Rattle.vat_store.specs.Noted.{noted_of};
@@ -12,7 +13,7 @@ ghost use Rattle.store_waits.specs.Changes.{Fixes};
 
 use rpc_msg::Memory;
 use vat_machine::{Node, WaitingCall};
-use vat_store::Store;
+use vat_store::{Store, shorten};
 use vat_tables::{POOL_LIMIT, TableFault};
 
 /// Opens a new promise, which names itself, and gives its key, which was free. Takes no memory, but one of the slack.
@@ -76,9 +77,26 @@ pub fn hold_for_promise(store: &mut Store, key: u64, call: WaitingCall) -> Resul
 }
 
 /// Settles an open promise: it leads there from now on, so it names that and not itself, and the calls that waited for it
-/// are taken out. Takes no memory, but one of the slack. `Err` where there is no such open promise, or calls that were
-/// taken out before are not all handed out; nothing is changed then.
+/// are taken out. Takes one of the slack, and no memory that it needs: but where there is memory, the promise leads on
+/// from now on at once to where it leads. `Err` where there is no such open promise, or calls that were taken out before
+/// are not all handed out; nothing is changed then.
 pub fn fix(store: &mut Store, key: u64, to: Node) -> Result<(), Memory>
+    requires sound { IsSound store.old }
+    requires slack { 0 < store.old.slack }
+    ensures ok { OnOk result (Fixes (state_of store.old) key to (map.get (state_of store.old).promises key) (state_of store.new) store.new.waits.taken) }
+    ensures handed_out { OnOk result (store.old.waits.taken ≡ []) }
+    ensures never { IsOpen (map.get (state_of store.old).promises key) → store.old.waits.taken ≡ [] → IsOk result }
+    ensures left { OnOk result (store.new.slack ≡ store.old.slack - 1) }
+    ensures same { OnErr result (store.new ≡ store.old) }
+    ensures sound { IsSound store.new }
+{
+    settle_promise(store, key, to)?;
+    shorten(store, Node::Promise(key));
+    Ok(())
+}
+
+// The same, and the promise leads on by its links.
+fn settle_promise(store: &mut Store, key: u64, to: Node) -> Result<(), Memory>
     requires sound { IsSound store.old }
     requires slack { 0 < store.old.slack }
     ensures ok { OnOk result (Fixes (state_of store.old) key to (map.get (state_of store.old).promises key) (state_of store.new) store.new.waits.taken) }
@@ -99,10 +117,11 @@ pub fn fix(store: &mut Store, key: u64, to: Node) -> Result<(), Memory>
     Ok(())
 }
 
-/// Takes out a settled promise, if there is one under that key, and says where it led, which is named once less. Where
-/// there is none, or it is open, nothing is changed. Takes no memory.
+/// Takes out a settled promise that no place names, if there is one under that key, and says where it led, which is named
+/// once less. Where there is none, or it is open, nothing is changed. Takes no memory.
 pub fn remove_promise(store: &mut Store, key: u64) -> Option<Node>
-    requires { IsSound store.old }
+    requires sound { IsSound store.old }
+    requires unnamed { names (state_of store.old) (is_promise key) ≡ 0 }
     ensures value { result ≡ promise_link (map.get (state_of store.old).promises key) }
     ensures state { OnSome result (state_of store.new ≡ record (state_of store.old) { promises = map.remove (state_of store.old).promises key }) }
     ensures same { IfNone result (store.new ≡ store.old) }

@@ -10,6 +10,7 @@ use Rattle.vat_machine.specs.declared.command.Granted.{Granted}
 use Rattle.vat_machine.specs.declared.command.Granted.TheVariants as granted
 use Rattle.vat_machine.specs.declared.command.Refusal.{Refusal}
 use Rattle.vat_host.specs.Hosting.{Hosted, Does, Refuses}
+use Rattle.rpc_adapter.specs.Adapting.{Adapting}
 use Rattle.rpc_frames.specs.Outflows.{Outflow}
 use Rattle.vat_connection.specs.Calling.{Calls, Fits, IsTooLarge, Obeys, ObeysToFit, answered}
 use Rattle.vat_connection.specs.Speaking.{Speaking}
@@ -33,19 +34,19 @@ module _ {X : Type 0} (refusal_of : X → Refusal) (old mid new : Hosted) (c : C
 
 -- ---- of a connection
 
-abbrev pub connected : Hosted → Outflow → ℕ → List ℕ → Bool → Connected
-connected host out heard waiting told = record { speaker = record { host = host; out = out; heard = heard }; waiting = waiting; told = told }
+abbrev pub connected : Hosted → Outflow → Adapting → ℕ → List ℕ → Bool → Connected
+connected host out adapter heard waiting told = record { speaker = record { host = host; out = out; adapter = adapter; heard = heard }; waiting = waiting; told = told }
 
 abbrev pub connection : Speaking → List ℕ → Bool → Connected
 connection s waiting told = record { speaker = s; waiting = waiting; told = told }
 
-module _ (before after : Hosted) (out : Outflow) (heard : ℕ) (waiting : List ℕ) (told : Bool) (old : Connected) (c : Command) (is : connected before out heard waiting told ≡ old) where
+module _ (before after : Hosted) (out : Outflow) (adapter : Adapting) (heard : ℕ) (waiting : List ℕ) (told : Bool) (old : Connected) (c : Command) (is : connected before out adapter heard waiting told ≡ old) where
   -- What comes of the vat is what comes of the connection.
-  pub asks_as : (answer : Result Granted Refusal) → Obeys before c answer after → Asks old c answer (connected after out heard waiting told)
-  asks_as answer obeys = subst (λ (o : Connected). Asks o c answer (connected after out heard waiting told)) is (obeys, refl)
+  pub asks_as : (answer : Result Granted Refusal) → Obeys before c answer after → Asks old c answer (connected after out adapter heard waiting told)
+  asks_as answer obeys = subst (λ (o : Connected). Asks o c answer (connected after out adapter heard waiting told)) is (obeys, refl)
 
   pub asks : {A E : Type 0} (result : Result A E) (gives : A → Granted) (why : E → Refusal) → IfOk result (λ x. Does before c (gives x) after)
-      → IfErr result (λ e. Refuses before c (why e) after) → Asks old c (answered result gives why) (connected after out heard waiting told)
+      → IfErr result (λ e. Refuses before c (why e) after) → Asks old c (answered result gives why) (connected after out adapter heard waiting told)
   asks result gives why done refused = asks_as (answered result gives why) (obeyed result gives why before after c done refused)
 
 module _ (before after : Speaking) (waiting : List ℕ) (told : Bool) (old : Connected) (c : Command) (is : connection before waiting told ≡ old) (rest : after ≡ record before { host = after.host }) where

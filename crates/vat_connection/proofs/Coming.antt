@@ -7,8 +7,7 @@ use Rattle.rpc_stream.specs.declared.front.Front.{Front}
 use Rattle.rpc_stream.specs.declared.front.Front.TheVariants as front
 use Rattle.rpc_stream.specs.Fronts.{front_of, IsFrame}
 use Rattle.rpc_stream.specs.Readers.{Reader}
-use Rattle.vat_connection.specs.Speaking.{Speaking, Falls, HearsFrame}
-use Rattle.rpc_frames.specs.Arrivals.{want_of_room}
+use Rattle.vat_connection.specs.Speaking.{Speaking, Falls, HearsFrame, want_of_room}
 use Rattle.vat_connection.specs.Hearing.{Comes, Ends, EndsBy, IsBegun, Waits, held_of}
 use Rattle.vat_connection.proofs.Falling.{falls_down}
 

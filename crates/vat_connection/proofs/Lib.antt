@@ -5,3 +5,4 @@ mod Pieces
 mod Saying
 mod Calling
 mod Giving
+mod Framed

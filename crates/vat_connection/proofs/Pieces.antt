@@ -6,8 +6,7 @@ use Rattle.rpc_stream.specs.declared.front.Front.{Front}
 use Rattle.rpc_stream.specs.declared.front.Front.TheVariants as front
 use Rattle.rpc_stream.specs.Fronts.{front_of, IsFrame}
 use Rattle.rpc_stream.specs.Laws.{FrontsStay, Stays}
-use Rattle.vat_connection.specs.Speaking.{Speaking, Falls}
-use Rattle.rpc_frames.specs.Arrivals.{want_of_room}
+use Rattle.vat_connection.specs.Speaking.{Speaking, Falls, want_of_room}
 use Rattle.vat_connection.specs.Hearing.{Follows, Comes, Ends, EndsBy, Takes}
 use Rattle.vat_connection.specs.Connecting.{Connected, Receives, down}
 use Rattle.vat_connection.proofs.Falling.{falls_down}

@@ -1,13 +1,15 @@
 -- What a vat has to say goes out, message by message.
-use Rattle.std.proofs.Common.{◌≡◌, ℕ, Bool, true, false, List, [], ◌∷◌, length, ◌<◌, arith, inl, inr, refl, sym, ap, subst, ◌∙◌}
+use Rattle.std.proofs.Common.{◌≡◌, ℕ, Bool, true, false, List, [], ◌∷◌, length, ◌<◌, arith, refl, sym, ap, subst, ◌∙◌}
 use Rattle.rpc_msg.specs.declared.message.Message.{Message}
 use Rattle.vat_host.specs.Hosting.{Hosted, is_abort}
-use Rattle.rpc_frames.specs.Arrivals.{want_of_room}
-use Rattle.rpc_frames.specs.Outflows.{Outflow, Put}
-use Rattle.vat_connection.specs.Speaking.{Speaking, Falls, Goes, Passes, PassesAll, PassesOne, Says, SaysAll, without}
+use Rattle.rpc_adapter.specs.declared.heard.Outbound.{Outbound}
+use Rattle.rpc_adapter.specs.Adapting.{Adapting, Going, goes, messages_in, seen_outbound}
+use Rattle.rpc_frames.specs.Outflows.{Outflow}
+use Rattle.vat_connection.specs.Speaking.{Speaking, Breaks, Goes, HearsAll, Passes, PassesAll, PassesOne, Says, SaysTo, Sends, Shuts, Turns, want_of_room, without}
+use Rattle.vat_connection.specs.Speaking.SaysTo.{Nothing, Oldest, Broken}
 
-abbrev pub speaking : Hosted → Outflow → ℕ → Speaking
-speaking host out heard = record { host = host; out = out; heard = heard }
+abbrev pub speaking : Hosted → Outflow → Adapting → ℕ → Speaking
+speaking host out adapter heard = record { host = host; out = out; adapter = adapter; heard = heard }
 
 -- ---- an Abort alone
 
@@ -19,15 +21,15 @@ abort_tried m old new goes is put = subst (λ (b : Bool). PassesOne b old m new)
 pub not_tried : (m : Message) (out : Outflow) → is_abort m ≡ false → PassesOne (is_abort m) out m out
 not_tried m out is = subst (λ (b : Bool). PassesOne b out m out) (sym is) refl
 
-pub one_passes : (host next : Hosted) (out out_next : Outflow) (heard : ℕ) (m : Message) (new : Speaking) → host ≡ record next { messages = m ∷ next.messages }
-    → PassesOne (is_abort m) out m out_next → Passes (speaking next out_next heard) new → Passes (speaking host out heard) new
-one_passes host next out out_next heard m new is one more =
-    subst (λ (h : Hosted). Passes (speaking h out heard) new) (sym is) ((out_next, one, more.0), more.1)
+pub one_passes : (host next : Hosted) (out out_next : Outflow) (adapter : Adapting) (heard : ℕ) (m : Message) (new : Speaking) → host ≡ record next { messages = m ∷ next.messages }
+    → PassesOne (is_abort m) out m out_next → Passes (speaking next out_next adapter heard) new → Passes (speaking host out adapter heard) new
+one_passes host next out out_next adapter heard m new is one more =
+    subst (λ (h : Hosted). Passes (speaking h out adapter heard) new) (sym is) ((out_next, one, more.0), more.1)
 
-pub none_passes : (host next : Hosted) (out : Outflow) (heard : ℕ) → host.messages ≡ [] → next ≡ host → Passes (speaking host out heard) (speaking next out heard)
-none_passes host next out heard none same = (
+pub none_passes : (host next : Hosted) (out : Outflow) (adapter : Adapting) (heard : ℕ) → host.messages ≡ [] → next ≡ host → Passes (speaking host out adapter heard) (speaking next out adapter heard)
+none_passes host next out adapter heard none same = (
   subst (λ (ms : List Message). PassesAll out ms out) (sym none) refl,
-  ap (λ (h : Hosted). speaking h out heard) same ∙ ap (λ (ms : List Message). speaking (without host ms) out heard) none,
+  ap (λ (h : Hosted). speaking h out adapter heard) same ∙ ap (λ (ms : List Message). speaking (without host ms) out adapter heard) none,
 )
 
 pub fewer : (host next : Hosted) (m : Message) → host ≡ record next { messages = m ∷ next.messages } → length next.messages < length host.messages
@@ -35,16 +37,23 @@ fewer host next m is = let e = ap (λ (h : Hosted). length h.messages) is in ome
 
 -- ---- all
 
-pub one_said : (host next : Hosted) (out out_next : Outflow) (heard : ℕ) (m : Message) (new : Speaking) → host ≡ record next { messages = m ∷ next.messages }
-    → Put out m out_next → Says (speaking next out_next heard) new → Says (speaking host out heard) new
-one_said host next out out_next heard m new is put more = subst (λ (h : Hosted). Says (speaking h out heard) new) (sym is) (inl (out_next, put, more))
+module _ (host next : Hosted) (out : Outflow) (adapter : Adapting) (heard : ℕ) where
+  pub broken_off : (new : Speaking) → Shuts host want_of_room next → Passes (speaking next out adapter heard) new → Breaks (speaking host out adapter heard) new
+  broken_off new shuts passes = (speaking next out adapter heard, (adapter, (shuts, refl)), passes)
 
-pub breaks : (host next : Hosted) (out out_same : Outflow) (heard : ℕ) (m : Message) (mid new : Speaking) → host ≡ record next { messages = m ∷ next.messages } → out_same ≡ out
-    → Falls (speaking next out_same heard) want_of_room mid → Passes mid new → Says (speaking host out heard) new
-breaks host next out out_same heard m mid new is same falls passes =
-    subst (λ (h : Hosted). Says (speaking h out heard) new) (sym is) (inr (mid, subst (λ (o : Outflow). Falls (speaking next o heard) want_of_room mid) same falls, passes))
+  pub none_said : host.messages ≡ [] → next ≡ host → Says (speaking host out adapter heard) (speaking next out adapter heard)
+  none_said none same = Nothing none (ap (λ (h : Hosted). speaking h out adapter heard) same)
 
-pub none_said : (host next : Hosted) (out : Outflow) (heard : ℕ) → host.messages ≡ [] → next ≡ host → Says (speaking host out heard) (speaking next out heard)
-none_said host next out heard none same =
-    subst (λ (ms : List Message). SaysAll (speaking host out heard) ms (speaking next out heard)) (sym none)
-    (ap (λ (h : Hosted). speaking h out heard) same ∙ ap (λ (ms : List Message). speaking (without host ms) out heard) none)
+  module _ (m : Message) (new : Speaking) (is : host ≡ record next { messages = m ∷ next.messages }) where
+    pub one_said : (mid : Speaking) → Turns (speaking next out adapter heard) (goes adapter m) mid → Says mid new → Says (speaking host out adapter heard) new
+    one_said mid turns more = subst (λ (h : Hosted). SaysTo new (speaking h out adapter heard)) (sym is) (Oldest m next.messages refl turns more)
+
+    -- whatever the adapter took
+    pub breaks : (a : Adapting) → Breaks (speaking next out a heard) new → Says (speaking host out adapter heard) new
+    breaks a (mid, (b, falls), passes) = subst (λ (h : Hosted). SaysTo new (speaking h out adapter heard)) (sym is) (Broken m next.messages refl (mid, (b, falls), passes))
+
+-- What the adapter says of a message is done.
+pub turns : (host next : Hosted) (out sent : Outflow) (adapter after : Adapting) (heard : ℕ) (m : Message) (o : Outbound) → goes adapter m ≡ seen_outbound after o → Sends out o.said sent → HearsAll host (messages_in o.heard) next
+    → Turns (speaking host out adapter heard) (goes adapter m) (speaking next sent after heard)
+turns host next out sent adapter after heard m o is sends all =
+    subst (λ (g : Going). Turns (speaking host out adapter heard) g (speaking next sent after heard)) (sym is) (sent, sends, (next, all, refl))

@@ -11,6 +11,7 @@ use Rattle.vat_machine.specs.declared.command.Level.{Level}
 use Rattle.vat_machine.specs.declared.command.Refusal.{Refusal}
 use Rattle.vat_machine.specs.State.{start}
 use Rattle.vat_host.specs.Hosting.{Hosted, idle}
+use Rattle.rpc_adapter.specs.Adapting.{fresh as fresh_adapter}
 use Rattle.rpc_frames.specs.Outflows.{nothing_out}
 use Rattle.vat_connection.specs.declared.event.Event.{Event}
 use Rattle.vat_connection.specs.declared.event.Event.TheVariants as event
@@ -36,7 +37,7 @@ connected_code =
 -- Nothing has come, and nothing was said.
 abbrev pub fresh : Vat → Level → Option ObjectId → Connected
 fresh vat level bootstrap = record {
-  speaker = record { host = idle (start vat level bootstrap); out = nothing_out; heard = 0 };
+  speaker = record { host = idle (start vat level bootstrap); out = nothing_out; adapter = fresh_adapter; heard = 0 };
   waiting = [];
   told = false;
 }
@@ -77,11 +78,15 @@ abbrev pub AsksToFit : Connected → Command → Result Granted Refusal → Conn
 AsksToFit old c answer new = ObeysToFit old.speaker.host c answer new.speaker.host × (new ≡ with_host old new.speaker.host)
 
 -- What is told: the oldest call to be served, then the oldest that ended, then once that the vat is down.
-abbrev pub Tells : Connected → Option Event → Connected → Type 0
-Tells old (Some (event.Served delivery)) new = old ≡ with_host new (record (new.speaker.host) { deliveries = delivery ∷ new.speaker.host.deliveries })
-Tells old (Some (event.Ended call)) new =
+abbrev pub TellsNext : Connected → Option Event → Connected → Type 0
+TellsNext old (Some (event.Served delivery)) new = old ≡ with_host new (record (new.speaker.host) { deliveries = delivery ∷ new.speaker.host.deliveries })
+TellsNext old (Some (event.Ended call)) new =
     (old.speaker.host.deliveries ≡ []) × (old ≡ with_host new (record (new.speaker.host) { ended = call ∷ new.speaker.host.ended }))
-Tells old (Some (event.Down number)) new =
+TellsNext old (Some (event.Down number)) new =
     (old.speaker.host.deliveries ≡ []) × (old.speaker.host.ended ≡ []) × (old.told ≡ false) × (down old ≡ Some number) × (new ≡ record old { told = true })
-Tells old None new =
+TellsNext old None new =
     (old.speaker.host.deliveries ≡ []) × (old.speaker.host.ended ≡ []) × ((old.told ≡ true) ⊎ (down old ≡ None)) × (new ≡ old)
+
+-- Something is told, once all went out that the vat has to say.
+abbrev pub Tells : Connected → Option Event → Connected → Type 0
+Tells old event new = (said : Speaking) × Says old.speaker said × TellsNext (record old { speaker = said }) event new

@@ -8,8 +8,7 @@ use Rattle.rpc_stream.specs.declared.front.Front.TheVariants as front
 use Rattle.rpc_stream.specs.Fronts.{front_of}
 use Rattle.rpc_stream.specs.Readers.{Reader}
 use Rattle.rpc_stream.specs.Streams.{IsSplit}
-use Rattle.rpc_frames.specs.Arrivals.{want_of_room}
-use Rattle.vat_connection.specs.Speaking.{Speaking, Falls, HearsFrame}
+use Rattle.vat_connection.specs.Speaking.{Speaking, Falls, HearsFrame, want_of_room}
 
 -- ---- the reader between two pieces
 

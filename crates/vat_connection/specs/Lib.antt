@@ -1,5 +1,6 @@
 pub mod Calling
 pub mod Speaking
+pub mod Framing
 pub mod Hearing
 pub mod Connecting
 pub mod Laws

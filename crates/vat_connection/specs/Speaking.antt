@@ -1,29 +1,43 @@
--- A vat with the bytes that it says: it hears frames, and what it says goes out as frames.
-use Rattle.std.specs.Prelude.{◌≡◌, ℕ, ◌+◌, Bool, true, false, List, [], ◌∷◌, Ok, Err, ◌⊎◌, refl}
+-- A vat with the bytes that it says: it hears frames, and what it says goes out as frames. Between its messages and what goes over
+-- the wire stands an adapter (docs/messages.md, "Peers of other make").
+use Rattle.std.specs.Prelude.{◌≡◌, ℕ, ◌+◌, Bool, true, false, List, [], ◌∷◌, Option, Some, None, Result, Ok, Err, ◌⊎◌, refl}
 use Rattle.std.specs.Coded.{Coded, code_by, coded×, coded_ℕ}
 use Rattle.rpc_msg.specs.Vats.{other_vat}
 use Rattle.rpc_msg.specs.declared.ids.Stamp.{Stamp}
 use Rattle.rpc_msg.specs.declared.message.Message.{Message}
+use Rattle.rpc_parts.specs.Numbers.{number_of}
+use Rattle.rpc_bytes.specs.Envelopes.{What}
+use Rattle.rpc_bytes.specs.Decoding.{Came, envelope_at}
+use Rattle.rpc_adapter.specs.declared.errors.AdapterFault.{AdapterFault}
+use Rattle.rpc_adapter.specs.declared.heard.Said.{Said}
+use Rattle.rpc_adapter.specs.declared.heard.Said.TheVariants as said
+use Rattle.rpc_adapter.specs.Numbers.{number_of as number_of_adapter}
+use Rattle.rpc_adapter.specs.Adapting.{Adapting, Coming, Going, adapting_code, comes, goes}
 use Rattle.vat_machine.specs.declared.command.Effects.{Effects}
 use Rattle.vat_machine.specs.Down.{ShutsFrom}
 use Rattle.vat_host.specs.Hosting.{Hosted, Hears, hosted_code, is_abort, stepped}
 use Rattle.rpc_frames.specs.contracts.outgoing.Outgoing as outgoing_row
-use Rattle.rpc_frames.specs.Arrivals.{Said, said_in, want_of_room}
-use Rattle.rpc_frames.specs.Outflows.{Outflow, Put, keeping}
+use Rattle.rpc_frames.specs.Outflows.{Outflow, Kept, Put, PutElsewhere}
 
--- A vat with what its steps left to do; the bytes that go out, with the frames that are kept; and how many frames it has heard.
+-- A vat with what its steps left to do; the bytes that go out, with the frames that are kept; its adapter; and how many frames it
+-- has heard.
 pub record Speaking : Type 0 where
   pub host : Hosted
   pub out : Outflow
+  pub adapter : Adapting
   pub heard : ℕ
 
 abbrev pub speaking_code : Coded Speaking
 speaking_code =
-    code_by (Hosted × (Outflow × ℕ))
-    (coded× hosted_code (coded× outgoing_row.the_row.coded coded_ℕ))
-    (λ s. (s.host, (s.out, s.heard)))
-    (λ p. record { host = p.0; out = p.1.0; heard = p.1.1 })
+    code_by (Hosted × (Outflow × (Adapting × ℕ)))
+    (coded× hosted_code (coded× outgoing_row.the_row.coded (coded× adapting_code coded_ℕ)))
+    (λ s. (s.host, (s.out, (s.adapter, s.heard))))
+    (λ p. record { host = p.0; out = p.1.0; adapter = p.1.1.0; heard = p.1.1.1 })
     (λ _. refl)
+
+-- the number with which a vat goes down that finds no room, or no memory
+abbrev pub want_of_room : ℕ
+want_of_room = 33
 
 -- The vat goes down with that number, if it is up, and its Abort is to be sent.
 abbrev pub Shuts : Hosted → ℕ → Hosted → Type 0
@@ -32,20 +46,14 @@ Shuts old n new = (effects : Effects) × ShutsFrom old.core n old.core.down effe
 abbrev pub Falls : Speaking → ℕ → Speaking → Type 0
 Falls old n new = Shuts old.host n new.host × (new ≡ record old { host = new.host })
 
--- ---- what it hears
+-- Memory is wanting, or room: the vat goes down, whatever its adapter took. It is asked no more.
+abbrev pub Lacks : Speaking → Speaking → Type 0
+Lacks old new = (adapter : Adapting) × Falls (record old { adapter = adapter }) want_of_room new
 
--- the stamp of a Call in the next frame: the peer, and how many frames were heard before
-abbrev pub stamp_of : Speaking → Stamp
-stamp_of s = record { vat = other_vat s.host.core.vat; reference = record { 0 = s.heard }; index = 0 }
-
--- What a frame says is a step of the vat, and the frame that sends it back is kept; a fault takes the vat down with its number.
-abbrev pub HearsSaid : Speaking → Said → Speaking → Type 0
-HearsSaid old (Ok arrival) new = Hears old.host arrival.message new.host × (new ≡ record { host = new.host; out = keeping old.out arrival.echo; heard = old.heard + 1 })
-HearsSaid old (Err n) new = Falls old n new
-
--- A frame is heard; or memory is wanting for it, and the vat goes down.
-abbrev pub HearsFrame : Speaking → List ℕ → Speaking → Type 0
-HearsFrame old frame new = HearsSaid old (said_in (stamp_of old) frame) new ⊎ Falls old want_of_room new
+-- The vat hears these messages, in order.
+abbrev pub HearsAll : Hosted → List Message → Hosted → Type 0
+HearsAll old [] new = new ≡ old
+HearsAll old (m ∷ ms) new = (mid : Hosted) × Hears old m mid × HearsAll mid ms new
 
 -- ---- what it says
 
@@ -76,17 +84,62 @@ saying old ms = record old { host = without old.host ms }
 -- A message has no frame, or memory is wanting for it: the vat goes down with 33, if it is up, and of what is still to be said
 -- nothing but an Abort goes out.
 abbrev pub Breaks : Speaking → Speaking → Type 0
-Breaks old new = (mid : Speaking) × Falls old want_of_room mid × Passes mid new
+Breaks old new = (mid : Speaking) × Lacks old mid × Passes mid new
 
--- These messages go out as frames, in order, to the first that breaks it off.
-abbrev pub SaysAll : Speaking → List Message → Speaking → Type 0
-SaysAll old [] new = new ≡ saying old []
-SaysAll old (m ∷ ms) new = ((mid : Outflow) × Put old.out m mid × SaysAll (record (saying old ms) { out = mid }) ms new) ⊎ Breaks (saying old ms) new
+-- what the adapter has the peer told, if anything
+abbrev pub Sends : Outflow → Option Said → Outflow → Type 0
+Sends old None new = new ≡ old
+Sends old (Some (said.Message m)) new = Put old m new
+Sends old (Some (said.SentElsewhere s)) new = PutElsewhere old s new
 
--- All that the vat has to send goes out.
+-- The adapter says what a message of the vat comes to: the peer is told that, and the vat hears what it is to hear then.
+abbrev pub Turns : Speaking → Going → Speaking → Type 0
+Turns old going new =
+    (out : Outflow) × Sends old.out going.said out
+    × ((host : Hosted) × HearsAll old.host going.heard host × (new ≡ record old { host = host; out = out; adapter = going.state }))
+
+-- All that a vat has to say goes out, the oldest message first, and then what it has to say of what it heard of that; to the first
+-- message that breaks it off.
+pub data SaysTo (new : Speaking) : Speaking → Type 0 where
+  Nothing : {s : Speaking} → s.host.messages ≡ [] → new ≡ s → SaysTo new s
+  Oldest : {s mid : Speaking} (m : Message) (ms : List Message) → s.host.messages ≡ m ∷ ms → Turns (saying s ms) (goes s.adapter m) mid → SaysTo new mid → SaysTo new s
+  Broken : {s : Speaking} (m : Message) (ms : List Message) → s.host.messages ≡ m ∷ ms → Breaks (saying s ms) new → SaysTo new s
+
 abbrev pub Says : Speaking → Speaking → Type 0
-Says old new = SaysAll old old.host.messages new
+Says old new = SaysTo new old
 
 -- The bytes are handed out.
 abbrev pub given : Speaking → Speaking
 given s = record s { out = record (s.out) { bytes = [] } }
+
+-- ---- what it hears
+
+-- the stamp of a Call in the next frame: the peer, and how many frames were heard before
+abbrev pub stamp_of : Speaking → Stamp
+stamp_of s = record { vat = other_vat s.host.core.vat; reference = record { 0 = s.heard }; index = 0 }
+
+-- The adapter says what an envelope comes to: what is not understood is kept to go back, and the vat hears what it is to hear; a
+-- fault takes the vat down with its number.
+abbrev pub HearsComing : Speaking → Result Coming AdapterFault → Speaking → Type 0
+HearsComing old (Ok c) new =
+    (out : Outflow) × Kept old.out c.unknown out
+    × ((host : Hosted) × HearsAll old.host c.heard host × (new ≡ record { host = host; out = out; adapter = c.state; heard = old.heard + 1 }))
+HearsComing old (Err f) new = Falls old (number_of_adapter f) new
+
+-- A frame has an envelope; a fault takes the vat down with its number.
+abbrev pub HearsCame : Speaking → Came What → Speaking → Type 0
+HearsCame old (Ok w) new = HearsComing old (comes old.adapter w) new
+HearsCame old (Err f) new = Falls old (number_of f) new
+
+-- A frame is heard; or memory is wanting for it, and the vat goes down.
+abbrev pub HearsUp : Speaking → List ℕ → Speaking → Type 0
+HearsUp old frame new = HearsCame old (envelope_at (stamp_of old) frame) new ⊎ Lacks old new
+
+-- A vat that went down hears nothing more.
+abbrev pub HearsThen : Option ℕ → Speaking → List ℕ → Speaking → Type 0
+HearsThen None old frame new = HearsUp old frame new
+HearsThen (Some n) old frame new = new ≡ old
+
+-- A frame comes: first all goes out that the vat has to say.
+abbrev pub HearsFrame : Speaking → List ℕ → Speaking → Type 0
+HearsFrame old frame new = (mid : Speaking) × Says old mid × HearsThen mid.host.core.down mid frame new

@@ -2,7 +2,7 @@
 ghost use Rattle.std.specs.Prelude.{◌≡◌, ◌⊎◌, IfOk, IfErr, not, length, ◌==◌, ◌||◌};
 ghost use Rattle.vat_host.specs.Hosting.{Does, Refuses};
 ghost use Rattle.vat_connection.specs.Calling.{Fits, IsTooLarge};
-ghost use Rattle.vat_connection.specs.Connecting.{Connected, Finishes, Gives, Receives, Tells, with_host, fresh};
+ghost use Rattle.vat_connection.specs.Connecting.{Connected, Finishes, Gives, Receives, Tells, TellsNext, with_host, fresh};
 
 use crate::event::Event;
 use crate::hearing::hear_all;
@@ -108,9 +108,16 @@ impl Connection {
     }
 
     /// What there is to tell, the oldest first: the calls to be served, then the own calls that ended, then once that the vat is
-    /// down.
+    /// down. What the vat has to say becomes frames before, as by `outgoing`, since the vat may hear something of it.
     pub fn next_event(&mut self) -> Option<Event>
         ensures { Tells self.old result self.new }
+    {
+        self.speaker.say();
+        self.tell_next()
+    }
+
+    fn tell_next(&mut self) -> Option<Event>
+        ensures { TellsNext self.old result self.new }
     {
         if let Some(delivery) = self.speaker.host.next_delivery() {
             return Some(Event::Served(delivery));

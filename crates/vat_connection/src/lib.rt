@@ -3,7 +3,8 @@
 //!
 //! - `connection.rt`: `Connection`, a vat with the streams of both directions, and what is told of it. `asks.rt`: the commands that
 //!   give something, by name. `settling.rt`: those that give nothing.
-//! - `speaker.rt`: a vat with the bytes that it says. It hears frame by frame, and what it says becomes frames.
+//! - `speaker.rt`: a vat with the bytes that it says and the adapter between it and its peer, and its commands. `frame.rt`: what a
+//!   frame has it hear. `passing.rt`: what it says becomes frames.
 //! - `hearing.rt`: the bytes that come become frames, and the vat hears each.
 //! - `event.rt`: what an application is told. `laws.rt`: that pieces do not matter, as a contract of a function that does nothing.
 //!
@@ -13,8 +14,10 @@
 mod asks;
 mod connection;
 mod event;
+mod frame;
 mod hearing;
 mod laws;
+mod passing;
 mod settling;
 mod speaker;
 

@@ -1,16 +1,18 @@
-//! A vat with the bytes that it says.
+//! A vat with the bytes that it says, and its commands.
 ghost use Rattle.std.specs.Prelude.{◌≡◌, ◌⊎◌, Ok, Err, IfOk, IfErr, OnOk, is_some};
 ghost use Rattle.vat_machine.specs.declared.command.Command.TheVariants as command;
 ghost use Rattle.vat_machine.specs.declared.command.Refusal.TheVariants as refusal;
 ghost use Rattle.vat_machine.specs.State.{start};
-ghost use Rattle.vat_host.specs.Hosting.{Does, Refuses, idle, is_abort};
+ghost use Rattle.vat_host.specs.Hosting.{Does, Refuses, idle};
+ghost use Rattle.rpc_adapter.specs.Adapting.{fresh as fresh_adapter};
 ghost use Rattle.rpc_frames.specs.Outflows.{nothing_out};
 ghost use Rattle.vat_connection.specs.Calling.{Calls, Fits, IsTooLarge, Obeys, call_of};
-ghost use Rattle.vat_connection.specs.Speaking.{Falls, Goes, HearsFrame, Passes, PassesOne, Says, given};
+ghost use Rattle.vat_connection.specs.Speaking.{Falls, given};
 
+use rpc_adapter::Adapter;
 use rpc_fits::fits_envelope;
-use rpc_frames::{Arrival, Outgoing, arrival_of};
-use rpc_msg::{CallId, Memory, Message, ObjectId, PlainMessage, RefId, Stamp, Vat};
+use rpc_frames::Outgoing;
+use rpc_msg::{CallId, Memory, ObjectId, Vat};
 use std::alloc::Global;
 use std::marker::Model;
 use vat_host::{Host, Refused};
@@ -19,13 +21,14 @@ use vat_machine::{CallCommand, Command, Granted, Level, Refusal};
 /// The fault of a vat that found no room, or no memory.
 pub(crate) const WANT_OF_ROOM: u16 = 33;
 
-/// A vat, the bytes that it says, and how many frames it has heard.
+/// A vat, the bytes that it says, its adapter, and how many frames it has heard.
 #[derive(Drop)]
 pub(crate) struct Speaker {
     pub(crate) host: Host,
     pub(crate) out: Outgoing,
-    heard: u64,
-    alloc: Global,
+    pub(crate) adapter: Adapter,
+    pub(crate) heard: u64,
+    pub(crate) alloc: Global,
 }
 
 impl Model for Speaker {
@@ -35,7 +38,7 @@ impl Model for Speaker {
 
     ghost coded = { speaking_code };
 
-    ghost view = { λ a. record { host = a.host; out = a.out; heard = a.heard } };
+    ghost view = { λ a. record { host = a.host; out = a.out; adapter = a.adapter; heard = a.heard } };
 }
 
 impl Speaker {
@@ -46,12 +49,13 @@ impl Speaker {
         level: Level,
         bootstrap: Option<ObjectId>,
     ) -> Result<Speaker, Memory>
-        ensures { IfOk result (λ speaker. speaker ≡ record { host = idle (start vat level bootstrap); out = nothing_out; heard = 0 }) }
+        ensures { IfOk result (λ speaker. speaker ≡ record { host = idle (start vat level bootstrap); out = nothing_out; adapter = fresh_adapter; heard = 0 }) }
     {
         let host = Host::new(alloc, vat, level, bootstrap)?;
         Ok(Speaker {
             host,
             out: Outgoing::new(alloc),
+            adapter: Adapter::new(alloc),
             heard: 0,
             alloc,
         })
@@ -116,61 +120,12 @@ impl Speaker {
         self.host.call(call)
     }
 
-    /// Hears what a frame says, and keeps the frame that sends it back if it is not understood. A fault takes the vat down with
-    /// its number, and want of memory with 33.
-    pub(crate) fn hear(&mut self, frame: &[u8])
-        ensures { HearsFrame self.old frame.now self.new }
-    {
-        let stamp = Stamp {
-            vat: self.host.core().vat().other(),
-            reference: RefId(self.heard),
-            index: 0,
-        };
-        let Some(heard) = self.heard.checked_add(1) else {
-            return self.host.shut(WANT_OF_ROOM);
-        };
-        let arrival = match arrival_of(self.alloc, frame, stamp) {
-            Ok(arrival) => arrival,
-            Err(number) => return self.host.shut(number),
-        };
-        let Arrival { message, echo } = arrival;
-        let Ok(()) = self.out.keep(echo) else {
-            return self.host.shut(WANT_OF_ROOM);
-        };
-        self.heard = heard;
-        self.host.receive(message);
-    }
-
     /// Hands out the bytes, once. Takes no memory.
     pub(crate) fn take_bytes(&mut self) -> Vec<u8>
         ensures taken { result.items ≡ self.old.out.bytes }
         ensures left { self.new ≡ given self.old }
     {
         self.out.take()
-    }
-
-    /// Puts the frames of all messages that the vat has to send behind the bytes. Where one has no frame, or memory is wanting
-    /// for it, the vat goes down with 33, and of those behind it none is put but an Abort.
-    pub(crate) fn say(&mut self)
-        ensures { Says self.old self.new }
-    {
-        while let Some(message) = self.host.next_message() {
-            if !put(&mut self.out, message) {
-                self.host.shut(WANT_OF_ROOM);
-                return self.say_abort();
-            }
-        }
-    }
-
-    // Of what the vat has to send, an Abort alone is put.
-    #[cold]
-    #[inline(never)]
-    fn say_abort(&mut self)
-        ensures { Passes self.old self.new }
-    {
-        while let Some(message) = self.host.next_message() {
-            put_abort(&mut self.out, message);
-        }
     }
 }
 
@@ -202,30 +157,4 @@ fn fitting(call: CallCommand) -> Result<CallCommand, Refused<CallCommand>>
         refusal: Refusal::Full,
         back: call,
     })
-}
-
-// Puts the frame of a message behind the bytes, and says whether it could.
-fn put(out: &mut Outgoing, message: Message) -> bool
-    ensures { Goes result out.old message out.new }
-{
-    match out.write(&message) {
-        Ok(()) => return true,
-        Err(_) => return false,
-    }
-}
-
-// Puts the frame of an Abort, if it can, and of no other message.
-fn put_abort(out: &mut Outgoing, message: Message)
-    ensures { PassesOne (is_abort message) out.old message out.new }
-{
-    if is_abort(&message) {
-        let _ = put(out, message);
-        return;
-    }
-}
-
-fn is_abort(message: &Message) -> bool
-    ensures { result ≡ is_abort message.now }
-{
-    matches!(message, Message::Plain(PlainMessage::Abort(_)))
 }

@@ -1,4 +1,4 @@
--- `Holding` has the state of a store and `IsSound`, `Walking` links that are followed, `Noted` what is noted as going.
+-- `Holding` has the state of a store and `IsSound`, `Noted` what is noted as going.
 --
 -- `IsSound` says of a store:
 -- - `counted`: the counts of names are those of the places of the state, with the calls that were taken out to be routed.
@@ -17,5 +17,4 @@
 -- the three crates have what other changes may share: next numbers, notes, and tables.
 
 pub mod Holding
-pub mod Walking
 pub mod Noted

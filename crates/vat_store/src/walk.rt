@@ -1,14 +1,13 @@
-ghost use Rattle.std.specs.Prelude.{◌≡◌, None, IsTrue};
+ghost use Rattle.std.specs.Prelude.{◌≡◌, ◌≤◌, None, IsTrue};
 ghost use Rattle.vat_machine.specs.State.{State};
 ghost use Rattle.vat_machine.specs.declared.node.Node.TheVariants as nodes;
-ghost use Rattle.vat_machine.specs.Nodes.{link, settle, field_of, node_of_cap};
-ghost use Rattle.vat_machine.specs.Payloads.{cap_at};
+ghost use Rattle.vat_machine.specs.Nodes.{link, settle};
+ghost use Rattle.vat_waits.specs.Links.{Leads};
 ghost use Rattle.vat_store.specs.Holding.{state_of, IsSound};
-ghost use Rattle.vat_store.specs.Walking.{link_within};
 
 use crate::store::Store;
-use rpc_msg::{CapAt, Op, Payload};
-use vat_machine::{Node, Reason, Value};
+use vat_machine::Node;
+use vat_waits::{Hop, field_of};
 
 /// Where the link of a node leads, if it has one. Takes no memory.
 pub fn link(store: &Store, node: Node) -> Option<Node>
@@ -25,16 +24,6 @@ pub fn link(store: &Store, node: Node) -> Option<Node>
         Node::Pipe(_, _) => None,
         Node::Broken(_) => None,
     }
-}
-
-// Where the link of a node leads, if so many more links are followed that it is.
-fn link_within(store: &Store, node: Node, left: u64) -> Option<Node>
-    ensures { result ≡ link_within (state_of store.now) left node }
-{
-    if left == 0 {
-        return None;
-    }
-    link(store, node)
 }
 
 /// Where a node leads within the vat. Takes no memory.
@@ -81,7 +70,7 @@ fn follow_promise(store: &Store, key: u64) -> Node
     follow(store, Node::Promise(key))
 }
 
-// By its links, one after the other.
+// By its links, as many at once as are known to lead on.
 #[inline(never)]
 fn follow(store: &Store, node: Node) -> Node
     requires { IsSound store.now }
@@ -89,37 +78,107 @@ fn follow(store: &Store, node: Node) -> Node
 {
     let mut at = node;
     let mut left = store.links;
-    let mut next = link_within(store, node, left);
-    while let Some(found) = next {
+    let mut next = store.waits.hop(node, left);
+    while let Some(hop) = next {
+        let found = hop.to;
         if has_no_link(&found) {
             return found;
         }
         at = found;
-        left -= 1;
-        next = link_within(store, found, left);
+        left -= hop.far;
+        next = store.waits.hop(found, left);
     }
     at
 }
 
-/// What a known outcome fixes its field at that path to. Takes no memory.
-pub fn field_of(value: &Value, path: &[Op]) -> Node
-    ensures { result ≡ field_of value.now path.now }
+/// Where a node leads within the vat, as `settle` says. The way there is made short: from now on each node on it leads to
+/// its end at once, as far as there is memory for that. What the store holds stays as it is.
+#[inline(always)]
+pub fn shorten(store: &mut Store, node: Node) -> Node
+    requires { IsSound store.old }
+    ensures end { result ≡ settle (state_of store.old) node }
+    ensures same { store.new ≡ store.old }
 {
-    match value {
-        Value::Results(payload, caps) => node_at(payload, caps.as_slice(), path),
-        Value::Exception(_) => Node::Broken(Reason::BrokenPromise),
+    match node {
+        Node::Promise(_) => shorten_way(store, node),
+        Node::Field(_, _) => shorten_way(store, node),
+        Node::Object(_) => node,
+        Node::Import(_) => node,
+        Node::Pipe(_, _) => node,
+        Node::Broken(_) => node,
     }
 }
 
-fn node_at(payload: &Payload, caps: &[Node], path: &[Op]) -> Node
-    ensures { result ≡ node_of_cap caps.now (cap_at payload.now path.now) }
+// A node mostly leads nowhere yet, or at once to one without links.
+#[inline(never)]
+fn shorten_way(store: &mut Store, node: Node) -> Node
+    requires { IsSound store.old }
+    ensures end { result ≡ settle (state_of store.old) node }
+    ensures same { store.new ≡ store.old }
 {
-    match payload.cap_at(path) {
-        CapAt::Cap(index) => match caps.get(index as usize) {
-            Some(node) => *node,
-            None => Node::Broken(Reason::NotACapability),
-        },
-        CapAt::Null => Node::Broken(Reason::NullCapability),
-        CapAt::NotCap => Node::Broken(Reason::NotACapability),
+    let (start, from) = (node, node);
+    let Some(first) = store.waits.hop(start, store.links) else {
+        return node;
+    };
+    let found = first.to;
+    if has_no_link(&found) {
+        return found;
+    }
+    let way = way_from(store, from);
+    shorten_each(store, node, &way);
+    way.to
+}
+
+// The whole way from a node to where it settles.
+fn way_from(store: &Store, node: Node) -> Hop
+    requires { IsSound store.now }
+    ensures end { result.to ≡ settle (state_of store.now) node }
+    ensures way { Leads (link (state_of store.now)) result.far node result.to }
+    ensures within { result.far ≤ store.now.links }
+{
+    let mut at = node;
+    let mut far = 0;
+    let mut next = store.waits.hop(node, store.links);
+    while let Some(hop) = next {
+        let found = hop.to;
+        at = found;
+        far += hop.far;
+        next = store.waits.hop(found, store.links - far);
+    }
+    Hop { to: at, far }
+}
+
+// Has each node on a way lead to its end at once.
+fn shorten_each(store: &mut Store, node: Node, way: &Hop)
+    requires { Leads (link (state_of store.old)) way.now.far node way.now.to }
+    ensures { store.new ≡ store.old }
+{
+    let mut at = node;
+    let mut left = way.far;
+    while left > 0 {
+        let (here, from) = (at, at);
+        let Some(hop) = store.waits.hop(here, left) else {
+            return;
+        };
+        if hop.far == left {
+            return;
+        }
+        at = hop.to;
+        let end = Hop {
+            to: way.to,
+            far: left,
+        };
+        store.waits.shorten(from, end);
+        left -= hop.far;
+    }
+}
+
+/// The same for each of these nodes.
+pub fn shorten_all(store: &mut Store, nodes: &[Node])
+    requires { IsSound store.old }
+    ensures { store.new ≡ store.old }
+{
+    for node in nodes {
+        shorten(store, *node);
     }
 }

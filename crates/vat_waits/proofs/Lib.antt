@@ -3,3 +3,4 @@ pub mod Seeing
 pub mod Seen
 pub mod LookUps
 pub mod Looking
+pub mod Hopping

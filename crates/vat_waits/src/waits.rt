@@ -1,10 +1,14 @@
-ghost use Rattle.std.specs.Prelude.{◌≡◌, ◌≢◌, ◌↔◌, ◌+◌, ◌≤◌, ◌<◌, ◌-◌, [], None, Some, Err, IsTrue, IsOk, IsSome, IfOk, OnOk, OnErr, MatchBool, option_copied};
+ghost use Rattle.std.specs.Prelude.{◌≡◌, ◌≢◌, ◌↔◌, ◌+◌, ◌≤◌, ◌<◌, ◌-◌, List, [], None, Some, Err, IsTrue, IsOk, IsSome, IfOk, OnOk, OnErr, MatchBool, option_copied};
 ghost use Rattle.std.specs.FinMap as map;
+ghost use Rattle.rpc_msg.specs.Op.{Op};
+ghost use Rattle.vat_machine.specs.declared.node.Node.{Node};
+ghost use Rattle.vat_machine.specs.declared.node.Node.TheVariants as node;
 ghost use Rattle.vat_machine.specs.declared.calls.Promise.TheVariants as promise;
 ghost use Rattle.std.specs.List.{list_any};
 ghost use Rattle.vat_waits.specs.Through.{is_by, stamps_waiting};
 
 use crate::entries::{EmbargoEntry, OutcomeEntry, PromiseEntry};
+use crate::hops::{Hop, Hops, from_field, from_promise, place_of};
 use crate::put::put;
 use crate::through::{embargoes_hold, outcomes_hold, promises_hold};
 use rpc_msg::{EmbargoId, Memory, Path, RefId, Vat};
@@ -24,6 +28,7 @@ pub struct Waits {
     embargoes: Picked<EmbargoEntry>,
     taken: Option<ListKey>,
     pool: HeldPool<HeldCall>,
+    alloc: Global,
     // So many more entries of each kind, and as many calls, need no more memory.
     room: usize,
 }
@@ -31,6 +36,7 @@ pub struct Waits {
 impl Model for Waits {
     ghost use Rattle.vat_waits.specs.Waiting.{Waiting, waiting_code, waiting_of, HasRoom};
     ghost use Rattle.vat_waits.specs.Owned.{IsOwned, list_at};
+    ghost use Rattle.vat_waits.specs.Links.{HopsHold};
 
     ghost Value = { Waiting };
 
@@ -40,11 +46,13 @@ impl Model for Waits {
 
     ghost invariant = { λ a.
         IsOwned (list_at a.promises.entries a.outcomes.entries a.embargoes.entries a.taken) a.pool.lists
-        × HasRoom a.promises a.outcomes a.embargoes a.pool a.room };
+        × HasRoom a.promises a.outcomes a.embargoes a.pool a.room
+        × HopsHold a.promises.entries a.outcomes.entries };
 }
 
 impl Waits {
     ghost use Rattle.vat_machine.specs.Nodes.{promise_link, value_of};
+    ghost use Rattle.vat_waits.specs.Links.{IsHop, Leads, link_of};
     ghost use Rattle.vat_waits.specs.Changes.{HeldForPromise, HeldForField, HeldUnder, IsOpen, Fixes, Knows, TakesHeld, outcome_parts, caller_of, HasNoneWaiting, Lifts, TakesNext, embargo_parts};
 
     /// Nothing waits. Takes no memory.
@@ -57,6 +65,7 @@ impl Waits {
             embargoes: Picked::new(alloc),
             taken: None,
             pool: HeldPool::new(alloc),
+            alloc,
             room: 0,
         }
     }
@@ -132,6 +141,7 @@ impl Waits {
         let entry = PromiseEntry {
             to: None,
             list: None,
+            hops: Hops::new(self.alloc),
         };
         let Ok(key) = self.promises.add(entry) else {
             return Err(Memory);
@@ -194,13 +204,16 @@ impl Waits {
         };
         place.to = Some(to);
         place.list = None;
+        place.hops.clear();
         self.taken = list;
         Ok(())
     }
 
-    /// Takes out the promise with that key, which must not be open, and says where it led. Takes no memory.
+    /// Takes out the promise with that key, which must not be open, and to which no link may lead, and says where it led.
+    /// Takes no memory.
     pub fn remove_promise(&mut self, key: u64) -> Option<Node>
-        requires { ¬ (IsOpen (map.get self.old.promises key)) }
+        requires settled { ¬ (IsOpen (map.get self.old.promises key)) }
+        requires no_link { (n : Node) → link_of self.old n ≢ Some (node.Promise key) }
         ensures value { result ≡ promise_link (map.get self.old.promises key) }
         ensures removed { self.new ≡ record self.old { promises = map.remove self.old.promises key } }
     {
@@ -240,6 +253,7 @@ impl Waits {
             caller,
             value: None,
             list: None,
+            hops: Hops::new(self.alloc),
         };
         let Ok(key) = self.outcomes.add(entry) else {
             return Err(Memory);
@@ -276,17 +290,24 @@ impl Waits {
         Ok(())
     }
 
-    /// Notes what an outcome is, in the place of what was known of it before. `Err` where there is no such outcome; nothing
-    /// is changed then. Takes no memory.
+    /// Notes what an outcome is that was not known before. `Err` where there is no such outcome, or it is known; nothing is
+    /// changed then. Takes no memory.
     pub fn know(&mut self, key: u64, value: Value) -> Result<(), Memory>
         ensures ok { OnOk result (Knows self.old key value (map.get self.old.outcomes key) self.new) }
-        ensures never { IsSome (map.get self.old.outcomes key) → IsOk result }
+        ensures never { IsSome (map.get self.old.outcomes key) → value_of (map.get self.old.outcomes key) ≡ None → IsOk result }
         ensures same { OnErr result (self.new ≡ self.old) }
     {
-        let Some(place) = self.outcomes.get_mut(key) else {
+        let Some(entry) = self.outcomes.get(key) else {
             return Err(Memory);
         };
+        let None = entry.value else {
+            return Err(Memory);
+        };
+        let Some(place) = self.outcomes.get_mut(key) else {
+            unreachable!()
+        };
         place.value = Some(value);
+        place.hops.clear();
         Ok(())
     }
 
@@ -313,9 +334,11 @@ impl Waits {
         Ok(())
     }
 
-    /// Takes out the outcome with that key, for which no call may wait, and says whose it was and what. Takes no memory.
+    /// Takes out the outcome with that key, for which no call may wait, and to a field of which no link may lead, and says
+    /// whose it was and what. Takes no memory.
     pub fn remove_outcome(&mut self, key: u64) -> Option<(Caller, Option<Value>)>
-        requires { HasNoneWaiting (map.get self.old.outcomes key) }
+        requires none_waiting { HasNoneWaiting (map.get self.old.outcomes key) }
+        requires no_link { (n : Node) (path : List Op) → link_of self.old n ≢ Some (node.Field key path) }
         ensures value { result ≡ outcome_parts (map.get self.old.outcomes key) }
         ensures removed { self.new ≡ record self.old { outcomes = map.remove self.old.outcomes key } }
     {
@@ -323,6 +346,7 @@ impl Waits {
             caller,
             value,
             list: _,
+            hops: _,
         } = self.outcomes.remove(key)?;
         Some((caller, value))
     }
@@ -349,6 +373,67 @@ impl Waits {
         ensures { option_copied result ≡ value_of (map.get self.now.outcomes key) }
     {
         self.outcomes.get(key)?.value.as_ref()
+    }
+
+    /// A way along the links from a node: at most so many as are left, and all that can be followed at once. None where it
+    /// has no link, or none is left. Takes no memory.
+    pub fn hop(&self, node: Node, left: u64) -> Option<Hop>
+        ensures { IsHop (link_of self.now) left node result }
+    {
+        if left == 0 {
+            return None;
+        }
+        match node {
+            Node::Promise(key) => from_promise(self.promises.get(key)?, left),
+            Node::Field(key, path) => from_field(self.outcomes.get(key)?, path.as_slice(), left),
+            Node::Object(_) => None,
+            Node::Import(_) => None,
+            Node::Pipe(_, _) => None,
+            Node::Broken(_) => None,
+        }
+    }
+
+    /// Has `hop` lead that way from a node, as far as there is memory for it. What waits stays as it is.
+    pub fn shorten(&mut self, node: Node, hop: Hop)
+        requires some { 0 < hop.far }
+        requires way { Leads (link_of self.old) hop.far node hop.to }
+        ensures { self.new ≡ self.old }
+    {
+        match node {
+            Node::Promise(key) => self.shorten_promise(key, hop),
+            Node::Field(key, path) => self.shorten_field(key, path, hop),
+            Node::Object(_) => {}
+            Node::Import(_) => {}
+            Node::Pipe(_, _) => {}
+            Node::Broken(_) => {}
+        }
+    }
+
+    // The same of a promise.
+    fn shorten_promise(&mut self, key: u64, hop: Hop)
+        requires some { 0 < hop.far }
+        requires way { Leads (link_of self.old) hop.far (node.Promise key) hop.to }
+        ensures { self.new ≡ self.old }
+    {
+        let Some(place) = self.promises.get_mut(key) else {
+            return;
+        };
+        place.hops.keep(0, 1, hop);
+    }
+
+    // The same of what stands at a path of an outcome, where that is one of its capabilities.
+    fn shorten_field(&mut self, key: u64, path: Path, hop: Hop)
+        requires some { 0 < hop.far }
+        requires way { Leads (link_of self.old) hop.far (node.Field key path) hop.to }
+        ensures { self.new ≡ self.old }
+    {
+        let Some(place) = self.outcomes.get_mut(key) else {
+            return;
+        };
+        let Some((index, count)) = place_of(&place.value, path.as_slice()) else {
+            return;
+        };
+        place.hops.keep(index, count, hop);
     }
 
     /// Puts the calls of a reference that leads to that node under a new embargo, and gives its id, which was free. `Err`

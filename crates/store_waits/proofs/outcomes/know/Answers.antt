@@ -1,24 +1,31 @@
-use Rattle.std.proofs.Common.{List, length, ap, ◌∙◌, arith}
-use Rattle.vat_machine.specs.declared.node.Node.{Node}
+use Rattle.std.proofs.Common.{◌≡◌, ◌-◌, ◌+◌, length, sym, subst}
+use Rattle.std.specs.FinMap as map
 use Rattle.vat_machine.specs.Progress.{caps_of}
-use Rattle.vat_names.specs.Names.{Names}
+use Rattle.vat_names.specs.Names.{named_all}
+use Rattle.vat_store.specs.declared.store.Store.{Store}
+use Rattle.vat_store.specs.Holding.{state_of, IsSound}
+use Rattle.vat_store.specs.Noted.{noted_of}
+use Rattle.store_waits.specs.Changes.{Knows}
 use Rattle.store_waits.specs.Noting.{noted_unnamed}
-use Rattle.store_waits.proofs.Beside.{named_each, can_note}
-use Rattle.store_waits.proofs.Knowing.{is_unknown, sound_known}
 use Rattle.store_waits.proofs.outcomes.know.Goals as goal
 
-pub note_unnamed-requires : goal.note_unnamed-requires
-note_unnamed-requires c =
-    let x = c.args.store.now in
-    let some = c.requires.slack in
-    can_note x (caps_of c.args.value) c.add_all.new.self c.requires.sound (omega (arith, some))
-    (named_each x c.caps_of.result.now (caps_of c.args.value) c.add_all.new.self c.requires.sound c.caps_of.ensures (omega (arith, some)) c.in-Ok.ensures.in_room)
+pub shorten_caps-requires : goal.shorten_caps-requires
+shorten_caps-requires c = c.know_value.ensures.sound
+
+pub returns-clause-ok : goal.returns-clause-ok
+returns-clause-ok c =
+    subst (λ (x : Store). Knows (state_of c.args.store.now) c.args.key c.args.value (map.get (state_of c.args.store.now).outcomes c.args.key) (state_of x)) (sym c.shorten_caps.ensures) c.in_ok-know_value.ensures.ok
+
+pub returns-clause-taken : goal.returns-clause-taken
+returns-clause-taken c = subst (λ (x : Store). x.waits.taken ≡ c.args.store.now.waits.taken) (sym c.shorten_caps.ensures) c.know_value.ensures.taken
+
+pub returns-clause-left : goal.returns-clause-left
+returns-clause-left c =
+    subst (λ (x : Store). x.slack ≡ c.args.store.now.slack - (length (caps_of c.args.value) + 1)) (sym c.shorten_caps.ensures) c.in_ok-know_value.ensures.left
+
+pub returns-clause-noted : goal.returns-clause-noted
+returns-clause-noted c =
+    subst (λ (x : Store). noted_of x.names ≡ noted_of (noted_unnamed (named_all c.args.store.now.names (caps_of c.args.value)) c.args.key)) (sym c.shorten_caps.ensures) c.in_ok-know_value.ensures.noted
 
 pub returns-clause-sound : goal.returns-clause-sound
-returns-clause-sound c =
-    let x = c.args.store.now in
-    let some = c.requires.slack in
-    sound_known x c.args.key c.args.value c.know.new.self c.note_unnamed.new.names (length c.caps_of-count.result.now) (ap (λ (ns : List Node). length ns) c.caps_of-count.ensures)
-    (is_unknown _ c.in-Some._caller c.in-Some.ensures c.in-None.ensures) c.requires.sound some c.in-Ok-know.ensures.ok
-    (c.note_unnamed.ensures ∙ ap (λ (d : Names). noted_unnamed d c.args.key)
-    (named_each x c.caps_of.result.now (caps_of c.args.value) c.add_all.new.self c.requires.sound c.caps_of.ensures (omega (arith, some)) c.in-Ok.ensures.in_room))
+returns-clause-sound c = subst (λ (x : Store). IsSound x) (sym c.shorten_caps.ensures) c.know_value.ensures.sound

@@ -1,12 +1,12 @@
 use Rattle.std.proofs.Common.{◌≡◌}
-use Rattle.vat_machine.specs.Nodes.{follow, settle}
+use Rattle.vat_machine.specs.Nodes.{link, follow, settle}
+use Rattle.vat_waits.specs.Links.{IsHop}
 use Rattle.vat_store.specs.Holding.{state_of}
-use Rattle.vat_store.specs.Walking.{link_within}
 use Rattle.vat_store.proofs.walk.follow.Given as goal
 
 abbrev pub invariant-loop-next : goal.invariant-loop-next
 invariant-loop-next l = record {
-  next : l.next ≡ link_within (state_of l.store) l.left l.at;
+  next : IsHop (link (state_of l.store)) l.left l.at l.next;
   leads : follow (state_of l.store) l.left l.at ≡ settle (state_of l.store) l.fn.node;
 }
 

@@ -1,4 +1,3 @@
-use Rattle.std.proofs.Common.{length}
 use Rattle.vat_connection.specs.Speaking.{Speaking, Says}
 use Rattle.vat_connection.proofs.speaker.Speaker.say.Given as goal
 
@@ -6,4 +5,4 @@ abbrev pub invariant-loop-message : goal.invariant-loop-message
 invariant-loop-message l = (new : Speaking) → Says l.self new → Says l.fn.self new
 
 abbrev pub decreases-loop-message : goal.decreases-loop-message
-decreases-loop-message l = length l.self.host.messages
+decreases-loop-message l = l.left

@@ -12,10 +12,10 @@ loop-message-smaller c = fewer c.loop-message.self-inside.host c.next_message.ne
 pub loop-message-preserved : goal.loop-message-preserved
 loop-message-preserved c =
     λ new p. c.loop-message.invariant new
-    (one_passes c.loop-message.self-inside.host c.next_message.new.self c.loop-message.self-inside.out c.put_abort.new.out c.loop-message.self-inside.heard c.in-Some.message new
+    (one_passes c.loop-message.self-inside.host c.next_message.new.self c.loop-message.self-inside.out c.put_abort.new.out c.loop-message.self-inside.adapter c.loop-message.self-inside.heard c.in-Some.message new
     c.in-Some.ensures.oldest c.put_abort.ensures p)
 
 pub returns : goal.returns
 returns c =
     c.loop-message.invariant _
-    (none_passes c.loop-message.self-inside.host c.next_message.new.self c.loop-message.self-inside.out c.loop-message.self-inside.heard c.in_default.ensures.none.0 c.in_default.ensures.none.1)
+    (none_passes c.loop-message.self-inside.host c.next_message.new.self c.loop-message.self-inside.out c.loop-message.self-inside.adapter c.loop-message.self-inside.heard c.in_default.ensures.none.0 c.in_default.ensures.none.1)

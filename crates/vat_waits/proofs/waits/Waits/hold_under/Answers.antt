@@ -10,12 +10,12 @@ put-requires c =
 
 pub invariant_of-self : goal.invariant_of-self
 invariant_of-self c =
-    (owned_again _ _ _ c.in_err-list.ensures.same c.self.invariant.0, record { for_promises = c.self.invariant.1.for_promises; for_outcomes = c.self.invariant.1.for_outcomes; for_embargoes = c.self.invariant.1.for_embargoes; for_calls = let room = c.self.invariant.1.for_calls in let kept = c.in_err-list.ensures.keeps_room in omega (arith, room, kept) })
+    (owned_again _ _ _ c.in_err-list.ensures.same c.self.invariant.0, record { for_promises = c.self.invariant.1.for_promises; for_outcomes = c.self.invariant.1.for_outcomes; for_embargoes = c.self.invariant.1.for_embargoes; for_calls = let room = c.self.invariant.1.for_calls in let kept = c.in_err-list.ensures.keeps_room in omega (arith, room, kept) }, c.self.invariant.2)
 
 pub invariant_of-self-2 : goal.invariant_of-self-2
 invariant_of-self-2 c =
     let room = c.self.invariant.1 in let less = c.saturating_sub-self-inside.ensures in
-    (put_owned_embargo _ _ _ _ _ _ _ _ c.self.invariant.0 _ _ _ c.in-Some.ensures c.in-Some-get_mut.ensures.value c.in_ok-list.ensures.place c.in_ok-list.ensures.ok, record { for_promises = omega (arith, less, room.for_promises); for_outcomes = omega (arith, less, room.for_outcomes); for_embargoes = omega (arith, less, room.for_embargoes); for_calls = omega (arith, less, room.for_calls, c.put.ensures.room) })
+    (put_owned_embargo _ _ _ _ _ _ _ _ c.self.invariant.0 _ _ _ c.in-Some.ensures c.in-Some-get_mut.ensures.value c.in_ok-list.ensures.place c.in_ok-list.ensures.ok, record { for_promises = omega (arith, less, room.for_promises); for_outcomes = omega (arith, less, room.for_outcomes); for_embargoes = omega (arith, less, room.for_embargoes); for_calls = omega (arith, less, room.for_calls, c.put.ensures.room) }, c.self.invariant.2)
 
 pub returns-in_default-clause-had_room : goal.returns-in_default-clause-had_room
 returns-in_default-clause-had_room c =

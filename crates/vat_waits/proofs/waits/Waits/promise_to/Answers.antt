@@ -1,5 +1,6 @@
 use Rattle.std.proofs.Common.{sym, ap, ◌∙◌, option_copied}
-use Rattle.vat_waits.proofs.Seen.{to_of, link_seen}
+use Rattle.vat_waits.specs.Links.{to_of}
+use Rattle.vat_waits.proofs.Seen.{link_seen}
 use Rattle.vat_waits.proofs.waits.Waits.promise_to.Goals as goal
 
 pub returns-in_err-get : goal.returns-in_err-get

@@ -1,0 +1,135 @@
+/* The codes of the C interface that no other language's face of it lets through: of an empty handle and one in use, of too little room,
+ * of numbers that are none, of bytes that are no payload. Two vats in one process. */
+#include "lovendak.h"
+#include <stdio.h>
+#include <stdlib.h>
+#include <string.h>
+
+_Static_assert(sizeof(lovendak) == 16 && offsetof(lovendak, at) == 8, "the handle's layout");
+_Static_assert(sizeof(lovendak_event) == 56 && offsetof(lovendak_event, payload_len) == 40, "the event's layout");
+
+/* What a length of 0 stands beside: a pointer is never null. */
+static const uint64_t no_refs[1];
+static const uint16_t no_path[1];
+static const uint8_t no_text[1];
+
+#define IS(is, wanted) check((unsigned long long)(is), (unsigned long long)(wanted), #is, __LINE__)
+
+static void check(unsigned long long is, unsigned long long wanted, const char *what, int line) {
+  if (is == wanted) return;
+  printf("codes.c:%d: %s is %llu, not %llu\n", line, what, is, wanted);
+  exit(1);
+}
+
+static void hand_over(lovendak *from, lovendak *to) {
+  uint8_t bytes[7];
+  size_t len;
+  do {
+    IS(lovendak_outgoing(from, bytes, sizeof bytes, &len), LOVENDAK_OK);
+    IS(lovendak_received(to, bytes, len), LOVENDAK_OK);
+  } while (len > 0);
+}
+
+/* Every call on an empty handle answers the same, and writes nothing. */
+static void empty_handle(lovendak *vat) {
+  lovendak_event event = {0};
+  uint8_t bytes[8] = {0};
+  uint64_t number = 77, more = 77;
+  uint32_t small = 77;
+  size_t len = 77;
+  IS(lovendak_free(vat), LOVENDAK_EMPTY_HANDLE);
+  IS(lovendak_received(vat, bytes, 8), LOVENDAK_EMPTY_HANDLE);
+  IS(lovendak_ended(vat), LOVENDAK_EMPTY_HANDLE);
+  IS(lovendak_outgoing(vat, bytes, 8, &len), LOVENDAK_EMPTY_HANDLE);
+  IS(lovendak_pending(vat, &len, &small), LOVENDAK_EMPTY_HANDLE);
+  IS(lovendak_next_event(vat, &event, bytes, 8, &number, 1), LOVENDAK_EMPTY_HANDLE);
+  IS(lovendak_down(vat, &small), LOVENDAK_EMPTY_HANDLE);
+  IS(lovendak_shares_nothing(vat, &small), LOVENDAK_EMPTY_HANDLE);
+  IS(lovendak_calls_made(vat, 0, &number), LOVENDAK_EMPTY_HANDLE);
+  IS(lovendak_bootstrap(vat, &number), LOVENDAK_EMPTY_HANDLE);
+  IS(lovendak_result_of(vat, 0, &number), LOVENDAK_EMPTY_HANDLE);
+  IS(lovendak_field(vat, 0, no_path, 0, &number), LOVENDAK_EMPTY_HANDLE);
+  IS(lovendak_host(vat, 0, &number), LOVENDAK_EMPTY_HANDLE);
+  IS(lovendak_clone_ref(vat, 0, &number), LOVENDAK_EMPTY_HANDLE);
+  IS(lovendak_drop_ref(vat, 0), LOVENDAK_EMPTY_HANDLE);
+  IS(lovendak_call(vat, 0, 0, 0, bytes, 8, no_refs, 0, &number), LOVENDAK_EMPTY_HANDLE);
+  IS(lovendak_finish(vat, 0), LOVENDAK_EMPTY_HANDLE);
+  IS(lovendak_answer(vat, 0, bytes, 8, no_refs, 0), LOVENDAK_EMPTY_HANDLE);
+  IS(lovendak_fail(vat, 0, 0, no_text, 0), LOVENDAK_EMPTY_HANDLE);
+  IS(lovendak_promise(vat, &number, &more), LOVENDAK_EMPTY_HANDLE);
+  IS(lovendak_resolve(vat, 0, 0), LOVENDAK_EMPTY_HANDLE);
+  IS(lovendak_reject(vat, 0, 0, no_text, 0), LOVENDAK_EMPTY_HANDLE);
+  IS(lovendak_advance(vat, 0, &small), LOVENDAK_EMPTY_HANDLE);
+  IS(lovendak_shut(vat, 0), LOVENDAK_EMPTY_HANDLE);
+  IS(number == 77 && more == 77 && small == 77 && len == 77 && event.kind == 0, 1);
+}
+
+/* Room that is too small takes nothing, and says what is wanted. */
+static void small_rooms(lovendak *a, lovendak *b) {
+  static const uint16_t first[] = {0};
+  const uint64_t numbers[] = {5, 6};
+  uint8_t payload[128], text[8];
+  uint64_t call, root, own, number, refs[2], given[2];
+  size_t len, index;
+  lovendak_event event;
+  IS(lovendak_bootstrap(a, &call), LOVENDAK_OK);
+  IS(lovendak_result_of(a, call, &root), LOVENDAK_OK);
+  IS(lovendak_host(a, 9, &own), LOVENDAK_OK);
+  given[0] = own, given[1] = root;
+  IS(lovendak_contents(numbers, 2, (const uint8_t *)"text", 4, 2, payload, 8, &len), LOVENDAK_ROOM);
+  IS(len, 8 + 8 * (1 + 2 + 3 + 1)); /* the frame's head; the root pointer, two data words, three pointers, the text */
+  IS(lovendak_contents(numbers, 2, (const uint8_t *)"text", 4, 2, payload, sizeof payload, &len), LOVENDAK_OK);
+  IS(lovendak_call(a, root, 1, 2, payload, len, given, 2, &call), LOVENDAK_OK);
+  hand_over(a, b);
+  memset(payload, 0, sizeof payload);
+  IS(lovendak_next_event(b, &event, payload, len - 1, refs, 2), LOVENDAK_ROOM);
+  IS(lovendak_next_event(b, &event, payload, len, refs, 1), LOVENDAK_ROOM);
+  IS(event.kind == LOVENDAK_SERVE && event.payload_len == len && event.refs_len == 2, 1);
+  IS(lovendak_next_event(b, &event, payload, len, refs, 2), LOVENDAK_OK);
+  IS(lovendak_next_event(b, &event, payload, len, refs, 2), LOVENDAK_NOTHING);
+  IS(lovendak_number_at(payload, len, 2, 1, &number), LOVENDAK_OK);
+  IS(number, 6);
+  IS(lovendak_text_at(payload, len, 2, 0, text, 3, &len), LOVENDAK_ROOM);
+  IS(len, 4);
+  len = event.payload_len;
+  IS(lovendak_ref_at(payload, len, 2, first, 1, &index), LOVENDAK_NOTHING);
+  IS(lovendak_text_at(payload, len, 2, 1, text, sizeof text, &len), LOVENDAK_NOTHING);
+}
+
+static void no_such_numbers(lovendak *vat) {
+  lovendak other = LOVENDAK_EMPTY;
+  uint64_t call;
+  size_t len;
+  uint8_t out[64];
+  IS(lovendak_new(vat, 1, 0, 0), LOVENDAK_IN_USE);
+  IS(lovendak_new(&other, 2, 0, 0), LOVENDAK_NO_SUCH_NUMBER);
+  IS(lovendak_fail(vat, 0, 4, no_text, 0), LOVENDAK_NO_SUCH_NUMBER);
+  IS(lovendak_reject(vat, 0, 4, no_text, 0), LOVENDAK_NO_SUCH_NUMBER);
+  IS(lovendak_shut(vat, 65536), LOVENDAK_NO_SUCH_NUMBER);
+  IS(lovendak_fail(vat, 0, 0, (const uint8_t *)"\xff", 1), LOVENDAK_NO_PAYLOAD);
+  IS(lovendak_contents(no_refs, 0, (const uint8_t *)"\xff", 1, 0, out, sizeof out, &len), LOVENDAK_NO_PAYLOAD);
+  IS(lovendak_call(vat, 0, 0, 0, (const uint8_t *)"none", 4, no_refs, 0, &call), LOVENDAK_NO_PAYLOAD);
+}
+
+int main(void) {
+  lovendak a = LOVENDAK_EMPTY, b;
+  uint32_t number;
+  memset(&b, 0x55, sizeof b); /* a handle that was never set: empty, since the magic number is not there */
+  IS(lovendak_version(), 1);
+  empty_handle(&a);
+  empty_handle(&b);
+  IS(lovendak_new(&a, 1, 0, 0), LOVENDAK_OK);
+  IS(lovendak_new(&b, 1, 1, 0), LOVENDAK_OK);
+  small_rooms(&a, &b);
+  no_such_numbers(&a);
+  IS(lovendak_down(&a, &number), LOVENDAK_NOTHING);
+  IS(lovendak_shut(&a, 65535), LOVENDAK_OK);
+  IS(lovendak_down(&a, &number), LOVENDAK_OK);
+  IS(number, 65535);
+  IS(lovendak_free(&a), LOVENDAK_OK);
+  IS(lovendak_free(&b), LOVENDAK_OK);
+  empty_handle(&a);
+  empty_handle(&b);
+  puts("the codes are right");
+  return 0;
+}

@@ -1,0 +1,199 @@
+/* Lovendak: a vat for Cap'n Proto RPC (rpc.capnp, two parties, levels 0 and 1), as a library without input or output of its own.
+ *
+ * An application hands over the bytes that came from the peer (`lovendak_received`), serves what it is told
+ * (`lovendak_next_event`), commands its vat, and sends the bytes that go out (`lovendak_outgoing`). What references, calls, tasks
+ * and promises are, and what has to be given back, stands in docs/embedding.md.
+ *
+ * Each function but `lovendak_version` answers a code. What a pointer is to get is written where the code is LOVENDAK_OK, and else
+ * only where that is said. A command that is refused changes nothing. Of several codes EMPTY_HANDLE comes first.
+ *
+ * Memory: the library keeps no pointer that it is given, and gives out none of its own: what goes in is read during the call,
+ * what comes out is copied into room of the caller. Where memory is wanting it says so; it never ends the process.
+ *
+ * Threads: one call at a time for a handle, from whichever thread. Two handles share nothing. There is no lock, no clock, no
+ * callback and no global state.
+ *
+ * What the library can't see, and its caller must not do:
+ * - change the bytes of a handle, or use two copies of it, which would be one vat. It may be moved, if the old bytes are then left.
+ * - call with a handle from two threads at once, from a signal handler, or in the forked child of a process with threads.
+ * - hand over a pointer that is null or not aligned, even beside a length of 0, or that has less behind it than the length says; or
+ *   two in one call whose memory overlaps.
+ * - hand a handle that was never set to `lovendak_new`. All zeros are an empty one: `lovendak vat = LOVENDAK_EMPTY;`
+ */
+#ifndef LOVENDAK_H
+#define LOVENDAK_H
+#include <stddef.h>
+#include <stdint.h>
+#ifdef __cplusplus
+extern "C" {
+#endif
+
+/* A vat, which `lovendak_free` lets go, or nothing. */
+typedef struct lovendak {
+  uint32_t magic;
+  void *at;
+} lovendak;
+
+#define LOVENDAK_EMPTY {0, NULL}
+
+enum {
+  LOVENDAK_OK = 0,
+  LOVENDAK_MEMORY = 1,          /* a growth was refused */
+  LOVENDAK_FULL = 2,            /* a limit is reached, or contents are too large for a message */
+  LOVENDAK_DOWN = 3,            /* the vat is down */
+  LOVENDAK_UNKNOWN_REF = 4,     /* no such reference: it was dropped, or is of another vat */
+  LOVENDAK_UNKNOWN_CALL = 5,    /* no such call, or it was finished */
+  LOVENDAK_UNKNOWN_TASK = 6,    /* no such task, or it was answered */
+  LOVENDAK_UNKNOWN_PROMISE = 7, /* no such promise, or it was settled */
+  LOVENDAK_CYCLE = 8,           /* the promise would lead to itself */
+  LOVENDAK_CAP_COUNT = 9,       /* the payload has another number of capabilities than references were given */
+  LOVENDAK_LONG_PATH = 10,      /* a path has more than 16 steps */
+  LOVENDAK_LEVEL = 11,          /* a vat of level 0 has no promises and sends no references */
+  LOVENDAK_EMPTY_HANDLE = 100,
+  LOVENDAK_IN_USE = 101,        /* the handle has a vat */
+  LOVENDAK_NO_PAYLOAD = 102,    /* the bytes are no payload, or the text is no UTF-8 */
+  LOVENDAK_ROOM = 103,          /* too little room: nothing was taken, and the lengths are said */
+  LOVENDAK_NOTHING = 104,       /* there is nothing of the kind */
+  LOVENDAK_NO_SUCH_NUMBER = 105 /* no such level, kind of exception, number to shut with, or index */
+};
+
+/* Kinds of exceptions. */
+enum { LOVENDAK_FAILED = 0, LOVENDAK_OVERLOADED = 1, LOVENDAK_DISCONNECTED = 2, LOVENDAK_UNIMPLEMENTED = 3 };
+
+/* Kinds of events. */
+enum { LOVENDAK_SERVE = 1, LOVENDAK_ENDED = 2, LOVENDAK_WENT_DOWN = 3 };
+
+/* What `lovendak_advance` did. */
+enum { LOVENDAK_UNCHANGED = 0, LOVENDAK_SWITCHED = 1, LOVENDAK_EMBARGOED = 2, LOVENDAK_BROKE = 3 };
+
+/* What an application is told. A field that an event has no use for is 0. */
+typedef struct lovendak_event {
+  uint32_t kind;         /* LOVENDAK_SERVE a call to serve, LOVENDAK_ENDED an own call that ended, LOVENDAK_WENT_DOWN */
+  uint32_t method;       /* to serve: the method */
+  uint32_t is_exception; /* ended: 1 where it failed; then the reason, as UTF-8, comes in the payload's room */
+  uint32_t exception;    /* ended: the kind of the exception */
+  uint64_t number;       /* to serve: the task; ended: the call; down: the number with which the vat went down */
+  uint64_t object;       /* to serve: the object, by the number that its application gave it */
+  uint64_t interface_id; /* to serve: the interface */
+  size_t payload_len;    /* bytes of the payload, or of the reason */
+  size_t refs_len;       /* references, one for each capability of the payload; each is to be dropped */
+} lovendak_event;
+
+/* The number of this interface: 1. */
+uint32_t lovendak_version(void);
+
+/* Puts a vat into an empty handle, of level 0 or 1, and where `has_root` is not 0 with the object `root` as its bootstrap object.
+ * IN_USE where the handle has a vat, NO_SUCH_NUMBER of another level, MEMORY. */
+uint32_t lovendak_new(lovendak *vat, uint32_t level, uint32_t has_root, uint64_t root);
+
+/* Lets a vat go, and leaves the handle empty. EMPTY_HANDLE of one that is empty already, which does no harm. */
+uint32_t lovendak_free(lovendak *vat);
+
+/* From here to `lovendak_shut`, each function answers EMPTY_HANDLE where the handle is empty. */
+
+/* Takes bytes that came from the peer, in any pieces, and drops them where the vat is down. A fault in them, or want of memory, is
+ * no code: it takes the vat down, which is an event. */
+uint32_t lovendak_received(lovendak *vat, const uint8_t *bytes, size_t len);
+
+/* The peer's stream has ended: the vat goes down, with 0, or inside a message with 2. */
+uint32_t lovendak_ended(lovendak *vat);
+
+/* Copies bytes that are to be sent, each once, as many as there is room for, and says how many. Ask until it says 0: less than the
+ * room does not mean that nothing is left. */
+uint32_t lovendak_outgoing(lovendak *vat, uint8_t *out, size_t room, size_t *len);
+
+/* How many bytes the next `lovendak_outgoing` gives, with that much room: 0 where none are to be sent. And whether there is an event
+ * (1) or none (0). Takes nothing. */
+uint32_t lovendak_pending(lovendak *vat, size_t *bytes, uint32_t *has_event);
+
+/* Takes the oldest event: calls to serve, then own calls that ended, then once that the vat is down. Its payload (framed segments,
+ * as Cap'n Proto writes a message) and its references are copied into the rooms given. NOTHING where there is none; ROOM where one
+ * of the rooms is too small: the event is filled in, and stays. Ask until there is none, send what goes out, and ask once more,
+ * since what can't be sent takes the vat down. */
+uint32_t lovendak_next_event(lovendak *vat, lovendak_event *event, uint8_t *payload, size_t room, uint64_t *refs, size_t refs_room);
+
+/* The number with which the vat went down; NOTHING while it is up. */
+uint32_t lovendak_down(lovendak *vat, uint32_t *number);
+
+/* 1 where nothing is left between the two vats: no question, answer, export or import; else 0. */
+uint32_t lovendak_shares_nothing(lovendak *vat, uint32_t *answer);
+
+/* How many calls were made through a reference. UNKNOWN_REF. */
+uint32_t lovendak_calls_made(lovendak *vat, uint64_t ref, uint64_t *made);
+
+/* Commands. Each may answer DOWN (but `lovendak_shut`), FULL and MEMORY, and what is named beside it. */
+
+/* Asks the peer for its bootstrap object: a call, whose result is that object. */
+uint32_t lovendak_bootstrap(lovendak *vat, uint64_t *call);
+
+/* A reference to what a call gives, now or later. UNKNOWN_CALL. */
+uint32_t lovendak_result_of(lovendak *vat, uint64_t call, uint64_t *ref);
+
+/* A reference to what stands in a call's results at a path of pointers' numbers, now or later. UNKNOWN_CALL, LONG_PATH. */
+uint32_t lovendak_field(lovendak *vat, uint64_t call, const uint16_t *path, size_t steps, uint64_t *ref);
+
+/* A reference to an object of the application, which knows it by that number. */
+uint32_t lovendak_host(lovendak *vat, uint64_t object, uint64_t *ref);
+
+/* A second reference to the same. UNKNOWN_REF. */
+uint32_t lovendak_clone_ref(lovendak *vat, uint64_t ref, uint64_t *made);
+
+/* Lets a reference go. UNKNOWN_REF. */
+uint32_t lovendak_drop_ref(lovendak *vat, uint64_t ref);
+
+/* Makes a call, with a payload (framed segments) and a reference for each of its capabilities, which stay the caller's. The
+ * reference that is called takes the shorter path before, where one is known. NO_PAYLOAD where the bytes are no payload with so many
+ * capabilities, UNKNOWN_REF, LEVEL. */
+uint32_t lovendak_call(lovendak *vat, uint64_t ref, uint64_t interface_id, uint16_t method, const uint8_t *payload, size_t len,
+                       const uint64_t *refs, size_t refs_len, uint64_t *call);
+
+/* The application has no more use for a call, which need not have ended. UNKNOWN_CALL. */
+uint32_t lovendak_finish(lovendak *vat, uint64_t call);
+
+/* Gives a task its results, as `lovendak_call` takes contents. NO_PAYLOAD, UNKNOWN_TASK, UNKNOWN_REF, LEVEL. */
+uint32_t lovendak_answer(lovendak *vat, uint64_t task, const uint8_t *payload, size_t len, const uint64_t *refs, size_t refs_len);
+
+/* Gives a task an exception. NO_SUCH_NUMBER of another kind, NO_PAYLOAD of a reason that is no UTF-8, UNKNOWN_TASK. */
+uint32_t lovendak_fail(lovendak *vat, uint64_t task, uint32_t kind, const uint8_t *reason, size_t len);
+
+/* Makes a promise, and a reference to it. LEVEL. */
+uint32_t lovendak_promise(lovendak *vat, uint64_t *promise, uint64_t *ref);
+
+/* Settles a promise to what a reference leads to; the reference stays the caller's. UNKNOWN_PROMISE, UNKNOWN_REF, CYCLE, LEVEL. */
+uint32_t lovendak_resolve(lovendak *vat, uint64_t promise, uint64_t ref);
+
+/* Breaks a promise. NO_SUCH_NUMBER of another kind, NO_PAYLOAD of a reason that is no UTF-8, UNKNOWN_PROMISE, LEVEL. */
+uint32_t lovendak_reject(lovendak *vat, uint64_t promise, uint32_t kind, const uint8_t *reason, size_t len);
+
+/* Lets a reference take the shorter path, one step, where one is known; what became of it goes to `advanced`. UNKNOWN_REF, LEVEL. */
+uint32_t lovendak_advance(lovendak *vat, uint64_t ref, uint32_t *advanced);
+
+/* Takes the vat down with a number up to 65,535; NO_SUCH_NUMBER of a greater one. Its Abort goes out last. */
+uint32_t lovendak_shut(lovendak *vat, uint32_t number);
+
+/* Contents without a schema compiler. A library that writes and reads Cap'n Proto messages does as well: the root of the message is
+ * the payload, and its capability pointers number the references. `caps` is how many capabilities a payload has. */
+
+/* A struct whose data words are the numbers. The text, UTF-8 without a zero behind it, is its pointer 0, and the capabilities are its
+ * pointers 1, 2 and so on. An empty text has no pointer, and the capabilities are the pointers 0, 1 and so on then: write a struct
+ * with capabilities behind an empty text by other means. ROOM where it takes more bytes; `len` says how many. NO_PAYLOAD where the
+ * text is no UTF-8, FULL where there is too much for a payload, MEMORY. */
+uint32_t lovendak_contents(const uint64_t *numbers, size_t count, const uint8_t *text, size_t text_len, uint32_t caps, uint8_t *out,
+                           size_t room, size_t *len);
+
+/* The data word of that index of the root struct; 0 past its end, and where the root is null. NOTHING where the root is something
+ * else, NO_SUCH_NUMBER of an index above 4,294,967,295, NO_PAYLOAD where the bytes are no payload with so many capabilities, MEMORY. */
+uint32_t lovendak_number_at(const uint8_t *payload, size_t len, uint32_t caps, size_t index, uint64_t *number);
+
+/* The text at that pointer of the root struct, UTF-8 without a zero behind it; an empty one where the pointer is null or not there.
+ * NOTHING where something else stands there; ROOM, where `text_len` says how many bytes it has; NO_PAYLOAD, MEMORY. */
+uint32_t lovendak_text_at(const uint8_t *payload, size_t len, uint32_t caps, uint16_t pointer, uint8_t *out, size_t room,
+                          size_t *text_len);
+
+/* Which of the references stands at a path of pointers' numbers. NOTHING where there is no capability; NO_PAYLOAD, MEMORY. */
+uint32_t lovendak_ref_at(const uint8_t *payload, size_t len, uint32_t caps, const uint16_t *path, size_t steps, size_t *index);
+
+#ifdef __cplusplus
+}
+#endif
+#endif

@@ -1,0 +1,82 @@
+#!/usr/bin/env python3
+"""Serves counters over TCP to peers of any make:  server.py PORT
+
+Of the registry of interop/registry.capnp it has makeCounter, makeRegistry, echo, fail and same."""
+import asyncio
+import contextlib
+import sys
+
+from lovendak import FAILED, SERVED, UNIMPLEMENTED, Contents, Refused, Vat
+
+COUNTER, REGISTRY = 0xA5E1C0FFEE000001, 0xA5E1C0FFEE000004
+ADD = 0
+MAKE_COUNTER, MAKE_REGISTRY, ECHO, FAIL, SAME = 0, 3, 4, 5, 6
+ROOT = 0
+
+
+class Failed(Exception):
+    def __init__(self, reason, kind=FAILED):
+        super().__init__(reason)
+        self.kind = kind
+
+
+class Client(asyncio.Protocol):
+    """A conversation with a client: its vat, and the sums of its counters, whose numbers begin at 1."""
+
+    def connection_made(self, transport):
+        self.transport, self.vat, self.sums = transport, Vat(root=ROOT), []
+
+    def data_received(self, data):
+        self.vat.received(data)
+        for event in self.vat.events():
+            if event.kind == SERVED:
+                with contextlib.suppress(Refused):  # a vat that is down refuses all
+                    self.serve(event)
+        self.transport.write(self.vat.outgoing())
+        if self.vat.down() is not None:
+            self.transport.close()
+
+    def serve(self, call):
+        """Answers a call, and lets go of what came with it and of what was given."""
+        try:
+            results = self.results(call)
+            self.vat.answer(call.task, results)
+            self.vat.drop_ref(*results.refs)
+        except Failed as failed:
+            self.vat.fail(call.task, failed.kind, str(failed))
+        except Refused as refused:
+            self.vat.fail(call.task, FAILED, str(refused))
+        self.vat.drop_ref(*call.contents.refs)
+
+    def results(self, call):
+        """What a method gives."""
+        params = call.contents
+        if (call.object, call.interface) == (ROOT, REGISTRY):
+            if call.method == MAKE_COUNTER:
+                self.sums.append(params.number(0))
+                return Contents.of(refs=[self.vat.host(len(self.sums))])
+            if call.method == MAKE_REGISTRY:
+                return Contents.of(refs=[self.vat.host(ROOT)])
+            if call.method in (ECHO, SAME):
+                return Contents(params.payload, [self.vat.clone_ref(ref) for ref in params.refs])
+            if call.method == FAIL:
+                raise Failed(params.text(0) or "")
+        elif (call.interface, call.method) == (COUNTER, ADD) and call.object != ROOT:
+            return Contents.of([self.add(call.object - 1, params.number(0))])
+        raise Failed("no such method", UNIMPLEMENTED)
+
+    def add(self, counter, by):
+        if self.sums[counter] + by >= 1 << 64:
+            raise Failed("the sum is too large")
+        self.sums[counter] += by
+        return self.sums[counter]
+
+
+async def main(port):
+    server = await asyncio.get_running_loop().create_server(Client, "127.0.0.1", port)
+    print("listening", flush=True)
+    await server.serve_forever()
+
+
+if __name__ == "__main__":
+    asyncio.run(main(int(sys.argv[1])))

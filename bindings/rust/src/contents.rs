@@ -1,0 +1,78 @@
+//! What calls and answers carry.
+
+use crate::ffi;
+use crate::ids::RefId;
+use crate::refusal::Refusal;
+
+/// What a call or an answer carries: a payload, and a reference for each of its capabilities.
+///
+/// `new` makes one of numbers, a text and references, and `number`, `text` and `reference` look into one. For anything else use
+/// another library for Cap'n Proto messages: the payload is a message in framed segments, whose root is what is carried and whose
+/// capability pointers number the references.
+#[derive(Clone, Debug, PartialEq, Eq)]
+pub struct Contents {
+    /// The message, in framed segments.
+    pub payload: Vec<u8>,
+    /// What its capabilities stand for. References that came are to be dropped; those that are given stay the giver's.
+    pub refs: Vec<RefId>,
+}
+
+impl Contents {
+    /// A struct whose data words are the numbers. The text, if there is one, is its pointer 0, and the references are the pointers
+    /// behind it: without a text 0, 1 and so on. An empty text is none here. `Full` where there is too much for a payload, `Memory`.
+    pub fn new(numbers: &[u64], text: Option<&str>, refs: &[RefId]) -> Result<Contents, Refusal> {
+        let text = text.unwrap_or("");
+        // The frame's head and the root pointer, a word of each number and reference, the text with its pointer.
+        let mut payload = vec![0; 16 + 8 * (numbers.len() + refs.len()) + text.len() + 16];
+        let caps = u32::try_from(refs.len()).map_err(|_| Refusal::Full)?;
+        let (mut code, mut len) = ffi::contents(numbers, text, caps, &mut payload);
+        if code == ffi::ROOM {
+            payload.resize(len, 0);
+            (code, len) = ffi::contents(numbers, text, caps, &mut payload);
+        }
+        Refusal::check(code)?;
+        payload.truncate(len);
+        Ok(Contents { payload, refs: refs.to_vec() })
+    }
+
+    /// The data word of that index; 0 where there is none. `NoPayload` where the payload is none, `Memory`.
+    pub fn number(&self, index: usize) -> Result<u64, Refusal> {
+        let (code, number) = ffi::number_at(&self.payload, self.caps(), index);
+        if code == ffi::NOTHING {
+            return Ok(0);
+        }
+        Refusal::check(code).map(|()| number)
+    }
+
+    /// The text at that pointer, an empty one where the pointer is null or not there; none where it leads to something else.
+    /// `NoPayload` where the payload is none, `Memory`.
+    pub fn text(&self, pointer: u16) -> Result<Option<String>, Refusal> {
+        let mut text = vec![0; 64];
+        let (mut code, mut len) = ffi::text_at(&self.payload, self.caps(), pointer, &mut text);
+        if code == ffi::ROOM {
+            text.resize(len, 0);
+            (code, len) = ffi::text_at(&self.payload, self.caps(), pointer, &mut text);
+        }
+        if code == ffi::NOTHING {
+            return Ok(None);
+        }
+        Refusal::check(code)?;
+        text.truncate(len);
+        Ok(String::from_utf8(text).ok())
+    }
+
+    /// The reference at a path of pointers' numbers, if there is one. `NoPayload` where the payload is none, `Memory`.
+    pub fn reference(&self, path: &[u16]) -> Result<Option<RefId>, Refusal> {
+        let (code, index) = ffi::ref_at(&self.payload, self.caps(), path);
+        if code == ffi::NOTHING {
+            return Ok(None);
+        }
+        Refusal::check(code)?;
+        Ok(self.refs.get(index).copied())
+    }
+
+    fn caps(&self) -> u32 {
+        // More references than that make no payload, which the library then says.
+        u32::try_from(self.refs.len()).unwrap_or(u32::MAX)
+    }
+}

@@ -1,0 +1,103 @@
+//! What an application is told.
+
+use crate::contents::Contents;
+use crate::ids::{CallId, ObjectId, TaskId};
+use crate::refusal::Refusal;
+use std::error::Error;
+use std::fmt;
+
+/// What an application is told of its vat.
+#[derive(Clone, Debug, PartialEq, Eq)]
+pub enum Event {
+    /// A call is to be served: `answer` or `fail` its task, now or later, and drop the references in its params.
+    Served(Served),
+    /// An own call has ended: drop the references in its results, and `finish` it.
+    Ended(Ended),
+    /// The vat went down, with that number. No call that has not ended ends any more.
+    Down(u16),
+}
+
+/// A call that is to be served.
+#[derive(Clone, Debug, PartialEq, Eq)]
+pub struct Served {
+    /// By what it is answered.
+    pub task: TaskId,
+    /// The object that is called.
+    pub object: ObjectId,
+    /// The interface of the method.
+    pub interface: u64,
+    /// The method.
+    pub method: u16,
+    /// What came with the call.
+    pub params: Contents,
+}
+
+/// An own call that has ended.
+#[derive(Clone, Debug, PartialEq, Eq)]
+pub struct Ended {
+    /// The call.
+    pub call: CallId,
+    /// What it gave, or why it failed.
+    pub outcome: Result<Contents, Exception>,
+}
+
+/// Why a call failed.
+#[derive(Clone, Debug, PartialEq, Eq)]
+pub struct Exception {
+    /// What kind of failure it is.
+    pub kind: ExceptionKind,
+    /// In words.
+    pub reason: String,
+}
+
+impl fmt::Display for Exception {
+    fn fmt(&self, f: &mut fmt::Formatter<'_>) -> fmt::Result {
+        write!(f, "{:?}: {}", self.kind, self.reason)
+    }
+}
+
+impl Error for Exception {}
+
+/// A refusal that is passed on to who called: `Overloaded` where room or memory is wanting, else `Failed`.
+impl From<Refusal> for Exception {
+    fn from(refusal: Refusal) -> Exception {
+        let kind = match refusal {
+            Refusal::Memory | Refusal::Full => ExceptionKind::Overloaded,
+            _ => ExceptionKind::Failed,
+        };
+        Exception { kind, reason: refusal.to_string() }
+    }
+}
+
+/// The kinds of exceptions (`rpc.capnp`, `Exception.Type`).
+#[derive(Clone, Copy, Debug, PartialEq, Eq)]
+pub enum ExceptionKind {
+    /// A failure that comes again where the call is repeated.
+    Failed,
+    /// There was not enough of something; it may go later.
+    Overloaded,
+    /// The connection to something that was needed is gone.
+    Disconnected,
+    /// There is no such method.
+    Unimplemented,
+}
+
+impl ExceptionKind {
+    pub(crate) fn of(code: u32) -> ExceptionKind {
+        match code {
+            1 => ExceptionKind::Overloaded,
+            2 => ExceptionKind::Disconnected,
+            3 => ExceptionKind::Unimplemented,
+            _ => ExceptionKind::Failed,
+        }
+    }
+
+    pub(crate) fn code(self) -> u32 {
+        match self {
+            ExceptionKind::Failed => 0,
+            ExceptionKind::Overloaded => 1,
+            ExceptionKind::Disconnected => 2,
+            ExceptionKind::Unimplemented => 3,
+        }
+    }
+}

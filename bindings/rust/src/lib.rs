@@ -1,0 +1,58 @@
+//! A vat for Cap'n Proto RPC (`rpc.capnp`, two parties, levels 0 and 1), without input or output of its own: what comes from the peer
+//! is handed to it, in any pieces, and what it says is taken and sent.
+//!
+//! The vat is a static library that is proved; this crate is a safe face of its C interface (`bindings/c/lovendak.h`), and is not
+//! proved. All `unsafe` is in `ffi.rs`. What has to be given back, and what a vat does when it goes down, stands in
+//! `docs/embedding.md`.
+//!
+//! Two vats in one process, of which one calls an object of the other that doubles numbers:
+//!
+//! ```
+//! use lovendak::{Contents, Event, Level, ObjectId, Refusal, Vat};
+//!
+//! fn main() -> Result<(), Refusal> {
+//!     let mut client = Vat::new(Level::One, None)?;
+//!     let mut server = Vat::new(Level::One, Some(ObjectId(0)))?;
+//!     let asked = client.bootstrap()?;
+//!     let doubler = client.result_of(asked)?;
+//!     let call = client.call(doubler, 7, 0, &Contents::new(&[21], None, &[])?)?;  // before the first answer has come
+//!
+//!     server.received(&client.outgoing());
+//!     let Some(Event::Served(served)) = server.next_event() else { panic!("no call came") };
+//!     let doubled = served.params.number(0)? * 2;
+//!     server.answer(served.task, &Contents::new(&[doubled], None, &[])?)?;
+//!
+//!     client.received(&server.outgoing());
+//!     while let Some(Event::Ended(ended)) = client.next_event() {
+//!         let results = ended.outcome.expect("no call failed");
+//!         if ended.call == call {
+//!             assert_eq!(results.number(0)?, 42);
+//!         }
+//!         client.let_go(&results.refs)?;
+//!         client.finish(ended.call)?;
+//!     }
+//!     client.drop_ref(doubler)?;
+//!     server.received(&client.outgoing());
+//!     assert!(client.shares_nothing() && server.shares_nothing());
+//!     Ok(())
+//! }
+//! ```
+#![deny(missing_docs)]
+
+mod contents;
+mod event;
+mod ffi;
+mod ids;
+mod refusal;
+mod vat;
+
+pub use contents::Contents;
+pub use event::{Ended, Event, Exception, ExceptionKind, Served};
+pub use ids::{CallId, ObjectId, PromiseId, RefId, TaskId};
+pub use refusal::Refusal;
+pub use vat::{Advanced, Level, Vat};
+
+/// The number of the library's interface.
+pub fn version() -> u32 {
+    ffi::lovendak_version()
+}

@@ -1,0 +1,191 @@
+//! Two vats in one process.
+
+use lovendak::{
+    Advanced, CallId, Contents, Ended, Event, Exception, ExceptionKind, Level, ObjectId, PromiseId, RefId, Refusal,
+    Served, TaskId, Vat,
+};
+
+const NOTHING: &[RefId] = &[];
+
+fn nothing() -> Contents {
+    Contents::new(&[], None, NOTHING).unwrap()
+}
+
+fn with(refs: &[RefId]) -> Contents {
+    Contents::new(&[], None, refs).unwrap()
+}
+
+/// Hands bytes over until neither has any.
+fn exchange(a: &mut Vat, b: &mut Vat) {
+    loop {
+        let (of_a, of_b) = (a.outgoing(), b.outgoing());
+        if of_a.is_empty() && of_b.is_empty() {
+            return;
+        }
+        b.received(&of_a);
+        a.received(&of_b);
+    }
+}
+
+fn served(vat: &mut Vat) -> Served {
+    match vat.next_event() {
+        Some(Event::Served(call)) => call,
+        other => panic!("no call came: {other:?}"),
+    }
+}
+
+fn ended(vat: &mut Vat) -> Ended {
+    match vat.next_event() {
+        Some(Event::Ended(ended)) => ended,
+        other => panic!("no call has ended: {other:?}"),
+    }
+}
+
+/// Vat a with a reference to the bootstrap object of vat b, object 5, which was asked for by that call.
+fn pair() -> (Vat, Vat, CallId, RefId) {
+    let mut a = Vat::new(Level::One, None).unwrap();
+    let mut b = Vat::new(Level::One, Some(ObjectId(5))).unwrap();
+    let asked = a.bootstrap().unwrap();
+    let root = a.result_of(asked).unwrap();
+    exchange(&mut a, &mut b);
+    let got = ended(&mut a);
+    assert_eq!(got.call, asked);
+    a.let_go(&got.outcome.unwrap().refs).unwrap();
+    (a, b, asked, root)
+}
+
+#[test]
+fn a_call_comes_as_it_was_made() {
+    assert_eq!(lovendak::version(), 1);
+    let (mut a, mut b, asked, root) = pair();
+    let own = a.host(ObjectId(9)).unwrap();
+    let long = "ü".repeat(3000);
+    let params = Contents::new(&[1, u64::MAX], Some(&long), &[own, root]).unwrap();
+    let call = a.call(root, 77, 65_535, &params).unwrap();
+    assert_eq!(a.calls_made(root), Ok(1));
+    exchange(&mut a, &mut b);
+    let came = served(&mut b);
+    assert_eq!((came.object, came.interface, came.method), (ObjectId(5), 77, 65_535));
+    let numbers: Vec<u64> = (0..3).map(|index| came.params.number(index).unwrap()).collect();
+    assert_eq!(numbers, [1, u64::MAX, 0]);
+    assert_eq!(came.params.text(0).unwrap().as_deref(), Some(long.as_str()));
+    assert_eq!(came.params.text(1), Ok(None));
+    assert_eq!(came.params.text(9), Ok(Some(String::new())));
+    assert_eq!(came.params.reference(&[1]), Ok(Some(came.params.refs[0])));
+    assert_eq!(came.params.reference(&[2]), Ok(Some(came.params.refs[1])));
+    assert_eq!(came.params.reference(&[3]), Ok(None));
+    b.answer(came.task, &with(&came.params.refs[..1])).unwrap();
+    b.let_go(&came.params.refs).unwrap();
+    exchange(&mut a, &mut b);
+    let got = ended(&mut a);
+    assert_eq!(got.call, call);
+    let given = got.outcome.unwrap();
+    // The object that was given comes back, and a call of it comes here without the peer.
+    let back = given.reference(&[0]).unwrap().unwrap();
+    let again = a.call(back, 1, 2, &nothing()).unwrap();
+    let here = served(&mut a);
+    assert_eq!(here.object, ObjectId(9));
+    a.fail(here.task, ExceptionKind::Overloaded, "not now").unwrap();
+    let failed = ended(&mut a);
+    assert_eq!(failed.call, again);
+    assert_eq!(failed.outcome, Err(Exception { kind: ExceptionKind::Overloaded, reason: "not now".into() }));
+    a.let_go(&[own, root, back]).unwrap();
+    for call in [asked, call, again] {
+        a.finish(call).unwrap();
+    }
+    exchange(&mut a, &mut b);
+    assert!(a.shares_nothing() && b.shares_nothing());
+}
+
+#[test]
+fn calls_keep_their_order_over_the_shorter_path() {
+    let (mut a, mut b, _, root) = pair();
+    let asked = a.call(root, 1, 0, &nothing()).unwrap();
+    let promised = a.field(asked, &[0]).unwrap();
+    let print = |a: &mut Vat, line| a.call(promised, 1, line, &nothing()).unwrap();
+    print(&mut a, 1);
+    exchange(&mut a, &mut b);
+    let (promise, reference) = b.promise().unwrap();
+    let task = served(&mut b).task;
+    b.answer(task, &with(&[reference])).unwrap();
+    exchange(&mut a, &mut b);
+    let own = a.host(ObjectId(3)).unwrap();
+    a.call(root, 1, 9, &with(&[own])).unwrap();
+    exchange(&mut a, &mut b);
+    let published = served(&mut b);
+    b.resolve(promise, published.params.refs[0]).unwrap();
+    // This call has its reference take the first step, from the answer to the promise in it; it goes by b, as the first did.
+    print(&mut a, 2);
+    exchange(&mut a, &mut b);
+    assert_eq!(a.advance(promised), Ok(Advanced::Embargoed));
+    assert_eq!(a.advance(promised), Ok(Advanced::Nothing));
+    print(&mut a, 3);
+    exchange(&mut a, &mut b);
+    print(&mut a, 4);
+    exchange(&mut a, &mut b);
+    let mut lines = Vec::new();
+    while let Some(event) = a.next_event() {
+        if let Event::Served(call) = event {
+            assert_eq!(call.object, ObjectId(3));
+            lines.push(call.method);
+        }
+    }
+    assert_eq!(lines, [1, 2, 3, 4]);
+}
+
+#[test]
+fn refusals() {
+    let (mut a, mut b, _, root) = pair();
+    let none = RefId(99);
+    assert_eq!(a.drop_ref(none), Err(Refusal::UnknownRef));
+    assert_eq!(a.clone_ref(none), Err(Refusal::UnknownRef));
+    assert_eq!(a.advance(none), Err(Refusal::UnknownRef));
+    assert_eq!(a.calls_made(none), Err(Refusal::UnknownRef));
+    assert_eq!(a.call(none, 0, 0, &nothing()), Err(Refusal::UnknownRef));
+    assert_eq!(a.finish(CallId(99)), Err(Refusal::UnknownCall));
+    assert_eq!(a.result_of(CallId(99)), Err(Refusal::UnknownCall));
+    assert_eq!(a.answer(TaskId(99), &nothing()), Err(Refusal::UnknownTask));
+    assert_eq!(a.fail(TaskId(99), ExceptionKind::Failed, ""), Err(Refusal::UnknownTask));
+    assert_eq!(a.resolve(PromiseId(99), root), Err(Refusal::UnknownPromise));
+    assert_eq!(a.reject(PromiseId(99), ExceptionKind::Failed, ""), Err(Refusal::UnknownPromise));
+    let (promise, promised) = a.promise().unwrap();
+    assert_eq!(a.resolve(promise, promised), Err(Refusal::Cycle));
+    let mut short = with(&[root]);
+    short.refs.clear();
+    assert_eq!(a.call(root, 0, 0, &short), Err(Refusal::NoPayload));
+    let call = a.call(root, 0, 0, &nothing()).unwrap();
+    assert_eq!(a.field(call, &[0; 17]), Err(Refusal::LongPath));
+    let wrong = Contents { payload: vec![1, 2, 3], refs: vec![] };
+    assert_eq!(a.call(root, 0, 0, &wrong), Err(Refusal::NoPayload));
+    assert_eq!(wrong.number(0), Err(Refusal::NoPayload));
+    assert_eq!(Contents::new(&vec![0; 70_000], None, &[]), Err(Refusal::Full));
+    let mut zero = Vat::new(Level::Zero, None).unwrap();
+    assert_eq!(zero.promise(), Err(Refusal::Level));
+    assert_eq!(a.shut(7), Ok(()));
+    assert_eq!(a.bootstrap(), Err(Refusal::Down));
+    assert_eq!((a.down(), b.down()), (Some(7), None));
+    exchange(&mut a, &mut b);
+    assert_eq!(a.next_event(), Some(Event::Down(7)));
+    assert_eq!(a.next_event(), None);
+    while let Some(event) = b.next_event() {
+        assert!(matches!(event, Event::Served(_) | Event::Down(34)), "{event:?}");
+    }
+    assert_eq!(b.down(), Some(34));
+}
+
+#[test]
+fn bytes_come_and_go_in_pieces_and_on_threads() {
+    let mut a = Vat::new(Level::One, None).unwrap();
+    let mut b = Vat::new(Level::One, Some(ObjectId(0))).unwrap();
+    a.bootstrap().unwrap();
+    let mut byte = [0];
+    while a.outgoing_into(&mut byte) == 1 {
+        b.received(&byte);
+    }
+    let bytes = std::thread::spawn(move || b.outgoing()).join().unwrap();
+    a.received(&bytes);
+    assert!(ended(&mut a).outcome.is_ok());
+    a.received(&[0, 0, 0, 0, 255]);
+    a.ended();
+    assert_eq!(a.next_event(), Some(Event::Down(2)));
+}

@@ -1,0 +1,25 @@
+//! The vat for C: a static library without input and output, threads, callbacks or state of its own (docs/languages.md). The
+//! header is `bindings/c/lovendak.h`.
+//!
+//! - `raw.rt`, `handle.rt`: `Handle`, which C keeps: the address of a boxed desk (of `vat_desk`), or of none.
+//! - `life.rt`: a vat is made and let go. `streams.rt`: the bytes of both directions. `telling.rt`: events, and what is asked of
+//!   the vat.
+//! - `asks.rt`: commands that give a number. `settling.rt`: those that give nothing. `payloads.rt`: payloads made and looked
+//!   into.
+//! - `codes.rt`: the code that each call answers.
+//!
+//! Each call takes the desk out of its handle, has the desk do what it is for, and puts it back. So its contract is that of the
+//! desk's call, on what the handle has (`specs/Calls.antt`).
+#![tactic(auto)]
+
+mod asks;
+mod codes;
+mod handle;
+mod life;
+mod payloads;
+mod raw;
+mod settling;
+mod streams;
+mod telling;
+#[cfg(test)]
+mod tests;

@@ -1,0 +1,76 @@
+// The bytes of both directions.
+ghost use Rattle.std.specs.Prelude.{◌≡◌, Bool};
+ghost use Rattle.vat_connection.specs.Connecting.{Finishes, Receives};
+ghost use Rattle.vat_desk.specs.Desks.{Awaits, HandsOut, with_connection};
+ghost use Rattle.lovendak_c.specs.Calls.{DoesOn, HandsOn};
+ghost use Rattle.lovendak_c.specs.Codes.{bit};
+
+use crate::codes::{DONE, EMPTY, bit};
+use crate::handle::Handle;
+use std::alloc::Global;
+
+/// Takes bytes of the peer, in any pieces: the vat hears each message that is whole now, in order, and the rest waits. A fault in
+/// them takes the vat down, which is an event. A vat that is down drops them.
+#[unsafe(no_mangle)]
+pub extern "C" fn lovendak_received(alloc: Global, vat: &mut Handle, bytes: &[u8]) -> u32
+    ensures { DoesOn vat.old.raw.desk vat.new.raw.desk result (λ old new. Receives old.connection bytes.now new.connection × (new ≡ with_connection old new.connection)) }
+{
+    let Some(mut desk) = vat.take(alloc) else {
+        return EMPTY;
+    };
+    desk.received(bytes);
+    *vat = Handle::of(desk);
+    DONE
+}
+
+/// The peer's stream has ended: a vat that is up goes down, with 0, or inside a message with 2.
+#[unsafe(no_mangle)]
+pub extern "C" fn lovendak_ended(alloc: Global, vat: &mut Handle) -> u32
+    ensures { DoesOn vat.old.raw.desk vat.new.raw.desk result (λ old new. Finishes old.connection new.connection × (new ≡ with_connection old new.connection)) }
+{
+    let Some(mut desk) = vat.take(alloc) else {
+        return EMPTY;
+    };
+    desk.ended();
+    *vat = Handle::of(desk);
+    DONE
+}
+
+/// Hands out bytes that are to be sent, once, as many as wait and there is room for, and says how many: none only where none are to
+/// be sent, or there is no room.
+#[unsafe(no_mangle)]
+pub extern "C" fn lovendak_outgoing(
+    alloc: Global,
+    vat: &mut Handle,
+    out: &mut [u8],
+    len: &mut usize,
+) -> u32
+    ensures { HandsOn vat.old.raw.desk vat.new.raw.desk result ((out.new ≡ out.old) × (len.new ≡ len.old)) (λ old new. HandsOut old out.old len.new out.new new) }
+{
+    let Some(mut desk) = vat.take(alloc) else {
+        return EMPTY;
+    };
+    *len = desk.outgoing(out);
+    *vat = Handle::of(desk);
+    DONE
+}
+
+/// Says how many bytes wait to be sent, none only where none are to be, and whether there is an event (1 or 0).
+#[unsafe(no_mangle)]
+pub extern "C" fn lovendak_pending(
+    alloc: Global,
+    vat: &mut Handle,
+    bytes: &mut usize,
+    has_event: &mut u32,
+) -> u32
+    ensures { HandsOn vat.old.raw.desk vat.new.raw.desk result ((bytes.new ≡ bytes.old) × (has_event.new ≡ has_event.old)) (λ old new. (has : Bool) × Awaits old bytes.new has new × (has_event.new ≡ bit has)) }
+{
+    let Some(mut desk) = vat.take(alloc) else {
+        return EMPTY;
+    };
+    let (waiting, event) = desk.pending();
+    *vat = Handle::of(desk);
+    *bytes = waiting;
+    *has_event = bit(event);
+    DONE
+}

@@ -1,0 +1,84 @@
+//! What a frame has a vat hear.
+ghost use Rattle.std.specs.Prelude.{◌≡◌};
+ghost use Rattle.rpc_bytes.specs.Envelopes.{seen_envelope};
+ghost use Rattle.rpc_bytes.specs.Decoding.{envelope_at};
+ghost use Rattle.rpc_adapter.specs.Adapting.{comes};
+ghost use Rattle.vat_connection.specs.Speaking.{HearsFrame, HearsUp, stamp_of};
+ghost use Rattle.vat_connection.specs.Framing.{Opens, Turned};
+
+use crate::passing::hear_each;
+use crate::speaker::{Speaker, WANT_OF_ROOM};
+use rpc_adapter::{Adapter, AdapterError, Inbound};
+use rpc_bytes::{DecodeError, Envelope, decode};
+use rpc_msg::{RefId, Stamp};
+use std::alloc::Global;
+
+impl Speaker {
+    /// Passes on all that the vat has to say, and then it hears what a frame says. The frame of what is not understood is kept
+    /// to go back. A fault takes the vat down with its number, and want of memory with 33.
+    pub(crate) fn hear(&mut self, frame: &[u8])
+        ensures { HearsFrame self.old frame.now self.new }
+    {
+        self.say();
+        if self.is_down() {
+            return;
+        }
+        self.hear_frame(frame);
+    }
+
+    fn hear_frame(&mut self, frame: &[u8])
+        ensures { HearsUp self.old frame.now self.new }
+    {
+        let stamp = self.next_stamp();
+        let Some(count) = self.heard.checked_add(1) else {
+            return self.host.shut(WANT_OF_ROOM);
+        };
+        let came = match open(self.alloc, frame, stamp) {
+            Ok(came) => came,
+            Err(number) => return self.host.shut(number),
+        };
+        let inbound = match turn(&mut self.adapter, came) {
+            Ok(inbound) => inbound,
+            Err(number) => return self.host.shut(number),
+        };
+        let Inbound { heard, unknown } = inbound;
+        let Ok(()) = self.out.keep(unknown) else {
+            return self.host.shut(WANT_OF_ROOM);
+        };
+        self.heard = count;
+        hear_each(&mut self.host, heard);
+    }
+
+    // The stamp of a Call in the next frame.
+    fn next_stamp(&self) -> Stamp
+        ensures { result ≡ stamp_of self.now }
+    {
+        Stamp {
+            vat: self.host.core().vat().other(),
+            reference: RefId(self.heard),
+            index: 0,
+        }
+    }
+}
+
+// The envelope in a frame, or the number with which the vat goes down.
+fn open(alloc: Global, frame: &[u8], stamp: Stamp) -> Result<Envelope, u16>
+    ensures { Opens (envelope_at stamp frame.now) result }
+{
+    match decode(alloc, frame, stamp) {
+        Ok(came) => Ok(came),
+        Err(DecodeError::Memory) => Err(WANT_OF_ROOM),
+        Err(DecodeError::Fault(fault)) => Err(fault.code()),
+    }
+}
+
+// What the vat is to hear of an envelope, or the number with which it goes down.
+fn turn(adapter: &mut Adapter, came: Envelope) -> Result<Inbound, u16>
+    ensures { Turned adapter.old (comes adapter.old (seen_envelope came)) result adapter.new }
+{
+    match adapter.inbound(came) {
+        Ok(inbound) => Ok(inbound),
+        Err(AdapterError::Memory) => Err(WANT_OF_ROOM),
+        Err(AdapterError::Fault(fault)) => Err(fault.code()),
+    }
+}

@@ -1,0 +1,123 @@
+//! What a vat has to say goes out, message by message.
+ghost use Rattle.std.specs.Prelude.{◌≡◌, true, false, MatchBool};
+ghost use Rattle.vat_host.specs.Hosting.{is_abort};
+ghost use Rattle.rpc_adapter.specs.Adapting.{goes, messages_in};
+ghost use Rattle.vat_connection.specs.Speaking.{Breaks, Goes, HearsAll, Passes, PassesOne, Says, Sends, Turns};
+
+use crate::speaker::{Speaker, WANT_OF_ROOM};
+use rpc_adapter::{Heard, Outbound, Said};
+use rpc_frames::Outgoing;
+use rpc_msg::{Message, PlainMessage};
+use vat_host::Host;
+
+impl Speaker {
+    /// Puts the frames of all that the vat has to say behind the bytes, and lets it hear what it is to hear of that, until it has
+    /// no more to say. Where a message has no frame, or memory is wanting for it, the vat goes down with 33, and of those behind
+    /// it none is put but an Abort.
+    pub(crate) fn say(&mut self)
+        ensures { Says self.old self.new }
+    {
+        // What the vat hears of its own messages is bounded by the peer's tail calls that are open.
+        let mut left = u64::MAX;
+        while let Some(message) = self.host.next_message() {
+            if left == 0 {
+                return self.break_off();
+            }
+            if !self.say_one(message) {
+                return self.break_off();
+            }
+            left -= 1;
+        }
+    }
+
+    // Puts the frame of what the adapter says in place of a message, and lets the vat hear what it is to hear then; says whether
+    // it could.
+    fn say_one(&mut self, message: Message) -> bool
+        ensures { MatchBool result (Turns self.old (goes self.old.adapter message) self.new) (self.new ≡ record self.old { adapter = self.new.adapter }) }
+    {
+        let Ok(outbound) = self.adapter.outbound(message) else {
+            return false;
+        };
+        let Outbound { said, heard } = outbound;
+        if !send(&mut self.out, said) {
+            return false;
+        }
+        hear_each(&mut self.host, heard);
+        true
+    }
+
+    // The vat goes down, and of what it has to say an Abort alone is put.
+    #[cold]
+    #[inline(never)]
+    fn break_off(&mut self)
+        ensures { Breaks self.old self.new }
+    {
+        self.host.shut(WANT_OF_ROOM);
+        self.say_abort();
+    }
+
+    fn say_abort(&mut self)
+        ensures { Passes self.old self.new }
+    {
+        while let Some(message) = self.host.next_message() {
+            put_abort(&mut self.out, message);
+        }
+    }
+}
+
+/// The vat hears these messages, in order.
+pub(crate) fn hear_each(host: &mut Host, heard: Heard)
+    ensures { HearsAll host.old (messages_in heard) host.new }
+{
+    match heard {
+        Heard::Nothing => {}
+        Heard::One(message) => host.receive(message),
+        Heard::Two(first, second) => {
+            host.receive(first);
+            host.receive(second);
+        }
+    }
+}
+
+// Puts the frame of what the peer is told, if anything, behind the bytes; says whether it could.
+fn send(out: &mut Outgoing, said: Option<Said>) -> bool
+    ensures { MatchBool result (Sends out.old said out.new) (out.new ≡ out.old) }
+{
+    match said {
+        None => return true,
+        Some(Said::Message(message)) => match out.write(&message) {
+            Ok(()) => return true,
+            Err(_) => return false,
+        },
+        Some(Said::SentElsewhere(kept)) => match out.write_sent_elsewhere(kept) {
+            Ok(()) => return true,
+            Err(_) => return false,
+        },
+    }
+}
+
+// Puts the frame of a message behind the bytes, and says whether it could.
+fn put(out: &mut Outgoing, message: Message) -> bool
+    ensures { Goes result out.old message out.new }
+{
+    match out.write(&message) {
+        Ok(()) => return true,
+        Err(_) => return false,
+    }
+}
+
+// Puts the frame of an Abort, if it can, and of no other message.
+fn put_abort(out: &mut Outgoing, message: Message)
+    ensures { PassesOne (is_abort message) out.old message out.new }
+{
+    if is_abort(&message) {
+        let _ = put(out, message);
+        return;
+    }
+}
+
+fn is_abort(message: &Message) -> bool
+    ensures { result ≡ is_abort message.now }
+{
+    matches!(message, Message::Plain(PlainMessage::Abort(_)))
+}

@@ -1,0 +1,7 @@
+mod Behind
+mod Fronts
+mod Handing
+mod Known
+mod Pointing
+mod Texts
+mod Unfit

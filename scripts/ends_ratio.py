@@ -1,0 +1,43 @@
+#!/usr/bin/env python3
+"""Round trips over two ends of a link beside those of a world, in one run: one thread drives both ends, a thread for each end, and
+a world, in turn, each over 100 links or worlds of 1,000 round trips.
+
+    python3 scripts/ends_ratio.py [TIMES]
+
+at the top of the repository, with nothing else running, once `rt run` has built `bench` and `bench_ends` (in their folders); `BENCH`
+and `BENCH_ENDS` name other files to run. It prints the least, the middle and the greatest of TIMES (15) runs of each, in round trips a
+second, and of each run over ends its ratio to the world's run beside it."""
+import os
+import statistics
+import subprocess
+import sys
+
+BENCH = os.environ.get("BENCH", "crates/bench/out/bench")
+ENDS = os.environ.get("BENCH_ENDS", "crates/bench_ends/out/bench_ends")
+PLAYED = {
+    "a world": [BENCH, "world", "1000", "100"],
+    "two ends, one thread": [ENDS, "1000", "100"],
+    "two ends, two threads, 64 in flight": [ENDS, "threads", "1000", "100", "64"],
+}
+
+
+def a_second(words):
+    """What a program says: how many round trips take place in a second."""
+    ran = subprocess.run(words, capture_output=True, text=True, check=True)
+    return int(ran.stdout.split()[0].replace(",", ""))
+
+
+def of_three(figures):
+    return min(figures), statistics.median(figures), max(figures)
+
+
+def main():
+    times = int(sys.argv[1]) if len(sys.argv) > 1 else 15
+    runs = [{what: a_second(words) for what, words in PLAYED.items()} for _ in range(times)]
+    for what in PLAYED:
+        least, middle, greatest = of_three([run[what] for run in runs])
+        low, mid, high = of_three([run[what] / run["a world"] for run in runs])
+        print(f"{what}: {least} to {greatest} a second, the middle one {middle:.0f}; {low:.2f} to {high:.2f} of a world, {mid:.2f}")
+
+
+main()
