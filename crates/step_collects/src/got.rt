@@ -83,6 +83,9 @@ fn stands_among(caps: &[(Descriptor, Node)], place: usize, one: &Descriptor) -> 
     requires { place ≤ length caps.now }
     ensures { IsTrue result → StandsAmong caps.now place one.now }
 {
+    if given_id(one).is_none() {
+        return false;
+    }
     let mut at = place;
     while at > 0 {
         at -= 1;

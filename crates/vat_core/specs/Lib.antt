@@ -1,4 +1,5 @@
 pub mod Answers
 pub mod Contents
 pub mod Counting
+pub mod Foreseen
 pub mod Standing

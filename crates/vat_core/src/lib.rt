@@ -12,7 +12,7 @@
 //!   `obey_asking.rt`, `obey_letting.rt`, `obey_making.rt` and `obey_settling.rt` put that together, in the same four
 //!   groups.
 //! - `queries.rt`: what can be asked of a core without a step, in the words of `Queries`; `counting.rt` the counts of
-//!   exports and imports.
+//!   exports and imports; `foreseeing.rt` what takes a vat down and can be told before it hears of it.
 //! - `refused.rt`: a command that is refused hands its arguments back in a `Refused`, which is an error with the refusal's
 //!   text, so that an application may pass it on by `?`.
 //! - `contents.rt`: the payload and references of a message that gives one capability or none (`contents`).
@@ -26,6 +26,7 @@
 mod asking;
 mod contents;
 mod counting;
+mod foreseeing;
 mod letting;
 mod making;
 mod obey;
