@@ -346,6 +346,30 @@ void brokenAgain(Peer& peer) {
   peer.wait(peer.registry.unsubscribeRequest().send());
 }
 
+// More calls at once than a vat may answer: those past its limit are refused, and the others are answered, in order.
+void overload(Peer& peer) {
+  auto sheet = kj::refcounted<Sheet>();
+  auto gate = kj::newPromiseAndFulfiller<void>();
+  auto open = gate.promise.fork();
+  Printer::Client slow = kj::heap<PrinterObject>(kj::addRef(*sheet), open);
+  kj::Vector<kj::Promise<bool>> calls;
+  for (uint i = 1; i <= 5000; i++) {
+    calls.add(told(peer.registry, slow, i).then(
+        [](auto&&) { return true; },
+        [](kj::Exception&& exception) {
+          CHECK(exception.getType() == kj::Exception::Type::OVERLOADED, exception);
+          return false;
+        }));
+  }
+  peer.sleep(500);
+  gate.fulfiller->fulfill();
+  uint answered = 0;
+  for (auto& call : calls) answered += peer.wait(kj::mv(call)) ? 1 : 0;
+  CHECK(answered >= 4000, answered);
+  inOrder(sheet->lines, answered);
+  echoed(peer, 8);
+}
+
 }  // namespace
 
 const std::map<std::string, Scenario> SCENARIOS = {
@@ -372,6 +396,7 @@ const std::map<std::string, Scenario> SCENARIOS = {
     {"tail-by-promise", tailByPromise},
     {"tail-results", tailResults},
     {"broken-again", brokenAgain},
+    {"overload", overload},
 };
 
 }  // namespace interop

@@ -1,5 +1,5 @@
 //! The bytes that go out.
-ghost use Rattle.std.specs.Prelude.{◌≡◌, [], ◌++◌, OnOk, OnErr};
+ghost use Rattle.std.specs.Prelude.{◌≡◌, [], ◌++◌, OnOk, OnErr, take};
 ghost use Rattle.std.specs.Option.{option_map};
 ghost use Rattle.wire_trees.specs.Views.{view};
 ghost use Rattle.rpc_frames.specs.Outflows.{Keeps, Puts, PutsElsewhere, is_alone, nothing_out};
@@ -52,6 +52,13 @@ impl Outgoing {
         ensures left { self.new ≡ record self.old { bytes = [] } }
     {
         mem::replace(&mut self.bytes, Vec::new(self.alloc))
+    }
+
+    /// Takes back the bytes behind the first so many. Takes no memory.
+    pub fn cut(&mut self, len: usize)
+        ensures { self.new ≡ record self.old { bytes = take len self.old.bytes } }
+    {
+        self.bytes.truncate(len);
     }
 
     /// Keeps the frame that sends back, whole, what was not understood, if there is any, behind the others. A `Fault` where it

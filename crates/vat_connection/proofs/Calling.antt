@@ -10,7 +10,7 @@ use Rattle.vat_machine.specs.declared.command.Granted.{Granted}
 use Rattle.vat_machine.specs.declared.command.Granted.TheVariants as granted
 use Rattle.vat_machine.specs.declared.command.Refusal.{Refusal}
 use Rattle.vat_host.specs.Hosting.{Hosted, Does, Refuses}
-use Rattle.rpc_adapter.specs.Adapting.{Adapting}
+use Rattle.rpc_peer.specs.Peering.{Peering}
 use Rattle.rpc_frames.specs.Outflows.{Outflow}
 use Rattle.vat_connection.specs.Calling.{Calls, Fits, IsTooLarge, Obeys, ObeysToFit, answered}
 use Rattle.vat_connection.specs.Speaking.{Speaking}
@@ -34,13 +34,13 @@ module _ {X : Type 0} (refusal_of : X → Refusal) (old mid new : Hosted) (c : C
 
 -- ---- of a connection
 
-abbrev pub connected : Hosted → Outflow → Adapting → ℕ → List ℕ → Bool → Connected
+abbrev pub connected : Hosted → Outflow → Peering → ℕ → List ℕ → Bool → Connected
 connected host out adapter heard waiting told = record { speaker = record { host = host; out = out; adapter = adapter; heard = heard }; waiting = waiting; told = told }
 
 abbrev pub connection : Speaking → List ℕ → Bool → Connected
 connection s waiting told = record { speaker = s; waiting = waiting; told = told }
 
-module _ (before after : Hosted) (out : Outflow) (adapter : Adapting) (heard : ℕ) (waiting : List ℕ) (told : Bool) (old : Connected) (c : Command) (is : connected before out adapter heard waiting told ≡ old) where
+module _ (before after : Hosted) (out : Outflow) (adapter : Peering) (heard : ℕ) (waiting : List ℕ) (told : Bool) (old : Connected) (c : Command) (is : connected before out adapter heard waiting told ≡ old) where
   -- What comes of the vat is what comes of the connection.
   pub asks_as : (answer : Result Granted Refusal) → Obeys before c answer after → Asks old c answer (connected after out adapter heard waiting told)
   asks_as answer obeys = subst (λ (o : Connected). Asks o c answer (connected after out adapter heard waiting told)) is (obeys, refl)

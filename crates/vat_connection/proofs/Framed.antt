@@ -1,16 +1,15 @@
 -- What a vat hears of a frame, by what the frame says.
 use Rattle.std.proofs.Common.{◌≡◌, ◌+◌, ℕ, Bool, true, false, List, Option, Some, None, Result, Ok, Err, is_some, inl, inr, refl, sym, subst}
-use Rattle.std.specs.Option.{option_map}
-use Rattle.wire_trees.specs.Views.{view}
 use Rattle.vat_host.specs.Hosting.{Hosted}
 use Rattle.rpc_bytes.specs.declared.envelope.Envelope.{Envelope}
 use Rattle.rpc_bytes.specs.Envelopes.{What, seen_envelope}
 use Rattle.rpc_bytes.specs.Decoding.{Came, envelope_at}
-use Rattle.rpc_adapter.specs.declared.errors.AdapterFault.{AdapterFault}
-use Rattle.rpc_adapter.specs.declared.heard.Inbound.{Inbound}
-use Rattle.rpc_adapter.specs.Adapting.{Adapting, Coming, comes, messages_in}
-use Rattle.rpc_frames.specs.Outflows.{Outflow, Kept}
-use Rattle.vat_connection.specs.Speaking.{Speaking, Falls, HearsAll, HearsCame, HearsComing, HearsThen, HearsUp, Shuts, stamp_of, want_of_room}
+use Rattle.rpc_adapter.specs.Adapting.{messages_in}
+use Rattle.rpc_peer.specs.declared.errors.PeerFault.{PeerFault}
+use Rattle.rpc_peer.specs.declared.told.Inbound.{Inbound}
+use Rattle.rpc_peer.specs.Peering.{Peering, Coming, comes, seen_aside}
+use Rattle.rpc_frames.specs.Outflows.{Outflow}
+use Rattle.vat_connection.specs.Speaking.{Speaking, Fails, Falls, HearsAll, HearsCame, HearsComing, HearsThen, HearsUp, IsAside, Shuts, stamp_of, tables_of, want_of_room}
 use Rattle.vat_connection.specs.Framing.{IsFault, IsRefused, Opens, Turned}
 use Rattle.vat_connection.proofs.Saying.{speaking}
 
@@ -23,14 +22,14 @@ pub hears_up : (s new : Speaking) (d : Option ℕ) (frame : List ℕ) → is_som
 hears_up s new None frame up hears = hears
 hears_up s new (Some n) frame up hears = absurd (let e : ◌≡◌ {A = Bool} true false = up in cc)
 
-module _ (host : Hosted) (out : Outflow) (adapter : Adapting) (heard : ℕ) (frame : List ℕ) where
+module _ (host : Hosted) (out : Outflow) (adapter : Peering) (heard : ℕ) (frame : List ℕ) where
   abbrev start : Speaking
   start = speaking host out adapter heard
 
   abbrev came : Came What
   came = envelope_at (stamp_of start) frame
 
-  pub lacks : (a : Adapting) (next : Hosted) → Shuts host want_of_room next → HearsUp start frame (speaking next out a heard)
+  pub lacks : (a : Peering) (next : Hosted) → Shuts host want_of_room next → HearsUp start frame (speaking next out a heard)
   lacks a next shuts = inr (a, (shuts, refl))
 
   fault_by : (c : Came What) (n : ℕ) (next : Hosted) → IsFault c n → Shuts host n next → HearsCame start c (speaking next out adapter heard)
@@ -41,21 +40,20 @@ module _ (host : Hosted) (out : Outflow) (adapter : Adapting) (heard : ℕ) (fra
   not_opened n next (inl is) shuts = inl (fault_by came n next is shuts)
   not_opened n next (inr is) shuts = lacks adapter next (subst (λ (k : ℕ). Shuts host k next) is shuts)
 
-  refused_by : (c : Result Coming AdapterFault) (n : ℕ) (next : Hosted) → IsRefused c n → Shuts host n next → HearsComing start c (speaking next out adapter heard)
-  refused_by (Ok c) n next is shuts = absurd is
-  refused_by (Err f) n next is shuts = subst (λ (k : ℕ). Falls start k (speaking next out adapter heard)) is (shuts, refl)
+  refused_by : (c : Result Coming PeerFault) (n : ℕ) (next : Hosted) (a : Peering) → IsRefused c n → Shuts host n next → HearsComing start c (speaking next out a heard)
+  refused_by (Ok c) n next a is shuts = absurd is
+  refused_by (Err f) n next a is shuts = subst (λ (k : ℕ). Fails start k (speaking next out a heard)) is (a, (shuts, refl))
 
   module _ (e : Envelope) (opened : Opens came (Ok e)) where
-    by_coming : (new : Speaking) → HearsComing start (comes adapter (seen_envelope e)) new → HearsUp start frame new
+    by_coming : (new : Speaking) → HearsComing start (comes (tables_of host.core) adapter (seen_envelope e)) new → HearsUp start frame new
     by_coming new hears = inl (subst (λ (c : Came What). HearsCame start c new) (sym opened) hears)
 
-    pub refused : (n : ℕ) (next : Hosted) (a : Adapting) → Turned adapter (comes adapter (seen_envelope e)) (Err n) a → Shuts host n next → HearsUp start frame (speaking next out a heard)
-    refused n next a (inl is, same) shuts =
-        subst (λ (b : Adapting). HearsUp start frame (speaking next out b heard)) (sym same) (by_coming (speaking next out adapter heard) (refused_by (comes adapter (seen_envelope e)) n next is shuts))
-    refused n next a (inr is, same) shuts = lacks a next (subst (λ (k : ℕ). Shuts host k next) is shuts)
+    pub refused : (n : ℕ) (next : Hosted) (a : Peering) → Turned (comes (tables_of host.core) adapter (seen_envelope e)) (Err n) a → Shuts host n next → HearsUp start frame (speaking next out a heard)
+    refused n next a (inl is) shuts = by_coming (speaking next out a heard) (refused_by (comes (tables_of host.core) adapter (seen_envelope e)) n next a is shuts)
+    refused n next a (inr is) shuts = lacks a next (subst (λ (k : ℕ). Shuts host k next) is shuts)
 
-    pub hears : (i : Inbound) (a : Adapting) (kept : Outflow) (next : Hosted) (count : ℕ) → Turned adapter (comes adapter (seen_envelope e)) (Ok i) a → Kept out (option_map view i.unknown) kept
-        → HearsAll host (messages_in i.heard) next → count ≡ heard + 1 → HearsUp start frame (speaking next kept a count)
-    hears i a kept next count turned keeps all is_count =
-        subst (λ (k : ℕ). HearsUp start frame (speaking next kept a k)) (sym is_count)
-        (by_coming (speaking next kept a (heard + 1)) (subst (λ (c : Result Coming AdapterFault). HearsComing start c (speaking next kept a (heard + 1))) (sym turned) (kept, keeps, (next, all, refl))))
+    pub hears : (i : Inbound) (a : Peering) (put : Outflow) (next : Hosted) (count : ℕ) → Turned (comes (tables_of host.core) adapter (seen_envelope e)) (Ok i) a → IsAside out (seen_aside i.aside) put
+        → HearsAll host (messages_in i.heard) next → count ≡ heard + 1 → HearsUp start frame (speaking next put a count)
+    hears i a put next count turned puts all is_count =
+        subst (λ (k : ℕ). HearsUp start frame (speaking next put a k)) (sym is_count)
+        (by_coming (speaking next put a (heard + 1)) (subst (λ (c : Result Coming PeerFault). HearsComing start c (speaking next put a (heard + 1))) (sym turned) (put, puts, (next, all, refl))))

@@ -3,6 +3,7 @@ mod Coming
 mod Pushing
 mod Pieces
 mod Saying
+mod Telling
 mod Calling
 mod Giving
 mod Framed

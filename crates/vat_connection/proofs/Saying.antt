@@ -2,13 +2,14 @@
 use Rattle.std.proofs.Common.{◌≡◌, ℕ, Bool, true, false, List, [], ◌∷◌, length, ◌<◌, arith, refl, sym, ap, subst, ◌∙◌}
 use Rattle.rpc_msg.specs.declared.message.Message.{Message}
 use Rattle.vat_host.specs.Hosting.{Hosted, is_abort}
-use Rattle.rpc_adapter.specs.declared.heard.Outbound.{Outbound}
-use Rattle.rpc_adapter.specs.Adapting.{Adapting, Going, goes, messages_in, seen_outbound}
+use Rattle.rpc_adapter.specs.Adapting.{messages_in}
+use Rattle.rpc_peer.specs.declared.told.Outbound.{Outbound}
+use Rattle.rpc_peer.specs.Peering.{Peering, Going, goes, seen_outbound}
 use Rattle.rpc_frames.specs.Outflows.{Outflow}
-use Rattle.vat_connection.specs.Speaking.{Speaking, Breaks, Goes, HearsAll, Passes, PassesAll, PassesOne, Says, SaysTo, Sends, Shuts, Turns, want_of_room, without}
+use Rattle.vat_connection.specs.Speaking.{Speaking, Breaks, Goes, HearsAll, IsTold, Passes, PassesAll, PassesOne, Says, SaysTo, Shuts, Turns, want_of_room, without}
 use Rattle.vat_connection.specs.Speaking.SaysTo.{Nothing, Oldest, Broken}
 
-abbrev pub speaking : Hosted → Outflow → Adapting → ℕ → Speaking
+abbrev pub speaking : Hosted → Outflow → Peering → ℕ → Speaking
 speaking host out adapter heard = record { host = host; out = out; adapter = adapter; heard = heard }
 
 -- ---- an Abort alone
@@ -21,12 +22,12 @@ abort_tried m old new goes is put = subst (λ (b : Bool). PassesOne b old m new)
 pub not_tried : (m : Message) (out : Outflow) → is_abort m ≡ false → PassesOne (is_abort m) out m out
 not_tried m out is = subst (λ (b : Bool). PassesOne b out m out) (sym is) refl
 
-pub one_passes : (host next : Hosted) (out out_next : Outflow) (adapter : Adapting) (heard : ℕ) (m : Message) (new : Speaking) → host ≡ record next { messages = m ∷ next.messages }
+pub one_passes : (host next : Hosted) (out out_next : Outflow) (adapter : Peering) (heard : ℕ) (m : Message) (new : Speaking) → host ≡ record next { messages = m ∷ next.messages }
     → PassesOne (is_abort m) out m out_next → Passes (speaking next out_next adapter heard) new → Passes (speaking host out adapter heard) new
 one_passes host next out out_next adapter heard m new is one more =
     subst (λ (h : Hosted). Passes (speaking h out adapter heard) new) (sym is) ((out_next, one, more.0), more.1)
 
-pub none_passes : (host next : Hosted) (out : Outflow) (adapter : Adapting) (heard : ℕ) → host.messages ≡ [] → next ≡ host → Passes (speaking host out adapter heard) (speaking next out adapter heard)
+pub none_passes : (host next : Hosted) (out : Outflow) (adapter : Peering) (heard : ℕ) → host.messages ≡ [] → next ≡ host → Passes (speaking host out adapter heard) (speaking next out adapter heard)
 none_passes host next out adapter heard none same = (
   subst (λ (ms : List Message). PassesAll out ms out) (sym none) refl,
   ap (λ (h : Hosted). speaking h out adapter heard) same ∙ ap (λ (ms : List Message). speaking (without host ms) out adapter heard) none,
@@ -37,7 +38,7 @@ fewer host next m is = let e = ap (λ (h : Hosted). length h.messages) is in ome
 
 -- ---- all
 
-module _ (host next : Hosted) (out : Outflow) (adapter : Adapting) (heard : ℕ) where
+module _ (host next : Hosted) (out : Outflow) (adapter : Peering) (heard : ℕ) where
   pub broken_off : (new : Speaking) → Shuts host want_of_room next → Passes (speaking next out adapter heard) new → Breaks (speaking host out adapter heard) new
   broken_off new shuts passes = (speaking next out adapter heard, (adapter, (shuts, refl)), passes)
 
@@ -49,11 +50,11 @@ module _ (host next : Hosted) (out : Outflow) (adapter : Adapting) (heard : ℕ)
     one_said mid turns more = subst (λ (h : Hosted). SaysTo new (speaking h out adapter heard)) (sym is) (Oldest m next.messages refl turns more)
 
     -- whatever the adapter took
-    pub breaks : (a : Adapting) → Breaks (speaking next out a heard) new → Says (speaking host out adapter heard) new
+    pub breaks : (a : Peering) → Breaks (speaking next out a heard) new → Says (speaking host out adapter heard) new
     breaks a (mid, (b, falls), passes) = subst (λ (h : Hosted). SaysTo new (speaking h out adapter heard)) (sym is) (Broken m next.messages refl (mid, (b, falls), passes))
 
 -- What the adapter says of a message is done.
-pub turns : (host next : Hosted) (out sent : Outflow) (adapter after : Adapting) (heard : ℕ) (m : Message) (o : Outbound) → goes adapter m ≡ seen_outbound after o → Sends out o.said sent → HearsAll host (messages_in o.heard) next
+pub turns : (host next : Hosted) (out sent : Outflow) (adapter after : Peering) (heard : ℕ) (m : Message) (o : Outbound) → goes adapter m ≡ seen_outbound after o → IsTold out o.told sent → HearsAll host (messages_in o.heard) next
     → Turns (speaking host out adapter heard) (goes adapter m) (speaking next sent after heard)
-turns host next out sent adapter after heard m o is sends all =
-    subst (λ (g : Going). Turns (speaking host out adapter heard) g (speaking next sent after heard)) (sym is) (sent, sends, (next, all, refl))
+turns host next out sent adapter after heard m o is told all =
+    subst (λ (g : Going). Turns (speaking host out adapter heard) g (speaking next sent after heard)) (sym is) (sent, told, (next, all, refl))

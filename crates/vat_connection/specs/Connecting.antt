@@ -11,7 +11,7 @@ use Rattle.vat_machine.specs.declared.command.Level.{Level}
 use Rattle.vat_machine.specs.declared.command.Refusal.{Refusal}
 use Rattle.vat_machine.specs.State.{start}
 use Rattle.vat_host.specs.Hosting.{Hosted, idle}
-use Rattle.rpc_adapter.specs.Adapting.{fresh as fresh_adapter}
+use Rattle.rpc_peer.specs.Peering.{fresh as fresh_adapter}
 use Rattle.rpc_frames.specs.Outflows.{nothing_out}
 use Rattle.vat_connection.specs.declared.event.Event.{Event}
 use Rattle.vat_connection.specs.declared.event.Event.TheVariants as event

@@ -1,6 +1,7 @@
 pub mod Calling
 pub mod Speaking
 pub mod Framing
+pub mod Telling
 pub mod Hearing
 pub mod Connecting
 pub mod Laws

@@ -2,19 +2,26 @@
 -- the wire stands an adapter (docs/messages.md, "Peers of other make").
 use Rattle.std.specs.Prelude.{◌≡◌, ℕ, ◌+◌, Bool, true, false, List, [], ◌∷◌, Option, Some, None, Result, Ok, Err, ◌⊎◌, refl}
 use Rattle.std.specs.Coded.{Coded, code_by, coded×, coded_ℕ}
+use Rattle.std.specs.FinMap as map
 use Rattle.rpc_msg.specs.Vats.{other_vat}
 use Rattle.rpc_msg.specs.declared.ids.Stamp.{Stamp}
 use Rattle.rpc_msg.specs.declared.message.Message.{Message}
 use Rattle.rpc_parts.specs.Numbers.{number_of}
 use Rattle.rpc_bytes.specs.Envelopes.{What}
 use Rattle.rpc_bytes.specs.Decoding.{Came, envelope_at}
-use Rattle.rpc_adapter.specs.declared.errors.AdapterFault.{AdapterFault}
+use Rattle.rpc_msg.specs.declared.ids.ExportId.{ExportId}
 use Rattle.rpc_adapter.specs.declared.heard.Said.{Said}
 use Rattle.rpc_adapter.specs.declared.heard.Said.TheVariants as said
-use Rattle.rpc_adapter.specs.Numbers.{number_of as number_of_adapter}
-use Rattle.rpc_adapter.specs.Adapting.{Adapting, Coming, Going, adapting_code, comes, goes}
+use Rattle.rpc_peer.specs.declared.errors.PeerFault.{PeerFault}
+use Rattle.rpc_peer.specs.declared.told.Told.{Told}
+use Rattle.rpc_peer.specs.Numbers.{number_of as number_of_peer}
+use Rattle.rpc_peer.specs.Peering.{Peering, Tables, Coming, Going, Besides, peering_code, release_of, comes, goes}
+use Rattle.rpc_peer.specs.Peering.Besides.{Tells, Keeps}
 use Rattle.vat_machine.specs.declared.command.Effects.{Effects}
 use Rattle.vat_machine.specs.Down.{ShutsFrom}
+use Rattle.vat_machine.specs.Fullness.{has_no_room}
+use Rattle.vat_machine.specs.State.{State}
+use Rattle.vat_core.specs.Foreseen.{is_broken, is_finished}
 use Rattle.vat_host.specs.Hosting.{Hosted, Hears, hosted_code, is_abort, stepped}
 use Rattle.rpc_frames.specs.contracts.outgoing.Outgoing as outgoing_row
 use Rattle.rpc_frames.specs.Outflows.{Outflow, Kept, Put, PutElsewhere}
@@ -24,13 +31,13 @@ use Rattle.rpc_frames.specs.Outflows.{Outflow, Kept, Put, PutElsewhere}
 pub record Speaking : Type 0 where
   pub host : Hosted
   pub out : Outflow
-  pub adapter : Adapting
+  pub adapter : Peering
   pub heard : ℕ
 
 abbrev pub speaking_code : Coded Speaking
 speaking_code =
-    code_by (Hosted × (Outflow × (Adapting × ℕ)))
-    (coded× hosted_code (coded× outgoing_row.the_row.coded (coded× adapting_code coded_ℕ)))
+    code_by (Hosted × (Outflow × (Peering × ℕ)))
+    (coded× hosted_code (coded× outgoing_row.the_row.coded (coded× peering_code coded_ℕ)))
     (λ s. (s.host, (s.out, (s.adapter, s.heard))))
     (λ p. record { host = p.0; out = p.1.0; adapter = p.1.1.0; heard = p.1.1.1 })
     (λ _. refl)
@@ -46,9 +53,13 @@ Shuts old n new = (effects : Effects) × ShutsFrom old.core n old.core.down effe
 abbrev pub Falls : Speaking → ℕ → Speaking → Type 0
 Falls old n new = Shuts old.host n new.host × (new ≡ record old { host = new.host })
 
--- Memory is wanting, or room: the vat goes down, whatever its adapter took. It is asked no more.
+-- The vat goes down with that number, whatever its adapter took. It is asked no more.
+abbrev pub Fails : Speaking → ℕ → Speaking → Type 0
+Fails old n new = (adapter : Peering) × Falls (record old { adapter = adapter }) n new
+
+-- Memory is wanting, or room.
 abbrev pub Lacks : Speaking → Speaking → Type 0
-Lacks old new = (adapter : Adapting) × Falls (record old { adapter = adapter }) want_of_room new
+Lacks old new = Fails old want_of_room new
 
 -- The vat hears these messages, in order.
 abbrev pub HearsAll : Hosted → List Message → Hosted → Type 0
@@ -86,16 +97,25 @@ saying old ms = record old { host = without old.host ms }
 abbrev pub Breaks : Speaking → Speaking → Type 0
 Breaks old new = (mid : Speaking) × Lacks old mid × Passes mid new
 
--- what the adapter has the peer told, if anything
+-- what the adapter has said to the peer, if anything
 abbrev pub Sends : Outflow → Option Said → Outflow → Type 0
 Sends old None new = new ≡ old
 Sends old (Some (said.Message m)) new = Put old m new
 Sends old (Some (said.SentElsewhere s)) new = PutElsewhere old s new
 
+-- one of each of these exports is given back to the peer, in order
+abbrev pub GivesBack : Outflow → List ExportId → Outflow → Type 0
+GivesBack old [] new = new ≡ old
+GivesBack old (e ∷ es) new = (mid : Outflow) × Put old (release_of e) mid × GivesBack mid es new
+
+-- what the adapter has the peer told
+abbrev pub IsTold : Outflow → Told → Outflow → Type 0
+IsTold old told new = (mid : Outflow) × GivesBack old told.given_back mid × Sends mid told.said new
+
 -- The adapter says what a message of the vat comes to: the peer is told that, and the vat hears what it is to hear then.
 abbrev pub Turns : Speaking → Going → Speaking → Type 0
 Turns old going new =
-    (out : Outflow) × Sends old.out going.said out
+    (out : Outflow) × IsTold old.out going.told out
     × ((host : Hosted) × HearsAll old.host going.heard host × (new ≡ record old { host = host; out = out; adapter = going.state }))
 
 -- All that a vat has to say goes out, the oldest message first, and then what it has to say of what it heard of that; to the first
@@ -118,17 +138,30 @@ given s = record s { out = record (s.out) { bytes = [] } }
 abbrev pub stamp_of : Speaking → Stamp
 stamp_of s = record { vat = other_vat s.host.core.vat; reference = record { 0 = s.heard }; index = 0 }
 
--- The adapter says what an envelope comes to: what is not understood is kept to go back, and the vat hears what it is to hear; a
--- fault takes the vat down with its number.
-abbrev pub HearsComing : Speaking → Result Coming AdapterFault → Speaking → Type 0
+-- what the adapter is told of a core's tables
+abbrev pub tables_of : State → Tables
+tables_of s = record {
+  is_full = has_no_room s.answers;
+  broken = λ e. is_broken (map.get s.imports e.0);
+  finished = λ q. is_finished (map.get s.questions q.0);
+}
+
+-- The peer is told something, or what is not understood is kept to go back.
+abbrev pub IsAside : Outflow → Besides → Outflow → Type 0
+IsAside old (Tells told) new = IsTold old told new
+IsAside old (Keeps original) new = Kept old (Some original) new
+
+-- The adapter says what an envelope comes to: the peer is told that, or it is kept to go back, and the vat hears what it is to
+-- hear; a fault takes the vat down with its number.
+abbrev pub HearsComing : Speaking → Result Coming PeerFault → Speaking → Type 0
 HearsComing old (Ok c) new =
-    (out : Outflow) × Kept old.out c.unknown out
+    (out : Outflow) × IsAside old.out c.besides out
     × ((host : Hosted) × HearsAll old.host c.heard host × (new ≡ record { host = host; out = out; adapter = c.state; heard = old.heard + 1 }))
-HearsComing old (Err f) new = Falls old (number_of_adapter f) new
+HearsComing old (Err f) new = Fails old (number_of_peer f) new
 
 -- A frame has an envelope; a fault takes the vat down with its number.
 abbrev pub HearsCame : Speaking → Came What → Speaking → Type 0
-HearsCame old (Ok w) new = HearsComing old (comes old.adapter w) new
+HearsCame old (Ok w) new = HearsComing old (comes (tables_of old.host.core) old.adapter w) new
 HearsCame old (Err f) new = Falls old (number_of f) new
 
 -- A frame is heard; or memory is wanting for it, and the vat goes down.

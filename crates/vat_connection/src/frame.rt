@@ -2,16 +2,17 @@
 ghost use Rattle.std.specs.Prelude.{◌≡◌};
 ghost use Rattle.rpc_bytes.specs.Envelopes.{seen_envelope};
 ghost use Rattle.rpc_bytes.specs.Decoding.{envelope_at};
-ghost use Rattle.rpc_adapter.specs.Adapting.{comes};
-ghost use Rattle.vat_connection.specs.Speaking.{HearsFrame, HearsUp, stamp_of};
+ghost use Rattle.rpc_peer.specs.Peering.{comes};
+ghost use Rattle.vat_connection.specs.Speaking.{HearsFrame, HearsUp, stamp_of, tables_of};
 ghost use Rattle.vat_connection.specs.Framing.{Opens, Turned};
 
-use crate::passing::hear_each;
+use crate::passing::{hear_each, put_aside};
 use crate::speaker::{Speaker, WANT_OF_ROOM};
-use rpc_adapter::{Adapter, AdapterError, Inbound};
 use rpc_bytes::{DecodeError, Envelope, decode};
-use rpc_msg::{RefId, Stamp};
+use rpc_msg::{ExportId, QuestionId, RefId, Stamp};
+use rpc_peer::{Inbound, PeerAdapter, PeerError};
 use std::alloc::Global;
+use vat_host::Core;
 
 impl Speaker {
     /// Passes on all that the vat has to say, and then it hears what a frame says. The frame of what is not understood is kept
@@ -37,14 +38,14 @@ impl Speaker {
             Ok(came) => came,
             Err(number) => return self.host.shut(number),
         };
-        let inbound = match turn(&mut self.adapter, came) {
+        let inbound = match turn(&mut self.adapter, self.host.core(), came) {
             Ok(inbound) => inbound,
             Err(number) => return self.host.shut(number),
         };
-        let Inbound { heard, unknown } = inbound;
-        let Ok(()) = self.out.keep(unknown) else {
+        let Inbound { aside, heard } = inbound;
+        if !put_aside(&mut self.out, aside) {
             return self.host.shut(WANT_OF_ROOM);
-        };
+        }
         self.heard = count;
         hear_each(&mut self.host, heard);
     }
@@ -73,12 +74,14 @@ fn open(alloc: Global, frame: &[u8], stamp: Stamp) -> Result<Envelope, u16>
 }
 
 // What the vat is to hear of an envelope, or the number with which it goes down.
-fn turn(adapter: &mut Adapter, came: Envelope) -> Result<Inbound, u16>
-    ensures { Turned adapter.old (comes adapter.old (seen_envelope came)) result adapter.new }
+fn turn(adapter: &mut PeerAdapter, core: &Core, came: Envelope) -> Result<Inbound, u16>
+    ensures { Turned (comes (tables_of core.now) adapter.old (seen_envelope came)) result adapter.new }
 {
-    match adapter.inbound(came) {
+    let is_broken = |export: ExportId| core.is_broken(export);
+    let is_finished = |question: QuestionId| core.is_finished(question);
+    match adapter.inbound(came, core.has_all_answers(), is_broken, is_finished) {
         Ok(inbound) => Ok(inbound),
-        Err(AdapterError::Memory) => Err(WANT_OF_ROOM),
-        Err(AdapterError::Fault(fault)) => Err(fault.code()),
+        Err(PeerError::Memory) => Err(WANT_OF_ROOM),
+        Err(PeerError::Fault(fault)) => Err(fault.code()),
     }
 }

@@ -1,13 +1,16 @@
 //! What a vat has to say goes out, message by message.
-ghost use Rattle.std.specs.Prelude.{◌≡◌, true, false, MatchBool};
+ghost use Rattle.std.specs.Prelude.{◌≡◌, true, false, IsTrue, MatchBool};
 ghost use Rattle.vat_host.specs.Hosting.{is_abort};
-ghost use Rattle.rpc_adapter.specs.Adapting.{goes, messages_in};
-ghost use Rattle.vat_connection.specs.Speaking.{Breaks, Goes, HearsAll, Passes, PassesOne, Says, Sends, Turns};
+ghost use Rattle.rpc_adapter.specs.Adapting.{messages_in};
+ghost use Rattle.rpc_frames.specs.Outflows.{Outflow};
+ghost use Rattle.rpc_peer.specs.Peering.{goes, release_of, seen_aside};
+ghost use Rattle.vat_connection.specs.Speaking.{Breaks, GivesBack, Goes, HearsAll, IsAside, IsTold, Passes, PassesOne, Says, Sends, Turns};
+ghost use Rattle.vat_connection.specs.Telling.{IsLonger};
 
 use crate::speaker::{Speaker, WANT_OF_ROOM};
-use rpc_adapter::{Heard, Outbound, Said};
 use rpc_frames::Outgoing;
-use rpc_msg::{Message, PlainMessage};
+use rpc_msg::{ExportId, Items, Message, PlainMessage, Release};
+use rpc_peer::{Aside, Heard, Outbound, Said, Told};
 use vat_host::Host;
 
 impl Speaker {
@@ -38,8 +41,8 @@ impl Speaker {
         let Ok(outbound) = self.adapter.outbound(message) else {
             return false;
         };
-        let Outbound { said, heard } = outbound;
-        if !send(&mut self.out, said) {
+        let Outbound { told, heard } = outbound;
+        if !tell(&mut self.out, told) {
             return false;
         }
         hear_each(&mut self.host, heard);
@@ -77,6 +80,55 @@ pub(crate) fn hear_each(host: &mut Host, heard: Heard)
             host.receive(second);
         }
     }
+}
+
+/// Puts the frames of what the peer is told behind the bytes, or keeps the frame of what is to go back; says whether it could, and
+/// nothing is changed if not.
+pub(crate) fn put_aside(out: &mut Outgoing, aside: Aside) -> bool
+    ensures { MatchBool result (IsAside out.old (seen_aside aside) out.new) (out.new ≡ out.old) }
+{
+    match aside {
+        Aside::Told(told) => return tell(out, told),
+        Aside::Unknown(original) => match out.keep(Some(original)) {
+            Ok(()) => return true,
+            Err(_) => return false,
+        },
+    }
+}
+
+// Puts the frames of all that the peer is told behind the bytes, or none of them; says whether it could.
+fn tell(out: &mut Outgoing, told: Told) -> bool
+    ensures { MatchBool result (IsTold out.old told out.new) (out.new ≡ out.old) }
+{
+    let Told { given_back, said } = told;
+    let len = out.bytes().len();
+    if !give_back(out, given_back) {
+        out.cut(len);
+        return false;
+    }
+    if !send(out, said) {
+        out.cut(len);
+        return false;
+    }
+    true
+}
+
+// Puts the frame of a Release of one of each of these exports behind the bytes, to the first for which memory is wanting; says
+// whether that was none.
+fn give_back(out: &mut Outgoing, exports: Items<ExportId>) -> bool
+    ensures all { IsTrue result → GivesBack out.old exports out.new }
+    ensures longer { IsLonger out.old out.new }
+{
+    for export in exports {
+        let release = Message::Plain(PlainMessage::Release(Release {
+            export,
+            count: 1,
+        }));
+        if !put(out, release) {
+            return false;
+        }
+    }
+    true
 }
 
 // Puts the frame of what the peer is told, if anything, behind the bytes; says whether it could.

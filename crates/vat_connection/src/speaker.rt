@@ -4,15 +4,15 @@ ghost use Rattle.vat_machine.specs.declared.command.Command.TheVariants as comma
 ghost use Rattle.vat_machine.specs.declared.command.Refusal.TheVariants as refusal;
 ghost use Rattle.vat_machine.specs.State.{start};
 ghost use Rattle.vat_host.specs.Hosting.{Does, Refuses, idle};
-ghost use Rattle.rpc_adapter.specs.Adapting.{fresh as fresh_adapter};
 ghost use Rattle.rpc_frames.specs.Outflows.{nothing_out};
+ghost use Rattle.rpc_peer.specs.Peering.{fresh as fresh_adapter};
 ghost use Rattle.vat_connection.specs.Calling.{Calls, Fits, IsTooLarge, Obeys, call_of};
 ghost use Rattle.vat_connection.specs.Speaking.{Falls, given};
 
-use rpc_adapter::Adapter;
 use rpc_fits::fits_envelope;
 use rpc_frames::Outgoing;
 use rpc_msg::{CallId, Memory, ObjectId, Vat};
+use rpc_peer::PeerAdapter;
 use std::alloc::Global;
 use std::marker::Model;
 use vat_host::{Host, Refused};
@@ -26,7 +26,7 @@ pub(crate) const WANT_OF_ROOM: u16 = 33;
 pub(crate) struct Speaker {
     pub(crate) host: Host,
     pub(crate) out: Outgoing,
-    pub(crate) adapter: Adapter,
+    pub(crate) adapter: PeerAdapter,
     pub(crate) heard: u64,
     pub(crate) alloc: Global,
 }
@@ -55,7 +55,7 @@ impl Speaker {
         Ok(Speaker {
             host,
             out: Outgoing::new(alloc),
-            adapter: Adapter::new(alloc),
+            adapter: PeerAdapter::new(alloc),
             heard: 0,
             alloc,
         })

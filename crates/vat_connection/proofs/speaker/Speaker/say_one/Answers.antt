@@ -1,10 +1,10 @@
 use Rattle.std.proofs.Common.{subst}
 use Rattle.vat_connection.specs.Speaking.{Speaking, Turns}
-use Rattle.rpc_adapter.specs.Adapting.{goes}
+use Rattle.rpc_peer.specs.Peering.{goes}
 use Rattle.vat_connection.proofs.Saying.{speaking, turns}
 use Rattle.vat_connection.proofs.speaker.Speaker.say_one.Goals as goal
 
 pub returns : goal.returns
 returns c =
-    subst (λ (s : Speaking). Turns s (goes s.adapter c.args.message) (speaking c.hear_each.new.host c.send.new.out c.outbound.new.self c.self.inside.heard)) c.self.view_is
-    (turns c.self.inside.host c.hear_each.new.host c.self.inside.out c.send.new.out c.self.inside.adapter c.outbound.new.self c.self.inside.heard c.args.message c.in-Ok.outbound c.in-Ok.ensures c.if-not-send.ensures c.hear_each.ensures)
+    subst (λ (s : Speaking). Turns s (goes s.adapter c.args.message) (speaking c.hear_each.new.host c.tell.new.out c.outbound.new.self c.self.inside.heard)) c.self.view_is
+    (turns c.self.inside.host c.hear_each.new.host c.self.inside.out c.tell.new.out c.self.inside.adapter c.outbound.new.self c.self.inside.heard c.args.message c.in-Ok.outbound c.in-Ok.ensures c.if-not-tell.ensures c.hear_each.ensures)

@@ -1,0 +1,20 @@
+//! All that stands between the envelopes of a peer of another make and a vat of the profile (docs/messages.md, "Peers of other
+//! make"): calls past the vat's table of answers are refused (`rpc_overload`), what names a broken promise again names nothing
+//! (`rpc_broken`), and tail calls become calls (`rpc_adapter`), in this order on the way in.
+//!
+//! - `peer.rt`: [`PeerAdapter`], its two calls. `told.rt`: what they give. `errors.rt`: what they refuse.
+//! - `laws.rt`: that it stands aside, as a contract of a function that does nothing.
+//!
+//! `specs/Peering.antt` says what each envelope and each message comes to.
+#![tactic(auto)]
+
+mod errors;
+mod laws;
+mod peer;
+mod told;
+
+pub use errors::{PeerError, PeerFault};
+pub use laws::stands_aside;
+pub use peer::PeerAdapter;
+pub use rpc_adapter::{Heard, Said};
+pub use told::{Aside, Inbound, Outbound, Told};
