@@ -15,7 +15,8 @@ use Rattle.rpc_bytes.specs.Envelopes.{What}
 use Rattle.rpc_overload.specs.declared.admission.Admission.{Admission}
 use Rattle.rpc_overload.specs.declared.admission.Admission.TheVariants as admission
 use Rattle.rpc_overload.specs.declared.errors.OverloadFault.{OverloadFault}
-use Rattle.rpc_overload.specs.Overloading.{Overloading, Outcome, admitted, refused, refused_tail, nothing, overloading_code, overloaded}
+use Rattle.rpc_overload.specs.Overloading.{Overloading, Outcome, admitted, refused, refused_tail, nothing, overloaded}
+use Rattle.rpc_overload.specs.contracts.overload.Overload as overload_row
 use Rattle.rpc_overload.specs.Overloading as overload
 use Rattle.rpc_broken.specs.Naming.{Naming, naming_code, nothing_owed}
 use Rattle.rpc_broken.specs.Naming as names
@@ -44,7 +45,7 @@ pub record Peering : Type 0 where
 abbrev pub peering_code : Coded Peering
 peering_code =
     code_by (Overloading × (Naming × Adapting))
-    (coded× overloading_code (coded× naming_code adapting_code))
+    (coded× overload_row.the_row.coded (coded× naming_code adapting_code))
     (λ s. (s.overload, (s.names, s.tails)))
     (λ p. record { overload = p.0; names = p.1.0; tails = p.1.1 })
     (λ _. refl)

@@ -1,0 +1,16 @@
+-- The descriptors of a message are cleared one after the other.
+use Rattle.std.proofs.Common.{◌≡◌, ℕ, zero, suc, ◌+◌, ◌<◌, ◌≤◌, List, [], ◌∷◌, ◌++◌, length, map, take, drop, set, get_or, refl, sym, ap, ◌∙◌, arith}
+use Rattle.std.proofs.lemmas.List.{drop_all, take_all, append-nil}
+
+module _ {D : Type 0} (f : D → D) where
+  -- those that were, and the others to be
+  abbrev pub now_and_then : ℕ → List D → List D
+  now_and_then i xs = take i xs ++ map f (drop i xs)
+
+  pub one_more : (xs : List D) (i : ℕ) (d : D) → i < length xs → d ≡ get_or xs i d → now_and_then i xs ≡ now_and_then (i + 1) (set xs i (f d))
+  one_more [] i d lt is = absurd (omega (arith, lt))
+  one_more (x ∷ xs) zero d lt is = ap (λ (y : D). f y ∷ map f xs) (sym is)
+  one_more (x ∷ xs) (suc i) d lt is = ap (λ (ys : List D). x ∷ ys) (one_more xs i d (omega (arith, lt)) is)
+
+  pub all_done : (xs : List D) (i : ℕ) → length xs ≤ i → now_and_then i xs ≡ xs
+  all_done xs i le = ap (λ ys. take i xs ++ map f ys) (drop_all i xs le) ∙ append-nil (take i xs) ∙ take_all i xs le

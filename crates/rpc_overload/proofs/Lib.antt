@@ -1,0 +1,2 @@
+mod Cleared
+mod RefusalMap

@@ -1,0 +1,6 @@
+use Rattle.std.proofs.Common.{◌∙◌}
+use Rattle.rpc_overload.proofs.RefusalMap.{seen-get}
+use Rattle.rpc_overload.proofs.refusals.Refusals.get.Goals as goal
+
+pub returns : goal.returns
+returns c = c.get.ensures.value ∙ seen-get c.self.inside.by_id _ c.self.view_is c.args.id.0

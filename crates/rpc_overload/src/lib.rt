@@ -1,0 +1,25 @@
+//! Before a vat whose answers may fill their table: a question for which it has no room is refused (`overloaded`) in place of
+//! taking it down (docs/messages.md, "Peers of other make").
+//!
+//! - `overload.rt`: [`Overload`], which sees each envelope first. `admission.rt`: what becomes of one. `errors.rt`: what is at
+//!   fault.
+//! - `refusals.rt`: the refused questions that are not finished.
+//! - `clearing.rt`: messages that name one of them, as they are handed on. `telling.rt`: what is said of it.
+//! - `laws.rt`: that it stands aside, as a contract of a function that does nothing.
+//!
+//! `specs/Overloading.antt` says what each envelope comes to.
+#![tactic(auto)]
+
+mod admission;
+mod clearing;
+mod errors;
+mod laws;
+mod overload;
+mod refusals;
+mod telling;
+
+pub use admission::Admission;
+pub use errors::{OverloadError, OverloadFault};
+pub use laws::stands_aside;
+pub use overload::Overload;
+pub use telling::overloaded;
