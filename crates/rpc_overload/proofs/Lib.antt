@@ -1,2 +1,3 @@
+mod Aside
 mod Cleared
 mod RefusalMap

@@ -1,5 +1,5 @@
 -- What becomes of each envelope of the peer where a vat may have no room for an answer more (docs/messages.md, "Peers of other make").
-use Rattle.std.specs.Prelude.{◌≡◌, ◌×◌, Bool, true, false, ◌||◌, cond, nat_le, List, map, Result, Ok, Err, Option, Some, None, codes}
+use Rattle.std.specs.Prelude.{◌≡◌, Bool, true, false, ◌||◌, cond, nat_le, List, map, Result, Ok, Err, Option, Some, None, codes}
 use Rattle.std.specs.FinMap as finite
 use Rattle.finite_maps.specs.Tally.{Map}
 use Rattle.rpc_msg.specs.declared.ids.QuestionId.{QuestionId}
@@ -21,7 +21,7 @@ use Rattle.rpc_msg.specs.declared.message.PlainMessage.TheVariants as plain
 use Rattle.rpc_msg.specs.declared.message.Message.{Message}
 use Rattle.rpc_msg.specs.declared.message.Message.TheVariants as message
 use Rattle.rpc_bytes.specs.declared.envelope.TakenFromOther.{TakenFromOther}
-use Rattle.rpc_bytes.specs.Envelopes.{What, profile, tail_call, sent_elsewhere, taken_from_other, strange, seen_envelope}
+use Rattle.rpc_bytes.specs.Envelopes.{What, profile, tail_call, taken_from_other, seen_envelope}
 use Rattle.rpc_overload.specs.declared.errors.OverloadFault.{OverloadFault}
 use Rattle.rpc_overload.specs.declared.errors.OverloadFault.TheVariants.{QuestionInUse, TooManyRefused}
 use Rattle.rpc_overload.specs.declared.errors.OverloadError.{OverloadError}

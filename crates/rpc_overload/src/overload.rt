@@ -215,8 +215,8 @@ fn told(question: QuestionId, refusal: Refusal) -> Admission
     }
 }
 
-fn plain(message: PlainMessage) -> Envelope
-    ensures { seen_envelope result ≡ profile (message.Plain message) }
+fn plain(said: PlainMessage) -> Envelope
+    ensures { seen_envelope result ≡ profile (message.Plain said) }
 {
-    Envelope::Message(Message::Plain(message))
+    Envelope::Message(Message::Plain(said))
 }

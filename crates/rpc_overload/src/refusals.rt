@@ -56,10 +56,10 @@ impl Refusals {
     }
 
     /// What was refused under that id.
-    pub(crate) fn get(&self, id: QuestionId) -> Option<Refusal>
-        ensures { result ≡ map.get self.now id.0 }
+    pub(crate) fn get(&self, id: QuestionId) -> Option<&Refusal>
+        ensures { option_copied result ≡ map.get self.now id.0 }
     {
-        self.by_id.get(&id.0).copied()
+        self.by_id.get(&id.0)
     }
 
     /// Whether that question was refused.
@@ -74,10 +74,8 @@ impl Refusals {
         ensures ok { OnOk result (self.new ≡ map.insert self.old id.0 refusal) }
         ensures err { OnErr result (self.new ≡ self.old) }
     {
-        match self.by_id.insert(id.0, refusal) {
-            Ok(_) => Ok(()),
-            Err(_) => Err(Memory),
-        }
+        self.by_id.insert(id.0, refusal)?;
+        Ok(())
     }
 
     /// Puts one in place of that which is there. Takes no memory.
