@@ -1,0 +1,5 @@
+mod ById
+mod Counting
+mod HeardAs
+mod Parting
+mod Taking
