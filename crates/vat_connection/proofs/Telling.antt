@@ -32,4 +32,4 @@ gives_back_more old mid new (x ∷ es) e (first, one, more) put = (first, one, g
 -- Bytes that were put are taken back.
 pub cut_back : (old new : Outflow) → IsLonger old new → (len : ℕ) → len ≡ length old.bytes → record new { bytes = take len new.bytes } ≡ old
 cut_back old new (more, is) len here =
-    ap (λ (o : Outflow). record o { bytes = take len o.bytes }) is ∙ ap (λ (bytes : List ℕ). record old { bytes = bytes }) (take_at old.bytes more len here)
+    ap (λ (o : Outflow). record o { bytes = take len o.bytes }) is ∙ ap (λ (bytes : List ℕ). record old { bytes = bytes }) (take_at old.bytes more len (sym here))
