@@ -76,9 +76,9 @@ static void small_rooms(lovendak *a, lovendak *b) {
   IS(lovendak_result_of(a, call, &root), LOVENDAK_OK);
   IS(lovendak_host(a, 9, &own), LOVENDAK_OK);
   given[0] = own, given[1] = root;
-  IS(lovendak_contents(numbers, 2, (const uint8_t *)"text", 4, 2, payload, 8, &len), LOVENDAK_ROOM);
+  IS(lovendak_contents(numbers, 2, 1, (const uint8_t *)"text", 4, 2, payload, 8, &len), LOVENDAK_ROOM);
   IS(len, 8 + 8 * (1 + 2 + 3 + 1)); /* the frame's head; the root pointer, two data words, three pointers, the text */
-  IS(lovendak_contents(numbers, 2, (const uint8_t *)"text", 4, 2, payload, sizeof payload, &len), LOVENDAK_OK);
+  IS(lovendak_contents(numbers, 2, 1, (const uint8_t *)"text", 4, 2, payload, sizeof payload, &len), LOVENDAK_OK);
   IS(lovendak_call(a, root, 1, 2, payload, len, given, 2, &call), LOVENDAK_OK);
   hand_over(a, b);
   memset(payload, 0, sizeof payload);
@@ -107,7 +107,7 @@ static void no_such_numbers(lovendak *vat) {
   IS(lovendak_reject(vat, 0, 4, no_text, 0), LOVENDAK_NO_SUCH_NUMBER);
   IS(lovendak_shut(vat, 65536), LOVENDAK_NO_SUCH_NUMBER);
   IS(lovendak_fail(vat, 0, 0, (const uint8_t *)"\xff", 1), LOVENDAK_NO_PAYLOAD);
-  IS(lovendak_contents(no_refs, 0, (const uint8_t *)"\xff", 1, 0, out, sizeof out, &len), LOVENDAK_NO_PAYLOAD);
+  IS(lovendak_contents(no_refs, 0, 1, (const uint8_t *)"\xff", 1, 0, out, sizeof out, &len), LOVENDAK_NO_PAYLOAD);
   IS(lovendak_call(vat, 0, 0, 0, (const uint8_t *)"none", 4, no_refs, 0, &call), LOVENDAK_NO_PAYLOAD);
 }
 

@@ -28,7 +28,7 @@ static uint32_t answer(struct service *s, size_t count, uint64_t number, uint32_
   uint8_t out[64];
   size_t len;
   uint64_t ref;
-  uint32_t code = lovendak_contents(&number, count, (const uint8_t *)"", 0, caps, out, sizeof out, &len);
+  uint32_t code = lovendak_contents(&number, count, 0, (const uint8_t *)"", 0, caps, out, sizeof out, &len);
   if (code || caps == 0) return code ? code : lovendak_answer(&s->vat, s->event.number, out, len, s->refs, 0);
   if ((code = lovendak_host(&s->vat, object, &ref))) return code;
   code = lovendak_answer(&s->vat, s->event.number, out, len, &ref, 1);

@@ -40,7 +40,7 @@ const uint8_t NO_TEXT[1] = {};
 std::vector<uint8_t> number(uint64_t number) {
   std::vector<uint8_t> payload(64);
   size_t len;
-  Vat::done(lovendak_contents(&number, 1, NO_TEXT, 0, 0, payload.data(), payload.size(), &len));
+  Vat::done(lovendak_contents(&number, 1, 0, NO_TEXT, 0, 0, payload.data(), payload.size(), &len));
   payload.resize(len);
   return payload;
 }

@@ -174,12 +174,12 @@ uint32_t lovendak_shut(lovendak *vat, uint32_t number);
 /* Contents without a schema compiler. A library that writes and reads Cap'n Proto messages does as well: the root of the message is
  * the payload, and its capability pointers number the references. `caps` is how many capabilities a payload has. */
 
-/* A struct whose data words are the numbers. The text, UTF-8 without a zero behind it, is its pointer 0, and the capabilities are its
- * pointers 1, 2 and so on. An empty text has no pointer, and the capabilities are the pointers 0, 1 and so on then: write a struct
- * with capabilities behind an empty text by other means. ROOM where it takes more bytes; `len` says how many. NO_PAYLOAD where the
- * text is no UTF-8, FULL where there is too much for a payload, MEMORY. */
-uint32_t lovendak_contents(const uint64_t *numbers, size_t count, const uint8_t *text, size_t text_len, uint32_t caps, uint8_t *out,
-                           size_t room, size_t *len);
+/* A struct whose data words are the numbers. Where `has_text` is not 0 the text, UTF-8 without a zero behind it, is its pointer 0,
+ * and the capabilities are its pointers 1, 2 and so on; else there is no text, and they are its pointers 0, 1 and so on. ROOM where
+ * it takes more bytes; `len` says how many. NO_PAYLOAD where the text is no UTF-8, FULL where there is too much for a payload,
+ * MEMORY. */
+uint32_t lovendak_contents(const uint64_t *numbers, size_t count, uint32_t has_text, const uint8_t *text, size_t text_len,
+                           uint32_t caps, uint8_t *out, size_t room, size_t *len);
 
 /* The data word of that index of the root struct; 0 past its end, and where the root is null. NOTHING where the root is something
  * else, NO_SUCH_NUMBER of an index above 4,294,967,295, NO_PAYLOAD where the bytes are no payload with so many capabilities, MEMORY. */

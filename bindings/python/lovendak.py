@@ -69,7 +69,7 @@ TAKES = {
     "answer": [HANDLE, U64, BYTES, SIZE, WORDS, SIZE], "fail": [HANDLE, U64, U32, BYTES, SIZE],
     "promise": [HANDLE, WORDS, WORDS], "resolve": [HANDLE, U64, U64], "reject": [HANDLE, U64, U32, BYTES, SIZE],
     "advance": [HANDLE, U64, c.POINTER(U32)], "shut": [HANDLE, U32],
-    "contents": [WORDS, SIZE, BYTES, SIZE, U32, ROOMS, SIZE, c.POINTER(SIZE)],
+    "contents": [WORDS, SIZE, U32, BYTES, SIZE, U32, ROOMS, SIZE, c.POINTER(SIZE)],
     "number_at": [BYTES, SIZE, U32, SIZE, WORDS], "text_at": [BYTES, SIZE, U32, U16, ROOMS, SIZE, c.POINTER(SIZE)],
     "ref_at": [BYTES, SIZE, U32, c.POINTER(U16), SIZE, c.POINTER(SIZE)],
 }
@@ -108,12 +108,12 @@ class Contents:
         self.payload, self.refs = bytes(payload), list(refs)
 
     @classmethod
-    def of(cls, numbers=(), text="", refs=()):
-        """A struct of numbers; the text is its pointer 0, unless it is empty, and the references are the pointers behind it."""
-        numbers, refs, text, size = list(numbers), list(refs), text.encode(), SIZE()
-        out = (c.c_uint8 * (32 + 8 * (len(numbers) + len(refs)) + len(text)))()
-        done(LIBRARY.lovendak_contents((U64 * len(numbers))(*numbers), len(numbers), text, len(text), len(refs), out, len(out),
-                                       c.byref(size)))
+    def of(cls, numbers=(), text=None, refs=()):
+        """A struct of numbers; the text, if there is one, is its pointer 0, and the references are the pointers behind it."""
+        numbers, refs, letters, size = list(numbers), list(refs), (text or "").encode(), SIZE()
+        out = (c.c_uint8 * (32 + 8 * (len(numbers) + len(refs)) + len(letters)))()
+        done(LIBRARY.lovendak_contents((U64 * len(numbers))(*numbers), len(numbers), text is not None, letters, len(letters),
+                                       len(refs), out, len(out), c.byref(size)))
         return cls(out[:size.value], refs)
 
     def number(self, index):

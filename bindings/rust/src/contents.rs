@@ -19,11 +19,11 @@ pub struct Contents {
 
 impl Contents {
     /// A struct whose data words are the numbers. The text, if there is one, is its pointer 0, and the references are the pointers
-    /// behind it: without a text 0, 1 and so on. An empty text is none here. `Full` where there is too much for a payload, `Memory`.
+    /// behind it: without a text 0, 1 and so on. `Full` where there is too much for a payload, `Memory`.
     pub fn new(numbers: &[u64], text: Option<&str>, refs: &[RefId]) -> Result<Contents, Refusal> {
-        let text = text.unwrap_or("");
         // The frame's head and the root pointer, a word of each number and reference, the text with its pointer.
-        let mut payload = vec![0; 16 + 8 * (numbers.len() + refs.len()) + text.len() + 16];
+        let text_room = text.map_or(0, |text| text.len() + 16);
+        let mut payload = vec![0; 16 + 8 * (numbers.len() + refs.len()) + text_room];
         let caps = u32::try_from(refs.len()).map_err(|_| Refusal::Full)?;
         let (mut code, mut len) = ffi::contents(numbers, text, caps, &mut payload);
         if code == ffi::ROOM {

@@ -94,6 +94,7 @@ unsafe extern "C" {
     fn lovendak_contents(
         numbers: *const u64,
         count: usize,
+        has_text: u32,
         text: *const u8,
         text_len: usize,
         caps: u32,
@@ -170,12 +171,13 @@ pub fn reject(vat: &mut Lovendak, promise: u64, kind: u32, reason: &str) -> u32 
     unsafe { lovendak_reject(vat, promise, kind, reason.as_ptr(), reason.len()) }
 }
 
-pub fn contents(numbers: &[u64], text: &str, caps: u32, out: &mut [u8]) -> (u32, usize) {
+pub fn contents(numbers: &[u64], text: Option<&str>, caps: u32, out: &mut [u8]) -> (u32, usize) {
+    let (has_text, text) = (u32::from(text.is_some()), text.unwrap_or(""));
     let (numbers, count) = (numbers.as_ptr(), numbers.len());
     let (text, text_len) = (text.as_ptr(), text.len());
     let (out, room) = (out.as_mut_ptr(), out.len());
     let mut len = 0;
-    let code = unsafe { lovendak_contents(numbers, count, text, text_len, caps, out, room, &mut len) };
+    let code = unsafe { lovendak_contents(numbers, count, has_text, text, text_len, caps, out, room, &mut len) };
     (code, len)
 }
 

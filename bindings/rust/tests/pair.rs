@@ -59,6 +59,8 @@ fn a_call_comes_as_it_was_made() {
     assert_eq!(lovendak::version(), 1);
     let (mut a, mut b, asked, root) = pair();
     let own = a.host(ObjectId(9)).unwrap();
+    // An empty text has its place, and the references stand behind it.
+    assert_eq!(Contents::new(&[], Some(""), &[own]).unwrap().reference(&[1]), Ok(Some(own)));
     let long = "ü".repeat(3000);
     let params = Contents::new(&[1, u64::MAX], Some(&long), &[own, root]).unwrap();
     let call = a.call(root, 77, 65_535, &params).unwrap();

@@ -1,5 +1,5 @@
 -- What calls do to what a handle has.
-use Rattle.std.specs.Prelude.{◌≡◌, ℕ, zero, suc, Option, Some, None, MatchOption, Result}
+use Rattle.std.specs.Prelude.{◌≡◌, ℕ, zero, suc, List, Option, Some, None, MatchOption, Result}
 use Rattle.rpc_msg.specs.declared.ids.ObjectId.{ObjectId}
 use Rattle.vat_desk.specs.Desks.{IsNotMade, idle}
 use Rattle.vat_desk.specs.Given.{level_at}
@@ -49,6 +49,11 @@ FreesOn None new code = (code ≡ 100) × (new ≡ None)
 FreesOn (Some old) new code = (code ≡ 0) × (new ≡ None)
 
 -- ---- what no handle is needed for
+
+-- a text, unless the number is 0
+abbrev pub text_of : ℕ → List ℕ → Option (List ℕ)
+text_of zero text = None
+text_of (suc n) text = Some text
 
 -- It is done or not, and the code says so.
 abbrev pub Tells : ℕ → (Result (Unit {0}) NotDone → Type 0) → Type 0

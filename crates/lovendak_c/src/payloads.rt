@@ -1,26 +1,39 @@
 // Payloads made and looked into. No vat is needed.
-ghost use Rattle.std.specs.Prelude.{◌≡◌};
+ghost use Rattle.std.specs.Prelude.{◌≡◌, option_map};
 ghost use Rattle.vat_desk.specs.Contents.{Makes, NumberAt, ReferenceAt, TextAt};
 ghost use Rattle.vat_desk.specs.Given.{path};
-ghost use Rattle.lovendak_c.specs.Calls.{Gives, Tells};
+ghost use Rattle.lovendak_c.specs.Calls.{Gives, Tells, text_of};
 
 use crate::codes::{done, done_with};
 use std::alloc::Global;
 
-/// Hands out the bytes of a payload: a struct whose data words are these numbers, with the text as its pointer 0, unless it is empty,
-/// and so many capabilities as the pointers behind it. Where there is too little room (103) nothing is handed out but the length.
+/// Hands out the bytes of a payload: a struct whose data words are these numbers, with the text as its pointer 0 where `has_text` is
+/// not 0, and so many capabilities as the pointers behind it. Where there is too little room (103) nothing is handed out but the
+/// length.
 #[unsafe(no_mangle)]
 pub extern "C" fn lovendak_contents(
     alloc: Global,
     numbers: &[u64],
+    has_text: u32,
     text: &[u8],
     caps: u32,
     out: &mut [u8],
     len: &mut usize,
 ) -> u32
-    ensures { Tells result (λ answer. Makes numbers.now text.now caps out.old len.old answer out.new len.new) }
+    ensures { Tells result (λ answer. Makes numbers.now (text_of has_text text.now) caps out.old len.old answer out.new len.new) }
 {
+    let text = text_of(has_text, text);
     done(vat_desk::contents(alloc, numbers, text, caps, out, len))
+}
+
+// A text, unless the number is 0.
+fn text_of(has_text: u32, text: &[u8]) -> Option<&[u8]>
+    ensures { option_map (λ t. t.now) result ≡ text_of has_text text.now }
+{
+    if has_text == 0 {
+        return None;
+    }
+    Some(text)
 }
 
 /// Says the data word of that index of a payload's root, a struct: 0 past its end. 104 where the root is a list or a capability,

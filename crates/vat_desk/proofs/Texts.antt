@@ -1,5 +1,5 @@
 -- A text at a pointer of a payload's root.
-use Rattle.std.proofs.Common.{◌≡◌, ◌⊎◌, inl, inr, ℕ, List, Option, Some, None, Result, Ok, Err, refl, sym, ap, ◌∙◌, subst}
+use Rattle.std.proofs.Common.{◌≡◌, inl, inr, ℕ, List, Option, Some, None, Result, Err, refl, sym, ap, ◌∙◌, subst}
 use Rattle.rpc_msg.specs.Payloads.{Contents, IsEncoded, tree_of}
 use Rattle.wire_reading.specs.Looking.{IsTextOf, field}
 use Rattle.wire_trees.specs.Trees.{Tree}

@@ -21,27 +21,32 @@ use Rattle.vat_desk.specs.Given.{IsNoPayload, lacks_memory}
 
 -- ---- made
 
--- a pointer to a text that is not empty
-abbrev pub to_text : List ℕ → List Tree
-to_text [] = []
-to_text (b ∷ bytes) = list (packed 8 ((b ∷ bytes) ++ 0 ∷ [])) ∷ []
+-- a pointer to the text, if there is one
+abbrev pub to_text : Option (List ℕ) → List Tree
+to_text None = []
+to_text (Some text) = list (packed 8 (text ++ 0 ∷ [])) ∷ []
 
--- A struct of these numbers, with a pointer to the text, and behind it one to each of so many capabilities.
-abbrev pub saying : List ℕ → List ℕ → ℕ → Tree
+-- A struct of these numbers, with a pointer to the text, if there is one, and behind it one to each of so many capabilities.
+abbrev pub saying : List ℕ → Option (List ℕ) → ℕ → Tree
 saying numbers text caps = struct numbers (trees_of (to_text text ++ map capability (range_with_len 0 caps)))
 
 -- A struct has no more than 65,535 pointers, and a payload no more than its limits allow.
-abbrev pub IsTooMuch : List ℕ → List ℕ → ℕ → Type 0
+abbrev pub IsTooMuch : List ℕ → Option (List ℕ) → ℕ → Type 0
 IsTooMuch numbers text caps = (65535 < caps) ⊎ IsSome (refusal (saying numbers text caps) caps)
 
+-- The text is none of characters.
+abbrev pub IsNotUtf8 : Option (List ℕ) → Type 0
+IsNotUtf8 None = ⊥
+IsNotUtf8 (Some text) = ¬ (IsUtf8 text)
+
 -- Why that is not written.
-abbrev pub IsNotWritten : List ℕ → List ℕ → ℕ → NotDone → Type 0
-IsNotWritten numbers text caps not_done.Malformed = ¬ (IsUtf8 text)
+abbrev pub IsNotWritten : List ℕ → Option (List ℕ) → ℕ → NotDone → Type 0
+IsNotWritten numbers text caps not_done.Malformed = IsNotUtf8 text
 IsNotWritten numbers text caps (not_done.Refused r) = (r ≡ refusals.Memory) ⊎ ((r ≡ refusals.Full) × IsTooMuch numbers text caps)
 IsNotWritten numbers text caps e = ⊥
 
 -- The payload's bytes are copied out where there is room for them, or there is a reason why it is not written.
-abbrev pub Makes : {A : Type 0} → List ℕ → List ℕ → ℕ → List ℕ → ℕ → Result A NotDone → List ℕ → ℕ → Type 0
+abbrev pub Makes : {A : Type 0} → List ℕ → Option (List ℕ) → ℕ → List ℕ → ℕ → Result A NotDone → List ℕ → ℕ → Type 0
 Makes numbers text caps room before answer out len =
     CopiesOut (written (saying numbers text caps)) room answer out len
     ⊎ ((e : NotDone) × (answer ≡ Err e) × IsNotWritten numbers text caps e × (out ≡ room) × (len ≡ before))

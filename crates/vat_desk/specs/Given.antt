@@ -1,5 +1,5 @@
 -- What numbers and bytes that are given stand for (docs/languages.md).
-use Rattle.std.specs.Prelude.{◌≡◌, ◌<◌, ◌^◌, ℕ, zero, suc, List, Option, Some, None, Result, Ok, Err, map, length}
+use Rattle.std.specs.Prelude.{◌<◌, ◌^◌, ℕ, zero, suc, List, Option, Some, None, Result, Ok, Err, map, length}
 use Rattle.std.specs.Str.{IsUtf8}
 use Rattle.rpc_msg.specs.Op.{Op}
 use Rattle.rpc_msg.specs.Op.TheVariants.{Field}

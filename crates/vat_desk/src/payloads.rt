@@ -1,5 +1,5 @@
 // Payloads made of numbers, a text and capabilities, and looked into.
-ghost use Rattle.std.specs.Prelude.{◌≡◌, ◌<◌, ◌⊎◌, ◌++◌, length, map, IsSome, IfOk, IfErr};
+ghost use Rattle.std.specs.Prelude.{◌≡◌, ◌<◌, ◌⊎◌, ◌++◌, length, map, option_map, IsSome, IfOk, IfErr};
 ghost use Rattle.std.specs.List.{range_with_len};
 ghost use Rattle.rpc_msg.specs.Payloads.{tree_of};
 ghost use Rattle.wire_trees.specs.Trees.{capability, struct};
@@ -9,7 +9,7 @@ ghost use Rattle.wire_trees.specs.declared.faults.WriteFault.TheVariants as writ
 ghost use Rattle.wire_writing.specs.Placing.{written};
 ghost use Rattle.vat_machine.specs.declared.command.Refusal.TheVariants as refusals;
 ghost use Rattle.vat_desk.specs.declared.not_done.NotDone.TheVariants as not_done;
-ghost use Rattle.vat_desk.specs.Contents.{IsTooMuch, Makes, NumberAt, ReferenceAt, TextAt, saying, to_text};
+ghost use Rattle.vat_desk.specs.Contents.{IsNotUtf8, IsTooMuch, Makes, NumberAt, ReferenceAt, TextAt, saying, to_text};
 ghost use Rattle.vat_desk.specs.Given.{lacks_memory, path};
 
 use crate::copying::copy_out;
@@ -27,26 +27,39 @@ const MOST_POINTERS: u32 = 65_535;
 const TOO_HIGH: usize = 4_294_967_296;
 
 /// Hands out the bytes of a payload, and says how many they are: a struct whose data words are these numbers, with the text as its
-/// pointer 0, unless it is empty, and so many capabilities as the pointers behind it. `NoRoom` where there is too little room, and
-/// nothing is handed out but the length; `Malformed` where the text is none, `Full` where a limit of payloads is passed, `Memory`.
+/// pointer 0, if there is one, and so many capabilities as the pointers behind it. `NoRoom` where there is too little room, and
+/// nothing is handed out but the length; `Malformed` where the text is no UTF-8, `Full` where a limit of payloads is passed,
+/// `Memory`.
 pub fn contents(
     alloc: Global,
     numbers: &[u64],
-    text: &[u8],
+    text: Option<&[u8]>,
     caps: u32,
     out: &mut [u8],
     len: &mut usize,
 ) -> Result<(), NotDone>
-    ensures { Makes numbers.now text.now caps out.old len.old result out.new len.new }
+    ensures { Makes numbers.now (option_map (λ t. t.now) text.entry) caps out.old len.old result out.new len.new }
 {
-    let Ok(text) = str::from_utf8(text) else {
-        return Err(NotDone::Malformed);
-    };
+    let text = letters_of(text)?;
     let payload = match write(alloc, numbers, text, caps) {
         Ok(payload) => payload,
         Err(fault) => return Err(not_written(fault)),
     };
     copy_out(payload.bytes(), out, len)
+}
+
+// The text of these bytes, where there are any.
+fn letters_of(bytes: Option<&[u8]>) -> Result<Option<&str>, NotDone>
+    ensures read { IfOk result (λ text. option_map (λ t. t.now) text ≡ option_map (λ t. t.now) bytes.entry) }
+    ensures not_read { IfErr result (λ why. (why ≡ not_done.Malformed) × IsNotUtf8 (option_map (λ t. t.now) bytes.entry)) }
+{
+    let Some(bytes) = bytes else {
+        return Ok(None);
+    };
+    match str::from_utf8(bytes) {
+        Ok(text) => Ok(Some(text)),
+        Err(_) => Err(NotDone::Malformed),
+    }
 }
 
 // What a fault of writing is called here.
@@ -61,9 +74,14 @@ fn not_written(fault: WriteFault) -> NotDone
 }
 
 // The payload that says so.
-fn write(alloc: Global, numbers: &[u64], text: &str, caps: u32) -> Result<Payload, WriteFault>
-    ensures made { IfOk result (λ payload. payload ≡ record { bytes = written (saying numbers.now text.now caps); caps = caps }) }
-    ensures refused { IfErr result (λ fault. (fault ≡ write_faults.Memory) ⊎ IsTooMuch numbers.now text.now caps) }
+fn write(
+    alloc: Global,
+    numbers: &[u64],
+    text: Option<&str>,
+    caps: u32,
+) -> Result<Payload, WriteFault>
+    ensures made { IfOk result (λ payload. payload ≡ record { bytes = written (saying numbers.now (option_map (λ t. t.now) text.entry) caps); caps = caps }) }
+    ensures refused { IfErr result (λ fault. (fault ≡ write_faults.Memory) ⊎ IsTooMuch numbers.now (option_map (λ t. t.now) text.entry) caps) }
 {
     if caps > MOST_POINTERS {
         return Err(WriteFault::TooLarge);
@@ -87,9 +105,9 @@ fn write_struct(
     Payload::write(alloc, &tree, caps)
 }
 
-// A pointer to the text, unless it is empty, and one to each of so many capabilities.
-fn pointers_to(alloc: Global, text: &str, caps: u32) -> Result<Pointers, WriteFault>
-    ensures made { IfOk result (λ pointers. map view (held pointers) ≡ to_text text.now ++ map capability (range_with_len 0 caps)) }
+// A pointer to the text, if there is one, and one to each of so many capabilities.
+fn pointers_to(alloc: Global, text: Option<&str>, caps: u32) -> Result<Pointers, WriteFault>
+    ensures made { IfOk result (λ pointers. map view (held pointers) ≡ to_text (option_map (λ t. t.now) text.entry) ++ map capability (range_with_len 0 caps)) }
     ensures memory { IfErr result (λ fault. fault ≡ write_faults.Memory) }
 {
     let mut pointers = text_pointer(alloc, text)?;
@@ -99,14 +117,15 @@ fn pointers_to(alloc: Global, text: &str, caps: u32) -> Result<Pointers, WriteFa
     Ok(pointers)
 }
 
-fn text_pointer(alloc: Global, text: &str) -> Result<Pointers, WriteFault>
-    ensures made { IfOk result (λ pointers. map view (held pointers) ≡ to_text text.now) }
+fn text_pointer(alloc: Global, text: Option<&str>) -> Result<Pointers, WriteFault>
+    ensures made { IfOk result (λ pointers. map view (held pointers) ≡ to_text (option_map (λ t. t.now) text.entry)) }
     ensures memory { IfErr result (λ fault. fault ≡ write_faults.Memory) }
 {
     let mut pointers = Pointers::new(alloc);
-    if !text.is_empty() {
-        pointers.push(Tree::text(alloc, text)?)?;
-    }
+    let Some(text) = text else {
+        return Ok(pointers);
+    };
+    pointers.push(Tree::text(alloc, text)?)?;
     Ok(pointers)
 }
 

@@ -1,4 +1,5 @@
 use Rattle.std.proofs.Common.{◌≡◌, ◌++◌, map}
+use Rattle.std.specs.Prelude.{option_map}
 use Rattle.std.specs.List.{range_with_len}
 use Rattle.wire_trees.specs.Trees.{capability}
 use Rattle.wire_trees.specs.Views.{view, held}
@@ -6,4 +7,4 @@ use Rattle.vat_desk.specs.Contents.{to_text}
 use Rattle.vat_desk.proofs.payloads.pointers_to.Given as goal
 
 abbrev pub invariant-loop-index : goal.invariant-loop-index
-invariant-loop-index l = map view (held l.pointers) ≡ to_text l.text ++ map capability (range_with_len 0 l.index)
+invariant-loop-index l = map view (held l.pointers) ≡ to_text (option_map (λ t. t.now) l.text) ++ map capability (range_with_len 0 l.index)
