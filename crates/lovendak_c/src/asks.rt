@@ -1,7 +1,7 @@
 // Commands that give a number. What the number is put into stays as it is where a command is refused, and so does the vat.
 ghost use Rattle.std.specs.Prelude.{◌≡◌, []};
 ghost use Rattle.vat_machine.specs.declared.command.Command.TheVariants as command;
-ghost use Rattle.vat_desk.specs.Commands.{Advances, CallsWith, Clones, IsAsked, a_call, a_promise, a_reference, call_of};
+ghost use Rattle.vat_desk.specs.Commands.{Advances, CallsWith, IsAsked, a_call, a_promise, a_reference, call_of};
 ghost use Rattle.vat_desk.specs.Given.{path};
 ghost use Rattle.lovendak_c.specs.Calls.{GivesOn};
 
@@ -86,7 +86,7 @@ pub extern "C" fn lovendak_clone_ref(
     reference: u64,
     made: &mut u64,
 ) -> u32
-    ensures { GivesOn vat.old.raw.desk vat.new.raw.desk result made.old made.new (λ old answer new. Clones old reference answer new) }
+    ensures { GivesOn vat.old.raw.desk vat.new.raw.desk result made.old made.new (λ old answer new. IsAsked old (command.CloneRef (record { 0 = reference })) a_reference answer new) }
 {
     let Some(mut desk) = vat.take(alloc) else {
         return EMPTY;

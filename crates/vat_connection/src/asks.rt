@@ -39,6 +39,14 @@ impl Connection {
         self.speaker.host.host(object)
     }
 
+    /// Makes a second reference to what a reference leads to, as `Host::clone_ref` does: gives its number. A refusal changes
+    /// nothing.
+    pub fn clone_ref(&mut self, id: RefId) -> Result<RefId, Refusal>
+        ensures { Asks self.old (command.CloneRef id) (answered result granted.Reference (λ r. r)) self.new }
+    {
+        self.speaker.host.clone_ref(id)
+    }
+
     /// Makes a reference to what stands at a path of the results of a call, as `Host::field` does: gives its number. A refusal
     /// changes nothing, and the path is handed back.
     pub fn field(&mut self, id: CallId, path: Items<Op>) -> Result<RefId, Refused<Items<Op>>>

@@ -30,10 +30,6 @@ a_promise made = granted.Promise (record { 0 = made.0 }) (reference made.1)
 abbrev pub nothing : {A : Type 0} → A → Granted
 nothing u = granted.Done
 
-abbrev pub IsReference : Granted → Type 0
-IsReference (granted.Reference r) = Unit {0}
-IsReference g = ⊥
-
 -- What became of a reference: 0 nothing, 1 switched, 2 embargoed, 3 broke.
 abbrev pub number_of : Advanced → ℕ
 number_of advanced.Nothing = 0
@@ -55,14 +51,7 @@ IsAskedToFit Unfit old c grants (Ok x) new = AsksToFit old.connection c (Ok (gra
 IsAskedToFit Unfit old c grants (Err (not_done.Refused r)) new = AsksToFit old.connection c (Err r) new.connection × (new ≡ with_connection old new.connection)
 IsAskedToFit Unfit old c grants (Err e) new = Unfit e × (new ≡ old)
 
--- No command but those with contents has a reason to be unfit.
-abbrev pub NoneUnfit : NotDone → Type 0
-NoneUnfit e = ⊥
-
--- ---- clone_ref, answer, fail, reject, advance
-
-abbrev pub Clones : Desk → ℕ → Result ℕ NotDone → Desk → Type 0
-Clones old r answer new = IsAskedToFit NoneUnfit old (command.CloneRef (reference r)) a_reference answer new
+-- ---- answer, fail, reject, advance
 
 -- A task gets these bytes, with these references.
 abbrev pub Answers : {A : Type 0} → Desk → ℕ → List ℕ → List ℕ → Result A NotDone → Desk → Type 0

@@ -2,7 +2,7 @@
 ghost use Rattle.std.specs.Prelude.{◌≡◌, []};
 ghost use Rattle.vat_machine.specs.declared.command.Command.TheVariants as command;
 ghost use Rattle.vat_machine.specs.declared.command.Granted.TheVariants as granted;
-ghost use Rattle.vat_desk.specs.Commands.{Advances, CallsWith, Clones, IsAsked, IsReference, a_call, a_promise, a_reference, call_of, number_of};
+ghost use Rattle.vat_desk.specs.Commands.{Advances, CallsWith, IsAsked, a_call, a_promise, a_reference, call_of, number_of};
 ghost use Rattle.vat_desk.specs.Given.{path, reference};
 
 use crate::desk::Desk;
@@ -10,7 +10,7 @@ use crate::given::{path_of, payload_of, refs_of};
 use crate::not_done::NotDone;
 use rpc_msg::{CallId, ObjectId, RefId};
 use std::alloc::Global;
-use vat_connection::{Advanced, CallCommand, Command, Granted};
+use vat_connection::{Advanced, CallCommand};
 
 impl Desk {
     /// Asks the peer for its bootstrap object: gives the number of the call.
@@ -35,11 +35,11 @@ impl Desk {
 
     /// Makes a second reference to what a reference leads to: gives its number.
     pub fn clone_ref(&mut self, reference: u64) -> Result<u64, NotDone>
-        ensures { Clones self.old reference result self.new }
+        ensures { IsAsked self.old (command.CloneRef (record { 0 = reference })) a_reference result self.new }
     {
-        match self.connection.command(Command::CloneRef(RefId(reference))) {
-            Ok(granted) => Ok(reference_in(granted)),
-            Err(refused) => Err(NotDone::Refused(refused.refusal)),
+        match self.connection.clone_ref(RefId(reference)) {
+            Ok(made) => Ok(made.0),
+            Err(refusal) => Err(NotDone::Refused(refusal)),
         }
     }
 
@@ -122,15 +122,4 @@ fn number_of(became: Advanced) -> u32
         Advanced::Embargoed => 2,
         Advanced::Broke => 3,
     }
-}
-
-// The number of a reference that is granted.
-fn reference_in(granted: Granted) -> u64
-    requires { IsReference granted }
-    ensures { granted ≡ a_reference result }
-{
-    let Granted::Reference(made) = granted else {
-        unreachable!()
-    };
-    made.0
 }

@@ -57,6 +57,18 @@ impl Host {
         Ok(made)
     }
 
+    /// Makes a second reference with the same head as another, as `Core::clone_ref` does: gives its number. Nothing follows.
+    pub fn clone_ref(&mut self, id: RefId) -> Result<RefId, Refusal>
+        ensures done { IfOk result (λ made. Does self.old (command.CloneRef id) (granted.Reference made) self.new) }
+        ensures refused { IfErr result (λ r. Refuses self.old (command.CloneRef id) r self.new) }
+    {
+        let made = match self.core.clone_ref(id) {
+            Ok(made) => made,
+            Err(refusal) => return Err(refusal),
+        };
+        Ok(made)
+    }
+
     /// Makes a reference to what stands at a path of the results of a call, as `Core::field` does: gives its number. Nothing
     /// follows. A path that is refused is handed back.
     pub fn field(&mut self, id: CallId, path: Items<Op>) -> Result<RefId, Refused<Items<Op>>>
