@@ -132,7 +132,7 @@ pub fn write_counts(text: &mut String, vat: Vat, counts: &Counts) -> Result<(), 
 }
 
 fn write_each(text: &mut String, counts: &Items<(ExportId, u32)>) -> Result<(), AllocError> {
-    for (id, count) in counts.as_slice() {
+    for (id, count) in counts {
         write!(text, " {}:{count}", id.0)?;
     }
     Ok(())

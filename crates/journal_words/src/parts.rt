@@ -35,7 +35,7 @@ pub(crate) fn write_references(
     if !references.is_empty() {
         text.push_str(" with")?;
     }
-    for reference in references.as_slice() {
+    for reference in references {
         write!(text, " {}", reference.0)?;
     }
     Ok(())
@@ -81,7 +81,7 @@ pub(crate) fn write_descriptors(
     text: &mut String,
     descriptors: &Items<Descriptor>,
 ) -> Result<(), AllocError> {
-    for descriptor in descriptors.as_slice() {
+    for descriptor in descriptors {
         text.push(' ')?;
         write_descriptor(text, *descriptor)?;
     }
