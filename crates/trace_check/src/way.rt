@@ -66,7 +66,7 @@ impl Way {
         ensures grows { OnOk result (Grows self.old.said.lists.items self.new.said.lists.items) }
     {
         let parcel = Parcel::of(alloc, message, receiver)?;
-        self.handed_on.add_all(parcel.handed_on.as_slice())?;
+        self.handed_on.add_all(&parcel.handed_on)?;
         self.releases.send(parcel.released)?;
         self.said.send(alloc, message)?;
         self.parcels.push_back(parcel)?;
@@ -82,7 +82,7 @@ impl Way {
         let Some(parcel) = self.parcels.pop_front() else {
             return Ok(false);
         };
-        self.handed_on.take_all(parcel.handed_on.as_slice());
+        self.handed_on.take_all(&parcel.handed_on);
         self.releases.receive(parcel.released)?;
         Ok(true)
     }

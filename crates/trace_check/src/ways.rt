@@ -63,15 +63,15 @@ impl Ways {
     {
         let of_a = agree(
             alloc,
-            a.exports.as_slice(),
-            b.imports.as_slice(),
+            &a.exports,
+            &b.imports,
             &self.a.handed_on,
             &self.b.releases.counted,
         )?;
         let of_b = agree(
             alloc,
-            b.exports.as_slice(),
-            a.imports.as_slice(),
+            &b.exports,
+            &a.imports,
             &self.b.handed_on,
             &self.a.releases.counted,
         )?;
