@@ -72,10 +72,10 @@ fn null_payload(
 ) -> Result<Payload, Memory>
     ensures { IfOk result (λ made. made ≡ nulled_payload descriptors.now payload) }
 {
-    if !some_absent(descriptors.as_slice()) {
+    if !some_absent(descriptors) {
         return Ok(payload);
     }
-    lay_out(alloc, &payload, descriptors.as_slice())
+    lay_out(alloc, &payload, descriptors)
 }
 
 // The payload, laid out anew.

@@ -33,7 +33,7 @@ fn turn_results(
 ) -> Result<ReturnBody, Memory>
     ensures { IfOk result (λ made. made ≡ turned_results answer payload.now descriptors.now) }
 {
-    let turned = turn_all(alloc, answer, payload, descriptors.as_slice())?;
+    let turned = turn_all(alloc, answer, payload, descriptors)?;
     match turned {
         None => exception(alloc),
         Some(turned) => {
