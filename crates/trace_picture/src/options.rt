@@ -161,7 +161,7 @@ fn names(entry: &JournalEntry, vat: Vat, reference: RefId) -> bool
 fn has(references: &Items<RefId>, reference: RefId) -> bool
     ensures { result ≡ list_any (λ r. nat_eq r.0 reference.0) references.now }
 {
-    references.as_slice().contains(&reference)
+    references.contains(&reference)
 }
 
 fn is_through(stamp: &Stamp, vat: Vat, reference: RefId) -> bool
