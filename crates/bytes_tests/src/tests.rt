@@ -1,15 +1,16 @@
-//! Each kind of message through its frame, contents as deep as frames allow, and allocations that are refused.
+//! Each kind of message through its frame, contents as deep as frames allow, and what is not understood. Where an allocation is
+//! refused (`scripts/refused`) each ends in an error that says so, and in no other answer.
 use rpc_bytes::{
-    DecodeError, EncodeError, EncodeFault, Envelope, EnvelopeFault, decode, echo, encode,
+    DecodeError, EncodeError, EncodeFault, Envelope, EnvelopeFault, Unknown, decode, echo, encode,
 };
 use rpc_msg::{
     Call, Descriptor, Disembargo, DisembargoContext, EmbargoId, Exception, ExceptionKind, ExportId,
-    Finish, Items, Message, Op, Path, Payload, PlainMessage, QuestionId, RefId, Release, Resolve,
-    ResolvedTo, Return, ReturnBody, Stamp, Target, Text, Vat,
+    Finish, Items, Memory, Message, Op, Path, Payload, PlainMessage, QuestionId, RefId, Release,
+    Resolve, ResolvedTo, Return, ReturnBody, Stamp, Target, Text, Vat,
 };
 use std::alloc::Global;
 use std::test::Fail;
-use wire_trees::{Items as Elements, Pointers, Tree, WriteFault};
+use wire_trees::{Items as Elements, PayloadFault, Pointers, Tree, WriteFault};
 
 const STAMP: Stamp = Stamp {
     vat: Vat::B,
@@ -17,25 +18,32 @@ const STAMP: Stamp = Stamp {
     index: 7,
 };
 
-fn call(
-    alloc: Global,
-    payload: Payload,
-    descriptors: Items<Descriptor>,
-) -> Result<PlainMessage, Fail> {
-    let path = Path::from_ops(&[Op::Field(1), Op::Noop, Op::Field(65_535)]).ok_or("no path")?;
-    Ok(PlainMessage::Call(Call {
+fn path_of(steps: &[Op]) -> Result<Path, Fail> {
+    match Path::from_ops(steps) {
+        Some(path) => Ok(path),
+        None => Err("too long a path")?,
+    }
+}
+
+fn target() -> Result<Target, Fail> {
+    let path = path_of(&[Op::Field(1), Op::Noop, Op::Field(65_535)])?;
+    Ok(Target::PromisedAnswer(QuestionId(2), path))
+}
+
+fn call(target: Target, payload: Payload, descriptors: Items<Descriptor>) -> PlainMessage {
+    PlainMessage::Call(Call {
         question: QuestionId(4_294_967_295),
-        target: Target::PromisedAnswer(QuestionId(2), path),
+        target,
         interface: 18_446_744_073_709_551_615,
         method: 65_535,
         payload,
         descriptors,
         stamp: STAMP,
-    }))
+    })
 }
 
 fn all_descriptors(alloc: Global) -> Result<Items<Descriptor>, Fail> {
-    let path = Path::from_ops(&[Op::Field(0); 16]).ok_or("no path")?;
+    let path = path_of(&[Op::Field(0); 16])?;
     let descriptors = [
         Descriptor::None,
         Descriptor::SenderHosted(ExportId(1)),
@@ -52,125 +60,207 @@ fn last_of_six(alloc: Global) -> Result<Payload, Fail> {
     Ok(Payload::write(alloc, &Tree::Cap(5), 6)?)
 }
 
-fn exception(alloc: Global, kind: ExceptionKind, reason: &str) -> Result<Exception, Fail> {
-    Ok(Exception {
-        kind,
-        reason: Text::new(alloc, reason)?,
+fn full_call(alloc: Global) -> Result<PlainMessage, Fail> {
+    let target = target()?;
+    let payload = last_of_six(alloc)?;
+    let descriptors = all_descriptors(alloc)?;
+    Ok(call(target, payload, descriptors))
+}
+
+fn null_call(alloc: Global) -> Result<PlainMessage, Fail> {
+    let target = target()?;
+    let payload = Payload::null(alloc)?;
+    Ok(call(target, payload, Items::new(alloc)))
+}
+
+fn return_of(release_param_caps: bool, body: ReturnBody) -> PlainMessage {
+    PlainMessage::Return(Return {
+        answer: QuestionId(1),
+        release_param_caps,
+        body,
     })
 }
 
-/// The message of that number among those of this test.
-fn message(alloc: Global, number: usize) -> Result<Option<PlainMessage>, Fail> {
-    let message = match number {
-        0 => PlainMessage::Abort(exception(alloc, ExceptionKind::Failed, "gone")?),
-        1 => PlainMessage::Bootstrap(QuestionId(9)),
-        2 => call(alloc, last_of_six(alloc)?, all_descriptors(alloc)?)?,
-        3 => call(alloc, Payload::null(alloc)?, Items::new(alloc))?,
-        4 => PlainMessage::Return(Return {
-            answer: QuestionId(1),
-            release_param_caps: true,
-            body: ReturnBody::Results(last_of_six(alloc)?, all_descriptors(alloc)?),
-        }),
-        5 => PlainMessage::Return(Return {
-            answer: QuestionId(1),
-            release_param_caps: false,
-            body: ReturnBody::Exception(exception(alloc, ExceptionKind::Overloaded, "später")?),
-        }),
-        6 => PlainMessage::Return(Return {
-            answer: QuestionId(1),
-            release_param_caps: true,
-            body: ReturnBody::Canceled,
-        }),
-        7 => PlainMessage::Finish(Finish {
-            question: QuestionId(6),
-            release_result_caps: true,
-        }),
-        8 => PlainMessage::Finish(Finish {
-            question: QuestionId(6),
-            release_result_caps: false,
-        }),
-        9 => PlainMessage::Resolve(Resolve {
-            promise: ExportId(5),
-            to: ResolvedTo::Cap(Descriptor::ReceiverHosted(ExportId(8))),
-        }),
-        10 => PlainMessage::Resolve(Resolve {
-            promise: ExportId(5),
-            to: ResolvedTo::Exception(exception(alloc, ExceptionKind::Disconnected, "")?),
-        }),
-        11 => PlainMessage::Release(Release {
-            export: ExportId(5),
-            count: 4_294_967_295,
-        }),
-        12 => PlainMessage::Disembargo(Disembargo {
-            target: Target::ImportedCap(ExportId(5)),
-            context: DisembargoContext::SenderLoopback(EmbargoId(1)),
-        }),
-        13 => PlainMessage::Disembargo(Disembargo {
-            target: Target::ImportedCap(ExportId(5)),
-            context: DisembargoContext::ReceiverLoopback(EmbargoId(4_294_967_295)),
-        }),
-        _ => return Ok(None),
-    };
-    Ok(Some(message))
+fn results(alloc: Global) -> Result<PlainMessage, Fail> {
+    let payload = last_of_six(alloc)?;
+    let descriptors = all_descriptors(alloc)?;
+    Ok(return_of(true, ReturnBody::Results(payload, descriptors)))
+}
+
+fn exception(alloc: Global, kind: ExceptionKind, reason: &str) -> Result<Exception, Memory> {
+    let reason = Text::new(alloc, reason)?;
+    Ok(Exception { kind, reason })
+}
+
+fn abort(alloc: Global) -> Result<PlainMessage, Fail> {
+    let exception = exception(alloc, ExceptionKind::Failed, "gone")?;
+    Ok(PlainMessage::Abort(exception))
+}
+
+fn return_of_exception(alloc: Global) -> Result<PlainMessage, Fail> {
+    let exception = exception(alloc, ExceptionKind::Overloaded, "später")?;
+    Ok(return_of(false, ReturnBody::Exception(exception)))
+}
+
+fn resolve(to: ResolvedTo) -> PlainMessage {
+    PlainMessage::Resolve(Resolve {
+        promise: ExportId(5),
+        to,
+    })
+}
+
+fn resolve_to_exception(alloc: Global) -> Result<PlainMessage, Fail> {
+    let exception = exception(alloc, ExceptionKind::Disconnected, "")?;
+    Ok(resolve(ResolvedTo::Exception(exception)))
+}
+
+fn finish(release_result_caps: bool) -> PlainMessage {
+    PlainMessage::Finish(Finish {
+        question: QuestionId(6),
+        release_result_caps,
+    })
+}
+
+const RELEASE: PlainMessage = PlainMessage::Release(Release {
+    export: ExportId(5),
+    count: 4_294_967_295,
+});
+
+fn disembargo(context: DisembargoContext) -> PlainMessage {
+    PlainMessage::Disembargo(Disembargo {
+        target: Target::ImportedCap(ExportId(5)),
+        context,
+    })
+}
+
+/// One of each message, and one of each body or flag of those that have several, by their numbers.
+const MESSAGES: u32 = 14;
+
+const CALL: u32 = 2;
+
+const HOSTED: Descriptor = Descriptor::ReceiverHosted(ExportId(8));
+
+fn message(alloc: Global, number: u32) -> Result<PlainMessage, Fail> {
+    match number {
+        0 => abort(alloc),
+        1 => Ok(PlainMessage::Bootstrap(QuestionId(9))),
+        CALL => full_call(alloc),
+        3 => null_call(alloc),
+        4 => results(alloc),
+        5 => return_of_exception(alloc),
+        6 => Ok(return_of(true, ReturnBody::Canceled)),
+        7 => Ok(finish(true)),
+        8 => Ok(finish(false)),
+        9 => Ok(resolve(ResolvedTo::Cap(HOSTED))),
+        10 => resolve_to_exception(alloc),
+        11 => Ok(RELEASE),
+        12 => Ok(disembargo(DisembargoContext::SenderLoopback(EmbargoId(1)))),
+        _ => Ok(disembargo(DisembargoContext::ReceiverLoopback(EmbargoId(4_294_967_295)))),
+    }
+}
+
+// A message is let go where it is taken by value, at one place: each place at which one goes is dear to prove.
+fn encoded(alloc: Global, message: Message) -> Result<Payload, EncodeError> {
+    encode(alloc, &message)
+}
+
+fn message_of(envelope: Envelope) -> Option<Message> {
+    match envelope {
+        Envelope::Message(message) => Some(message),
+        _ => None,
+    }
+}
+
+/// What the frame of a message of the profile has.
+fn decoded(alloc: Global, frame: &Payload) -> Result<Message, Fail> {
+    match message_of(decode(alloc, frame.bytes(), STAMP)?) {
+        Some(message) => Ok(message),
+        None => Err("no message")?,
+    }
+}
+
+fn encoded_again(alloc: Global, frame: &Payload) -> Result<Payload, Fail> {
+    Ok(encoded(alloc, decoded(alloc, frame)?)?)
 }
 
 /// Encoded and decoded it is a message of this test again: its next frame has the same bytes.
-fn comes_back(alloc: Global, message: &Message) -> Result<bool, Fail> {
-    let frame = encode(alloc, message)?;
-    let Envelope::Message(back) = decode(alloc, frame.bytes(), STAMP)? else {
-        return Ok(false);
-    };
-    let again = encode(alloc, &back)?;
+fn comes_back(alloc: Global, message: Message) -> Result<bool, Fail> {
+    let frame = encoded(alloc, message)?;
+    let again = encoded_again(alloc, &frame)?;
     Ok(again.bytes() == frame.bytes())
 }
 
-/// Holds whichever allocation is refused, but that it ends in an `Err` then: run it with `rt try --test --fail-alloc N`
-/// too.
+fn plain_comes_back(alloc: Global, number: u32) -> Result<bool, Fail> {
+    comes_back(alloc, Message::Plain(message(alloc, number)?))
+}
+
+fn echo_comes_back(alloc: Global, number: u32) -> Result<bool, Fail> {
+    comes_back(alloc, Message::Unimplemented(message(alloc, number)?))
+}
+
 #[test]
 fn each_kind_comes_back(rt: HostRuntime) -> Result<(), Fail> {
-    let alloc = rt.alloc();
-    for number in 0..14 {
-        let plain = message(alloc, number)?.ok_or("no message")?;
-        assert!(rt; comes_back(alloc, &Message::Plain(plain))?);
-        let back = message(alloc, number)?.ok_or("no message")?;
-        assert!(rt; comes_back(alloc, &Message::Unimplemented(back))?);
+    for number in 0..MESSAGES {
+        let is_back = plain_comes_back(rt.alloc(), number)?;
+        assert!(rt; is_back, "message {number}");
+        let is_back = echo_comes_back(rt.alloc(), number)?;
+        assert!(rt; is_back, "echo {number}");
     }
     Ok(())
 }
 
-fn frame_of(alloc: Global, number: usize) -> Result<Payload, Fail> {
-    let message = Message::Plain(message(alloc, number)?.ok_or("no message")?);
-    Ok(encode(alloc, &message)?)
+fn frame_of(alloc: Global, number: u32) -> Result<Payload, Fail> {
+    Ok(encoded(alloc, Message::Plain(message(alloc, number)?))?)
 }
 
-/// The call of this test, encoded and decoded.
-fn call_again(alloc: Global) -> Result<Call, Fail> {
-    let frame = frame_of(alloc, 2)?;
-    match decode(alloc, frame.bytes(), STAMP)? {
-        Envelope::Message(Message::Plain(PlainMessage::Call(call))) => return Ok(call),
-        _ => return Err("no call")?,
+fn call_in(message: &Message) -> Option<&Call> {
+    match message {
+        Message::Plain(PlainMessage::Call(call)) => Some(call),
+        _ => None,
     }
 }
 
-fn is_at_its_target(call: &Call) -> Result<bool, Fail> {
-    let path = Path::from_ops(&[Op::Field(1), Op::Noop, Op::Field(65_535)]).ok_or("no path")?;
-    Ok(call.target == Target::PromisedAnswer(QuestionId(2), path))
+fn has_its_numbers(call: &Call) -> bool {
+    call.question == QuestionId(4_294_967_295)
+        && call.interface == 18_446_744_073_709_551_615
+        && call.method == 65_535
+        && call.stamp == STAMP
 }
 
-fn has_its_contents(alloc: Global, call: &Call) -> Result<bool, Fail> {
-    let descriptors = all_descriptors(alloc)?;
+fn has_its_parts(
+    call: &Call,
+    target: &Target,
+    payload: &Payload,
+    descriptors: &[Descriptor],
+) -> bool {
+    call.target == *target && call.payload == *payload && call.descriptors.as_slice() == descriptors
+}
+
+fn is_the_call(
+    message: &Message,
+    target: &Target,
+    payload: &Payload,
+    descriptors: &[Descriptor],
+) -> bool {
+    match call_in(message) {
+        Some(call) => has_its_numbers(call) && has_its_parts(call, target, payload, descriptors),
+        None => false,
+    }
+}
+
+fn full_call_comes_back(alloc: Global) -> Result<bool, Fail> {
+    let target = target()?;
     let payload = last_of_six(alloc)?;
-    Ok(call.payload == payload && call.descriptors.as_slice() == descriptors.as_slice())
+    let descriptors = all_descriptors(alloc)?;
+    let frame = frame_of(alloc, CALL)?;
+    let back = decoded(alloc, &frame)?;
+    Ok(is_the_call(&back, &target, &payload, descriptors.as_slice()))
 }
 
 #[test]
 fn a_call_comes_back_with_all_its_parts(rt: HostRuntime) -> Result<(), Fail> {
-    let call = call_again(rt.alloc())?;
-    assert!(rt; call.question == QuestionId(4_294_967_295));
-    assert!(rt; is_at_its_target(&call)?);
-    assert!(rt; call.interface == 18_446_744_073_709_551_615 && call.method == 65_535);
-    assert!(rt; has_its_contents(rt.alloc(), &call)?);
-    assert!(rt; call.stamp == STAMP);
+    let is_back = full_call_comes_back(rt.alloc())?;
+    assert!(rt; is_back);
     Ok(())
 }
 
@@ -189,162 +279,253 @@ fn a_flag_is_turned_round(rt: HostRuntime) -> Result<(), Fail> {
     Ok(())
 }
 
+/// Why it has no frame, but for want of memory.
+fn fault_of(encoded: Result<Payload, EncodeError>) -> Result<Option<EncodeFault>, Fail> {
+    match encoded {
+        Ok(_) => Ok(None),
+        Err(EncodeError::Fault(fault)) => Ok(Some(fault)),
+        Err(EncodeError::Memory) => Err(Memory)?,
+    }
+}
+
+fn fault_of_plain(alloc: Global, message: PlainMessage) -> Result<Option<EncodeFault>, Fail> {
+    fault_of(encoded(alloc, Message::Plain(message)))
+}
+
+fn fault_of_unimplemented(
+    alloc: Global,
+    message: PlainMessage,
+) -> Result<Option<EncodeFault>, Fail> {
+    fault_of(encoded(alloc, Message::Unimplemented(message)))
+}
+
 #[test]
 fn a_number_alone_is_no_message(rt: HostRuntime) -> Result<(), Fail> {
     for number in [0, 2, 3, 9, 65_535] {
-        let plain = Message::Plain(PlainMessage::Other(number));
-        let back = Message::Unimplemented(PlainMessage::Other(number));
-        for message in [plain, back] {
-            let refused = encode(rt.alloc(), &message).err().ok_or("encoded")?;
-            assert!(rt; refused == EncodeError::Fault(EncodeFault::NumberAlone));
-        }
+        let plain = fault_of_plain(rt.alloc(), PlainMessage::Other(number))?;
+        assert!(rt; plain == Some(EncodeFault::NumberAlone));
+        let back = fault_of_unimplemented(rt.alloc(), PlainMessage::Other(number))?;
+        assert!(rt; back == Some(EncodeFault::NumberAlone));
     }
     Ok(())
+}
+
+fn pointing_at(alloc: Global, words: Vec<u64>, tree: Tree) -> Result<Tree, Fail> {
+    let mut pointers = Pointers::new(alloc);
+    match pointers.push(tree) {
+        Ok(()) => Ok(Tree::Struct { words, pointers }),
+        Err(error) => Err(WriteFault::from(error))?,
+    }
 }
 
 /// A tree that nests so deep.
 fn nested(alloc: Global, levels: usize) -> Result<Tree, Fail> {
     let mut tree = Tree::Null;
     for _ in 0..levels {
-        let mut pointers = Pointers::new(alloc);
-        if pointers.push(tree).is_err() {
-            return Err("too deep")?;
-        }
-        tree = Tree::Struct {
-            words: Vec::new(alloc),
-            pointers,
-        };
+        tree = pointing_at(alloc, Vec::new(alloc), tree)?;
     }
     Ok(tree)
 }
 
-fn call_so_deep(alloc: Global, levels: usize) -> Result<PlainMessage, Fail> {
+fn contents_so_deep(alloc: Global, levels: usize) -> Result<Payload, Fail> {
     let tree = nested(alloc, levels)?;
-    let payload = Payload::write(alloc, &tree, 0)?;
-    call(alloc, payload, Items::new(alloc))
+    Ok(Payload::write(alloc, &tree, 0)?)
 }
+
+fn call_so_deep(alloc: Global, levels: usize) -> Result<PlainMessage, Fail> {
+    let target = target()?;
+    let payload = contents_so_deep(alloc, levels)?;
+    Ok(call(target, payload, Items::new(alloc)))
+}
+
+fn fault_so_deep(alloc: Global, levels: usize) -> Result<Option<EncodeFault>, Fail> {
+    let call = call_so_deep(alloc, levels)?;
+    fault_of_plain(alloc, call)
+}
+
+fn fault_of_echo_so_deep(alloc: Global, levels: usize) -> Result<Option<EncodeFault>, Fail> {
+    let call = call_so_deep(alloc, levels)?;
+    fault_of_unimplemented(alloc, call)
+}
+
+const DEEP: Option<EncodeFault> = Some(EncodeFault::Unwritable(WriteFault::Depth));
+
+const LARGE: Option<EncodeFault> = Some(EncodeFault::Unwritable(WriteFault::TooLarge));
+
+/// Levels of contents, why a call with them has no frame, and why it has none as an echo.
+const LEVELS: [(usize, Option<EncodeFault>, Option<EncodeFault>); 6] = [
+    (59, None, None),
+    (60, None, None),
+    (61, None, DEEP),
+    (62, DEEP, DEEP),
+    (63, DEEP, DEEP),
+    (64, DEEP, DEEP),
+];
 
 #[test]
 fn contents_nest_as_deep_as_frames_allow(rt: HostRuntime) -> Result<(), Fail> {
-    let alloc = rt.alloc();
-    let deep = EncodeError::Fault(EncodeFault::Unwritable(WriteFault::Depth));
-    for levels in 59..65 {
-        let plain = encode(alloc, &Message::Plain(call_so_deep(alloc, levels)?));
-        let back = encode(alloc, &Message::Unimplemented(call_so_deep(alloc, levels)?));
-        assert!(rt;
-            if levels <= 61 {
-                plain.is_ok()
-            } else {
-                plain.err() == Some(deep)
-            }
-        );
-        assert!(rt;
-            if levels <= 60 {
-                back.is_ok()
-            } else {
-                back.err() == Some(deep)
-            }
-        );
+    for (levels, as_plain, as_echo) in LEVELS {
+        let fault = fault_so_deep(rt.alloc(), levels)?;
+        assert!(rt; fault == as_plain, "{levels} levels");
+        let fault = fault_of_echo_so_deep(rt.alloc(), levels)?;
+        assert!(rt; fault == as_echo, "{levels} levels in an echo");
     }
     Ok(())
 }
 
 /// A message of number 9 in the union, whose body is this tree.
 fn strange(alloc: Global, body: Tree) -> Result<Tree, Fail> {
-    let mut pointers = Pointers::new(alloc);
-    if pointers.push(body).is_err() {
-        return Err("too deep")?;
-    }
-    Ok(Tree::Struct {
-        words: Vec::from_slice(alloc, &[9])?,
-        pointers,
-    })
+    let words = Vec::from_slice(alloc, &[9])?;
+    pointing_at(alloc, words, body)
 }
 
 /// A frame of a message that nobody knows, of number 9.
 fn strange_frame(alloc: Global) -> Result<Payload, Fail> {
     let bytes = Tree::data(alloc, b"of another level")?;
-    Ok(Payload::write(alloc, &strange(alloc, bytes)?, 0)?)
+    let tree = strange(alloc, bytes)?;
+    Ok(Payload::write(alloc, &tree, 0)?)
 }
 
-/// The echo of something unknown of that number.
-fn echo_of(alloc: Global, frame: &[u8], number: u16) -> Result<Payload, Fail> {
-    match decode(alloc, frame, STAMP)? {
-        Envelope::Unknown(unknown) if unknown.number == number => {
-            return Ok(echo(alloc, unknown.original)?);
-        }
-        _ => return Err("understood")?,
+fn unknown_of(envelope: Envelope) -> Option<Unknown> {
+    match envelope {
+        Envelope::Unknown(unknown) => Some(unknown),
+        _ => None,
+    }
+}
+
+/// What of a frame is not understood.
+fn unknown_in(alloc: Global, frame: &[u8]) -> Result<Unknown, Fail> {
+    match unknown_of(decode(alloc, frame, STAMP)?) {
+        Some(unknown) => Ok(unknown),
+        None => Err("understood")?,
     }
 }
 
 /// The number that a frame gives back as unimplemented.
-fn number_back(alloc: Global, frame: &[u8]) -> Result<u16, Fail> {
-    match decode(alloc, frame, STAMP)? {
-        Envelope::Message(Message::Unimplemented(PlainMessage::Other(number))) => return Ok(number),
-        _ => return Err("no echo")?,
+fn number_back(message: &Message) -> Option<u16> {
+    match message {
+        Message::Unimplemented(PlainMessage::Other(number)) => Some(*number),
+        _ => None,
     }
+}
+
+/// The root of an echo is one struct more, and what it points at is what came.
+const ROOT: [u8; 16] = [0, 0, 0, 0, 0, 0, 0, 0, 0, 0, 0, 0, 1, 0, 1, 0];
+
+fn goes_back_whole(came: &[u8], back: &[u8]) -> bool {
+    match came.get(16..) {
+        Some(body) => stands(back, 16, &ROOT) && stands(back, 32, body),
+        None => false,
+    }
+}
+
+/// The echo of something unknown of that number.
+fn echo_of(alloc: Global, frame: &[u8], number: u16) -> Result<Payload, Fail> {
+    let unknown = unknown_in(alloc, frame)?;
+    if unknown.number != number {
+        return Err("another number")?;
+    }
+    Ok(echo(alloc, unknown.original)?)
+}
+
+fn number_in(alloc: Global, frame: &Payload) -> Result<Option<u16>, Fail> {
+    let message = decoded(alloc, frame)?;
+    Ok(number_back(&message))
 }
 
 #[test]
 fn what_is_strange_goes_back_whole(rt: HostRuntime) -> Result<(), Fail> {
     let came = strange_frame(rt.alloc())?;
     let back = echo_of(rt.alloc(), came.bytes(), 9)?;
-    // The root of the echo is one struct more, and what it points at is what came.
-    assert!(rt;
-        stands(
-            back.bytes(),
-            16,
-            &[0, 0, 0, 0, 0, 0, 0, 0, 0, 0, 0, 0, 1, 0, 1, 0]
-        )
-    );
-    assert!(rt; stands(back.bytes(), 32, came.bytes().get(16..).ok_or("short")?));
-    assert!(rt; number_back(rt.alloc(), back.bytes())? == 9);
+    let number = number_in(rt.alloc(), &back)?;
+    assert_eq!(rt; number, Some(9));
+    assert!(rt; goes_back_whole(came.bytes(), back.bytes()));
     Ok(())
 }
 
-fn sevens(alloc: Global, count: usize) -> Result<Vec<u64>, Fail> {
+fn sevens(alloc: Global, count: usize) -> Result<Tree, Fail> {
     let mut words = Vec::new(alloc);
     for _ in 0..count {
         words.push(7)?;
     }
-    Ok(words)
+    Ok(Tree::List(Elements::Eights(words)))
+}
+
+/// Why something strange with that body has no echo.
+fn fault_of_echo(alloc: Global, body: Tree) -> Result<Option<EncodeFault>, Fail> {
+    let original = strange(alloc, body)?;
+    fault_of(echo(alloc, original))
+}
+
+const STRANGE_LEVELS: [(usize, Option<EncodeFault>); 4] = [
+    (62, None),
+    (63, DEEP),
+    (100, DEEP),
+    (126, DEEP),
+];
+
+/// With its own root pointer the message is as large as a frame may be: two words less are enough for the echo.
+const STRANGE_WORDS: [(usize, Option<EncodeFault>); 2] = [(65_531, None), (65_532, LARGE)];
+
+fn fault_of_levels(alloc: Global, levels: usize) -> Result<Option<EncodeFault>, Fail> {
+    let body = nested(alloc, levels)?;
+    fault_of_echo(alloc, body)
+}
+
+fn fault_of_words(alloc: Global, words: usize) -> Result<Option<EncodeFault>, Fail> {
+    let body = sevens(alloc, words)?;
+    fault_of_echo(alloc, body)
 }
 
 #[test]
-fn an_echo_may_be_too_deep_or_too_large(rt: HostRuntime) -> Result<(), Fail> {
-    let alloc = rt.alloc();
-    assert!(rt; echo(alloc, strange(alloc, nested(alloc, 62)?)?).is_ok());
-    for levels in [63, 100, 126] {
-        let refused = echo(alloc, strange(alloc, nested(alloc, levels)?)?).err();
-        assert!(rt;
-            refused == Some(EncodeError::Fault(EncodeFault::Unwritable(WriteFault::Depth)))
-        );
+fn an_echo_may_be_too_deep(rt: HostRuntime) -> Result<(), Fail> {
+    for (levels, wanted) in STRANGE_LEVELS {
+        let fault = fault_of_levels(rt.alloc(), levels)?;
+        assert!(rt; fault == wanted, "{levels} levels");
     }
-    // With its own root pointer the message is as large as a frame may be: two words less are enough for the echo.
-    let words = sevens(alloc, 65_531)?;
-    let fits = strange(alloc, Tree::List(Elements::Eights(words)))?;
-    assert!(rt; echo(alloc, fits).is_ok());
-    let words = sevens(alloc, 65_532)?;
-    let large = strange(alloc, Tree::List(Elements::Eights(words)))?;
-    let refused = echo(alloc, large).err();
-    assert!(rt; refused == Some(EncodeError::Fault(EncodeFault::Unwritable(WriteFault::TooLarge))));
     Ok(())
 }
 
 #[test]
+fn an_echo_may_be_too_large(rt: HostRuntime) -> Result<(), Fail> {
+    for (words, wanted) in STRANGE_WORDS {
+        let fault = fault_of_words(rt.alloc(), words)?;
+        assert!(rt; fault == wanted, "{words} words");
+    }
+    Ok(())
+}
+
+/// Why a frame is no message, but for want of memory.
+fn decode_fault(alloc: Global, frame: &[u8]) -> Result<Option<EnvelopeFault>, Fail> {
+    match decode(alloc, frame, STAMP) {
+        Ok(_) => Ok(None),
+        Err(DecodeError::Fault(fault)) => Ok(Some(fault)),
+        Err(DecodeError::Memory) => Err(Memory)?,
+    }
+}
+
+/// A frame, and the number of its fault: one that is too short, a null root, and a list for a root.
+const FAULTY: [(&[u8], EnvelopeFault, u16); 3] = [
+    (&[0, 0, 0], EnvelopeFault::Encoding(PayloadFault::Short), 2),
+    (
+        &[0, 0, 0, 0, 1, 0, 0, 0, 0, 0, 0, 0, 0, 0, 0, 0],
+        EnvelopeFault::NestedUnimplemented,
+        63,
+    ),
+    (
+        &[0, 0, 0, 0, 1, 0, 0, 0, 1, 0, 0, 0, 0, 0, 0, 0],
+        EnvelopeFault::WrongKind,
+        60,
+    ),
+];
+
+#[test]
 fn faults_have_their_numbers(rt: HostRuntime) -> Result<(), Fail> {
-    let alloc = rt.alloc();
-    let short = decode(alloc, &[0, 0, 0], STAMP).err();
-    let Some(DecodeError::Fault(fault)) = short else {
-        return Err("no fault")?;
-    };
-    assert_eq!(rt; fault.code(), 2);
-    let null = [0, 0, 0, 0, 1, 0, 0, 0, 0, 0, 0, 0, 0, 0, 0, 0];
-    let nested = decode(alloc, &null, STAMP).err();
-    assert!(rt; nested == Some(DecodeError::Fault(EnvelopeFault::NestedUnimplemented)));
-    let list = [0, 0, 0, 0, 1, 0, 0, 0, 1, 0, 0, 0, 0, 0, 0, 0];
-    let wrong = decode(alloc, &list, STAMP).err();
-    assert!(rt; wrong == Some(DecodeError::Fault(EnvelopeFault::WrongKind)));
+    for (frame, wanted, number) in FAULTY {
+        let fault = decode_fault(rt.alloc(), frame)?;
+        assert!(rt; fault == Some(wanted), "fault {number}");
+        assert_eq!(rt; wanted.code(), number);
+    }
     assert_eq!(rt; EnvelopeFault::UnknownReturn.code(), 65);
     Ok(())
 }
