@@ -182,7 +182,7 @@ abbrev pub comes : (ExportId → Bool) → (QuestionId → Bool) → Naming → 
 comes broken finished s w = coming (heard broken w) (owing s (unless_finished finished (due_by w)) (names_of broken w))
 
 -- What a Return or a Finish of the vat comes to: the state after it, and what is given back by its flag, or by Releases of one
--- behind it.
+-- beside it.
 pub record Going : Type 0 where
   pub state : Naming
   pub by_flag : List ExportId

@@ -12,9 +12,9 @@ use rpc_msg::{AnswerId, Message, PlainMessage, QuestionId};
 pub(crate) enum Due {
     /// A Release, at once.
     AtOnce,
-    /// The Return of the vat for that answer, or a Release behind it.
+    /// The Return of the vat for that answer, or a Release beside it.
     ByReturn(AnswerId),
-    /// The Finish of that question of the vat, or a Release behind it.
+    /// The Finish of that question of the vat, or a Release beside it.
     ByFinish(QuestionId),
 }
 

@@ -122,7 +122,7 @@ impl BrokenNames {
     }
 
     /// A Return of the vat goes to the peer, or what is said in its place, with that `releaseParamCaps`: what is to be given
-    /// back behind it, by a Release of one for each time that it stands here. Where the flag is true it gives back all of it.
+    /// back beside it, by a Release of one for each time that it stands here. Where the flag is true it gives back all of it.
     /// Takes no memory.
     pub fn returned(&mut self, answer: AnswerId, release_param_caps: bool) -> Items<ExportId>
         ensures state { self.new ≡ (returns self.old answer release_param_caps).state }
@@ -132,7 +132,7 @@ impl BrokenNames {
         unless_flagged(self.alloc, release_param_caps, owed)
     }
 
-    /// A Finish of the vat goes to the peer, with that `releaseResultCaps`: what is to be given back behind it, as behind a
+    /// A Finish of the vat goes to the peer, with that `releaseResultCaps`: what is to be given back beside it, as beside a
     /// Return. Takes no memory.
     pub fn finished(&mut self, question: QuestionId, release_result_caps: bool) -> Items<ExportId>
         ensures state { self.new ≡ (finishes self.old question release_result_caps).state }
