@@ -122,9 +122,7 @@ fn from_value(value: &Value, hops: &Hops, path: &[Op], left: u64) -> Hop
     ensures { IsHopFrom (Some (field_of value.now path.now)) (value_hop hops.now path.now (Some value.now)) left (Some result) }
 {
     match value {
-        Value::Results(payload, caps) => {
-            from_cap(payload.cap_at(path), caps.as_slice(), hops, left)
-        }
+        Value::Results(payload, caps) => from_cap(payload.cap_at(path), caps, hops, left),
         Value::Exception(_) => Hop {
             to: Node::Broken(Reason::BrokenPromise),
             far: 1,
@@ -189,7 +187,7 @@ pub fn field_of(value: &Value, path: &[Op]) -> Node
     ensures { result ≡ field_of value.now path.now }
 {
     match value {
-        Value::Results(payload, caps) => node_of(payload.cap_at(path), caps.as_slice()),
+        Value::Results(payload, caps) => node_of(payload.cap_at(path), caps),
         Value::Exception(_) => Node::Broken(Reason::BrokenPromise),
     }
 }
