@@ -59,7 +59,7 @@ pub fn hold_under(store: &mut Store, id: EmbargoId, call: WaitingCall) -> Result
         return Err(TableFault::Full);
     }
     let count = call.request.caps.len();
-    let Ok(()) = store.names.add_all(call.request.caps.as_slice()) else {
+    let Ok(()) = store.names.add_all(&call.request.caps) else {
         unreachable!()
     };
     let Ok(()) = store.waits.hold_under(id, call) else {

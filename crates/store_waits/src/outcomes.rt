@@ -66,7 +66,7 @@ pub fn hold_for_field(
         return Err(TableFault::Full);
     }
     let count = call.request.caps.len();
-    let Ok(()) = store.names.add_all(call.request.caps.as_slice()) else {
+    let Ok(()) = store.names.add_all(&call.request.caps) else {
         unreachable!()
     };
     let Ok(()) = store.waits.hold_for_field(key, path, call) else {

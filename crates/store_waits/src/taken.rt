@@ -14,6 +14,6 @@ pub fn next_taken(store: &mut Store) -> Option<HeldCall>
     ensures sound { IsSound store.new }
 {
     let held = store.waits.next_taken()?;
-    store.names.sub_all(held.call.request.caps.as_slice());
+    store.names.sub_all(&held.call.request.caps);
     Some(held)
 }
