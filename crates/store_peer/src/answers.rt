@@ -34,7 +34,7 @@ pub fn open_answer(
         return Err(TableFault::Full);
     }
     let spent = taken.len() + 1;
-    name_imports(&mut store.names, taken.as_slice());
+    name_imports(&mut store.names, &taken);
     let answer = AnswerEntry {
         outcome,
         taken,

@@ -38,7 +38,7 @@ pub fn name_returned(names: &mut Names, said: &Returned)
     ensures { names.new ≡ named_all names.old (named_by_returned (Some said.now)) }
 {
     match said {
-        Returned::Results(_, caps) => name_beside(names, caps.as_slice()),
+        Returned::Results(_, caps) => name_beside(names, caps),
         Returned::Exception(_) => {}
     }
 }
@@ -51,7 +51,7 @@ pub fn unname_returned(names: &mut Names, said: &Option<Returned>)
     match said {
         Some(Returned::Results(_, caps)) => {
             if !caps.is_empty() {
-                unname_beside(names, caps.as_slice());
+                unname_beside(names, caps);
             }
         }
         Some(Returned::Exception(_)) => {}
@@ -70,7 +70,7 @@ pub fn count_returned(said: &Returned) -> usize
     ensures { result ≡ length (named_by_returned (Some said.now)) }
 {
     match said {
-        Returned::Results(_, caps) => count_beside(caps.as_slice()),
+        Returned::Results(_, caps) => count_beside(caps),
         Returned::Exception(_) => 0,
     }
 }
@@ -136,7 +136,7 @@ pub fn unname_answer(names: &mut Names, answer: &AnswerEntry)
 {
     match answer.returned {
         Some(_) => {}
-        None => unname_imports(names, answer.taken.as_slice()),
+        None => unname_imports(names, &answer.taken),
     }
 }
 
