@@ -141,8 +141,8 @@ fn check_call_through(
     let Some(reference) = found else {
         return Err(Refusal::UnknownRef);
     };
-    has_refs(store, call.refs.as_slice())?;
-    has_caps(&call.payload, call.refs.as_slice())?;
+    has_refs(store, &call.refs)?;
+    has_caps(&call.payload, &call.refs)?;
     has_call_room(store, call.refs.len(), reference)
 }
 
@@ -159,5 +159,5 @@ pub fn check_call_whole(store: &Store, alloc: Global, call: &CallCommand) -> Res
     let Some(reference) = found else {
         return Ok(());
     };
-    has_export_room(store, alloc, call.refs.as_slice(), reference)
+    has_export_room(store, alloc, &call.refs, reference)
 }

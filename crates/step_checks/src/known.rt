@@ -68,9 +68,7 @@ fn of_pipe(store: &Store, id: QuestionId, path: Path) -> Known
     };
     match &question.returned {
         None => Known::Nothing,
-        Some(Returned::Results(payload, caps)) => {
-            of_results(payload, caps.as_slice(), path.as_slice())
-        }
+        Some(Returned::Results(payload, caps)) => of_results(payload, caps, path.as_slice()),
         Some(Returned::Exception(_)) => Known::Broken(Reason::BrokenPromise),
     }
 }

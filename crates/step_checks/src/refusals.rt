@@ -248,9 +248,9 @@ pub fn check_answer(
 {
     is_up(store)?;
     has_level(store, !refs.is_empty())?;
-    has_refs(store, refs.as_slice())?;
+    has_refs(store, refs)?;
     has_task(store, task)?;
-    has_caps(payload, refs.as_slice())
+    has_caps(payload, refs)
 }
 
 /// Whether `fail` is refused, whatever the exception, and with what.
