@@ -27,7 +27,7 @@ pub fn request_of(
         refs,
     } = command;
     let mut caps = nodes;
-    heads(store, refs.as_slice(), &mut caps);
+    heads(store, &refs, &mut caps);
     let stamp = Stamp {
         vat: store.vat,
         reference: id,

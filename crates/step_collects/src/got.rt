@@ -23,7 +23,7 @@ pub fn flag_for_returned(store: &Store, said: &Option<Returned>) -> bool
     ensures { result ≡ flag_for (state_of store.now) (got_of said.now) }
 {
     match said {
-        Some(Returned::Results(_, caps)) => flag_for_got(store, caps.as_slice()),
+        Some(Returned::Results(_, caps)) => flag_for_got(store, caps),
         Some(Returned::Exception(_)) => flag_for_none(store),
         None => flag_for_none(store),
     }
@@ -167,7 +167,7 @@ pub fn give_if_returned(store: &mut Store, flag: bool, said: &Option<Returned>)
         return;
     }
     match said {
-        Some(Returned::Results(_, caps)) => give_each_got(store, caps.as_slice()),
+        Some(Returned::Results(_, caps)) => give_each_got(store, caps),
         Some(Returned::Exception(_)) => {}
         None => {}
     }

@@ -49,12 +49,7 @@ pub fn relay_kept(
     } = request;
     let mut descriptors = said;
     let mut given = ids;
-    describe_all_kept(
-        &mut step.store,
-        caps.as_slice(),
-        &mut descriptors,
-        &mut given,
-    )?;
+    describe_all_kept(&mut step.store, &caps, &mut descriptors, &mut given)?;
     let question = store_peer::ask_relay(&mut step.store, outcome, Items::from_vec(given))?;
     let message = Call {
         question,
@@ -107,12 +102,7 @@ pub fn call_direct_kept(
     } = request;
     let mut descriptors = said;
     let mut given = ids;
-    describe_all_kept(
-        &mut step.store,
-        caps.as_slice(),
-        &mut descriptors,
-        &mut given,
-    )?;
+    describe_all_kept(&mut step.store, &caps, &mut descriptors, &mut given)?;
     let question = store_peer::ask_direct(&mut step.store, id, Items::from_vec(given))?;
     let message = Call {
         question,

@@ -34,7 +34,7 @@ pub fn deliver_kept(step: &mut Step, call: WaitingCall, object: ObjectId, refs: 
         caps,
     } = request;
     let mut numbers = refs;
-    store_names::add_refs(&mut step.store, caps.as_slice(), &mut numbers);
+    store_names::add_refs(&mut step.store, &caps, &mut numbers);
     let task = store_names::add_task(&mut step.store, outcome);
     let delivery = Delivery {
         task,

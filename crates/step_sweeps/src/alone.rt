@@ -106,7 +106,7 @@ fn says_nothing(store: &Store, key: u64) -> bool
     ensures { IsTrue result → named_by_thing (state_of store.now) (field_node key) ≡ [] }
 {
     match store.waits.value(key) {
-        Some(Value::Results(_, caps)) => caps.as_slice().is_empty(),
+        Some(Value::Results(_, caps)) => caps.is_empty(),
         Some(Value::Exception(_)) => true,
         None => true,
     }
@@ -120,7 +120,7 @@ fn gave_nothing(store: &Store, id: QuestionId) -> bool
         return true;
     };
     match &question.returned {
-        Some(Returned::Results(_, caps)) => caps.as_slice().is_empty(),
+        Some(Returned::Results(_, caps)) => caps.is_empty(),
         Some(Returned::Exception(_)) => true,
         None => true,
     }

@@ -54,7 +54,7 @@ fn lose_outcome(
         return Ok(());
     };
     match value {
-        Value::Results(_, caps) => lose_each(less, pending, caps.as_slice()),
+        Value::Results(_, caps) => lose_each(less, pending, caps),
         Value::Exception(_) => Ok(()),
     }
 }
@@ -109,7 +109,7 @@ fn lose_returned(
     ensures pending { OnOk result (pending.new.items ≡ pending.old.items ++ named_by_returned returned.now) }
 {
     match returned {
-        Some(Returned::Results(_, caps)) => lose_beside(less, pending, caps.as_slice()),
+        Some(Returned::Results(_, caps)) => lose_beside(less, pending, caps),
         Some(Returned::Exception(_)) => Ok(()),
         None => Ok(()),
     }
