@@ -51,7 +51,7 @@ pub fn field(step: &mut Step, id: CallId, path: &Items<Op>) -> RefId
     ensures taken { step.new.store.waits.taken ≡ step.old.store.waits.taken }
     ensures ready { IsReady step.new }
 {
-    let Some(path) = Path::from_ops(path.as_slice()) else {
+    let Some(path) = Path::from_ops(path) else {
         unreachable!()
     };
     let path = path.fields();

@@ -29,7 +29,7 @@ pub fn answer(
     ensures taken { OnOk result (step.new.store.waits.taken ≡ []) }
     ensures ready { OnOk result (IsReady step.new) }
 {
-    let caps = heads_of(&step.store, alloc, refs.as_slice())?;
+    let caps = heads_of(&step.store, alloc, &refs)?;
     end_with(step, alloc, task, Value::Results(payload, caps))?;
     Ok(())
 }

@@ -36,7 +36,7 @@ fn resolve_named(step: &mut Step, alloc: Global, key: u64) -> Result<(), Memory>
 {
     let told: Option<Exception> = None;
     let exports = store_peer::exports_of_field(&step.store, key, alloc)?;
-    resolve_each(step, alloc, exports.as_slice(), &told)
+    resolve_each(step, alloc, &exports, &told)
 }
 
 /// The exports of that promise get their Resolves, by rising id. Where it is broken these say the exception, if there is
@@ -54,7 +54,7 @@ pub fn resolve_promises(
     ensures ready { OnOk result (IsReady step.new) }
 {
     let exports = exports_of_promise(&step.store, key, alloc)?;
-    resolve_each(step, alloc, exports.as_slice(), &told)
+    resolve_each(step, alloc, &exports, &told)
 }
 
 // What no place names has no export.

@@ -41,7 +41,7 @@ pub fn returns(step: &mut Step, alloc: Global, q: QuestionId, value: Value) -> R
     let taken = copy_ids(alloc, &answer.taken)?;
     let said = say_back(step, alloc, finished, value)?;
     collect(step);
-    send_return(step, q, taken.as_slice(), said)?;
+    send_return(step, q, &taken, said)?;
     Ok(())
 }
 
@@ -100,7 +100,7 @@ fn say_results(
     let mut said = Vec::with_capacity(alloc, count)?;
     let mut ids = Vec::with_capacity(alloc, count)?;
     step_base::reserve(step, count)?;
-    let Ok(()) = describe_all_kept(&mut step.store, caps.as_slice(), &mut said, &mut ids) else {
+    let Ok(()) = describe_all_kept(&mut step.store, &caps, &mut said, &mut ids) else {
         return Err(Memory);
     };
     Ok(Saying {

@@ -94,7 +94,7 @@ fn report_caps(
     };
     let mut refs = Vec::with_capacity(alloc, count)?;
     step_base::reserve(step, more)?;
-    store_names::add_refs(&mut step.store, caps.as_slice(), &mut refs);
+    store_names::add_refs(&mut step.store, &caps, &mut refs);
     let ended = Ended {
         call,
         outcome,
