@@ -59,13 +59,13 @@ pub fn take_call(step: &mut Step, alloc: Global, call: Call) -> Result<(), Fault
     faults_in_parts();
     fault_before_call(&step.store, &call)?;
     let target = target_node(&step.store, &call.target);
-    let Ok(taken) = taken_of(&step.store, alloc, call.descriptors.as_slice()) else {
+    let Ok(taken) = taken_of(&step.store, alloc, &call.descriptors) else {
         return Err(Fault::WantOfRoom);
     };
-    let Ok(caps) = read_all(&step.store, alloc, call.descriptors.as_slice()) else {
+    let Ok(caps) = read_all(&step.store, alloc, &call.descriptors) else {
         return Err(Fault::WantOfRoom);
     };
-    take_descriptors(step, call.descriptors.as_slice())?;
+    take_descriptors(step, &call.descriptors)?;
     match fault_behind_call(&step.store, &call.target) {
         Ok(()) => {
             let Call {

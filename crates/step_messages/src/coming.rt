@@ -35,7 +35,7 @@ fn value_of(alloc: Global, said: &Returned) -> Result<Value, Memory>
     match said {
         Returned::Results(payload, caps) => {
             let payload = payload.copy(alloc)?;
-            let caps = nodes_of(alloc, caps.as_slice())?;
+            let caps = nodes_of(alloc, caps)?;
             Ok(Value::Results(payload, caps))
         }
         Returned::Exception(exception) => {

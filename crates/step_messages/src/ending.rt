@@ -40,7 +40,7 @@ fn obey_for_answer(step: &mut Step, alloc: Global, id: QuestionId, flag: bool) -
     let Ok(ids) = ids.copy(alloc) else {
         return Err(Fault::WantOfRoom);
     };
-    obey_flag(step, ids.as_slice())
+    obey_flag(step, &ids)
 }
 
 /// Takes a Finish: its flag is obeyed, and its answer goes if the Return was sent. `Err` with the fault that it is, or for

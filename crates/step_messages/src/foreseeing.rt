@@ -55,7 +55,7 @@ fn foresee_flag(store: &Store, alloc: Global, said: &Return) -> Result<(), Fault
     let Some(question) = store.questions.get(said.answer) else {
         return Ok(());
     };
-    let Ok(found) = fault_of_flag(store, alloc, question.given.as_slice()) else {
+    let Ok(found) = fault_of_flag(store, alloc, &question.given) else {
         return Ok(());
     };
     match found {

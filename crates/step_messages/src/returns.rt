@@ -51,7 +51,7 @@ fn obey_for_question(
     let Ok(ids) = question.given.copy(alloc) else {
         return Err(Fault::WantOfRoom);
     };
-    obey_flag(step, ids.as_slice())
+    obey_flag(step, &ids)
 }
 
 fn exception_of(alloc: Global, kind: ExceptionKind, text: &str) -> Result<Exception, Fault>
@@ -79,10 +79,10 @@ fn take_results(
     ensures taken { OnOk result (step.new.store.waits.taken ≡ step.old.store.waits.taken) }
     ensures ready { OnOk result (IsReady step.new) }
 {
-    let Ok(caps) = read_beside(&step.store, alloc, descriptors.as_slice()) else {
+    let Ok(caps) = read_beside(&step.store, alloc, descriptors) else {
         return Err(Fault::WantOfRoom);
     };
-    take_descriptors(step, descriptors.as_slice())?;
+    take_descriptors(step, descriptors)?;
     Ok(Returned::Results(payload, caps))
 }
 
