@@ -22,7 +22,7 @@ use step_base::Step;
 use step_calls::{Lists, call_kept, exception_of, settle_ended};
 use step_ends::{Machine, begin_quietly, sweep};
 use vat_machine::{CallCommand, Effects, Node, Reason};
-use vat_store::{Store, settle};
+use vat_store::{Store, settle, shorten};
 
 // What the making of a call takes, provided beforehand.
 #[derive(Drop)]
@@ -36,6 +36,19 @@ struct Provided {
 /// Makes a call through a reference, where that is not refused, and gives its number, and what the step says. `Err` for want
 /// of memory: the call is handed back then, and the vat holds what it held.
 pub fn call(machine: &mut Machine, call: CallCommand) -> Result<(CallId, Effects), CallCommand>
+    requires resting { IsResting machine.old }
+    requires reached { IsReached (state_of machine.old.step.store) }
+    requires allowed { refused (state_of machine.old.step.store) (command.Call call) ≡ None }
+    ensures obeys { Tries machine.old (command.Call call) (λ x. granted.Call x.0) (λ x. x.1) result machine.new }
+    ensures handed_back { IfErr result (λ c. c ≡ call) }
+    ensures resting { IsResting machine.new }
+{
+    shorten_heads(machine, &call);
+    call_walked(machine, call)
+}
+
+// The same, where the ways from the references of the call are short.
+fn call_walked(machine: &mut Machine, call: CallCommand) -> Result<(CallId, Effects), CallCommand>
     requires resting { IsResting machine.old }
     requires reached { IsReached (state_of machine.old.step.store) }
     requires allowed { refused (state_of machine.old.step.store) (command.Call call) ≡ None }
@@ -57,6 +70,28 @@ pub fn call(machine: &mut Machine, call: CallCommand) -> Result<(CallId, Effects
         unreachable!()
     };
     Ok((id, effects))
+}
+
+// Has the references of a call lead at once to where they lead, as far as there is memory for that.
+fn shorten_heads(machine: &mut Machine, call: &CallCommand)
+    requires { IsResting machine.old }
+    ensures { machine.new ≡ machine.old }
+{
+    shorten_head(machine, call.reference);
+    for reference in &call.refs {
+        shorten_head(machine, *reference);
+    }
+}
+
+fn shorten_head(machine: &mut Machine, id: RefId)
+    requires { IsResting machine.old }
+    ensures { machine.new ≡ machine.old }
+{
+    let Some(reference) = machine.step.store.refs.get(id.0) else {
+        return;
+    };
+    let head = reference.head;
+    shorten(&mut machine.step.store, head);
 }
 
 // Provides what a call takes.

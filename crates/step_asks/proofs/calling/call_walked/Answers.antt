@@ -7,7 +7,7 @@ use Rattle.step_base.specs.InProgress.{progress_of}
 use Rattle.step_asks.specs.Calling.{IsMade}
 use Rattle.step_ends.proofs.Answered.{done}
 use Rattle.step_ends.proofs.Quietly.{tight_of, none_over}
-use Rattle.step_asks.proofs.calling.call.Goals as goal
+use Rattle.step_asks.proofs.calling.call_walked.Goals as goal
 
 pub unreachable-requires : goal.unreachable-requires
 unreachable-requires c =
