@@ -32,9 +32,9 @@ pub fn put_effects(
     ensures room { journal.old.1 ≤ journal.new.1 + (length effects.now.sends + (length effects.now.deliveries + length effects.now.answers) + 1) }
     ensures extends { OnErr result (Extends journal.old.0 journal.new.0) }
 {
-    put_sent(alloc, vat, journal, effects.sends.as_slice())?;
-    put_delivered(alloc, vat, journal, effects.deliveries.as_slice())?;
-    put_ended(alloc, vat, journal, effects.answers.as_slice())?;
+    put_sent(alloc, vat, journal, &effects.sends)?;
+    put_delivered(alloc, vat, journal, &effects.deliveries)?;
+    put_ended(alloc, vat, journal, &effects.answers)?;
     if let Some(number) = effects.down {
         put_down(vat, journal, number);
     }

@@ -53,7 +53,7 @@ pub fn note_of(alloc: Global, index: u64, command: &Command) -> Result<Note, Mem
         Command::DropRef(reference) => Ok(Note::Dropped(*reference)),
         Command::Bootstrap => Ok(Note::Asked),
         Command::Call(call) => note_call(alloc, index, call),
-        Command::Field(call, path) => match Path::from_ops(path.as_slice()) {
+        Command::Field(call, path) => match Path::from_ops(path) {
             Some(path) => Ok(Note::Born(Origin::Field(*call, path))),
             None => Ok(Note::Nothing),
         },
