@@ -446,7 +446,7 @@ fn what_is_strange_goes_back_whole(rt: HostRuntime) -> Result<(), Fail> {
 fn sevens(alloc: Global, count: usize) -> Result<Tree, Fail> {
     let mut words = Vec::new(alloc);
     for _ in 0..count {
-        words.push(7)?;
+        words.push(7).ok().ok_or(Memory)?;
     }
     Ok(Tree::List(Elements::Eights(words)))
 }
