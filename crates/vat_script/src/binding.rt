@@ -134,7 +134,7 @@ fn one_of(missing: NameFault, refs: Option<&Items<RefId>>, index: u32) -> Result
     ensures { result ≡ one_of missing (option_copied refs.entry) index }
 {
     match refs {
-        Some(refs) => match refs.as_slice().get(index as usize) {
+        Some(refs) => match refs.get(index as usize) {
             Some(reference) => Ok(*reference),
             None => Err(NameFault::Index),
         },

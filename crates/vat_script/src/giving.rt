@@ -67,7 +67,7 @@ impl VatNames {
         ensures { Gives (command_for self.now (said.Call line.now)) result }
     {
         let reference = self.reference_at(line.reference)?;
-        let refs = self.references_at(alloc, line.caps.as_slice())?;
+        let refs = self.references_at(alloc, &line.caps)?;
         let payload = payload_carrying(alloc, null, refs.len())?;
         Ok(Command::Call(CallCommand {
             reference,
