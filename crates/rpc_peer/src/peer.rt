@@ -168,7 +168,8 @@ impl PeerAdapter {
                 self.names.returned(said.answer, said.release_param_caps)
             }
             PlainMessage::Finish(finish) => {
-                self.names.finished(finish.question, finish.release_result_caps)
+                self.names
+                    .finished(finish.question, finish.release_result_caps)
             }
             _ => Items::new(self.alloc),
         }

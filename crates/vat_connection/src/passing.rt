@@ -120,10 +120,7 @@ fn give_back(out: &mut Outgoing, exports: Items<ExportId>) -> bool
     ensures longer { IsLonger out.old out.new }
 {
     for export in exports {
-        let release = Message::Plain(PlainMessage::Release(Release {
-            export,
-            count: 1,
-        }));
+        let release = Message::Plain(PlainMessage::Release(Release { export, count: 1 }));
         if !put(out, release) {
             return false;
         }
