@@ -96,7 +96,7 @@ fn let_go(connection: &mut Connection, refs: &[RefId]) -> Result<(), Fail> {
 }
 
 fn answer_task(alloc: Global, connection: &mut Connection, task: &Delivery) -> Result<(), Fail> {
-    let refs = task.refs.as_slice();
+    let refs = &task.refs;
     let (payload, given) = contents(alloc, &[7], "seven", refs)?;
     connection.command(Command::Answer(task.task, payload, given))?;
     let_go(connection, refs)
@@ -122,7 +122,7 @@ fn ended(connection: &mut Connection) -> Result<(CallId, Items<RefId>), Fail> {
 fn finish(connection: &mut Connection) -> Result<(), Fail> {
     let (call, refs) = ended(connection)?;
     connection.command(Command::Finish(call))?;
-    let_go(connection, refs.as_slice())
+    let_go(connection, &refs)
 }
 
 /// A reference to the peer's bootstrap object, and one to an object of its own.

@@ -176,9 +176,8 @@ impl Scene {
             down: _,
         } = effects;
         told?;
-        self.names
-            .note_deliveries(alloc, vat, deliveries.as_slice())?;
-        self.names.note_outcomes(alloc, vat, answers.as_slice())?;
+        self.names.note_deliveries(alloc, vat, &deliveries)?;
+        self.names.note_outcomes(alloc, vat, &answers)?;
         let mut sends = VecDeque::from(sends.into_vec());
         match vat {
             Vat::A => self.to_b.append(&mut sends)?,

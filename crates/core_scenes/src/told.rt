@@ -7,16 +7,16 @@ use std::fmt::Write;
 use vat_machine::Effects;
 
 pub fn write_effects(text: &mut String, vat: Vat, effects: &Effects) -> Result<(), AllocError> {
-    for message in effects.sends.as_slice() {
+    for message in &effects.sends {
         write!(text, "{}> ", letter(vat))?;
         write_message(text, message)?;
         text.push('\n')?;
     }
-    for delivery in effects.deliveries.as_slice() {
+    for delivery in &effects.deliveries {
         write_delivery(text, vat, delivery)?;
         text.push('\n')?;
     }
-    for ended in effects.answers.as_slice() {
+    for ended in &effects.answers {
         write_ended(text, vat, ended)?;
         text.push('\n')?;
     }

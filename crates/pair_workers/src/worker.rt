@@ -318,8 +318,7 @@ impl<E: PairEnd> Worker<E> {
     fn keep(&mut self, alloc: Global, vat: Vat, effects: &Effects) -> Result<(), Memory>
         ensures { self.new.end ≡ self.old.end }
     {
-        let deliveries = effects.deliveries.as_slice();
-        let answers = effects.answers.as_slice();
+        let (deliveries, answers) = (&effects.deliveries, &effects.answers);
         self.open.add_tasks(deliveries)?;
         self.open.end_calls(answers);
         self.names.note_deliveries(alloc, vat, deliveries)?;

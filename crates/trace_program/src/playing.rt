@@ -121,6 +121,6 @@ fn keep_answer(
 fn keep_handed(alloc: Global, names: &mut Names, vat: Vat, effects: &Effects) -> Result<(), Memory>
     ensures { OnOk result (names.new ≡ handed names.old vat effects.now) }
 {
-    names.note_deliveries(alloc, vat, effects.deliveries.as_slice())?;
-    names.note_outcomes(alloc, vat, effects.answers.as_slice())
+    names.note_deliveries(alloc, vat, &effects.deliveries)?;
+    names.note_outcomes(alloc, vat, &effects.answers)
 }

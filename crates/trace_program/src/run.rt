@@ -52,7 +52,7 @@ pub fn trace_of_script(alloc: Global, script: &[u8]) -> Result<CheckedTrace, Scr
             return Err(ScriptFault::Line(number, fault));
         }
     };
-    match trace_of_lines(alloc, lines.as_slice()) {
+    match trace_of_lines(alloc, &lines) {
         Ok(trace) => return Ok(trace),
         Err(fault) => return Err(fault),
     }

@@ -48,7 +48,7 @@ pub fn trace_of_pair<R: Threads + Wait + Sync, C: Clock + Sync>(
             return Err(ScriptFault::Line(number, fault));
         }
     };
-    match trace_of_lines(alloc, rt, clock, lines.as_slice()) {
+    match trace_of_lines(alloc, rt, clock, &lines) {
         Ok(trace) => return Ok(trace),
         Err(fault) => return Err(fault),
     }

@@ -21,7 +21,7 @@ pub(super) fn work<R: Threads + Wait + Clock + Sync, G: Gate>(
     let Ok(lines) = read_script(alloc, Program::Pair, script.as_bytes()) else {
         return Err(Memory);
     };
-    match work_lines(alloc, rt, rt, lines.as_slice(), gate, capacity, max_turns) {
+    match work_lines(alloc, rt, rt, &lines, gate, capacity, max_turns) {
         Ok(run) => Ok(run),
         Err(_) => Err(Memory),
     }

@@ -1,4 +1,4 @@
-use Rattle.std.proofs.Common.{string_bytes, subst}
+use Rattle.std.proofs.Common.{string_bytes, subst, ◌∙◌}
 use Rattle.trace_program.specs.Traces.{PrintsLines, FaultsLines}
 use Rattle.trace_program.proofs.Printing.{faults_read}
 use Rattle.trace_program.proofs.run.trace_of_script.Goals as goal
@@ -7,10 +7,10 @@ pub returns-in-Ok-trace_of_lines-clause-prints : goal.returns-in-Ok-trace_of_lin
 returns-in-Ok-trace_of_lines-clause-prints c = (
   c.in-Ok.lines,
   c.in-Ok.ensures,
-  subst (λ lines. PrintsLines lines (string_bytes c.in-Ok-trace_of_lines.trace.text) c.in-Ok-trace_of_lines.trace.verdict) c.as_slice.ensures c.in-Ok-trace_of_lines.ensures.prints,
+  subst (λ lines. PrintsLines lines (string_bytes c.in-Ok-trace_of_lines.trace.text) c.in-Ok-trace_of_lines.trace.verdict) (c.deref-2.ensures.value ∙ c.deref.ensures) c.in-Ok-trace_of_lines.ensures.prints,
 )
 
 pub returns-in-Err-clause-faults : goal.returns-in-Err-clause-faults
 returns-in-Err-clause-faults c =
     faults_read c.args.script.now c.in-Ok.lines c.in-Err.fault c.in-Ok.ensures
-    (subst (λ lines. FaultsLines lines c.in-Err.fault) c.as_slice.ensures c.in-Err.ensures.faults)
+    (subst (λ lines. FaultsLines lines c.in-Err.fault) (c.deref-2.ensures.value ∙ c.deref.ensures) c.in-Err.ensures.faults)
