@@ -1,3 +1,4 @@
 mod Aside
 mod Cleared
+mod Counting
 mod RefusalMap

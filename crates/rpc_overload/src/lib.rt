@@ -5,7 +5,7 @@
 //!   fault.
 //! - `refusals.rt`: the refused questions that are not finished.
 //! - `clearing.rt`: messages that name one of them, as they are handed on. `telling.rt`: what is said of it.
-//! - `laws.rt`: that it stands aside, as a contract of a function that does nothing.
+//! - `laws.rt`: that it stands aside and counts once, as contracts of functions that do nothing.
 //!
 //! `specs/Overloading.antt` says what each envelope comes to.
 #![tactic(auto)]
@@ -20,6 +20,6 @@ mod telling;
 
 pub use admission::Admission;
 pub use errors::{OverloadError, OverloadFault};
-pub use laws::stands_aside;
+pub use laws::{counts_once, stands_aside};
 pub use overload::Overload;
 pub use telling::overloaded;
