@@ -1,4 +1,6 @@
 mod Finding
+mod HeardGive
+mod Holding
 mod Longer
 mod Nulled
 mod TailMap

@@ -1,4 +1,6 @@
 pub mod Adapting
+pub mod Back
+pub mod Held
 pub mod Laws
 pub mod Noting
 pub mod Nulling

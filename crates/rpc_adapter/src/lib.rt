@@ -6,7 +6,7 @@
 //! - `turning.rt`: the outcome of a tail call, as it stands in the Return that takes it. `paths.rt`: the capabilities of a
 //!   payload, by the paths that lead to them.
 //! - `nulling.rt`: payloads as they go to the peer, with null in place of pointers to capabilities that are not there.
-//! - `laws.rt`: that it stands aside, as a contract of a function that does nothing.
+//! - `laws.rt`: that it stands aside, and counts each thing once, as contracts of functions that do nothing.
 //!
 //! `specs/Adapting.antt` says what each envelope and each message comes to.
 #![tactic(auto)]
@@ -23,4 +23,4 @@ mod turning;
 pub use adapter::Adapter;
 pub use errors::{AdapterError, AdapterFault};
 pub use heard::{Heard, Inbound, Outbound, Said};
-pub use laws::stands_aside;
+pub use laws::{counts_once, gives_back_once, stands_aside};
