@@ -3,7 +3,7 @@
 //! (`rpc_broken`), and tail calls become calls (`rpc_adapter`), in this order on the way in.
 //!
 //! - `peer.rt`: [`PeerAdapter`], its two calls. `told.rt`: what they give. `errors.rt`: what they refuse.
-//! - `laws.rt`: that it stands aside, as a contract of a function that does nothing.
+//! - `laws.rt`: that it stands aside and counts once, as contracts of functions that do nothing.
 //!
 //! `specs/Peering.antt` says what each envelope and each message comes to.
 #![tactic(auto)]
@@ -14,7 +14,7 @@ mod peer;
 mod told;
 
 pub use errors::{PeerError, PeerFault};
-pub use laws::stands_aside;
+pub use laws::{counts_once, stands_aside};
 pub use peer::PeerAdapter;
 pub use rpc_adapter::{Heard, Said};
 pub use told::{Aside, Inbound, Outbound, Told};
