@@ -1,6 +1,7 @@
 -- Of a peer that makes no tail call and names no broken promise, a vat that has room for its calls hears what came, and it is told
 -- what the vat says. Each count that a peer gives is heard, owed or given back.
 use Rattle.std.specs.Prelude.{◌≡◌, ℕ, ◌+◌, false, IfOk, [], ◌∷◌, Option, Some, None, Ok}
+use Rattle.std.specs.FinMap as finite
 use Rattle.rpc_msg.specs.declared.ids.ExportId.{ExportId}
 use Rattle.rpc_msg.specs.declared.message.PlainMessage.{PlainMessage}
 use Rattle.rpc_msg.specs.declared.message.PlainMessage.TheVariants as plain
@@ -12,8 +13,10 @@ use Rattle.rpc_broken.specs.Naming.{Naming, flagged, names_of, owed_under}
 use Rattle.rpc_broken.specs.Laws.{gives, owed, times}
 use Rattle.rpc_adapter.specs.declared.heard.Said.{Said}
 use Rattle.rpc_adapter.specs.declared.heard.Said.TheVariants as said
-use Rattle.rpc_adapter.specs.Held.{all_give}
+use Rattle.rpc_adapter.specs.Adapting as tails
+use Rattle.rpc_adapter.specs.Held.{Agrees, Held, all_give}
 use Rattle.rpc_adapter.specs.Laws.{told_of}
+use Rattle.rpc_adapter.specs.Laws as tail_laws
 use Rattle.rpc_peer.specs.Peering.{Besides, Coming, Going, Peering, Tables, comes, fresh, goes}
 use Rattle.rpc_peer.specs.Peering.Besides.{Tells, Keeps}
 
@@ -58,6 +61,20 @@ flag_owes e s (Some (said.SentElsewhere x)) = times e (flagged x.release_param_c
 abbrev pub WentOnce : ExportId → Peering → Going → Type 0
 WentOnce e s g = owed e s.names ≡ all_give e g.heard + (owed e g.state.names + (times e g.told.given_back + flag_owes e s.names g.told.said))
 
+-- ---- counts of exports of the vat
+
+-- What comes and goes, as its part of tail calls is.
+abbrev pub tails_come : Coming → tails.Coming
+tails_come c = record { state = c.state.tails; heard = c.heard; unknown = None }
+
+abbrev pub tails_go : Going → tails.Going
+tails_go g = record { state = g.state.tails; said = g.told.said; heard = g.heard }
+
 pub record CountsOnce : Type 0 where
+  -- of exports of the peer
   pub came : (t : Tables) (s : Peering) (w : What) (e : ExportId) → IfOk (comes t s w) (λ c. CameOnce e s w c)
   pub went : (s : Peering) (m : Message) (e : ExportId) → WentOnce e s (goes s m)
+  -- of exports of the vat: refusals and names change nothing of what is held of tail calls
+  pub first : Agrees finite.empty fresh.tails
+  pub came_held : (h : Held) (t : Tables) (s : Peering) (w : What) → Agrees h s.tails → IfOk (comes t s w) (λ c. tail_laws.CameOnce h s.tails w (tails_come c))
+  pub went_held : (h : Held) (s : Peering) (m : Message) → Agrees h s.tails → tail_laws.WentOnce h s.tails m (tails_go (goes s m))

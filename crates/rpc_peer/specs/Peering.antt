@@ -1,6 +1,6 @@
 -- What stands between a peer of another make and a vat (docs/messages.md, "Peers of other make"): first a call more than the vat may
 -- answer is refused; then what names a broken promise again names nothing; then tail calls become calls.
-use Rattle.std.specs.Prelude.{◌≡◌, ℕ, Bool, true, List, [], ◌∷◌, Option, Some, None, Result, Ok, Err, refl}
+use Rattle.std.specs.Prelude.{◌≡◌, Bool, true, List, [], Option, Some, None, Result, Ok, Err, refl}
 use Rattle.std.specs.Coded.{Coded, code_by, coded×}
 use Rattle.wire_trees.specs.Trees.{Tree}
 use Rattle.wire_trees.specs.Views.{view}
@@ -21,7 +21,6 @@ use Rattle.rpc_overload.specs.Overloading as overload
 use Rattle.rpc_broken.specs.Naming.{Naming, naming_code, nothing_owed}
 use Rattle.rpc_broken.specs.Naming as names
 use Rattle.rpc_adapter.specs.declared.errors.AdapterFault.{AdapterFault}
-use Rattle.rpc_adapter.specs.declared.heard.Heard.{Heard}
 use Rattle.rpc_adapter.specs.declared.heard.Said.{Said}
 use Rattle.rpc_adapter.specs.declared.heard.Said.TheVariants as said
 use Rattle.rpc_adapter.specs.Adapting.{Adapting, adapting_code, messages_in}

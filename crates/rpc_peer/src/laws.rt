@@ -15,7 +15,7 @@ pub fn stands_aside()
 /// Each count that a peer gives is heard, owed or given back: of each of its exports, what a message gave and what was owed is what
 /// the vat hears that it gave, what is owed then, and what is given back at once, by Releases or by the flag of the Return that
 /// refuses it. With a message of the vat, what was owed is owed still, or is given back by Releases or by the flag that the peer is
-/// told, never by both. What the vat hears with it gives nothing.
+/// told, never by both. What the vat hears with it gives nothing. Of the vat's own exports it is as with `rpc_adapter::counts_once`.
 pub fn counts_once()
     ensures { CountsOnce }
 {

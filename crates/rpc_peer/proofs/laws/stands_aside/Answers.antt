@@ -1,5 +1,4 @@
-use Rattle.std.proofs.Common.{◌≡◌, Bool, List, [], ◌∷◌, Option, Some, None, Result, Ok, refl, ap, ◌∙◌}
-use Rattle.rpc_msg.specs.declared.ids.QuestionId.{QuestionId}
+use Rattle.std.proofs.Common.{◌≡◌, Bool, [], Option, Some, None, Result, refl, ap, ◌∙◌}
 use Rattle.rpc_msg.specs.declared.message.Message.{Message}
 use Rattle.rpc_msg.specs.declared.message.Message.TheVariants as message
 use Rattle.rpc_msg.specs.declared.message.PlainMessage.{PlainMessage}

@@ -1,0 +1,2 @@
+mod GivenBack
+mod Holding
