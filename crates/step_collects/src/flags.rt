@@ -1,4 +1,4 @@
-ghost use Rattle.std.specs.Prelude.{◌≡◌, ◌≤◌, [], length, cond, nat_eq, IsTrue};
+ghost use Rattle.std.specs.Prelude.{◌≡◌, ◌≤◌, [], length, take, cond, nat_eq, IsTrue};
 ghost use Rattle.std.specs.List.{list_all};
 ghost use Rattle.std.specs.FinMap as map;
 ghost use Rattle.vat_machine.specs.Flags.{flag_for, give_back, give_each, is_spared, may_lose};
@@ -7,14 +7,14 @@ ghost use Rattle.vat_machine.specs.Progress.{numbers};
 ghost use Rattle.step_collects.specs.Standing.{StandsBefore};
 ghost use Rattle.vat_store.specs.Holding.{state_of, IsSound};
 
+use crate::runs::{FEW, MANY, sorted_spared};
 use rpc_msg::ExportId;
 use store_peer::give_one;
 use vat_machine::Level;
 use vat_store::Store;
 
 /// The release flag for descriptors of these ids, while their own place stands: there are some, and all may be given back.
-/// A level 0 vat always says true. Takes no memory. No call may be taken out to be routed. It looks at all of them once for
-/// each id, however often that stands there, and for each place back to the last one of the same id.
+/// A level 0 vat always says true. Takes no memory. No call may be taken out to be routed.
 pub fn flag_for(store: &Store, ids: &[ExportId]) -> bool
     requires sound { IsSound store.now }
     requires none_taken { store.now.waits.taken ≡ [] }
@@ -27,6 +27,41 @@ pub fn flag_for(store: &Store, ids: &[ExportId]) -> bool
 }
 
 fn all_spared(store: &Store, ids: &[ExportId]) -> bool
+    requires sound { IsSound store.now }
+    requires none_taken { store.now.waits.taken ≡ [] }
+    ensures { result ≡ list_all (is_spared (state_of store.now) (numbers ids.now)) (numbers ids.now) }
+{
+    if ids.len() > FEW && ids.len() <= MANY {
+        return many_spared(store, ids);
+    }
+    each_spared(store, ids)
+}
+
+// Apart, since whoever has the copy among its locals fills it with zeros each time that it is called.
+#[cold]
+#[inline(never)]
+fn many_spared(store: &Store, ids: &[ExportId]) -> bool
+    requires sound { IsSound store.now }
+    requires none_taken { store.now.waits.taken ≡ [] }
+    requires fit { length ids.now ≤ MANY }
+    ensures { result ≡ list_all (is_spared (state_of store.now) (numbers ids.now)) (numbers ids.now) }
+{
+    let mut copied = [0; MANY];
+    copy_ids(ids, &mut copied);
+    sorted_spared(store, &mut copied[..ids.len()])
+}
+
+fn copy_ids(ids: &[ExportId], copied: &mut [u32])
+    requires { length ids.now ≤ length copied.old }
+    ensures len { length copied.new ≡ length copied.old }
+    ensures ids { take (length ids.now) copied.new ≡ numbers ids.now }
+{
+    for at in 0..ids.len() {
+        copied[at] = ids[at].0;
+    }
+}
+
+fn each_spared(store: &Store, ids: &[ExportId]) -> bool
     requires sound { IsSound store.now }
     requires none_taken { store.now.waits.taken ≡ [] }
     ensures { result ≡ list_all (is_spared (state_of store.now) (numbers ids.now)) (numbers ids.now) }

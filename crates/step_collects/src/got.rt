@@ -1,4 +1,4 @@
-ghost use Rattle.std.specs.Prelude.{◌≡◌, ◌≤◌, [], ◌∷◌, length, cond, nat_eq, not, option_to_list, IsTrue};
+ghost use Rattle.std.specs.Prelude.{◌≡◌, ◌≤◌, ◌<◌, ◌+◌, [], ◌∷◌, ◌++◌, length, take, cond, nat_eq, not, option_to_list, IsTrue};
 ghost use Rattle.std.specs.List.{list_all};
 ghost use Rattle.std.specs.FinMap as map;
 ghost use Rattle.rpc_msg.specs.Messages.{given};
@@ -10,6 +10,7 @@ ghost use Rattle.step_collects.specs.Standing.{StandsAmong};
 ghost use Rattle.vat_store.specs.Holding.{state_of, IsSound};
 
 use crate::flags::{as_number, may_lose};
+use crate::runs::{FEW, MANY, sorted_spared};
 use rpc_msg::{Descriptor, ExportId};
 use store_peer::give_one;
 use vat_machine::{Level, Node, Returned};
@@ -62,6 +63,58 @@ fn gives_any(caps: &[(Descriptor, Node)]) -> bool
 }
 
 fn all_got_spared(store: &Store, caps: &[(Descriptor, Node)]) -> bool
+    requires sound { IsSound store.now }
+    requires none_taken { store.now.waits.taken ≡ [] }
+    ensures { result ≡ list_all (is_spared (state_of store.now) (given (descriptors_said caps.now))) (given (descriptors_said caps.now)) }
+{
+    if caps.len() > FEW && caps.len() <= MANY {
+        return many_got_spared(store, caps);
+    }
+    each_got_spared(store, caps)
+}
+
+// Apart, as `many_spared` is.
+#[cold]
+#[inline(never)]
+fn many_got_spared(store: &Store, caps: &[(Descriptor, Node)]) -> bool
+    requires sound { IsSound store.now }
+    requires none_taken { store.now.waits.taken ≡ [] }
+    requires fit { length caps.now ≤ MANY }
+    ensures { result ≡ list_all (is_spared (state_of store.now) (given (descriptors_said caps.now))) (given (descriptors_said caps.now)) }
+{
+    let mut copied = [0; MANY];
+    let len = copy_got(caps, &mut copied);
+    sorted_spared(store, &mut copied[..len])
+}
+
+// Copies the ids that the descriptors give, and answers how many there are.
+fn copy_got(caps: &[(Descriptor, Node)], copied: &mut [u32]) -> usize
+    requires { length caps.now ≤ length copied.old }
+    ensures fit { result ≤ length copied.new }
+    ensures ids { take result copied.new ≡ given (descriptors_said caps.now) }
+{
+    let mut len = 0;
+    for cap in caps {
+        len = copy_id(&cap.0, copied, len);
+    }
+    len
+}
+
+// Copies the id that the descriptor gives, if it does, to that place, and answers the next free one.
+fn copy_id(one: &Descriptor, copied: &mut [u32], place: usize) -> usize
+    requires { place < length copied.old }
+    ensures len { length copied.new ≡ length copied.old }
+    ensures next { result ≤ place + 1 }
+    ensures ids { take result copied.new ≡ take place copied.old ++ given (one.now ∷ []) }
+{
+    let Some(id) = given_id(one) else {
+        return place;
+    };
+    copied[place] = id.0;
+    place + 1
+}
+
+fn each_got_spared(store: &Store, caps: &[(Descriptor, Node)]) -> bool
     requires sound { IsSound store.now }
     requires none_taken { store.now.waits.taken ≡ [] }
     ensures { result ≡ list_all (is_spared (state_of store.now) (given (descriptors_said caps.now))) (given (descriptors_said caps.now)) }

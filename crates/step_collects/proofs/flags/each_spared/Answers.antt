@@ -7,7 +7,7 @@ use Rattle.vat_machine.specs.Flags.{is_spared, may_lose}
 use Rattle.vat_machine.specs.Progress.{numbers}
 use Rattle.vat_store.specs.Holding.{state_of}
 use Rattle.step_collects.proofs.Giving.{all_more, one_fails, stands_passes}
-use Rattle.step_collects.proofs.flags.all_spared.Goals as goal
+use Rattle.step_collects.proofs.flags.each_spared.Goals as goal
 
 pub loop-at-preserved-then-stands_before : goal.loop-at-preserved-then-stands_before
 loop-at-preserved-then-stands_before c =

@@ -6,7 +6,7 @@ use Rattle.vat_machine.specs.declared.node.Node.{Node}
 use Rattle.vat_machine.specs.Flags.{is_spared}
 use Rattle.vat_store.specs.Holding.{state_of}
 use Rattle.step_collects.proofs.Getting.{got, got_by, one_got_fails, all_got, stands_passes_got}
-use Rattle.step_collects.proofs.got.all_got_spared.Goals as goal
+use Rattle.step_collects.proofs.got.each_got_spared.Goals as goal
 
 pub loop-at-preserved-then-stands_among : goal.loop-at-preserved-then-stands_among
 loop-at-preserved-then-stands_among c =
