@@ -1,5 +1,5 @@
 -- What a call of a command's name answers, and what comes of the command.
-use Rattle.std.proofs.Common.{◌≡◌, ℕ, List, Bool, Result, Ok, Err, ◌⊎◌, inl, refl, ap, subst}
+use Rattle.std.proofs.Common.{◌≡◌, ℕ, List, Bool, Result, Ok, Err, ◌⊎◌, inl, inr, refl, ap, subst, ◌∙◌}
 use Rattle.std.specs.Prelude.{IfOk, IfErr}
 use Rattle.rpc_msg.specs.declared.ids.CallId.{CallId}
 use Rattle.vat_journal.specs.declared.report.Advanced.{Advanced}
@@ -9,12 +9,16 @@ use Rattle.vat_machine.specs.declared.command.Command.TheVariants as command
 use Rattle.vat_machine.specs.declared.command.Granted.{Granted}
 use Rattle.vat_machine.specs.declared.command.Granted.TheVariants as granted
 use Rattle.vat_machine.specs.declared.command.Refusal.{Refusal}
+use Rattle.vat_machine.specs.declared.command.Refusal.TheVariants as refusal
+use Rattle.vat_machine.specs.Steps.{Shuts}
 use Rattle.vat_host.specs.Hosting.{Hosted, Does, Refuses}
 use Rattle.rpc_peer.specs.Peering.{Peering}
+use Rattle.rpc_fits.specs.Carrying.{Carries}
 use Rattle.rpc_frames.specs.Outflows.{Outflow}
 use Rattle.vat_connection.specs.Calling.{Calls, Fits, IsTooLarge, Obeys, ObeysToFit, answered}
-use Rattle.vat_connection.specs.Speaking.{Speaking}
-use Rattle.vat_connection.specs.Connecting.{Asks, AsksToFit, Connected}
+use Rattle.vat_connection.specs.Speaking.{Speaking, Shuts as IsShut}
+use Rattle.vat_connection.specs.OwnCalls.{asked}
+use Rattle.vat_connection.specs.Connecting.{Asks, AsksToFit, Connected, answered_by}
 
 pub obeyed : {A E : Type 0} (result : Result A E) (gives : A → Granted) (why : E → Refusal) (old new : Hosted) (c : Command)
     → IfOk result (λ x. Does old c (gives x) new) → IfErr result (λ e. Refuses old c (why e) new) → Obeys old c (answered result gives why) new
@@ -32,26 +36,51 @@ module _ {X : Type 0} (refusal_of : X → Refusal) (old mid new : Hosted) (c : C
   refused (Ok id) short refuses = tt
   refused (Err e) short refuses = inl (mid, became, short, refuses)
 
+-- No place for one more open call.
+pub lacks_place : (old : Hosted) (c : CallCommand) → Calls old c (Err refusal.Memory) old
+lacks_place old c = (old, Err refusal.Memory, (inr (refl, refl), refl), (inr (refl, refl), refl))
+
+-- A shut, of which nothing follows but an Abort.
+pub shuts : (old new : Hosted) (c : Command) (n : ℕ) → c ≡ command.Shut n → IsShut old n new → Does old c granted.Done new × Fits c
+shuts old new c n is falls = ((falls.0, Shuts n is refl falls.1, falls.2), λ m carries. absurd (subst (λ (k : Command). Carries k m) is carries))
+
 -- ---- of a connection
 
-abbrev pub connected : Hosted → Outflow → Peering → ℕ → List ℕ → Bool → Connected
-connected host out adapter heard waiting told = record { speaker = record { host = host; out = out; adapter = adapter; heard = heard }; waiting = waiting; told = told }
+abbrev pub connected : Hosted → Outflow → Peering → ℕ → List ℕ → Bool → List CallId → Connected
+connected host out adapter heard waiting told calls = record {
+  speaker = record { host = host; out = out; adapter = adapter; heard = heard };
+  waiting = waiting;
+  told = told;
+  open_calls = calls;
+}
 
-abbrev pub connection : Speaking → List ℕ → Bool → Connected
-connection s waiting told = record { speaker = s; waiting = waiting; told = told }
+abbrev pub connection : Speaking → List ℕ → Bool → List CallId → Connected
+connection s waiting told calls = record { speaker = s; waiting = waiting; told = told; open_calls = calls }
 
-module _ (before after : Hosted) (out : Outflow) (adapter : Peering) (heard : ℕ) (waiting : List ℕ) (told : Bool) (old : Connected) (c : Command) (is : connected before out adapter heard waiting told ≡ old) where
+-- What makes no call and lets none go leaves the same ones open.
+same_calls : {A E : Type 0} (result : Result A E) (gives : A → Granted) (why : E → Refusal) (calls : List CallId) (c : Command)
+    → ((x : A) → calls ≡ asked calls c (Ok (gives x))) → calls ≡ asked calls c (answered result gives why)
+same_calls (Ok x) gives why calls c same = same x
+same_calls (Err e) gives why calls c same = refl
+
+module _ (before after : Hosted) (out : Outflow) (adapter : Peering) (heard : ℕ) (waiting : List ℕ) (told : Bool) (calls : List CallId) (old : Connected) (c : Command) (is : connected before out adapter heard waiting told calls ≡ old) where
   -- What comes of the vat is what comes of the connection.
-  pub asks_as : (answer : Result Granted Refusal) → Obeys before c answer after → Asks old c answer (connected after out adapter heard waiting told)
-  asks_as answer obeys = subst (λ (o : Connected). Asks o c answer (connected after out adapter heard waiting told)) is (obeys, refl)
+  pub asks_as : (answer : Result Granted Refusal) (left : List CallId) → left ≡ asked calls c answer → Obeys before c answer after → Asks old c answer (connected after out adapter heard waiting told left)
+  asks_as answer left follows obeys =
+      subst (λ (o : Connected). Asks o c answer (connected after out adapter heard waiting told left)) is (obeys, ap (λ (cs : List CallId). connected after out adapter heard waiting told cs) follows)
 
-  pub asks : {A E : Type 0} (result : Result A E) (gives : A → Granted) (why : E → Refusal) → IfOk result (λ x. Does before c (gives x) after)
-      → IfErr result (λ e. Refuses before c (why e) after) → Asks old c (answered result gives why) (connected after out adapter heard waiting told)
-  asks result gives why done refused = asks_as (answered result gives why) (obeyed result gives why before after c done refused)
+  pub asks : {A E : Type 0} (result : Result A E) (gives : A → Granted) (why : E → Refusal) → ((x : A) → calls ≡ asked calls c (Ok (gives x))) → IfOk result (λ x. Does before c (gives x) after)
+      → IfErr result (λ e. Refuses before c (why e) after) → Asks old c (answered result gives why) (connected after out adapter heard waiting told calls)
+  asks result gives why same done refused = asks_as (answered result gives why) calls (same_calls result gives why calls c same) (obeyed result gives why before after c done refused)
 
-module _ (before after : Speaking) (waiting : List ℕ) (told : Bool) (old : Connected) (c : Command) (is : connection before waiting told ≡ old) (rest : after ≡ record before { host = after.host }) where
-  pub spoken : (answer : Result Granted Refusal) → Obeys before.host c answer after.host → Asks old c answer (connection after waiting told)
-  spoken answer obeys = subst (λ (o : Connected). Asks o c answer (connection after waiting told)) is (obeys, ap (λ (s : Speaking). connection s waiting told) rest)
+module _ (before after : Speaking) (waiting : List ℕ) (told : Bool) (calls : List CallId) (old : Connected) (c : Command) (is : connection before waiting told calls ≡ old) (rest : after ≡ record before { host = after.host }) where
+  pub leaves : (answer : Result Granted Refusal) (left : List CallId) → left ≡ asked calls c answer → connection after waiting told left ≡ answered_by old c answer after.host
+  leaves answer left follows =
+      subst (λ (o : Connected). connection after waiting told left ≡ answered_by o c answer after.host) is
+      (ap (λ (s : Speaking). connection s waiting told left) rest ∙ ap (λ (cs : List CallId). connection (record before { host = after.host }) waiting told cs) follows)
 
-  pub spoken_to_fit : (answer : Result Granted Refusal) → ObeysToFit before.host c answer after.host → AsksToFit old c answer (connection after waiting told)
-  spoken_to_fit answer obeys = subst (λ (o : Connected). AsksToFit o c answer (connection after waiting told)) is (obeys, ap (λ (s : Speaking). connection s waiting told) rest)
+  pub spoken : (answer : Result Granted Refusal) (left : List CallId) → left ≡ asked calls c answer → Obeys before.host c answer after.host → Asks old c answer (connection after waiting told left)
+  spoken answer left follows obeys = (subst (λ (o : Connected). Obeys o.speaker.host c answer after.host) is obeys, leaves answer left follows)
+
+  pub spoken_to_fit : (answer : Result Granted Refusal) (left : List CallId) → left ≡ asked calls c answer → ObeysToFit before.host c answer after.host → AsksToFit old c answer (connection after waiting told left)
+  spoken_to_fit answer left follows obeys = (subst (λ (o : Connected). ObeysToFit o.speaker.host c answer after.host) is obeys, leaves answer left follows)

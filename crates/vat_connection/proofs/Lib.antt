@@ -7,3 +7,4 @@ mod Telling
 mod Calling
 mod Giving
 mod Framed
+mod Rising

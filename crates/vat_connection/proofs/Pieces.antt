@@ -62,5 +62,5 @@ both law None s mid new held left last piece more is one two = one_piece law s m
 pub pieces_are_one : FrontsStay → (piece more : List ℕ) (old mid new : Connected) → Receives old piece mid → Receives mid more new → Receives old (piece ++ more) new
 pieces_are_one law piece more old mid new one two = (
   both law (down old) old.speaker mid.speaker new.speaker old.waiting mid.waiting new.waiting piece more refl one.0 two.0,
-  two.1 ∙ one.1,
+  two.1 ∙ ap (λ (m : Connected). record m { speaker = new.speaker; waiting = new.waiting }) one.1,
 )

@@ -1,5 +1,5 @@
 -- The peer is told all of something, or nothing of it.
-use Rattle.std.proofs.Common.{◌≡◌, ℕ, List, [], ◌∷◌, ◌++◌, length, take, append-nil, append_assoc, Result, Ok, Err, refl, sym, ap, subst, ◌∙◌}
+use Rattle.std.proofs.Common.{◌≡◌, ℕ, List, [], ◌∷◌, ◌++◌, length, take, append-nil, append_assoc, Ok, Err, refl, sym, ap, subst, ◌∙◌}
 use Rattle.std.proofs.lemmas.List.{take_at}
 use Rattle.rpc_msg.specs.Payloads.{Contents}
 use Rattle.rpc_msg.specs.declared.ids.ExportId.{ExportId}

@@ -1,10 +1,13 @@
 -- A connection: what each call of it does.
-use Rattle.std.specs.Prelude.{◌≡◌, ℕ, Bool, true, false, List, [], ◌∷◌, Option, Some, None, Result, ◌⊎◌, refl}
+use Rattle.std.specs.Prelude.{◌≡◌, ℕ, Bool, true, false, List, [], ◌∷◌, Option, Some, None, IsSome, Result, ◌⊎◌, refl}
 use Rattle.std.specs.Coded.{Coded, code_by, coded×, coded_ℕ, coded_list, coded_bool}
+use Rattle.rpc_msg.specs.contracts.ids.CallId as call_id_row
+use Rattle.rpc_msg.specs.declared.ids.CallId.{CallId}
 use Rattle.rpc_msg.specs.declared.ids.ObjectId.{ObjectId}
 use Rattle.rpc_msg.specs.declared.ids.Vat.{Vat}
 use Rattle.wire_trees.specs.Numbers.{number_of}
 use Rattle.wire_trees.specs.declared.faults.PayloadFault.TheVariants.{Short}
+use Rattle.vat_journal.specs.declared.report.Ended.{Ended}
 use Rattle.vat_machine.specs.declared.command.Command.{Command}
 use Rattle.vat_machine.specs.declared.command.Granted.{Granted}
 use Rattle.vat_machine.specs.declared.command.Level.{Level}
@@ -18,20 +21,22 @@ use Rattle.vat_connection.specs.declared.event.Event.TheVariants as event
 use Rattle.vat_connection.specs.Calling.{Obeys, ObeysToFit}
 use Rattle.vat_connection.specs.Speaking.{Speaking, Falls, Says, given, speaking_code}
 use Rattle.vat_connection.specs.Hearing.{Follows}
+use Rattle.vat_connection.specs.OwnCalls.{IsCutOff, asked, without}
 
--- A vat with the bytes that it says; the bytes that wait for the rest of their frame; and whether the application was told that
--- the vat is down.
+-- A vat with the bytes that it says; the bytes that wait for the rest of their frame; whether the application was told that the
+-- vat is down; and the own calls that are open, in the order in which they were made.
 pub record Connected : Type 0 where
   pub speaker : Speaking
   pub waiting : List ℕ
   pub told : Bool
+  pub open_calls : List CallId
 
 abbrev pub connected_code : Coded Connected
 connected_code =
-    code_by (Speaking × (List ℕ × Bool))
-    (coded× speaking_code (coded× (coded_list coded_ℕ) coded_bool))
-    (λ c. (c.speaker, (c.waiting, c.told)))
-    (λ p. record { speaker = p.0; waiting = p.1.0; told = p.1.1 })
+    code_by (Speaking × (List ℕ × (Bool × List CallId)))
+    (coded× speaking_code (coded× (coded_list coded_ℕ) (coded× coded_bool (coded_list call_id_row.the_row.coded))))
+    (λ c. (c.speaker, (c.waiting, (c.told, c.open_calls))))
+    (λ p. record { speaker = p.0; waiting = p.1.0; told = p.1.1.0; open_calls = p.1.1.1 })
     (λ _. refl)
 
 -- Nothing has come, and nothing was said.
@@ -40,17 +45,24 @@ fresh vat level bootstrap = record {
   speaker = record { host = idle (start vat level bootstrap); out = nothing_out; adapter = fresh_adapter; heard = 0 };
   waiting = [];
   told = false;
+  open_calls = [];
 }
 
 abbrev pub with_host : Connected → Hosted → Connected
 with_host c host = record c { speaker = record (c.speaker) { host = host } }
+
+-- A command was answered and left the vat so: the streams stay as they are.
+abbrev pub answered_by : Connected → Command → Result Granted Refusal → Hosted → Connected
+answered_by c command answer host = record (with_host c host) { open_calls = asked c.open_calls command answer }
 
 abbrev pub down : Connected → Option ℕ
 down c = c.speaker.host.core.down
 
 -- Bytes of the peer come: a vat that is up hears the frames that they make with those that waited.
 abbrev pub Receives : Connected → List ℕ → Connected → Type 0
-Receives old bytes new = Follows (down old) old.speaker old.waiting bytes new.speaker new.waiting × (new.told ≡ old.told)
+Receives old bytes new =
+    Follows (down old) old.speaker old.waiting bytes new.speaker new.waiting
+    × (new ≡ record old { speaker = new.speaker; waiting = new.waiting })
 
 -- the number with which a vat goes down where the stream ends behind these bytes of a frame
 abbrev pub ends_with : List ℕ → ℕ
@@ -69,21 +81,33 @@ Finishes old new = IsShut old (ends_with old.waiting) new
 abbrev pub Gives : Connected → List ℕ → Connected → Type 0
 Gives old bytes new = (said : Speaking) × Says old.speaker said × (bytes ≡ said.out.bytes) × (new ≡ record old { speaker = given said })
 
--- The vat is told what a command asks, and the streams stay as they are.
+-- The vat is told what a command asks.
 abbrev pub Asks : Connected → Command → Result Granted Refusal → Connected → Type 0
-Asks old c answer new = Obeys old.speaker.host c answer new.speaker.host × (new ≡ with_host old new.speaker.host)
+Asks old c answer new = Obeys old.speaker.host c answer new.speaker.host × (new ≡ answered_by old c answer new.speaker.host)
 
 -- The same of a command whose contents may be too large.
 abbrev pub AsksToFit : Connected → Command → Result Granted Refusal → Connected → Type 0
-AsksToFit old c answer new = ObeysToFit old.speaker.host c answer new.speaker.host × (new ≡ with_host old new.speaker.host)
+AsksToFit old c answer new = ObeysToFit old.speaker.host c answer new.speaker.host × (new ≡ answered_by old c answer new.speaker.host)
 
--- What is told: the oldest call to be served, then the oldest that ended, then once that the vat is down.
+-- The oldest call that ended is told, and is open no more.
+abbrev pub TellsEnded : Connected → Ended → Connected → Type 0
+TellsEnded old call new =
+    (old.speaker.host.deliveries ≡ []) × (new.open_calls ≡ without call.call old.open_calls)
+    × (old ≡ record (with_host new (record (new.speaker.host) { ended = call ∷ new.speaker.host.ended })) { open_calls = old.open_calls })
+
+-- The vat is down, all else was told, and the oldest call that is open ends with that.
+abbrev pub CutsOff : Connected → Ended → Connected → Type 0
+CutsOff old call new =
+    (old.speaker.host.deliveries ≡ []) × (old.speaker.host.ended ≡ []) × (old.told ≡ false) × IsSome (down old) × IsCutOff call
+    × (old ≡ record new { open_calls = call.call ∷ new.open_calls })
+
+-- What is told: the oldest call to be served, then the oldest that ended. Once the vat is down: then the oldest that is open, as
+-- cut off, and once that the vat is down.
 abbrev pub TellsNext : Connected → Option Event → Connected → Type 0
 TellsNext old (Some (event.Served delivery)) new = old ≡ with_host new (record (new.speaker.host) { deliveries = delivery ∷ new.speaker.host.deliveries })
-TellsNext old (Some (event.Ended call)) new =
-    (old.speaker.host.deliveries ≡ []) × (old ≡ with_host new (record (new.speaker.host) { ended = call ∷ new.speaker.host.ended }))
+TellsNext old (Some (event.Ended call)) new = TellsEnded old call new ⊎ CutsOff old call new
 TellsNext old (Some (event.Down number)) new =
-    (old.speaker.host.deliveries ≡ []) × (old.speaker.host.ended ≡ []) × (old.told ≡ false) × (down old ≡ Some number) × (new ≡ record old { told = true })
+    (old.speaker.host.deliveries ≡ []) × (old.speaker.host.ended ≡ []) × (old.told ≡ false) × (down old ≡ Some number) × (old.open_calls ≡ []) × (new ≡ record old { told = true })
 TellsNext old None new =
     (old.speaker.host.deliveries ≡ []) × (old.speaker.host.ended ≡ []) × ((old.told ≡ true) ⊎ (down old ≡ None)) × (new ≡ old)
 

@@ -3,5 +3,6 @@ pub mod Speaking
 pub mod Framing
 pub mod Telling
 pub mod Hearing
+pub mod OwnCalls
 pub mod Connecting
 pub mod Laws

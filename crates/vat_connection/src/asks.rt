@@ -3,7 +3,7 @@ ghost use Rattle.std.specs.Prelude.{◌≡◌, ◌⊎◌, [], Ok, Err, IfOk, IfE
 ghost use Rattle.vat_machine.specs.declared.command.Command.TheVariants as command;
 ghost use Rattle.vat_machine.specs.declared.command.Granted.TheVariants as granted;
 ghost use Rattle.vat_connection.specs.Calling.{Calls, Fits, IsTooLarge, answered};
-ghost use Rattle.vat_connection.specs.Connecting.{Asks, with_host};
+ghost use Rattle.vat_connection.specs.Connecting.{Asks, answered_by};
 
 use crate::connection::Connection;
 use rpc_msg::{CallId, Items, ObjectId, Op, PromiseId, RefId};
@@ -19,9 +19,21 @@ impl Connection {
         ensures done { IfOk result (λ id. Calls self.old.speaker.host call (Ok id) self.new.speaker.host × Fits (command.Call call)) }
         ensures refused { IfErr result (λ e. Calls self.old.speaker.host call (Err e.refusal) self.new.speaker.host ⊎ IsTooLarge self.old.speaker.host e.refusal self.new.speaker.host) }
         ensures handed_back { IfErr result (λ e. e.back ≡ call) }
-        ensures rest { self.new ≡ with_host self.old self.new.speaker.host }
+        ensures rest { self.new ≡ answered_by self.old (command.Call call) (answered result granted.Call (λ e. e.refusal)) self.new.speaker.host }
     {
-        self.speaker.call(call)
+        let Ok(()) = self.open_calls.reserve() else {
+            return Err(Refused {
+                refusal: Refusal::Memory,
+                back: call,
+            });
+        };
+        match self.speaker.call(call) {
+            Ok(id) => {
+                self.open_calls.add(id);
+                return Ok(id);
+            }
+            Err(refused) => return Err(refused),
+        }
     }
 
     /// Asks the peer for its bootstrap object, as `Host::bootstrap` does: gives the number of the call. A refusal changes
@@ -29,7 +41,16 @@ impl Connection {
     pub fn bootstrap(&mut self) -> Result<CallId, Refusal>
         ensures { Asks self.old command.Bootstrap (answered result granted.Call (λ r. r)) self.new }
     {
-        self.speaker.host.bootstrap()
+        let Ok(()) = self.open_calls.reserve() else {
+            return Err(Refusal::Memory);
+        };
+        match self.speaker.host.bootstrap() {
+            Ok(id) => {
+                self.open_calls.add(id);
+                return Ok(id);
+            }
+            Err(refusal) => return Err(refusal),
+        }
     }
 
     /// Makes a reference to an object of the application, as `Host::host` does: gives its number. A refusal changes nothing.

@@ -1,18 +1,20 @@
 //! A vat that speaks with another by bytes.
-ghost use Rattle.std.specs.Prelude.{◌≡◌, ◌⊎◌, IfOk, IfErr, not, length, ◌==◌, ◌||◌};
+ghost use Rattle.std.specs.Prelude.{◌≡◌, ◌⊎◌, false, IfOk, IfErr, not, length, ◌==◌, ◌||◌};
+ghost use Rattle.vat_machine.specs.Refusals.{is_shut};
 ghost use Rattle.vat_host.specs.Hosting.{Does, Refuses};
-ghost use Rattle.vat_connection.specs.Calling.{Fits, IsTooLarge};
-ghost use Rattle.vat_connection.specs.Connecting.{Connected, Finishes, Gives, Receives, Tells, TellsNext, with_host, fresh};
+ghost use Rattle.vat_connection.specs.Calling.{Fits, IsTooLarge, answered};
+ghost use Rattle.vat_connection.specs.Connecting.{Connected, Finishes, Gives, Receives, Tells, TellsNext, answered_by, fresh};
 
 use crate::event::Event;
 use crate::hearing::hear_all;
+use crate::open_calls::{OpenCalls, cut_off, finished_by};
 use crate::speaker::Speaker;
 use rpc_msg::{Memory, ObjectId, Vat};
 use rpc_stream::FrameReader;
 use std::alloc::Global;
 use std::marker::Model;
 use vat_host::{Core, Refused};
-use vat_machine::{Command, Granted, Level};
+use vat_machine::{Command, Granted, Level, Refusal};
 
 /// The number with which a vat goes down where the stream ends between two frames.
 const ENDED: u16 = 0;
@@ -24,6 +26,7 @@ pub struct Connection {
     pub(crate) speaker: Speaker,
     reader: FrameReader,
     told: bool,
+    pub(crate) open_calls: OpenCalls,
     alloc: Global,
 }
 
@@ -35,7 +38,7 @@ impl Model for Connection {
 
     ghost coded = { connected_code };
 
-    ghost view = { λ a. record { speaker = a.speaker; waiting = held_of a.reader; told = a.told } };
+    ghost view = { λ a. record { speaker = a.speaker; waiting = held_of a.reader; told = a.told; open_calls = a.open_calls.0 } };
 
     ghost invariant = { λ a. Waits a.reader };
 }
@@ -56,6 +59,7 @@ impl Connection {
             speaker,
             reader: FrameReader::new(alloc),
             told: false,
+            open_calls: OpenCalls::new(alloc),
             alloc,
         })
     }
@@ -107,8 +111,9 @@ impl Connection {
         self.speaker.take_bytes()
     }
 
-    /// What there is to tell, the oldest first: the calls to be served, then the own calls that ended, then once that the vat is
-    /// down. What the vat has to say becomes frames before, as by `outgoing`, since the vat may hear something of it.
+    /// What there is to tell, the oldest first: the calls to be served, then the own calls that ended. Of a vat that is down
+    /// then each own call that is open, as one that ended with `Disconnected`, and once that the vat is down. What the vat has to
+    /// say becomes frames before, as by `outgoing`, since the vat may hear something of it.
     pub fn next_event(&mut self) -> Option<Event>
         ensures { Tells self.old result self.new }
     {
@@ -123,12 +128,16 @@ impl Connection {
             return Some(Event::Served(delivery));
         }
         if let Some(ended) = self.speaker.host.next_ended() {
+            self.open_calls.remove(ended.call);
             return Some(Event::Ended(ended));
         }
         if self.told {
             return None;
         }
         let number = self.speaker.host.core().down()?;
+        if let Some(call) = self.open_calls.pop() {
+            return Some(Event::Ended(cut_off(self.alloc, call)));
+        }
         self.told = true;
         Some(Event::Down(number))
     }
@@ -139,8 +148,36 @@ impl Connection {
         ensures done { IfOk result (λ granted. Does self.old.speaker.host command granted self.new.speaker.host × Fits command) }
         ensures refused { IfErr result (λ e. Refuses self.old.speaker.host command e.refusal self.new.speaker.host ⊎ IsTooLarge self.old.speaker.host e.refusal self.new.speaker.host) }
         ensures handed_back { IfErr result (λ e. e.back ≡ command) }
-        ensures rest { self.new ≡ with_host self.old self.new.speaker.host }
+        ensures rest { self.new ≡ answered_by self.old command (answered result (λ granted. granted) (λ e. e.refusal)) self.new.speaker.host }
     {
-        self.speaker.command(command)
+        if let Command::Shut(number) = command {
+            self.speaker.fall(number);
+            return Ok(Granted::Done);
+        }
+        self.command_with_place(command)
+    }
+
+    // Takes a command, where there is a place for a call that it may make.
+    fn command_with_place(&mut self, command: Command) -> Result<Granted, Refused<Command>>
+        requires { is_shut command ≡ false }
+        ensures done { IfOk result (λ granted. Does self.old.speaker.host command granted self.new.speaker.host × Fits command) }
+        ensures refused { IfErr result (λ e. Refuses self.old.speaker.host command e.refusal self.new.speaker.host ⊎ IsTooLarge self.old.speaker.host e.refusal self.new.speaker.host) }
+        ensures handed_back { IfErr result (λ e. e.back ≡ command) }
+        ensures rest { self.new ≡ answered_by self.old command (answered result (λ granted. granted) (λ e. e.refusal)) self.new.speaker.host }
+    {
+        let Ok(()) = self.open_calls.reserve() else {
+            return Err(Refused {
+                refusal: Refusal::Memory,
+                back: command,
+            });
+        };
+        let finished = finished_by(&command);
+        match self.speaker.command(command) {
+            Ok(granted) => {
+                self.open_calls.follow(finished, granted);
+                return Ok(granted);
+            }
+            Err(refused) => return Err(refused),
+        }
     }
 }

@@ -5,7 +5,8 @@
 //!   give something, by name. `settling.rt`: those that give nothing.
 //! - `speaker.rt`: a vat with the bytes that it says and the adapter between it and its peer, and its commands. `frame.rt`: what a
 //!   frame has it hear. `passing.rt`: what it says becomes frames.
-//! - `hearing.rt`: the bytes that come become frames, and the vat hears each.
+//! - `hearing.rt`: the bytes that come become frames, and the vat hears each. `open_calls.rt`: the own calls that are open, which end
+//!   where the vat goes down.
 //! - `event.rt`: what an application is told. `laws.rt`: that pieces do not matter, as a contract of a function that does nothing.
 //!
 //! Contracts see a connection as `Connected` (`specs/Connecting.antt`). What its calls name of the crates below is given out here.
@@ -17,6 +18,7 @@ mod event;
 mod frame;
 mod hearing;
 mod laws;
+mod open_calls;
 mod passing;
 mod settling;
 mod speaker;

@@ -81,7 +81,10 @@ impl Connection {
         ensures { Asks self.old (command.Finish id) (answered result (λ _. granted.Done) (λ r. r)) self.new }
     {
         match self.speaker.obey(Command::Finish(id)) {
-            Ok(_granted) => return Ok(()),
+            Ok(_granted) => {
+                self.open_calls.remove(id);
+                return Ok(());
+            }
             Err(refusal) => return Err(refusal),
         }
     }

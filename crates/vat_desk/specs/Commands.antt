@@ -9,7 +9,7 @@ use Rattle.vat_machine.specs.declared.command.Command.TheVariants as command
 use Rattle.vat_machine.specs.declared.command.Granted.{Granted}
 use Rattle.vat_machine.specs.declared.command.Granted.TheVariants as granted
 use Rattle.vat_connection.specs.Calling.{Calls, Fits, IsTooLarge}
-use Rattle.vat_connection.specs.Connecting.{Asks, AsksToFit, IsShut, with_host}
+use Rattle.vat_connection.specs.Connecting.{Asks, AsksToFit, IsShut, answered_by}
 use Rattle.vat_desk.specs.declared.desk.Desk.{Desk}
 use Rattle.vat_desk.specs.declared.not_done.NotDone.{NotDone}
 use Rattle.vat_desk.specs.declared.not_done.NotDone.TheVariants as not_done
@@ -94,10 +94,10 @@ call_of r interface method bytes refs = record {
 abbrev pub CallsWith : Desk → CallCommand → Result ℕ NotDone → Desk → Type 0
 CallsWith old c (Ok n) new =
     Calls old.connection.speaker.host c (Ok (record { 0 = n })) new.connection.speaker.host × Fits (command.Call c)
-    × (new ≡ with_connection old (with_host old.connection new.connection.speaker.host))
+    × (new ≡ with_connection old (answered_by old.connection (command.Call c) (Ok (a_call n)) new.connection.speaker.host))
 CallsWith old c (Err (not_done.Refused r)) new =
     (Calls old.connection.speaker.host c (Err r) new.connection.speaker.host ⊎ IsTooLarge old.connection.speaker.host r new.connection.speaker.host)
-    × (new ≡ with_connection old (with_host old.connection new.connection.speaker.host))
+    × (new ≡ with_connection old (answered_by old.connection (command.Call c) (Err r) new.connection.speaker.host))
 CallsWith old c (Err e) new = IsNoPayload c.payload e × (new ≡ old)
 
 -- ---- shut

@@ -1,12 +1,18 @@
-use Rattle.std.proofs.Common.{◌⊎◌, subst}
-use Rattle.std.specs.Prelude.{IfOk, IfErr}
-use Rattle.vat_host.specs.Hosting.{Does, Refuses}
-use Rattle.vat_connection.specs.Calling.{Fits, IsTooLarge}
+use Rattle.std.proofs.Common.{◌≡◌, Ok, refl, sym, subst}
+use Rattle.vat_machine.specs.declared.command.Command.{Command}
+use Rattle.vat_machine.specs.declared.command.Granted.TheVariants as granted
+use Rattle.vat_host.specs.Hosting.{Does}
+use Rattle.vat_connection.specs.Calling.{Fits}
 use Rattle.vat_connection.specs.Connecting.{Connected}
+use Rattle.vat_connection.specs.Hearing.{held_of}
+use Rattle.vat_connection.specs.OwnCalls.{asked}
+use Rattle.vat_connection.proofs.Calling.{leaves, shuts}
 use Rattle.vat_connection.proofs.connection.Connection.command.Goals as goal
 
-pub returns-clause-done : goal.returns-clause-done
-returns-clause-done c = subst (λ (o : Connected). IfOk c.command.result (λ granted. Does o.speaker.host c.args.command granted c.command.new.self.host × Fits c.args.command)) c.self.view_is c.command.ensures.done
+pub returns-in-Shut-clause-done : goal.returns-in-Shut-clause-done
+returns-in-Shut-clause-done c = subst (λ (o : Connected). Does o.speaker.host c.args.command granted.Done c.fall.new.self.host × Fits c.args.command) c.self.view_is (shuts c.self.inside.speaker.host c.fall.new.self.host c.args.command c.in-Shut.number c.in-Shut.is c.fall.ensures.0)
 
-pub returns-clause-refused : goal.returns-clause-refused
-returns-clause-refused c = subst (λ (o : Connected). IfErr c.command.result (λ e. Refuses o.speaker.host c.args.command e.refusal c.command.new.self.host ⊎ IsTooLarge o.speaker.host e.refusal c.command.new.self.host)) c.self.view_is c.command.ensures.refused
+pub returns-in-Shut-clause-rest : goal.returns-in-Shut-clause-rest
+returns-in-Shut-clause-rest c =
+    leaves c.self.inside.speaker c.fall.new.self (held_of c.self.inside.reader) c.self.inside.told c.self.inside.open_calls.0 c.args.self.now c.args.command c.self.view_is c.fall.ensures.1 (Ok granted.Done) c.self.inside.open_calls.0
+    (subst (λ (k : Command). c.self.inside.open_calls.0 ≡ asked c.self.inside.open_calls.0 k (Ok granted.Done)) (sym c.in-Shut.is) refl)
