@@ -57,12 +57,12 @@ const FINISHES: [u8; 80] = [
     0, 0, 0, 0, 1, 0, 0, 0, 0, 0, 0, 0, 0, 0, 0, 0,
 ];
 
-fn vat(alloc: Global, vat: Vat, root: Option<ObjectId>) -> Result<Connection, Fail> {
+pub(crate) fn vat(alloc: Global, vat: Vat, root: Option<ObjectId>) -> Result<Connection, Fail> {
     Ok(Connection::new(alloc, vat, Level::One, root)?)
 }
 
 /// Asks the peer for its bootstrap object.
-fn asked(connection: &mut Connection) -> Result<CallId, Fail> {
+pub(crate) fn asked(connection: &mut Connection) -> Result<CallId, Fail> {
     match connection.command(Command::Bootstrap)? {
         Granted::Call(call) => Ok(call),
         _ => Err("no call")?,
@@ -78,7 +78,7 @@ fn made(connection: &mut Connection, command: Command) -> Result<RefId, Fail> {
 }
 
 /// Hands all that one has to send to the other, in pieces of that length, and gives how many bytes.
-fn carry(from: &mut Connection, to: &mut Connection, piece: usize) -> usize {
+pub(crate) fn carry(from: &mut Connection, to: &mut Connection, piece: usize) -> usize {
     let bytes = from.outgoing();
     if piece > 0 {
         for part in bytes.chunks(piece) {
@@ -103,7 +103,7 @@ fn answer_task(alloc: Global, connection: &mut Connection, task: &Delivery) -> R
 }
 
 /// What the served call of a connection is answered with: the references that came with it.
-fn answer(alloc: Global, connection: &mut Connection) -> Result<(), Fail> {
+pub(crate) fn answer(alloc: Global, connection: &mut Connection) -> Result<(), Fail> {
     let Some(Event::Served(task)) = connection.next_event() else {
         return Err("no call")?;
     };
@@ -134,7 +134,7 @@ fn referred(alloc: Global, connection: &mut Connection) -> Result<(RefId, RefId)
 }
 
 /// A call that says these numbers and a word, with these references.
-fn call(
+pub(crate) fn call(
     alloc: Global,
     reference: RefId,
     numbers: &[u64],
@@ -223,9 +223,11 @@ fn what_is_no_frame_takes_a_vat_down(rt: HostRuntime) -> Result<(), Fail> {
 fn the_stream_ends(rt: HostRuntime) -> Result<(), Fail> {
     for (bytes, number) in [(0, 0), (1, 2), (31, 2), (32, 0)] {
         let mut a = vat(rt.alloc(), Vat::A, None)?;
-        asked(&mut a)?;
+        let own = asked(&mut a)?;
         a.received(&STRANGE[..bytes]);
         a.ended();
+        let (call, _) = ended(&mut a)?;
+        assert!(rt; call == own);
         assert!(rt; matches!(a.next_event(), Some(Event::Down(down)) if down == number));
         a.ended();
         assert!(rt; a.next_event().is_none());
