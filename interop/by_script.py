@@ -184,6 +184,10 @@ def abort():
 # no frame, and an Abort.
 ENDS = {"gone": (lambda: b"", 0), "cut": (lambda: bytes(4), 2), "no-frame": (lambda: b"\x10\0\0\0", 3), "abort": (abort, 34)}
 
+# How the calls end that the script has made by then.
+REASON = {"kind": "disconnected", "reason": "the connection ended"}
+CUT_OFF = [json.dumps({"call": call, "k": "ended", "outcome": {"exception": REASON}, "refs": [], "vat": "a"}) for call in range(4)]
+
 
 def with_end(program, name, folder):
     """Plays a script with a peer that ends the conversation; gives what was wrong."""
@@ -193,7 +197,7 @@ def with_end(program, name, folder):
     own.shutdown(socket.SHUT_WR)
     status, told, _ = play(program, written(kept("bootstrap"), folder), far)
     own.close()
-    wanted = [json.dumps({"fault": number, "k": "down", "vat": "a"}), f"down {number}"]
+    wanted = [*CUT_OFF, json.dumps({"fault": number, "k": "down", "vat": "a"}), f"down {number}"]
     return difference("told", wanted, told) or ("" if status == 1 else f"vat_call ended with status {status}")
 
 

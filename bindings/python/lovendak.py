@@ -136,7 +136,8 @@ class Contents:
 
 class Event:
     """What an application is told: `kind` is SERVED (`task`, `object`, `interface`, `method`, `contents`), ENDED (`call`, and `contents`
-    or `exception`, a pair of its kind and its reason) or DOWN (`number`)."""
+    or `exception`, a pair of its kind and its reason) or DOWN (`number`), before which each own call that was open ends, with the kind
+    DISCONNECTED."""
 
     def __init__(self, told, payload, refs):
         self.kind, self.contents, self.exception = told.kind, None, None

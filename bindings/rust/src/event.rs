@@ -13,7 +13,7 @@ pub enum Event {
     Served(Served),
     /// An own call has ended: drop the references in its results, and `finish` it.
     Ended(Ended),
-    /// The vat went down, with that number. No call that has not ended ends any more.
+    /// The vat went down, with that number. Each own call has ended before, those that were open with `Disconnected`.
     Down(u16),
 }
 

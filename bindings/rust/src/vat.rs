@@ -85,7 +85,8 @@ impl Vat {
         len
     }
 
-    /// What there is to tell: calls to be served, then own calls that ended, then once that the vat is down.
+    /// What there is to tell: calls to be served, then own calls that ended; of a vat that is down then each that is open, as one
+    /// that ended with `Disconnected`, and once that it is down.
     pub fn next_event(&mut self) -> Option<Event> {
         let mut event = LovendakEvent::default();
         loop {

@@ -167,6 +167,9 @@ fn refusals() {
     assert_eq!(a.bootstrap(), Err(Refusal::Down));
     assert_eq!((a.down(), b.down()), (Some(7), None));
     exchange(&mut a, &mut b);
+    let cut_off = ended(&mut a);
+    assert_eq!(cut_off.call, call);
+    assert_eq!(cut_off.outcome.unwrap_err().kind, ExceptionKind::Disconnected);
     assert_eq!(a.next_event(), Some(Event::Down(7)));
     assert_eq!(a.next_event(), None);
     while let Some(event) = b.next_event() {
