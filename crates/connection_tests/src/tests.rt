@@ -1,8 +1,10 @@
 //! Two connections that exchange bytes, one whose peer sends what is no conversation, and one whose peer makes a tail call.
-use rpc_msg::{CallId, Items, ObjectId, RefId, Vat};
+use rpc_msg::{
+    CallId, CapAt, Exception, ExceptionKind, Items, ObjectId, Op, Payload, RefId, TaskId, Text, Vat,
+};
 use std::alloc::Global;
 use std::test::Fail;
-use vat_connection::{Connection, Delivery, Event};
+use vat_connection::{Connection, Delivery, Event, Outcome};
 use vat_machine::{CallCommand, Command, Granted, Level, Refusal};
 use vat_payloads::contents;
 
@@ -264,6 +266,118 @@ fn a_payload_too_large_for_a_frame_is_refused(rt: HostRuntime) -> Result<(), Fai
     }
     assert!(rt; 8 * 65_502 < a.outgoing().len());
     assert!(rt; a.core().down().is_none());
+    Ok(())
+}
+
+fn gone(alloc: Global) -> Result<Exception, Fail> {
+    let reason = Text::new(alloc, "gone")?;
+    Ok(Exception {
+        kind: ExceptionKind::Failed,
+        reason,
+    })
+}
+
+/// A reference to an own promise that was broken.
+fn broken(alloc: Global, connection: &mut Connection) -> Result<RefId, Fail> {
+    let (promise, reference) = connection.promise()?;
+    connection.reject(promise, gone(alloc)?)?;
+    Ok(reference)
+}
+
+/// A broken reference, and one to an object.
+fn broken_and_own(alloc: Global, connection: &mut Connection) -> Result<[RefId; 2], Fail> {
+    let broken = broken(alloc, connection)?;
+    let own = connection.host(ObjectId(1))?;
+    Ok([broken, own])
+}
+
+fn task_in(event: Option<Event>) -> Option<TaskId> {
+    match event {
+        Some(Event::Served(task)) => Some(task.task),
+        _ => None,
+    }
+}
+
+fn served(connection: &mut Connection) -> Result<TaskId, Fail> {
+    match task_in(connection.next_event()) {
+        Some(task) => Ok(task),
+        None => Err("no call")?,
+    }
+}
+
+fn answer_with(
+    alloc: Global,
+    connection: &mut Connection,
+    task: TaskId,
+    given: &[RefId],
+) -> Result<(), Fail> {
+    let (payload, refs) = contents(alloc, &[], "", given)?;
+    connection.answer(task, payload, refs)?;
+    Ok(())
+}
+
+/// Answers the served call of a connection with a broken reference and one to an object.
+fn answer_with_broken(alloc: Global, connection: &mut Connection) -> Result<(), Fail> {
+    let task = served(connection)?;
+    let given = broken_and_own(alloc, connection)?;
+    answer_with(alloc, connection, task, &given)
+}
+
+fn payload_of(outcome: Outcome) -> Option<Payload> {
+    match outcome {
+        Outcome::Results(payload) => Some(payload),
+        Outcome::Exception(_) => None,
+    }
+}
+
+fn results_in(event: Option<Event>) -> Option<Payload> {
+    match event {
+        Some(Event::Ended(ended)) => payload_of(ended.outcome),
+        _ => None,
+    }
+}
+
+/// Of two capabilities the first is null, and the second keeps its place.
+fn is_null_first(payload: &Payload) -> bool {
+    payload.caps() == 2
+        && payload.cap_at(&[Op::Field(1)]) == CapAt::Null
+        && payload.cap_at(&[Op::Field(2)]) == CapAt::Cap(1)
+}
+
+fn ends_with_null_first(event: Option<Event>) -> bool {
+    match results_in(event) {
+        Some(payload) => is_null_first(&payload),
+        None => false,
+    }
+}
+
+/// Calls the peer's bootstrap object.
+fn called(alloc: Global, connection: &mut Connection) -> Result<(), Fail> {
+    let (object, _) = referred(alloc, connection)?;
+    connection.call(call(alloc, object, &[], &[])?)?;
+    Ok(())
+}
+
+/// Whether the results of a call that are a broken reference and one to an object come with null in the place of the first.
+fn null_came(alloc: Global, a: &mut Connection, b: &mut Connection) -> Result<bool, Fail> {
+    called(alloc, a)?;
+    carry(a, b, 99);
+    answer_with_broken(alloc, b)?;
+    carry(b, a, 99);
+    ended(a)?;
+    Ok(ends_with_null_first(a.next_event()))
+}
+
+fn null_goes(alloc: Global) -> Result<bool, Fail> {
+    let mut a = vat(alloc, Vat::A, None)?;
+    let mut b = vat(alloc, Vat::B, Some(ObjectId(0)))?;
+    null_came(alloc, &mut a, &mut b)
+}
+
+/// A broken reference goes as null, and what stands behind it keeps its place.
+#[test]
+fn a_broken_reference_goes_as_null(rt: HostRuntime) -> Result<(), Fail> {
+    assert!(rt; null_goes(rt.alloc())?);
     Ok(())
 }
 
