@@ -1,0 +1,105 @@
+//! Plays what a hostile peer may send, and what a careless application may do, at any size: steps whose cost must not grow
+//! faster than they do. Each input is made in code, and what was played is printed; `scripts/hostile` counts the
+//! instructions at four sizes.
+//!
+//! `bench_hostile WHAT SIZE` plays one input, `bench_hostile all SIZE` each of them. Those of the peer:
+//!
+//! - `fields`: a Return whose capabilities are fields of one another; `deep`: each 16 steps down; `circle`: the last leads to
+//!   the first.
+//! - `kept`: a chain of kept outcomes, each of which leads to the one before, made by three messages a link; `wide`: the
+//!   chain, and a Return that names its end so many times.
+//! - `flag`: so many descriptors of one id in a Call, which its Return gives back at once; `each`: of so many ids; `twice`: of
+//!   half as many ids, each of which stands there twice.
+//! - `result`, `results`: so many descriptors of one id, or each of its own, in a Return, which the Finish gives back.
+//! - `given`: so many descriptors of one id in a Call of this vat, which the peer's Return gives back.
+//! - `trace`: a trace to be checked, in which a Return with so many descriptors is followed by so many Finishes.
+//!
+//! Those of the application: `promises`, a chain of promises that are resolved from the first on, and calls through it;
+//! `backwards`, the same from the last on; `call`, a call with so many references near the limit of exports.
+#![tactic(auto)]
+
+mod chains;
+mod contents;
+mod exports;
+mod fields;
+mod flags;
+mod played;
+mod promises;
+mod side;
+mod traces;
+
+use anyhow::{Result, bail};
+use played::Played;
+use std::alloc::Global;
+use std::env;
+use std::process::ExitCode;
+
+const INPUTS: [&str; 15] = [
+    "fields",
+    "deep",
+    "circle",
+    "kept",
+    "wide",
+    "flag",
+    "each",
+    "twice",
+    "result",
+    "results",
+    "given",
+    "trace",
+    "promises",
+    "backwards",
+    "call",
+];
+
+fn main(rt: HostRuntime) -> Result<ExitCode> {
+    let mut words = env::args(&rt)?;
+    let _program = words.next();
+    let (Some(what), Some(size)) = (words.next(), words.next()) else {
+        println!(rt; "usage: bench_hostile WHAT SIZE | bench_hostile all SIZE")?;
+        return Ok(ExitCode::from(2));
+    };
+    let size: u16 = size.as_str().parse()?;
+    if what.as_str() == "all" {
+        tell_all(&rt, size)?;
+    } else {
+        tell(&rt, what.as_str(), size)?;
+    }
+    Ok(ExitCode::SUCCESS)
+}
+
+fn tell_all(rt: &HostRuntime, size: u16) -> Result<()> {
+    for input in INPUTS {
+        tell(rt, input, size)?;
+    }
+    Ok(())
+}
+
+fn tell(rt: &HostRuntime, what: &str, size: u16) -> Result<()> {
+    let played = play(rt.alloc(), what, size)?;
+    let (steps, sent, passed) = (played.steps, played.sent, played.passed);
+    println!(rt; "{what} {size}: {steps} steps, {sent} messages sent with {passed} capabilities")?;
+    Ok(())
+}
+
+/// Plays an input of that size.
+fn play(alloc: Global, what: &str, size: u16) -> Result<Played> {
+    match what {
+        "fields" => fields::in_a_row(alloc, size),
+        "deep" => fields::deep(alloc, size),
+        "circle" => fields::in_a_circle(alloc, size),
+        "kept" => chains::of_outcomes(alloc, size),
+        "wide" => chains::named_often(alloc, size),
+        "flag" => flags::of_one_id(alloc, size),
+        "each" => flags::of_ids(alloc, size),
+        "twice" => flags::of_ids_twice(alloc, size),
+        "result" => flags::of_one_result(alloc, size),
+        "results" => flags::of_each_result(alloc, size),
+        "given" => flags::of_own(alloc, size),
+        "trace" => traces::with_finishes(alloc, size),
+        "promises" => promises::from_the_first(alloc, size),
+        "backwards" => promises::from_the_last(alloc, size),
+        "call" => exports::near_the_limit(alloc, size),
+        _ => bail!("no input of that name"),
+    }
+}

@@ -1,0 +1,73 @@
+//! What steps did, counted.
+
+use anyhow::{Result, bail};
+use rpc_msg::{Message, PlainMessage};
+use vat_machine::Effects;
+
+/// How many steps there were, what they sent, and how many calls reached the vat's objects.
+#[derive(Clone, Copy, PartialEq, Eq, Drop)]
+pub(crate) struct Played {
+    pub(crate) steps: u64,
+    pub(crate) sent: u64,
+    /// The descriptors of the messages sent.
+    pub(crate) passed: u64,
+    /// The true flags of the messages sent.
+    pub(crate) flags: u64,
+    pub(crate) delivered: u64,
+}
+
+impl Played {
+    pub(crate) fn nothing() -> Played {
+        Played {
+            steps: 0,
+            sent: 0,
+            passed: 0,
+            flags: 0,
+            delivered: 0,
+        }
+    }
+
+    /// One step more.
+    pub(crate) fn add(&mut self, effects: &Effects) {
+        self.steps = self.steps.saturating_add(1);
+        let delivered = effects.deliveries.len() as u64;
+        self.delivered = self.delivered.saturating_add(delivered);
+        for message in &effects.sends {
+            self.add_message(message);
+        }
+    }
+
+    fn add_message(&mut self, message: &Message) {
+        self.sent = self.sent.saturating_add(1);
+        let passed = message.descriptors().len() as u64;
+        self.passed = self.passed.saturating_add(passed);
+        if has_true_flag(message) {
+            self.flags = self.flags.saturating_add(1);
+        }
+    }
+
+    /// All that was played, which has to be this.
+    pub(crate) fn is(self, expected: Played) -> Result<Played> {
+        if self != expected {
+            bail!(
+                "{} messages sent with {} descriptors and {} true flags, {} calls delivered",
+                self.sent,
+                self.passed,
+                self.flags,
+                self.delivered
+            );
+        }
+        Ok(self)
+    }
+}
+
+fn has_true_flag(message: &Message) -> bool {
+    let Message::Plain(message) = message else {
+        return false;
+    };
+    match message {
+        PlainMessage::Return(said) => said.release_param_caps,
+        PlainMessage::Finish(said) => said.release_result_caps,
+        _ => false,
+    }
+}

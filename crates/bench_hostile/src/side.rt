@@ -1,0 +1,199 @@
+//! A core, and the messages that its peer sends.
+
+use crate::contents::{fields, null_with};
+use crate::played::Played;
+use anyhow::{Result, bail};
+use rpc_msg::{
+    Call, CallId, Descriptor, ExportId, Finish, Items, Message, ObjectId, Path, Payload,
+    PlainMessage, PromiseId, QuestionId, RefId, Return, ReturnBody, Stamp, Target, TaskId, Vat,
+};
+use std::alloc::Global;
+use vat_core::Core;
+use vat_machine::{CallCommand, Effects, Level, Refusal};
+
+/// What the peer gives at first.
+const OBJECT: ExportId = ExportId(7);
+
+/// What `begin` plays.
+pub(crate) const BEGUN: Played = Played {
+    steps: 6,
+    sent: 4,
+    passed: 2,
+    flags: 0,
+    delivered: 1,
+};
+
+/// A core of vat a, and what it has played.
+#[derive(Drop)]
+pub(crate) struct Side {
+    pub(crate) alloc: Global,
+    pub(crate) played: Played,
+    core: Core,
+}
+
+impl Side {
+    pub(crate) fn new(alloc: Global) -> Result<Side> {
+        let core = Core::new(alloc, Vat::A, Level::One, Some(ObjectId(0)))?;
+        Ok(Side {
+            alloc,
+            played: Played::nothing(),
+            core,
+        })
+    }
+
+    // A step was taken.
+    fn took(&mut self, effects: Effects) -> Result<()> {
+        let down = effects.down;
+        self.played.add(&effects);
+        self.core.recycle(effects);
+        if let Some(number) = down {
+            bail!("the vat went down with {number}");
+        }
+        Ok(())
+    }
+
+    fn receive(&mut self, message: PlainMessage) -> Result<()> {
+        let effects = self.core.receive(Message::Plain(message));
+        self.took(effects)
+    }
+
+    /// The vat imports an object, to which its first reference leads; and the peer has an answer of it, 1, of which the field
+    /// 0 leads to that object.
+    pub(crate) fn begin(&mut self) -> Result<()> {
+        self.import()?;
+        self.receive(PlainMessage::Bootstrap(QuestionId(0)))?;
+        self.calls(1, 0, Path::root(), Items::new(self.alloc))?;
+        let payload = fields(self.alloc, 0, 1)?;
+        let refs = Items::one(self.alloc, RefId(0))?;
+        self.answer(TaskId(0), payload, refs)
+    }
+
+    // The vat asks for the peer's object, and gets it.
+    fn import(&mut self) -> Result<()> {
+        let (call, effects) = self.core.bootstrap()?;
+        self.took(effects)?;
+        let object = Items::one(self.alloc, Descriptor::SenderHosted(OBJECT))?;
+        let payload = Payload::root_capability(self.alloc)?;
+        self.returns(payload, object, false)?;
+        self.finish(call)
+    }
+
+    /// The peer's call of that question, to a place of the answer of another.
+    pub(crate) fn calls(
+        &mut self,
+        question: u32,
+        of: u32,
+        path: Path,
+        descriptors: Items<Descriptor>,
+    ) -> Result<()> {
+        let payload = null_with(self.alloc, descriptors.len())?;
+        self.receive(PlainMessage::Call(Call {
+            question: QuestionId(question),
+            target: Target::PromisedAnswer(QuestionId(of), path),
+            interface: 1,
+            method: 1,
+            payload,
+            descriptors,
+            stamp: Stamp {
+                vat: Vat::B,
+                reference: RefId(0),
+                index: 0,
+            },
+        }))
+    }
+
+    /// The peer's Return of the vat's only open question.
+    pub(crate) fn returns(
+        &mut self,
+        payload: Payload,
+        descriptors: Items<Descriptor>,
+        release_param_caps: bool,
+    ) -> Result<()> {
+        self.receive(PlainMessage::Return(Return {
+            answer: QuestionId(0),
+            release_param_caps,
+            body: ReturnBody::Results(payload, descriptors),
+        }))
+    }
+
+    /// The peer's Finish of a question, whose results it keeps.
+    pub(crate) fn finishes(&mut self, question: u32) -> Result<()> {
+        self.receive(PlainMessage::Finish(Finish {
+            question: QuestionId(question),
+            release_result_caps: false,
+        }))
+    }
+
+    /// The application answers a task.
+    pub(crate) fn answer(
+        &mut self,
+        task: TaskId,
+        payload: Payload,
+        refs: Items<RefId>,
+    ) -> Result<()> {
+        match self.core.answer(task, payload, refs) {
+            Ok(effects) => self.took(effects),
+            Err(refused) => bail!("answer: {}", refused.refusal),
+        }
+    }
+
+    /// The application calls through a reference, and passes others.
+    pub(crate) fn call(&mut self, reference: RefId, refs: Items<RefId>) -> Result<CallId> {
+        let call = self.command(reference, refs)?;
+        match self.core.call(call) {
+            Ok((id, effects)) => {
+                self.took(effects)?;
+                Ok(id)
+            }
+            Err(refused) => bail!("call: {}", refused.refusal),
+        }
+    }
+
+    /// The same call, which has to be refused at a limit.
+    pub(crate) fn call_in_vain(&mut self, reference: RefId, refs: Items<RefId>) -> Result<()> {
+        let call = self.command(reference, refs)?;
+        match self.core.call(call) {
+            Ok((_, effects)) => {
+                self.took(effects)?;
+                bail!("call: it was not refused")
+            }
+            Err(refused) if refused.refusal == Refusal::Full => Ok(()),
+            Err(refused) => bail!("call: {}", refused.refusal),
+        }
+    }
+
+    fn command(&self, reference: RefId, refs: Items<RefId>) -> Result<CallCommand> {
+        let payload = null_with(self.alloc, refs.len())?;
+        Ok(CallCommand {
+            reference,
+            interface: 1,
+            method: 1,
+            payload,
+            refs,
+        })
+    }
+
+    /// The application has no more use for a call.
+    pub(crate) fn finish(&mut self, call: CallId) -> Result<()> {
+        let effects = self.core.finish(call)?;
+        self.took(effects)
+    }
+
+    pub(crate) fn host(&mut self, object: u64) -> Result<RefId> {
+        Ok(self.core.host(ObjectId(object))?)
+    }
+
+    pub(crate) fn drop_ref(&mut self, reference: RefId) -> Result<()> {
+        let effects = self.core.drop_ref(reference)?;
+        self.took(effects)
+    }
+
+    pub(crate) fn promise(&mut self) -> Result<(PromiseId, RefId)> {
+        Ok(self.core.promise()?)
+    }
+
+    pub(crate) fn resolve(&mut self, promise: PromiseId, reference: RefId) -> Result<()> {
+        let effects = self.core.resolve(promise, reference)?;
+        self.took(effects)
+    }
+}
