@@ -6,7 +6,11 @@ a world, in turn, each over 100 links or worlds of 1,000 round trips.
 
 at the top of the repository, with nothing else running, once `rt run` has built `bench` and `bench_ends` (in their folders); `BENCH`
 and `BENCH_ENDS` name other files to run. It prints the least, the middle and the greatest of TIMES (15) runs of each, in round trips a
-second, and of each run over ends its ratio to the world's run beside it."""
+second, and of each run over ends its ratio to the world's run beside it.
+
+The C library is told to keep memory that is let go (`MALLOC_TRIM_THRESHOLD_`, `MALLOC_MMAP_THRESHOLD_`), so that each link and each
+world stands in memory that was touched before: by itself it does so for a world, and not for a link, whose two journals and two logs
+are let go at once."""
 import os
 import statistics
 import subprocess
@@ -14,6 +18,7 @@ import sys
 
 BENCH = os.environ.get("BENCH", "crates/bench/out/bench")
 ENDS = os.environ.get("BENCH_ENDS", "crates/bench_ends/out/bench_ends")
+KEPT = {"MALLOC_TRIM_THRESHOLD_": str(1 << 30), "MALLOC_MMAP_THRESHOLD_": str(1 << 30)}
 PLAYED = {
     "a world": [BENCH, "world", "1000", "100"],
     "two ends, one thread": [ENDS, "1000", "100"],
@@ -23,7 +28,7 @@ PLAYED = {
 
 def a_second(words):
     """What a program says: how many round trips take place in a second."""
-    ran = subprocess.run(words, capture_output=True, text=True, check=True)
+    ran = subprocess.run(words, capture_output=True, text=True, check=True, env={**os.environ, **KEPT})
     return int(ran.stdout.split()[0].replace(",", ""))
 
 
