@@ -160,7 +160,7 @@ fn gift(alloc: Global, to: u64, method: u16, given: u64) -> Result<CallCommand, 
     })
 }
 
-fn capability(alloc: Global, given: u64) -> Result<(Payload, Items<RefId>), Memory> {
+pub(super) fn capability(alloc: Global, given: u64) -> Result<(Payload, Items<RefId>), Memory> {
     let payload = Payload::root_capability(alloc)?;
     match Items::one(alloc, RefId(given)) {
         Ok(refs) => Ok((payload, refs)),
@@ -168,7 +168,7 @@ fn capability(alloc: Global, given: u64) -> Result<(Payload, Items<RefId>), Memo
     }
 }
 
-fn failed(alloc: Global) -> Result<Exception, Memory> {
+pub(super) fn failed(alloc: Global) -> Result<Exception, Memory> {
     let reason = Text::new(alloc, "no")?;
     Ok(Exception {
         kind: ExceptionKind::Failed,

@@ -7,7 +7,7 @@ use std::alloc::Global;
 use vat_journal::Counts;
 
 /// Where the calls of `LONG` are delivered, in order: the object and the method.
-const DELIVERED: &[(u64, u16)] = &[(0, 1), (5, 2), (5, 3), (5, 4), (5, 5), (5, 6)];
+pub(super) const DELIVERED: &[(u64, u16)] = &[(0, 1), (5, 2), (5, 3), (5, 4), (5, 5), (5, 6)];
 
 fn is_empty(counts: &Counts) -> bool {
     counts.exports.is_empty() && counts.imports.is_empty()
@@ -39,6 +39,26 @@ fn what_was_delivered_so_far_is_a_beginning(rt: HostRuntime) -> Result<(), Memor
         let calls = delivered(alloc, &journal)?;
         assert!(rt;
             DELIVERED.get(0..calls.len()) == Some(calls.as_slice()),
+            "after {count}"
+        );
+    }
+    Ok(())
+}
+
+/// Of one end alone, those that were delivered at it: all but the first.
+#[test]
+fn what_an_end_alone_delivered_is_a_beginning(rt: HostRuntime) -> Result<(), Memory> {
+    let alloc = rt.alloc();
+    for count in 0..LONG.len() {
+        let (Some(acts), Some(at_a)) = (LONG.get(0..count), DELIVERED.get(1..)) else {
+            return Err(Memory);
+        };
+        let (mut a, mut b) = ends(alloc, 1)?;
+        play(&rt, alloc, &mut a, &mut b, acts);
+        let (side, _log) = a.into_log();
+        let calls = delivered(alloc, side.journal())?;
+        assert!(rt;
+            at_a.get(0..calls.len()) == Some(calls.as_slice()),
             "after {count}"
         );
     }

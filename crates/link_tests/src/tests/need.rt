@@ -1,22 +1,23 @@
-//! Want of memory: to be run with each allocation refused, by `rt try --test --fail-alloc`.
+//! Want of memory at the two ends of a link: to be run with each allocation refused (`scripts/refused`).
 ghost use Rattle.std.specs.Prelude.{IfOk};
 ghost use Rattle.rpc_msg.specs.declared.ids.Vat.TheVariants.{A, B};
 ghost use Rattle.ring_ends.specs.Ends.{IsSameEnd};
 ghost use Rattle.link_driver.specs.Ends.{AreEnds, IsNewCore};
 
+use crate::tests::acts::{Act, ENDS, LONG};
+use crate::tests::commands::command;
+use crate::tests::long::DELIVERED;
 use crate::tests::pair::{cores, delivered};
 use link_driver::{
-    Answer, EndA, EndB, Frame, Gathered, JournalEntry, LinkFault, Seat, Turn, VatEnd, gather, link,
+    Answer, EndA, EndB, Entry, Gathered, JournalEntry, LinkFault, Note, Turn, VatEnd, gather, link,
 };
-use rpc_msg::{
-    CallId, Items, Memory, Message, ObjectId, Payload, PlainMessage, QuestionId, RefId, TaskId, Vat,
-};
+use rpc_msg::{Exception, ExceptionKind, Memory, Message, PlainMessage, Vat};
 use std::alloc::Global;
 use std::process::Abort;
 use vat_core::Core;
-use vat_machine::{CallCommand, Command, Level, Refusal};
+use vat_machine::{Command, Refusal};
 
-fn new_cores(alloc: Global) -> Result<(Core, Core), Memory>
+pub(super) fn new_cores(alloc: Global) -> Result<(Core, Core), Memory>
     ensures a { IfOk result (λ cores. IsNewCore A cores.0) }
     ensures b { IfOk result (λ cores. IsNewCore B cores.1) }
 {
@@ -43,70 +44,60 @@ fn linked_again(rt: &impl Abort, alloc: Global) -> Result<(EndA, EndB), Memory>
     }
 }
 
-fn null(alloc: Global) -> Result<Payload, Memory> {
-    match Payload::null(alloc) {
-        Ok(payload) => Ok(payload),
-        Err(Memory) => Payload::null(alloc),
+/// Whether it is the Abort of a vat that goes down for want of memory.
+fn is_abort(message: &Message) -> bool {
+    match message {
+        Message::Plain(PlainMessage::Abort(Exception { kind, reason })) => {
+            *kind == ExceptionKind::Failed && reason.as_str() == "fault 33"
+        }
+        _ => false,
     }
 }
 
-/// What A or B asks at each step of a first call, or that it takes a turn.
-fn asked(alloc: Global, step: u32) -> Result<Option<Command>, Memory> {
-    match step {
-        0 => Ok(Some(Command::Bootstrap)),
-        1 => Ok(Some(Command::Field(CallId(0), Items::new(alloc)))),
-        2 => {
-            let payload = null(alloc)?;
-            Ok(Some(Command::Call(CallCommand {
-                reference: RefId(0),
-                interface: 7,
-                method: 1,
-                payload,
-                refs: Items::new(alloc),
-            })))
+/// Whether the last entry of a log took its vat down for want of memory: it received a frame, or else none, and all that it sent
+/// was one Abort; and its end wrote that.
+pub(super) fn is_fall(log: &[Entry<Note>], journal: &[JournalEntry], received: bool) -> bool {
+    let Some(entry) = log.last() else {
+        return false;
+    };
+    entry.note.received() == received && entry.note.sent == 1 && ends_fallen(journal)
+}
+
+fn ends_fallen(journal: &[JournalEntry]) -> bool {
+    match journal {
+        [.., JournalEntry::Sent(_, abort), down] => {
+            is_abort(abort) && matches!(down, JournalEntry::Down(_, 33))
         }
-        6 => {
-            let payload = null(alloc)?;
-            Ok(Some(Command::Answer(TaskId(0), payload, Items::new(alloc))))
-        }
-        8 => Ok(Some(Command::Finish(CallId(1)))),
-        9 => Ok(Some(Command::DropRef(RefId(0)))),
-        _ => Ok(None),
+        _ => false,
     }
 }
 
-/// Whether it happens at B.
-fn at_b(step: u32) -> bool {
-    matches!(step, 3 | 4 | 6 | 10)
-}
-
-/// A command for which memory is refused comes back: refused by the core, and then it is taken the second time; or the vat is
-/// down with 33 by it. One entry is logged for each while the vat is up, and none by one that is down.
-fn obeys<V>(rt: &impl Abort, end: &mut VatEnd<V>, command: Command)
+/// A command for which memory is refused comes back: refused by the core, and then it is done the second time; or the vat is down
+/// with 33 by it, and has one entry more. One that is down refuses it, and has no entry more. Nothing else is refused while both
+/// are up.
+fn obeys<V>(rt: &impl Abort, end: &mut VatEnd<V>, command: Command, both_up: bool)
     ensures { IsSameEnd end.old.end end.new.end }
 {
     let logged = end.log().len();
     let was_up = end.down().is_none();
     match end.command(command) {
-        Answer::Done(_, effects) => {
-            end.recycle(effects);
-            assert!(rt; was_up);
-        }
-        Answer::Refused(Refusal::Memory, back) => {
-            assert!(rt; was_up);
-            match end.command(back) {
-                Answer::Done(_, effects) => end.recycle(effects),
-                Answer::Refused(refusal, _) => panic!(rt; "refused twice: {refusal:?}"),
+        Answer::Done(_, effects) => end.recycle(effects),
+        Answer::Refused(Refusal::Memory, back) => match end.command(back) {
+            Answer::Done(_, effects) => {
+                end.recycle(effects);
+                assert!(rt; end.log().len() == logged.wrapping_add(2));
+                return;
             }
-            return;
+            Answer::Refused(refusal, _) => panic!(rt; "refused twice: {refusal:?}"),
+        },
+        Answer::Refused(Refusal::Down, _) if was_up => {
+            assert!(rt; end.down() == Some(33));
+            assert!(rt; is_fall(end.log(), end.side().journal(), false));
         }
-        Answer::Refused(refusal, _) => {
-            assert!(rt; refusal == Refusal::Down && end.down().is_some());
-            assert!(rt; !was_up || end.down() == Some(33));
-        }
+        Answer::Refused(Refusal::Down, _) => {}
+        Answer::Refused(refusal, _) => assert!(rt; !both_up, "refused: {refusal:?}"),
     }
-    let more = usize::from(was_up);
-    assert!(rt; end.log().len() == logged.wrapping_add(more));
+    assert!(rt; end.log().len() == logged.wrapping_add(usize::from(was_up)));
 }
 
 /// A frame for which memory is refused is logged, and takes the vat down with 33; the Abort that says so takes the other down
@@ -122,22 +113,57 @@ fn turns<V>(rt: &impl Abort, end: &mut VatEnd<V>)
             end.recycle(effects);
             1
         }
+        Turn::Down(33) if was_up => {
+            assert!(rt; is_fall(end.log(), end.side().journal(), true));
+            1
+        }
         Turn::Down(number) => {
-            assert!(rt; number == 33 || number == 34);
+            assert!(rt; number == 34 || !was_up);
             usize::from(was_up)
         }
     };
     assert!(rt; end.log().len() == logged.wrapping_add(more));
 }
 
-fn happens<V>(rt: &impl Abort, alloc: Global, end: &mut VatEnd<V>, step: u32) -> Result<(), Memory>
+fn happens<V>(
+    rt: &impl Abort,
+    alloc: Global,
+    end: &mut VatEnd<V>,
+    act: Act,
+    both_up: bool,
+) -> Result<(), Memory>
     ensures { IsSameEnd end.old.end end.new.end }
 {
-    match asked(alloc, step)? {
-        Some(command) => obeys(rt, end, command),
+    match command(alloc, act)? {
+        Some(command) => obeys(rt, end, command, both_up),
         None => turns(rt, end),
     }
-    end.flush();
+    Ok(())
+}
+
+fn are_up(a: &EndA, b: &EndB) -> bool {
+    a.down().is_none() && b.down().is_none()
+}
+
+fn play(
+    rt: &impl Abort,
+    alloc: Global,
+    a: &mut EndA,
+    b: &mut EndB,
+    acts: &[(Vat, Act)],
+) -> Result<(), Memory>
+    ensures a { IsSameEnd a.old.end a.new.end }
+    ensures b { IsSameEnd b.old.end b.new.end }
+{
+    'acts: for (vat, act) in acts {
+        let both_up = are_up(a, b);
+        match vat {
+            Vat::A => happens(rt, alloc, a, *act, both_up)?,
+            Vat::B => happens(rt, alloc, b, *act, both_up)?,
+        }
+        a.flush();
+        b.flush();
+    }
     Ok(())
 }
 
@@ -161,59 +187,17 @@ fn is_told(gathered: &Gathered) -> Result<bool, Memory> {
 fn a_refused_allocation_comes_back_or_shuts(rt: HostRuntime) -> Result<(), Memory> {
     let alloc = rt.alloc();
     let (mut a, mut b) = linked_again(&rt, alloc)?;
-    'steps: for step in 0..12 {
-        if at_b(step) {
-            happens(&rt, alloc, &mut b, step)?;
-        } else {
-            happens(&rt, alloc, &mut a, step)?;
-        }
-    }
-    let is_whole = a.down().is_none() && b.down().is_none();
+    play(&rt, alloc, &mut a, &mut b, LONG)?;
+    play(&rt, alloc, &mut a, &mut b, ENDS)?;
+    let is_whole = are_up(&a, &b);
     let gathered = gather(a, b);
     let journal = journal(alloc, &gathered)?;
     let calls = match delivered(alloc, &journal) {
         Ok(calls) => calls,
         Err(Memory) => delivered(alloc, &journal)?,
     };
-    assert!(rt; calls.len() == 1 || (calls.is_empty() && !is_whole));
+    assert!(rt; DELIVERED.get(0..calls.len()) == Some(calls.as_slice()));
+    assert!(rt; calls.len() == DELIVERED.len() || !is_whole);
     assert!(rt; is_told(&gathered)?);
-    Ok(())
-}
-
-fn seat_again(rt: &impl Abort, alloc: Global) -> Result<Seat, Memory> {
-    let (_, core) = new_cores(alloc)?;
-    match Seat::new(alloc, core) {
-        Ok(seat) => Ok(seat),
-        Err((fault, core)) => {
-            assert!(rt; fault == LinkFault::Memory && core.is_new());
-            match Seat::new(alloc, core) {
-                Ok(seat) => Ok(seat),
-                Err((_, _)) => Err(Memory),
-            }
-        }
-    }
-}
-
-#[test]
-fn a_refused_allocation_shuts_a_seat(rt: HostRuntime) -> Result<(), Memory> {
-    let mut seat = seat_again(&rt, rt.alloc())?;
-    for seq in 0..4_u64 {
-        let was_up = seat.down().is_none();
-        let message = Message::Plain(PlainMessage::Bootstrap(QuestionId(seq as u32)));
-        match seat.take(Frame {
-            seq,
-            ack: 0,
-            message,
-        }) {
-            Turn::Handled(effects) => {
-                seat.recycle(effects);
-                assert!(rt; was_up && seat.log().len() as u64 == seq.wrapping_add(1));
-            }
-            Turn::Down(number) => {
-                assert!(rt; number == 33 && seat.log().len() == seat.made().len());
-            }
-            Turn::Idle => assert!(rt; false),
-        }
-    }
     Ok(())
 }
