@@ -1,5 +1,5 @@
 -- What is answered to a command, from what was told of its step.
-use Rattle.std.proofs.Common.{◌≡◌, true, false, Result, Ok, Err, List, refl, sym, ap, subst, ◌∙◌}
+use Rattle.std.proofs.Common.{◌≡◌, ℕ, true, false, Option, None, Some, Result, Ok, Err, List, refl, sym, ap, subst, ◌∙◌}
 use Rattle.std.specs.declared.snapshot.Snapshot.{Snapshot}
 use Rattle.rpc_msg.specs.Op.{Op}
 use Rattle.rpc_msg.specs.declared.ids.CallId.{CallId}
@@ -11,18 +11,17 @@ use Rattle.vat_machine.specs.declared.command.Granted.{Granted}
 use Rattle.vat_machine.specs.declared.command.Refusal.{Refusal}
 use Rattle.vat_machine.specs.declared.command.Refusal.TheVariants as refusal
 use Rattle.vat_machine.specs.declared.command.Effects.{Effects}
+use Rattle.vat_machine.specs.State.{State}
+use Rattle.vat_machine.specs.Down.{Falls, ShutsFrom}
 use Rattle.vat_machine.specs.Progress.{quiet}
 use Rattle.vat_machine.specs.Refusals.{is_shut}
 use Rattle.vat_telling.specs.Answer.{Answer}
 use Rattle.vat_telling.specs.Answer.TheVariants.{Done, Refused}
 use Rattle.vat_telling.specs.Answers.{HandsBack, effects_in}
 use Rattle.vat_telling.specs.Told.{given_of, without_sends}
-use Rattle.log_weave.specs.Machine as weave
-use Rattle.log_weave.specs.Machine.{Input, Receive}
 use Rattle.link_logs.specs.declared.note.Told.{Told}
 use Rattle.link_logs.specs.declared.note.Told.TheVariants as told
-use Rattle.link_logs.specs.Notes.{input_by}
-use Rattle.link_sides.specs.Sides.{AnswersBy, IsQuiet, IsShut, IsToldBy}
+use Rattle.link_sides.specs.Sides.{AnswersBy, IsQuiet, IsShutBy, IsToldBy}
 
 pub done_so : (c : Command) (g : Granted) (x y : Effects) (asked : Snapshot Command) (said : Snapshot (Result Granted Refusal)) (e : Snapshot Effects)
     → said.value ≡ Ok g → e.value ≡ x → IsQuiet c x → y ≡ without_sends x → AnswersBy c (told.Obeyed asked said e true) (Done g y)
@@ -42,15 +41,16 @@ refused_so c back r a (told.Obeyed d b e room) is says handed h =
 refused_so c back r a (told.Shut e) is says handed h = absurd h
 refused_so c back r a (told.Received m e room) is says handed h = absurd h
 
-pub refused_when_shut : (c back : Command) (t : Told) → IsShut t → back ≡ c → is_shut c ≡ false → AnswersBy c t (Refused refusal.Down back)
+pub refused_when_shut : (c back : Command) (t : Told) → IsShutBy 33 t → back ≡ c → is_shut c ≡ false → AnswersBy c t (Refused refusal.Down back)
 refused_when_shut c back (told.Obeyed d a e room) h same other = absurd h
-refused_when_shut c back (told.Shut e) h same other = (other, ap (λ (d : Command). Refused refusal.Down d) same)
+refused_when_shut c back (told.Shut e) h same other = (other, ap (λ (d : Command). Refused refusal.Down d) same, h)
 refused_when_shut c back (told.Received m e room) h same other = absurd h
 
-pub is_told_shut : (t : Told) → input_by t ≡ weave.Shut → IsShut t
-is_told_shut (told.Obeyed d a e room) h = absurd (let g : weave.Command d.value ≡ weave.Shut = h in cc)
-is_told_shut (told.Shut e) h = tt
-is_told_shut (told.Received m e room) h = absurd (let g : Receive m.value ≡ weave.Shut = h in cc)
+-- A vat that is up says by which number it was shut.
+pub shut_by : (s new : State) (number : ℕ) (o : Option ℕ) (x y : Effects) → y ≡ x → o ≡ None → ShutsFrom s number o x new → y.down ≡ Some number
+shut_by s new number o x y e up h =
+    let fallen : Falls s number x new = subst (λ (p : Option ℕ). ShutsFrom s number p x new) up h in
+    ap (λ (z : Effects). z.down) e ∙ ap (λ (z : Effects). z.down) fallen.effects_are
 
 -- What the core answered says nothing, of a command that only makes something.
 pub says_at : (c d : Command) (a : Answer) (g : Granted) (x : Effects) → a ≡ Done g x → d ≡ c → IsQuiet c (effects_in a) → IsQuiet d x

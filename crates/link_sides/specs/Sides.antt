@@ -34,20 +34,20 @@ IsQuiet command.Promise effects = effects ≡ quiet
 IsQuiet c effects = Unit {0}
 
 -- What is answered to a command: what its core answers, with the effects but for the messages, which are in the frames; there
--- was room for all of it. Where the end was shut in its place, that it is down, with the command, which is no shut.
+-- was room for all of it. Where the end was shut in its place, with 33, that it is down, with the command, which is no shut.
 abbrev pub AnswersBy : Command → Told → Answer → Type 0
 AnswersBy c (told.Obeyed d a e room) given = (room ≡ true) × IsQuiet c e.value × (given ≡ given_of c a.value e.value)
-AnswersBy c (told.Shut e) given = (is_shut c ≡ false) × (given ≡ Refused refusal.Down c)
+AnswersBy c (told.Shut e) given = (is_shut c ≡ false) × (given ≡ Refused refusal.Down c) × ((e.value).down ≡ Some 33)
 AnswersBy c (told.Received m e room) given = ⊥
 
 abbrev pub AnswersSo : Command → Note → Answer → Type 0
 AnswersSo c n given = AnswersBy c n.told given
 
--- It tells of a shut.
-abbrev pub IsShut : Told → Type 0
-IsShut (told.Obeyed d a e room) = ⊥
-IsShut (told.Shut e) = Unit {0}
-IsShut (told.Received m e room) = ⊥
+-- It tells of a shut with that number.
+abbrev pub IsShutBy : ℕ → Told → Type 0
+IsShutBy n (told.Obeyed d a e room) = ⊥
+IsShutBy n (told.Shut e) = (e.value).down ≡ Some n
+IsShutBy n (told.Received m e room) = ⊥
 
 -- What a vat that is down answers.
 abbrev pub when_down : Command → Answer

@@ -7,7 +7,7 @@ ghost use Rattle.vat_machine.specs.declared.command.Command.TheVariants as comma
 ghost use Rattle.vat_machine.specs.Refusals.{is_shut};
 ghost use Rattle.link_logs.specs.Steps.{StepsSo, input_of, sends_of};
 ghost use Rattle.link_sides.specs.Rooms.{held_of, IsReady};
-ghost use Rattle.link_sides.specs.Sides.{down_by, AnswersSo, HasBack, IsOwn, IsQuiet, IsShut, IsSpare, IsTold};
+ghost use Rattle.link_sides.specs.Sides.{down_by, AnswersSo, HasBack, IsOwn, IsQuiet, IsShutBy, IsSpare, IsTold};
 
 use crate::asking::{ask, no_effects};
 use crate::kept::Kept;
@@ -51,6 +51,7 @@ pub(crate) fn shut(kept: &mut Kept, number: u16, waiting: &mut Waiting<Message>)
     requires ready { IsReady kept.old }
     requires free { 0 < waiting.old.room }
     ensures shuts { Shuts down_by input_of sends_of StepsSo (held_of kept.old) waiting.old number result (held_of kept.new) waiting.new }
+    ensures by_number { IsShutBy number result.told }
     ensures ready { IsReady kept.new }
 {
     let start = kept.journal.len();
@@ -350,7 +351,7 @@ fn tell_shut(
     requires free { 0 < waiting.old.room }
     requires step { step.Obeys before.value asked.now.value (Ok granted) effects kept.old.core }
     ensures obeys { Obeys down_by input_of sends_of StepsSo (record { core = before.value; journal = kept.old.journal.0 }) waiting.old asked.now.value true result (held_of kept.new) waiting.new }
-    ensures shut { IsShut result.told }
+    ensures shut { IsShutBy 33 result.told }
     ensures ready { IsReady kept.new }
 {
     names_stay();

@@ -1,4 +1,6 @@
-use Rattle.std.proofs.Common.{Ok, refl, ◌∙◌}
+use Rattle.std.proofs.Common.{Ok, refl, ap, ◌∙◌}
+use Rattle.vat_machine.specs.State.{State}
+use Rattle.link_sides.proofs.Answering.{shut_by}
 use Rattle.link_sides.proofs.Stepping.{overflowed_at}
 use Rattle.link_sides.proofs.obeying.tell_shut.Goals as goal
 
@@ -16,3 +18,7 @@ returns-clause-obeys c =
     c.overflow_is_shut.ensures c.args.kept.now.core c.recycle.new.self c.shut-fallen.new.self c.recycle-2.new.self c.args.asked.now.value _ (Ok c.args.granted) c.args.effects refl c.requires.up c.requires.step
     c.requires.still_up c.recycle.ensures c.shut-fallen.ensures (c.recycle-2.ensures ∙ c.tell_fall.ensures.core)
     c.tell_fall.ensures.journal
+
+pub returns-clause-shut : goal.returns-clause-shut
+returns-clause-shut c =
+    shut_by c.recycle.new.self c.shut-fallen.new.self 33 _ c.shut-fallen.result _ c.of.ensures (ap (λ (s : State). s.down) c.recycle.ensures ∙ c.requires.still_up) c.shut-fallen.ensures
