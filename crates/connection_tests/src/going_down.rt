@@ -66,7 +66,9 @@ fn open_calls_end_disconnected(rt: HostRuntime) -> Result<(), Fail> {
         let mut b = vat(rt.alloc(), Vat::B, Some(ObjectId(0)))?;
         let (over, open) = calls(rt.alloc(), &mut a, &mut b)?;
         go_down(&mut a, &mut b, number);
-        assert!(rt; matches!(a.next_event(), Some(Event::Ended(ended)) if ended.call == over && matches!(&ended.outcome, Outcome::Results(_))));
+        assert!(rt;
+            matches!(a.next_event(), Some(Event::Ended(ended)) if ended.call == over && matches!(&ended.outcome, Outcome::Results(_)))
+        );
         for wanted in open {
             let (ended, exception) = next_failed(&mut a)?;
             assert!(rt; ended == wanted);
