@@ -1,8 +1,6 @@
-//! The tests of `vat_connection`: two connections that exchange bytes, cut in pieces of any length, streams that are at fault or
-//! end, and calls that are open where a vat goes down.
+//! The tests of `vat_connection`: two connections that exchange bytes, cut in pieces of any length, and streams that are at
+//! fault or end.
 #![tactic(auto)]
 
-#[cfg(test)]
-mod going_down;
 #[cfg(test)]
 mod tests;

@@ -59,12 +59,12 @@ const FINISHES: [u8; 80] = [
     0, 0, 0, 0, 1, 0, 0, 0, 0, 0, 0, 0, 0, 0, 0, 0,
 ];
 
-pub(crate) fn vat(alloc: Global, vat: Vat, root: Option<ObjectId>) -> Result<Connection, Fail> {
+fn vat(alloc: Global, vat: Vat, root: Option<ObjectId>) -> Result<Connection, Fail> {
     Ok(Connection::new(alloc, vat, Level::One, root)?)
 }
 
 /// Asks the peer for its bootstrap object.
-pub(crate) fn asked(connection: &mut Connection) -> Result<CallId, Fail> {
+fn asked(connection: &mut Connection) -> Result<CallId, Fail> {
     match connection.command(Command::Bootstrap)? {
         Granted::Call(call) => Ok(call),
         _ => Err("no call")?,
@@ -80,7 +80,7 @@ fn made(connection: &mut Connection, command: Command) -> Result<RefId, Fail> {
 }
 
 /// Hands all that one has to send to the other, in pieces of that length, and gives how many bytes.
-pub(crate) fn carry(from: &mut Connection, to: &mut Connection, piece: usize) -> usize {
+fn carry(from: &mut Connection, to: &mut Connection, piece: usize) -> usize {
     let bytes = from.outgoing();
     if piece > 0 {
         for part in bytes.chunks(piece) {
@@ -105,7 +105,7 @@ fn answer_task(alloc: Global, connection: &mut Connection, task: &Delivery) -> R
 }
 
 /// What the served call of a connection is answered with: the references that came with it.
-pub(crate) fn answer(alloc: Global, connection: &mut Connection) -> Result<(), Fail> {
+fn answer(alloc: Global, connection: &mut Connection) -> Result<(), Fail> {
     let Some(Event::Served(task)) = connection.next_event() else {
         return Err("no call")?;
     };
@@ -136,7 +136,7 @@ fn referred(alloc: Global, connection: &mut Connection) -> Result<(RefId, RefId)
 }
 
 /// A call that says these numbers and a word, with these references.
-pub(crate) fn call(
+fn call(
     alloc: Global,
     reference: RefId,
     numbers: &[u64],
