@@ -159,10 +159,14 @@ fn happen(rt: &impl Abort, alloc: Global, seats: &mut Seats, step: Step) -> Resu
 
 /// The count of that export or import, if there is one.
 fn count_of(counts: &[(ExportId, u32)]) -> u32 {
-    match counts {
-        [(ExportId(0), count)] => *count,
-        _ => 0,
+    let [only] = counts else {
+        return 0;
+    };
+    let (export, count) = *only;
+    if export.0 == 0 {
+        return count;
     }
+    0
 }
 
 fn said_by(frames: &[Frame]) -> Told {
