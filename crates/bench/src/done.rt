@@ -34,18 +34,18 @@ impl Done {
         if let Some(number) = effects.down {
             return Err(Astray::Down(number));
         }
-        let sends: &[Message] = effects.sends.as_slice();
-        let deliveries: &[Delivery] = effects.deliveries.as_slice();
-        let answers: &[Ended] = effects.answers.as_slice();
+        let sends: &[Message] = &effects.sends;
+        let deliveries: &[Delivery] = &effects.deliveries;
+        let answers: &[Ended] = &effects.answers;
         match (sends, deliveries, answers) {
             ([], [], []) => Ok(Done::Nothing),
             ([], [delivery], []) => Ok(Done::Came(Task {
                 id: delivery.task,
-                given: at_most_one(delivery.refs.as_slice())?,
+                given: at_most_one(&delivery.refs)?,
             })),
             ([], [], [ended]) => Ok(Done::Ended(Outcome {
                 call: ended.call,
-                given: at_most_one(ended.refs.as_slice())?,
+                given: at_most_one(&ended.refs)?,
             })),
             _ => Err(Astray::Otherwise),
         }

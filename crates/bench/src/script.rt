@@ -23,7 +23,7 @@ pub fn measure(rt: &HostRuntime, file: &str) -> Result<()> {
     let start = Instant::now(rt)?;
     let mut world = World::new(alloc, Some(ObjectId(0)), Some(ObjectId(0)))?;
     let mut names = Names::new(alloc);
-    play_lines(alloc, &mut world, &mut names, lines.as_slice())?;
+    play_lines(alloc, &mut world, &mut names, &lines)?;
     let micros = start.elapsed(rt)?.as_micros();
     let speed = rate(count, micros);
     let entries = world.journal().len();

@@ -72,7 +72,7 @@ impl Side {
         match self.connection.next_event() {
             Some(Event::Served(task)) => Ok(Task {
                 id: task.task,
-                given: task.refs.as_slice().first().copied(),
+                given: task.refs.first().copied(),
             }),
             _ => bail!("no call came"),
         }
@@ -83,7 +83,7 @@ impl Side {
         match self.connection.next_event() {
             Some(Event::Ended(ended)) => {
                 self.connection.finish(ended.call)?;
-                Ok(ended.refs.as_slice().first().copied())
+                Ok(ended.refs.first().copied())
             }
             _ => bail!("no call has ended"),
         }

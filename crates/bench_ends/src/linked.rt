@@ -56,7 +56,7 @@ pub(crate) fn did<V>(end: &mut VatEnd<V>, effects: Effects) -> Done {
         [] => None,
     };
     let (ended, given) = match effects.answers.as_slice() {
-        [call, ..] => (Some(call.call), call.refs.as_slice().first().copied()),
+        [call, ..] => (Some(call.call), call.refs.first().copied()),
         [] => (None, None),
     };
     end.recycle(effects);

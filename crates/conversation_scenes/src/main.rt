@@ -31,7 +31,7 @@ fn replay(rt: &HostRuntime, name: &str, piece: usize) -> Result<()> {
     let mut sent = Vec::new(rt.alloc());
     let mut told = Vec::new(rt.alloc());
     let mut player = Player::new(rt.alloc(), reader, &mut sent, &mut told)?;
-    let ending = player.play(lines.as_slice())?;
+    let ending = player.play(&lines)?;
     drop(player);
     writeln!(told, "{ending}")?;
     if told.as_slice() != kept(rt, name, "told")?.as_slice() {

@@ -62,12 +62,12 @@ impl Application {
 
     /// Keeps what came: tasks, and references with tasks and with calls that have ended.
     pub fn note(&mut self, effects: &Effects) -> Result<()> {
-        for delivery in effects.deliveries.as_slice() {
+        for delivery in &effects.deliveries {
             self.tasks.push(delivery.task)?;
-            self.refs.extend_from_slice(delivery.refs.as_slice())?;
+            self.refs.extend_from_slice(&delivery.refs)?;
         }
-        for ended in effects.answers.as_slice() {
-            self.refs.extend_from_slice(ended.refs.as_slice())?;
+        for ended in &effects.answers {
+            self.refs.extend_from_slice(&ended.refs)?;
         }
         Ok(())
     }

@@ -42,10 +42,10 @@ fn call(rt: &HostRuntime) -> Result<Ending> {
     };
     let lines = read_lines(rt.alloc(), text.as_slice())?;
     let Some(name) = told else {
-        return play(rt, lines.as_slice(), rt.stderr());
+        return play(rt, &lines, rt.stderr());
     };
     match File::create(rt, name.as_str()) {
-        Ok(told) => play(rt, lines.as_slice(), told),
+        Ok(told) => play(rt, &lines, told),
         Err(_) => bail!("cannot write {name}"),
     }
 }

@@ -27,7 +27,7 @@ pub fn play<R: Threads + Wait + Sync, G: Gate, C: Clock + Sync>(
     };
     let (a, b) = two_toys(alloc, capacity)?;
     let signals = Signals::new();
-    let lines = lines.as_slice();
+    let lines = &lines;
     let job_a = Job {
         alloc,
         vat: Vat::A,

@@ -194,7 +194,7 @@ fn brief(
 
 fn steps(path: &Items<Op>) -> [u64; 2] {
     let mut sum: u64 = 0;
-    for op in path.as_slice() {
+    for op in path {
         if let Op::Field(number) = op {
             sum = sum.wrapping_add(u64::from(*number));
         }

@@ -331,7 +331,7 @@ impl Pair {
             assert!(rt; may_go_down && overflown);
             return Ok(false);
         }
-        self.note(rt, deliveries.as_slice());
+        self.note(rt, &deliveries);
         let mut sends = VecDeque::from(sends.into_vec());
         match vat {
             Vat::A => append(&mut self.to_b, &mut sends)?,
