@@ -4,4 +4,5 @@ pub mod Lens
 pub mod Sorted
 pub mod Tallies
 pub mod Tested
+pub mod Trees
 pub mod Values

@@ -3,5 +3,4 @@ mod HeardGive
 mod Holding
 mod Longer
 mod Nulled
-mod TailMap
 mod Turned

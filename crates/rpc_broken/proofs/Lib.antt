@@ -1,4 +1,3 @@
-mod ById
 mod Counting
 mod HeardAs
 mod Parting

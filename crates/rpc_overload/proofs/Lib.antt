@@ -1,4 +1,3 @@
 mod Aside
 mod Cleared
 mod Counting
-mod RefusalMap

@@ -1,5 +1,5 @@
 use Rattle.std.proofs.Common.{◌∙◌}
-use Rattle.rpc_adapter.proofs.TailMap.{seen-get}
+use Rattle.finite_maps.proofs.Trees.{seen-get}
 use Rattle.rpc_adapter.proofs.tails.Tails.get.Goals as goal
 
 pub returns : goal.returns

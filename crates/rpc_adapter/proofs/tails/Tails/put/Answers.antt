@@ -1,4 +1,4 @@
-use Rattle.rpc_adapter.proofs.TailMap.{seen-insert}
+use Rattle.finite_maps.proofs.Trees.{seen-insert}
 use Rattle.rpc_adapter.proofs.tails.Tails.put.Goals as goal
 
 pub returns-in-Ok-clause-ok : goal.returns-in-Ok-clause-ok

@@ -1,4 +1,4 @@
-use Rattle.rpc_adapter.proofs.TailMap.{seen-remove}
+use Rattle.finite_maps.proofs.Trees.{seen-remove}
 use Rattle.rpc_adapter.proofs.tails.Tails.remove.Goals as goal
 
 pub returns : goal.returns

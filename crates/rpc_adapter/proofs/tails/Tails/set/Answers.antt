@@ -1,6 +1,6 @@
 use Rattle.std.proofs.Common.{◌≡◌, true, false, None, IsSome, sym, subst, ◌∙◌}
 use Rattle.std.specs.FinMap as map
-use Rattle.rpc_adapter.proofs.TailMap.{seen-get, seen-insert}
+use Rattle.finite_maps.proofs.Trees.{seen-get, seen-insert}
 use Rattle.rpc_adapter.proofs.tails.Tails.set.Goals as goal
 
 pub unreachable-requires : goal.unreachable-requires

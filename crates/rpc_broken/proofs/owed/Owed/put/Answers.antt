@@ -1,7 +1,7 @@
 use Rattle.std.proofs.Common.{ap, ◌∙◌, [], List}
 use Rattle.std.specs.Prelude.{Option, unwrap_or}
 use Rattle.rpc_msg.specs.declared.ids.ExportId.{ExportId}
-use Rattle.rpc_broken.proofs.ById.{seen-get, seen-insert}
+use Rattle.finite_maps.proofs.Trees.{seen-get, seen-insert}
 use Rattle.rpc_broken.proofs.owed.Owed.put.Goals as goal
 
 pub returns-in-Ok-clause-ok : goal.returns-in-Ok-clause-ok

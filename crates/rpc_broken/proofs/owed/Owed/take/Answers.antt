@@ -1,7 +1,7 @@
 use Rattle.std.proofs.Common.{ap, ◌∙◌, [], List}
 use Rattle.std.specs.Prelude.{Option, unwrap_or}
 use Rattle.rpc_msg.specs.declared.ids.ExportId.{ExportId}
-use Rattle.rpc_broken.proofs.ById.{seen-get, seen-remove}
+use Rattle.finite_maps.proofs.Trees.{seen-get, seen-remove}
 use Rattle.rpc_broken.proofs.owed.Owed.take.Goals as goal
 
 pub returns-clause-was : goal.returns-clause-was

@@ -1,5 +1,5 @@
 use Rattle.std.proofs.Common.{◌∙◌}
-use Rattle.rpc_overload.proofs.RefusalMap.{seen-get}
+use Rattle.finite_maps.proofs.Trees.{seen-get}
 use Rattle.rpc_overload.proofs.refusals.Refusals.get.Goals as goal
 
 pub returns : goal.returns

@@ -1,5 +1,5 @@
 use Rattle.std.proofs.Common.{◌∙◌}
-use Rattle.rpc_overload.proofs.RefusalMap.{seen-len}
+use Rattle.finite_maps.proofs.Trees.{seen-len}
 use Rattle.rpc_overload.proofs.refusals.Refusals.len.Goals as goal
 
 pub returns : goal.returns

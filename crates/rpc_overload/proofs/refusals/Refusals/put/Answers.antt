@@ -1,4 +1,4 @@
-use Rattle.rpc_overload.proofs.RefusalMap.{seen-insert}
+use Rattle.finite_maps.proofs.Trees.{seen-insert}
 use Rattle.rpc_overload.proofs.refusals.Refusals.put.Goals as goal
 
 pub returns-clause-ok : goal.returns-clause-ok

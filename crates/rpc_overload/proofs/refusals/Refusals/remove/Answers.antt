@@ -1,4 +1,4 @@
-use Rattle.rpc_overload.proofs.RefusalMap.{seen-remove}
+use Rattle.finite_maps.proofs.Trees.{seen-remove}
 use Rattle.rpc_overload.proofs.refusals.Refusals.remove.Goals as goal
 
 pub returns : goal.returns

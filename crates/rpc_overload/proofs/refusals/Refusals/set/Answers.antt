@@ -1,6 +1,6 @@
 use Rattle.std.proofs.Common.{◌≡◌, true, false, None, IsSome, sym, subst, ◌∙◌}
 use Rattle.std.specs.FinMap as map
-use Rattle.rpc_overload.proofs.RefusalMap.{seen-get, seen-insert}
+use Rattle.finite_maps.proofs.Trees.{seen-get, seen-insert}
 use Rattle.rpc_overload.proofs.refusals.Refusals.set.Goals as goal
 
 pub unreachable-requires : goal.unreachable-requires

@@ -1,4 +1,4 @@
--- The finite map that a tree under ids is, and how many entries it has.
+-- The finite map that a `BTreeMap` of the program with ids as its keys is, and how many entries it has.
 use Rattle.std.proofs.Common.{◌≡◌, ℕ, List, [], ◌∷◌, ◌&&◌, length, Some, None, T, cond, refl, sym, ap, subst, ◌∙◌}
 use Rattle.std.specs.Prelude.{Option, Bool, true, false}
 use Rattle.std.proofs.Common.{eqb}
