@@ -1,4 +1,4 @@
-ghost use Rattle.std.specs.Prelude.{◌≡◌, ◌∷◌, [], IfOk};
+ghost use Rattle.std.specs.Prelude.{◌≡◌, ◌∷◌, [], IfOk, OnOk};
 ghost use Rattle.rpc_msg.specs.declared.ids.Vat.TheVariants.{A, B};
 ghost use Rattle.vat_journal.specs.declared.entry.JournalEntry.TheVariants as entry;
 ghost use Rattle.vat_machine.specs.World.{tables_entry};
@@ -6,6 +6,8 @@ ghost use Rattle.vat_machine.specs.Claims.{AreNumbered, CountsAgree, EndsAreSo, 
 ghost use Rattle.laws_sound.specs.Promised.{AreEachAtOne, AreInFull, DownsAreKnown, DownsAreTold, MeansForGood, RefusesNothing, history_of};
 ghost use Rattle.laws_verdicts.specs.Good.{IsGood};
 ghost use Rattle.link_promises.specs.Promises.{IsBegun, IsTold, world_of, happened_in, journal_of, shut};
+ghost use Rattle.ring_ends.specs.Gather.{order, ReadsAll};
+ghost use Rattle.link_logs.specs.Steps.{input_of, sends_of};
 ghost use Rattle.link_sides.specs.Rooms.{held_code};
 ghost use Rattle.std.specs.Coded.{Coded-set};
 ghost use Rattle.link_driver.specs.Ends.{AreEnds};
@@ -17,9 +19,9 @@ use laws_verdicts::{every_verdict_is_good, journals_tell_runs};
 use link_logs::{Note, Pieces, pieced};
 use link_promises::orders_keep_promises;
 use link_sides::VatSide;
-use ring_ends::Entry;
+use ring_ends::{Entry, Reads};
 use rpc_msg::{Memory, Message};
-use std::alloc::Global;
+use std::alloc::{AllocError, Global};
 use vat_journal::JournalEntry;
 
 /// The vats and the logs of the two ends of one link. There is one order of both logs, which is a run of two vats.
@@ -64,6 +66,14 @@ impl Gathered {
         self.both.sides()
     }
 
+    /// Has the entries of both logs read, in their one order, A's as those of the first; none is copied. `AllocError` where the
+    /// reader answered it: then it was not handed all.
+    pub fn read<V: Reads<Note>>(&self, reader: &mut V) -> Result<(), AllocError>
+        ensures { OnOk result (ReadsAll V.reads reader.old (order input_of sends_of self.now.both.log_a self.now.both.log_b) reader.new) }
+    {
+        self.both.read(reader)
+    }
+
     /// The entries of all that happened at both vats, the oldest first: what both ends wrote, put together in the one order of
     /// both logs. They are the journal of a run of two new vats (`reached`), in whatever order they were worked, so all that is promised of
     /// the journal of two vats in one thread (`vat_world::World::journal`) is promised of it, by the same names. `Memory` where a
@@ -103,7 +113,7 @@ impl Gathered {
         let mut pieces = Pieces {
             list: Vec::new(alloc),
         };
-        self.both.read(&mut pieces)?;
+        self.read(&mut pieces)?;
         let (a, b) = self.both.sides();
         let of_a = a.journal();
         let of_b = b.journal();

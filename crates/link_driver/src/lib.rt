@@ -25,7 +25,7 @@ pub use gathered::{Gathered, gather};
 pub use link_logs::Note;
 pub use link_sides::{Answer, Refused, VatSide};
 pub use linking::link;
-pub use ring_ends::{Entry, LinkFault, MOST_PLACES};
+pub use ring_ends::{Entry, LinkFault, MOST_PLACES, Reads};
 use rpc_msg::Message;
 pub use rpc_msg::Vat;
 pub use running::{PairRun, run_pair};

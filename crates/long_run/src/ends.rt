@@ -4,6 +4,7 @@ ghost use Rattle.rpc_msg.specs.declared.ids.Vat.TheVariants.{A, B};
 ghost use Rattle.ring_ends.specs.Ends.{IsSameEnd};
 ghost use Rattle.link_driver.specs.Ends.{AreEnds, IsNewCore};
 
+use crate::asked::Asked;
 use crate::run::Run;
 use crate::vats::Ends;
 use crate::{ROOT, play};
@@ -17,12 +18,12 @@ use vat_machine::Level;
 /// How many places a ring has.
 const CAPACITY: usize = 2;
 
-/// The same events over rings, and then both ends side by side.
-pub fn over_rings(rt: &impl Print, alloc: Global) -> Result<Gathered> {
+/// The same events over rings, and then both ends side by side, with what their vats were asked.
+pub fn over_rings(rt: &impl Print, alloc: Global) -> Result<(Gathered, Asked)> {
     let mut run = Run::new(alloc, ends(alloc)?);
     play(rt, &mut run)?;
-    let Ends { a, b } = run.vats;
-    Ok(gather(a, b))
+    let Ends { a, b, asked } = run.vats;
+    Ok((gather(a, b), asked))
 }
 
 fn ends(alloc: Global) -> Result<Ends>
@@ -34,7 +35,11 @@ fn ends(alloc: Global) -> Result<Ends>
         bail!("a new core is none");
     }
     match link(alloc, core_a, core_b, CAPACITY) {
-        Ok((a, b)) => Ok(Ends { a, b }),
+        Ok((a, b)) => Ok(Ends {
+            a,
+            b,
+            asked: Asked::new(alloc),
+        }),
         Err((fault, _, _)) => bail!("there is no link: {fault:?}"),
     }
 }

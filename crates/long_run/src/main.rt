@@ -1,20 +1,25 @@
 //! A long run of two vats: 20,000 events, drawn by a fixed rule from every command and delivery, and then all is answered,
 //! settled and let go; first in a world, then over the rings of a link. What it says is so whatever was drawn: no vat goes
-//! down, the trace breaks no law, nothing is left in the tables, and over rings each vat does what it does in a world.
+//! down, the trace breaks no law, nothing is left in the tables, over rings each vat does what it does in a world, and the
+//! journal of both ends is that of a world in which all happens in the one order of both logs.
 //!
 //! `drawing.rt` draws, `run.rt` makes the event of it and lets all go at the end, `application.rt` is what each vat's
-//! application holds. `vats.rt` is what is driven; `ends.rt` makes the ends of a link; `written.rt`: what each vat wrote.
+//! application holds. `vats.rt` is what is driven; `ends.rt` makes the ends of a link; `asked.rt` keeps what their vats are
+//! asked, and `merged.rt` asks it once more, in the order of both logs; `written.rt`: journals in few words.
 #![tactic(auto)]
 
 mod application;
+mod asked;
 mod drawing;
 mod ends;
+mod merged;
 mod run;
 mod vats;
 mod written;
 
 use anyhow::Result;
 use ends::over_rings;
+use merged::in_one_order;
 use rpc_msg::ObjectId;
 use run::Run;
 use std::alloc::Global;
@@ -22,7 +27,7 @@ use trace_check::{Verdict, check};
 use vat_journal::{Counts, JournalEntry};
 use vat_world::World;
 use vats::Vats;
-use written::Written;
+use written::{Written, lines};
 
 const EVENTS: u32 = 20_000;
 
@@ -33,15 +38,20 @@ fn main(rt: HostRuntime) -> Result<()> {
     let alloc = rt.alloc();
     let world = in_world(&rt, alloc)?;
     tell(&rt, alloc, world.journal())?;
-    let gathered = over_rings(&rt, alloc)?;
+    let (gathered, asked) = over_rings(&rt, alloc)?;
     let mut journal = gathered.journal(alloc)?;
     journal.push(gathered.tables()?)?;
-    tell(&rt, alloc, journal.as_slice())?;
-    let of_ends = Written::of(alloc, journal.as_slice())?;
-    if of_ends == Written::of(alloc, world.journal())? {
+    tell(&rt, alloc, &journal)?;
+    if Written::of(alloc, &journal)? == Written::of(alloc, world.journal())? {
         println!(rt; "over rings each vat does what it does in a world")?;
     } else {
         println!(rt; "over rings a vat does something else")?;
+    }
+    let world = in_one_order(alloc, &gathered, asked)?;
+    if lines(alloc, &journal)? == lines(alloc, world.journal())? {
+        println!(rt; "in the order of both logs a world has the journal of both ends")?;
+    } else {
+        println!(rt; "in the order of both logs a world has another journal")?;
     }
     Ok(())
 }

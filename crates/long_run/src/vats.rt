@@ -1,6 +1,7 @@
 //! What is driven: a world of two vats, or the two ends of a link.
 ghost use Rattle.ring_ends.specs.Ends.{IsSameEnd};
 
+use crate::asked::Asked;
 use anyhow::{Result, bail};
 use link_driver::{Answer, EndA, EndB, Turn};
 use rpc_msg::Vat;
@@ -63,11 +64,12 @@ impl Vats for World {
     ghost same_through = { λ x y z first then. tt };
 }
 
-/// The two ends of a link. After each event all goes out for which the rings have room.
+/// The two ends of a link, and what their vats were asked. After each event all goes out for which the rings have room.
 #[derive(Drop)]
 pub struct Ends {
     pub a: EndA,
     pub b: EndB,
+    pub asked: Asked,
 }
 
 impl Ends {
@@ -86,6 +88,7 @@ impl Vats for Ends {
     ghost same = { λ x y. IsSameEnd x.a.end y.a.end × IsSameEnd x.b.end y.b.end };
 
     fn command(&mut self, vat: Vat, command: Command) -> Result<Option<(Granted, Effects)>> {
+        self.asked.keep(vat, &command)?;
         let answer = match vat {
             Vat::A => self.a.command(command),
             Vat::B => self.b.command(command),

@@ -1,4 +1,4 @@
-//! What each vat wrote of a journal, in few words.
+//! A journal in few words, and what each vat wrote of it.
 
 use anyhow::Result;
 use journal_words::write_entry;
@@ -17,17 +17,26 @@ impl Written {
     pub fn of(alloc: Global, journal: &[JournalEntry]) -> Result<Written> {
         let mut a = String::new(alloc);
         let mut b = String::new(alloc);
-        for entry in journal {
-            let mut line = String::new(alloc);
-            write_entry(&mut line, entry)?;
-            line.push('\n')?;
-            let text = if line.starts_with('a') {
+        let text = lines(alloc, journal)?;
+        for line in text.lines() {
+            let of_its_vat = if line.starts_with('a') {
                 &mut a
             } else {
                 &mut b
             };
-            text.push_str(line.as_str())?;
+            of_its_vat.push_str(line)?;
+            of_its_vat.push('\n')?;
         }
         Ok(Written { a, b })
     }
+}
+
+/// A line for each entry.
+pub fn lines(alloc: Global, journal: &[JournalEntry]) -> Result<String> {
+    let mut text = String::new(alloc);
+    for entry in journal {
+        write_entry(&mut text, entry)?;
+        text.push('\n')?;
+    }
+    Ok(text)
 }
