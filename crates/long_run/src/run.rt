@@ -160,22 +160,22 @@ fn drawn_for(
 ) -> Result<Option<Command>> {
     let command = match drawn {
         0..=9 => None,
-        10..=13 => pick(draws, held.refs.as_slice()).map(Command::DropRef),
-        14 | 15 => pick(draws, held.calls.as_slice()).map(Command::Finish),
+        10..=13 => pick(draws, &held.refs).map(Command::DropRef),
+        14 | 15 => pick(draws, &held.calls).map(Command::Finish),
         16 => Some(Command::Bootstrap),
         17 => Some(Command::Promise),
         18 => Some(Command::Host(ObjectId(drawn as u64))),
-        19 => pick(draws, held.refs.as_slice()).map(Command::CloneRef),
-        20 => match pick(draws, held.calls.as_slice()) {
+        19 => pick(draws, &held.refs).map(Command::CloneRef),
+        20 => match pick(draws, &held.calls) {
             Some(call) => Some(Command::Field(call, Items::new(alloc))),
             None => None,
         },
-        21 | 22 => pick(draws, held.refs.as_slice()).map(Command::Advance),
-        23 => match pick(draws, held.promises.as_slice()) {
+        21 | 22 => pick(draws, &held.refs).map(Command::Advance),
+        23 => match pick(draws, &held.promises) {
             Some(promise) => Some(Command::Reject(promise, exception(alloc)?)),
             None => None,
         },
-        24 => match pick(draws, held.tasks.as_slice()) {
+        24 => match pick(draws, &held.tasks) {
             Some(task) => Some(Command::Fail(task, exception(alloc)?)),
             None => None,
         },
@@ -187,28 +187,28 @@ fn drawn_for(
 }
 
 fn resolving(draws: &mut Draws, held: &Application) -> Option<Command> {
-    let promise = pick(draws, held.promises.as_slice())?;
-    let reference = pick(draws, held.refs.as_slice())?;
+    let promise = pick(draws, &held.promises)?;
+    let reference = pick(draws, &held.refs)?;
     Some(Command::Resolve(promise, reference))
 }
 
 fn answering(alloc: Global, draws: &mut Draws, held: &Application) -> Result<Option<Command>> {
-    let Some(task) = pick(draws, held.tasks.as_slice()) else {
+    let Some(task) = pick(draws, &held.tasks) else {
         return Ok(None);
     };
-    let given = pick(draws, held.refs.as_slice());
+    let given = pick(draws, &held.refs);
     let (payload, refs) = contents(alloc, given)?;
     Ok(Some(Command::Answer(task, payload, refs)))
 }
 
 /// A call, with a reference where one is drawn.
 fn calling(alloc: Global, draws: &mut Draws, held: &Application) -> Result<Option<Command>> {
-    let Some(reference) = pick(draws, held.refs.as_slice()) else {
+    let Some(reference) = pick(draws, &held.refs) else {
         return Ok(None);
     };
     let given = match draws.below(2) {
         Some(0) => None,
-        _ => pick(draws, held.refs.as_slice()),
+        _ => pick(draws, &held.refs),
     };
     let (payload, refs) = contents(alloc, given)?;
     Ok(Some(Command::Call(CallCommand {
