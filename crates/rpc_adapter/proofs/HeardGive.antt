@@ -20,11 +20,12 @@ use Rattle.rpc_msg.specs.declared.message.Message.{Message}
 use Rattle.rpc_msg.specs.declared.message.Message.TheVariants as message
 use Rattle.rpc_bytes.specs.declared.envelope.TakenFromOther.{TakenFromOther}
 use Rattle.rpc_bytes.specs.Envelopes.{What, profile, tail_call, sent_elsewhere, taken_from_other, strange}
+use Rattle.rpc_bytes.specs.Carried.{gives, times}
 use Rattle.rpc_adapter.specs.declared.tails.Taker.{Taker}
 use Rattle.rpc_adapter.specs.declared.tails.Tail.{Tail}
 use Rattle.rpc_adapter.specs.declared.tails.Tail.TheVariants.{Asked, Taken, Finishing, Finished, Kept, Told}
 use Rattle.rpc_adapter.specs.Adapting.{Adapting, comes, finishes, gives as goes_as, goes, return_to, taker_of, takes}
-use Rattle.rpc_adapter.specs.Held.{all_give, came_gives, gives, times}
+use Rattle.rpc_adapter.specs.Held.{all_give}
 use Rattle.rpc_adapter.specs.Paths.{path_to}
 use Rattle.rpc_adapter.specs.Turning.{put_first, turned, turned_all, turned_one, with_turned}
 
@@ -58,11 +59,11 @@ turned_give a (body.Exception e) = refl
 turned_give a body.Canceled = refl
 
 module _ (e : ExportId) where
-  pub turned_none : (taker : Taker) (a : QuestionId) (b : ReturnBody) → gives e (return_to taker a b) ≡ 0
+  pub turned_none : (taker : Taker) (a : QuestionId) (b : ReturnBody) → gives e (profile (return_to taker a b)) ≡ 0
   turned_none taker a b = ap (λ ns. times e ns) (turned_give a b)
 
   module _ (s : Adapting) where
-    finish_heard : (f : Finish) (o : Option Tail) → came_gives e (profile (message.Plain (plain.Finish f))) ≡ all_give e (finishes s f o).heard
+    finish_heard : (f : Finish) (o : Option Tail) → gives e (profile (message.Plain (plain.Finish f))) ≡ all_give e (finishes s f o).heard
     finish_heard f None = refl
     finish_heard f (Some Asked) = refl
     finish_heard f (Some (Taken taker)) = refl
@@ -71,7 +72,7 @@ module _ (e : ExportId) where
     finish_heard f (Some (Kept b)) = refl
     finish_heard f (Some Told) = refl
 
-    take_heard : (t : TakenFromOther) (o : Option Tail) → IfOk (takes s t o) (λ c. came_gives e (taken_from_other t) ≡ all_give e c.heard)
+    take_heard : (t : TakenFromOther) (o : Option Tail) → IfOk (takes s t o) (λ c. gives e (taken_from_other t) ≡ all_give e c.heard)
     take_heard t None = tt
     take_heard t (Some Asked) = refl
     take_heard t (Some (Taken taker)) = tt
@@ -80,7 +81,7 @@ module _ (e : ExportId) where
     take_heard t (Some (Kept b)) = let a = turned_none (taker_of t) t.question b in omega (arith, a)
     take_heard t (Some Told) = tt
 
-    plain_heard : (m : PlainMessage) → IfOk (comes s (profile (message.Plain m))) (λ c. came_gives e (profile (message.Plain m)) ≡ all_give e c.heard)
+    plain_heard : (m : PlainMessage) → IfOk (comes s (profile (message.Plain m))) (λ c. gives e (profile (message.Plain m)) ≡ all_give e c.heard)
     plain_heard (plain.Finish f) = finish_heard f (finite.get s.tails f.question.0)
     plain_heard (plain.Abort x) = refl
     plain_heard (plain.Bootstrap q) = refl
@@ -91,7 +92,7 @@ module _ (e : ExportId) where
     plain_heard (plain.Disembargo d) = refl
     plain_heard (plain.Other n) = refl
 
-    pub heard_same : (w : What) → IfOk (comes s w) (λ c. came_gives e w ≡ all_give e c.heard)
+    pub heard_same : (w : What) → IfOk (comes s w) (λ c. gives e w ≡ all_give e c.heard)
     heard_same (profile (message.Plain m)) = plain_heard m
     heard_same (profile (message.Unimplemented m)) = refl
     heard_same (tail_call c) = omega arith

@@ -7,8 +7,9 @@ use Rattle.finite_maps.proofs.Gets.{at_each, get-insert_other, get-insert_same, 
 use Rattle.finite_maps.proofs.Tallies.{tally-new, tally-remove}
 use Rattle.rpc_msg.specs.declared.ids.ExportId.{ExportId}
 use Rattle.rpc_msg.specs.declared.ids.QuestionId.{QuestionId}
+use Rattle.rpc_bytes.specs.Carried.{times}
 use Rattle.rpc_adapter.specs.declared.tails.Tail.{Tail}
-use Rattle.rpc_adapter.specs.Held.{AgreesAt, Held, held_of, times, under}
+use Rattle.rpc_adapter.specs.Held.{AgreesAt, Held, held_of, under}
 
 pub at_key : {o p : Option (List ℕ)} {t u : Option Tail} → o ≡ p → t ≡ u → AgreesAt p u → AgreesAt o t
 at_key {o} {p} {t} {u} e f a = subst (λ (x : Option (List ℕ)). AgreesAt x t) (sym e) (subst (λ (y : Option Tail). AgreesAt p y) (sym f) a)

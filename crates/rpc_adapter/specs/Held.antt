@@ -1,19 +1,18 @@
 -- Counts of exports where a peer makes tail calls (docs/messages.md, "Peers of other make"): what messages give, and what a vat
 -- gave with the outcomes of tail calls, which its peer has not seen.
-use Rattle.std.specs.Prelude.{◌≡◌, ℕ, ◌+◌, ◌==◌, true, if◌then◌else◌, unwrap_or, IsSome, List, [], ◌∷◌, Option, Some, None}
-use Rattle.std.specs.List.{count_by}
+use Rattle.std.specs.Prelude.{◌≡◌, ℕ, ◌+◌, true, if◌then◌else◌, unwrap_or, IsSome, List, [], ◌∷◌, Option, Some, None}
 use Rattle.std.specs.FinMap as finite
 use Rattle.finite_maps.specs.Tally.{Map, tally}
-use Rattle.rpc_msg.specs.Messages.{descriptors_of, descriptors_of_body, given}
+use Rattle.rpc_msg.specs.Messages.{descriptors_of_body, given}
 use Rattle.rpc_msg.specs.declared.ids.ExportId.{ExportId}
 use Rattle.rpc_msg.specs.declared.ids.QuestionId.{QuestionId}
-use Rattle.rpc_msg.specs.declared.parts.Descriptor.{Descriptor}
 use Rattle.rpc_msg.specs.declared.message.Return.{Return}
 use Rattle.rpc_msg.specs.declared.message.PlainMessage.{PlainMessage}
 use Rattle.rpc_msg.specs.declared.message.PlainMessage.TheVariants as plain
 use Rattle.rpc_msg.specs.declared.message.Message.{Message}
 use Rattle.rpc_msg.specs.declared.message.Message.TheVariants as message
-use Rattle.rpc_bytes.specs.Envelopes.{What, profile, tail_call, sent_elsewhere, taken_from_other, strange}
+use Rattle.rpc_bytes.specs.Envelopes.{profile}
+use Rattle.rpc_bytes.specs.Carried.{gives, times}
 use Rattle.rpc_adapter.specs.declared.tails.Tail.{Tail}
 use Rattle.rpc_adapter.specs.declared.tails.Tail.TheVariants.{Asked, Taken, Finishing, Finished, Kept, Told}
 use Rattle.rpc_adapter.specs.declared.heard.Said.{Said}
@@ -22,33 +21,15 @@ use Rattle.rpc_adapter.specs.Adapting.{Adapting}
 
 -- ---- what messages give
 
--- how often an export is among these
-abbrev pub times : ExportId → List ℕ → ℕ
-times e ns = count_by (λ n. n == e.0) ns
-
--- what a message gives of an export of its sender: what its descriptors add to the count
-abbrev pub gives : ExportId → Message → ℕ
-gives e m = times e (given (descriptors_of m))
-
+-- what messages give of an export of their sender
 abbrev pub all_give : ExportId → List Message → ℕ
 all_give e [] = 0
-all_give e (m ∷ ms) = gives e m + all_give e ms
-
--- The descriptors of a Call, of a tail call too, of a Return or of a Resolve, in order.
-abbrev pub descriptors_in : What → List Descriptor
-descriptors_in (profile m) = descriptors_of m
-descriptors_in (tail_call c) = c.descriptors
-descriptors_in (sent_elsewhere t) = []
-descriptors_in (taken_from_other t) = []
-descriptors_in (strange n original) = []
-
-abbrev pub came_gives : ExportId → What → ℕ
-came_gives e w = times e (given (descriptors_in w))
+all_give e (m ∷ ms) = gives e (profile m) + all_give e ms
 
 -- what the peer is told that the vat gives of an export
 abbrev pub told_gives : ExportId → Option Said → ℕ
 told_gives e None = 0
-told_gives e (Some (said.Message m)) = gives e m
+told_gives e (Some (said.Message m)) = gives e (profile m)
 told_gives e (Some (said.SentElsewhere t)) = 0
 
 -- ---- what is held

@@ -9,6 +9,7 @@ use Rattle.rpc_msg.specs.declared.message.Message.TheVariants as message
 use Rattle.rpc_msg.specs.declared.message.PlainMessage.{PlainMessage}
 use Rattle.rpc_msg.specs.declared.message.PlainMessage.TheVariants as plain
 use Rattle.rpc_bytes.specs.Envelopes.{What, profile, tail_call}
+use Rattle.rpc_bytes.specs.Carried.{gives}
 use Rattle.rpc_adapter.specs.declared.tails.Tail.{Tail}
 use Rattle.rpc_adapter.specs.declared.tails.Tail.TheVariants.{Asked, Taken, Finishing, Finished, Kept, Told}
 use Rattle.rpc_adapter.specs.declared.heard.Said.{Said}
@@ -16,7 +17,7 @@ use Rattle.rpc_adapter.specs.declared.heard.Said.TheVariants as said
 use Rattle.rpc_adapter.specs.Nulling.{nulled_call, nulled_return}
 use Rattle.rpc_adapter.specs.Adapting.{Adapting, Coming, Going, comes, fresh, goes, hears}
 use Rattle.rpc_adapter.specs.Back.{all_give_back, came_gives_back, gives_back, times_call, told_gives_back, waiting}
-use Rattle.rpc_adapter.specs.Held.{Agrees, FlagsAreTrue, Held, after, all_give, came_gives, gives, gives_late, held_of, held_with, takes_off, told_gives}
+use Rattle.rpc_adapter.specs.Held.{Agrees, FlagsAreTrue, Held, after, all_give, gives_late, held_of, held_with, takes_off, told_gives}
 
 -- what the peer is told of a message: not of a Release that is sent back, and null of each capability that is not there
 abbrev pub told_plain : PlainMessage → PlainMessage
@@ -51,14 +52,14 @@ pub record WentOnce (h : Held) (s : Adapting) (m : Message) (g : Going) : Type 0
   -- of each export: what the message gives and what was held is what the peer is told, what is held then, and what the vat hears to be
   -- taken off, save what is given by a Return that comes after its Finish
   pub counts : (e : ExportId)
-      → gives e m + held_of e h
+      → gives e (profile m) + held_of e h
       ≡ told_gives e g.said + (held_of e (after (held_with h s m) g.heard) + takes_off e (held_with h s m) g.heard) + gives_late e s m
   pub flags : FlagsAreTrue (held_with h s m) g.heard
   pub agrees : Agrees (after (held_with h s m) g.heard) g.state
 
 pub record CountsOnce : Type 0 where
   -- Of each export of the peer: what a message gave is what the vat hears that it gave. What it hears beside gives nothing.
-  pub heard : (s : Adapting) (w : What) (e : ExportId) → IfOk (comes s w) (λ c. came_gives e w ≡ all_give e c.heard)
+  pub heard : (s : Adapting) (w : What) (e : ExportId) → IfOk (comes s w) (λ c. gives e w ≡ all_give e c.heard)
   pub heard_beside : (s : Adapting) (m : Message) (e : ExportId) → all_give e (goes s m).heard ≡ 0
   -- Of each export of the vat: what it gave the peer was told, or it is held until the vat hears it to be taken off.
   pub first : Agrees finite.empty fresh

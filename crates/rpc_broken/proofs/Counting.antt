@@ -12,10 +12,11 @@ use Rattle.rpc_msg.specs.declared.ids.QuestionId.{QuestionId}
 use Rattle.rpc_msg.specs.declared.parts.Descriptor.{Descriptor}
 use Rattle.rpc_msg.specs.declared.parts.Descriptor.TheVariants as descriptor
 use Rattle.rpc_bytes.specs.Envelopes.{What}
+use Rattle.rpc_bytes.specs.Carried.{descriptors_in, gives}
 use Rattle.rpc_broken.specs.declared.due.Due.{Due}
 use Rattle.rpc_broken.specs.declared.due.Due.TheVariants.{AtOnce, ByReturn, ByFinish}
-use Rattle.rpc_broken.specs.Naming.{Naming, broken_name, descriptors_in, flagged, heard, heard_by, heard_descriptor, names_of, owed_under, owing, released}
-use Rattle.rpc_broken.specs.Laws.{gives, owed, times}
+use Rattle.rpc_broken.specs.Naming.{Naming, broken_name, flagged, heard, heard_by, heard_descriptor, names_of, owed_under, owing, released}
+use Rattle.rpc_broken.specs.Laws.{owed, times}
 use Rattle.rpc_broken.proofs.HeardAs.{what_changed}
 
 both_more : (k a b t : ℕ) → a ≡ b + t → k + a ≡ (k + b) + t

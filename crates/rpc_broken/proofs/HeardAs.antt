@@ -14,7 +14,8 @@ use Rattle.rpc_msg.specs.declared.message.PlainMessage.{PlainMessage}
 use Rattle.rpc_msg.specs.declared.message.PlainMessage.TheVariants as plain
 use Rattle.rpc_msg.specs.declared.message.Message.TheVariants as message
 use Rattle.rpc_bytes.specs.Envelopes.{What, profile, tail_call, sent_elsewhere, taken_from_other, strange}
-use Rattle.rpc_broken.specs.Naming.{body_with, broken_name, descriptors_in, heard, heard_by, heard_descriptor, names_of, resolved_with, what_with}
+use Rattle.rpc_bytes.specs.Carried.{descriptors_in}
+use Rattle.rpc_broken.specs.Naming.{body_with, broken_name, heard, heard_by, heard_descriptor, names_of, resolved_with, what_with}
 
 module _ (broken : ExportId → Bool) where
   one_heard : (o : Option ExportId) (d : Descriptor) (es : List ExportId) → cons_option o es ≡ [] → (heard_by o d ≡ d) × (es ≡ [])

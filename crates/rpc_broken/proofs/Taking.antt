@@ -6,8 +6,9 @@ use Rattle.rpc_msg.specs.declared.ids.ExportId.{ExportId}
 use Rattle.rpc_msg.specs.declared.ids.QuestionId.{QuestionId}
 use Rattle.rpc_msg.specs.declared.parts.Descriptor.{Descriptor}
 use Rattle.rpc_bytes.specs.Envelopes.{What}
+use Rattle.rpc_bytes.specs.Carried.{descriptors_in}
 use Rattle.rpc_broken.specs.declared.due.Due.{Due}
-use Rattle.rpc_broken.specs.Naming.{Naming, broken_name, comes, coming, descriptors_in, due_by, has_some, heard, heard_descriptor, names_of, owing, unless_finished, what_with}
+use Rattle.rpc_broken.specs.Naming.{Naming, broken_name, comes, coming, due_by, has_some, heard, heard_descriptor, names_of, owing, unless_finished, what_with}
 use Rattle.rpc_broken.proofs.HeardAs.{heard_same}
 
 module _ (broken : ExportId → Bool) (finished : QuestionId → Bool) (s : Naming) (w : What) where

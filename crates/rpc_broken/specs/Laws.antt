@@ -2,11 +2,11 @@
 use Rattle.std.specs.Prelude.{◌≡◌, ℕ, ◌+◌, ◌==◌, Bool, List, []}
 use Rattle.std.specs.List.{count_by}
 use Rattle.finite_maps.specs.Tally.{tally}
-use Rattle.rpc_msg.specs.Messages.{given}
 use Rattle.rpc_msg.specs.declared.ids.ExportId.{ExportId}
 use Rattle.rpc_msg.specs.declared.ids.QuestionId.{QuestionId}
 use Rattle.rpc_bytes.specs.Envelopes.{What}
-use Rattle.rpc_broken.specs.Naming.{Coming, Going, Naming, comes, descriptors_in, finishes, names_of, nothing_owed, returns}
+use Rattle.rpc_bytes.specs.Carried.{gives}
+use Rattle.rpc_broken.specs.Naming.{Coming, Going, Naming, comes, finishes, names_of, nothing_owed, returns}
 
 pub record StandsAside : Type 0 where
   -- what names none is handed on as it came
@@ -22,10 +22,6 @@ pub record StandsAside : Type 0 where
 -- how often an export is in a list
 abbrev pub times : ExportId → List ExportId → ℕ
 times e es = count_by (λ x. x.0 == e.0) es
-
--- what a message gives of an export: what its descriptors add to the count
-abbrev pub gives : ExportId → What → ℕ
-gives e w = count_by (λ n. n == e.0) (given (descriptors_in w))
 
 -- what is owed of an export
 abbrev pub owed : ExportId → Naming → ℕ

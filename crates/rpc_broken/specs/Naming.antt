@@ -7,7 +7,6 @@ use Rattle.std.specs.FinMap as finite
 use Rattle.std.specs.List.{filter_map}
 use Rattle.std.specs.Coded.{Coded, code_by, coded×}
 use Rattle.finite_maps.specs.Tally.{Map}
-use Rattle.rpc_msg.specs.Messages.{descriptors_of}
 use Rattle.rpc_msg.specs.declared.ids.ExportId.{ExportId}
 use Rattle.rpc_msg.specs.declared.ids.QuestionId.{QuestionId}
 use Rattle.rpc_msg.specs.declared.parts.Descriptor.{Descriptor}
@@ -24,6 +23,7 @@ use Rattle.rpc_msg.specs.declared.message.PlainMessage.TheVariants as plain
 use Rattle.rpc_msg.specs.declared.message.Message.{Message}
 use Rattle.rpc_msg.specs.declared.message.Message.TheVariants as message
 use Rattle.rpc_bytes.specs.Envelopes.{What, profile, tail_call, sent_elsewhere, taken_from_other, strange, seen_envelope}
+use Rattle.rpc_bytes.specs.Carried.{descriptors_in}
 use Rattle.rpc_broken.specs.contracts.owed.Owed as owed_row
 use Rattle.rpc_broken.specs.declared.due.Due.{Due}
 use Rattle.rpc_broken.specs.declared.due.Due.TheVariants.{AtOnce, ByReturn, ByFinish}
@@ -67,14 +67,6 @@ heard_by (Some e) d = descriptor.None
 
 abbrev pub heard_descriptor : (ExportId → Bool) → Descriptor → Descriptor
 heard_descriptor broken d = heard_by (broken_name broken d) d
-
--- The descriptors of a Call, of a tail call too, of a Return or of a Resolve, in order.
-abbrev pub descriptors_in : What → List Descriptor
-descriptors_in (profile m) = descriptors_of m
-descriptors_in (tail_call c) = c.descriptors
-descriptors_in (sent_elsewhere s) = []
-descriptors_in (taken_from_other s) = []
-descriptors_in (strange n original) = []
 
 -- The broken promises that a message names, each as often as it does.
 abbrev pub names_of : (ExportId → Bool) → What → List ExportId

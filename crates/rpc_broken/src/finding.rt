@@ -3,7 +3,8 @@ ghost use Rattle.std.specs.Prelude.{◌≡◌, ◌++◌, Bool, map, option_to_li
 ghost use Rattle.std.specs.List.{filter_map};
 ghost use Rattle.rpc_bytes.specs.Envelopes.{seen_envelope};
 ghost use Rattle.rpc_msg.specs.declared.ids.ExportId.{ExportId};
-ghost use Rattle.rpc_broken.specs.Naming.{Tells, broken_name, descriptors_in, has_some, heard_by, heard_descriptor};
+ghost use Rattle.rpc_bytes.specs.Carried.{descriptors_in};
+ghost use Rattle.rpc_broken.specs.Naming.{Tells, broken_name, has_some, heard_by, heard_descriptor};
 
 use rpc_bytes::Envelope;
 use rpc_msg::{Descriptor, ExportId, Items, Memory};

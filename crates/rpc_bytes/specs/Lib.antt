@@ -2,6 +2,7 @@ pub mod Questions
 pub mod Returns
 pub mod Exports
 pub mod Envelopes
+pub mod Carried
 pub mod Decoding
 pub mod Frames
 pub mod Bares

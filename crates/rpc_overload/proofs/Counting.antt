@@ -1,7 +1,6 @@
 -- What is cleared gives what it gave, and what is refused gives it back.
 use Rattle.std.proofs.Common.{◌≡◌, ℕ, ◌+◌, true, false, List, [], ◌∷◌, Ok, Err, refl, ap, ◌∙◌, eq-eqb, arith}
-use Rattle.std.specs.Prelude.{Bool, cond, nat_le, if◌then◌else◌, ◌==◌, Option, Some, None, Result, IfOk}
-use Rattle.std.specs.List.{count_by}
+use Rattle.std.specs.Prelude.{Bool, cond, nat_le, if◌then◌else◌, Option, Some, None, Result, IfOk}
 use Rattle.std.specs.FinMap as finite
 use Rattle.rpc_msg.specs.Messages.{descriptors_of, descriptors_of_body, descriptors_of_resolved, given}
 use Rattle.rpc_msg.specs.declared.ids.ExportId.{ExportId}
@@ -18,12 +17,13 @@ use Rattle.rpc_msg.specs.declared.message.PlainMessage.TheVariants as plain
 use Rattle.rpc_msg.specs.declared.message.Message.TheVariants as message
 use Rattle.rpc_bytes.specs.declared.envelope.TakenFromOther.{TakenFromOther}
 use Rattle.rpc_bytes.specs.Envelopes.{What, profile, tail_call, sent_elsewhere, taken_from_other, strange}
+use Rattle.rpc_bytes.specs.Carried.{descriptors_in, gives, times}
 use Rattle.rpc_overload.specs.declared.errors.OverloadFault.{OverloadFault}
 use Rattle.rpc_overload.specs.declared.errors.OverloadFault.TheVariants.{QuestionInUse, TooManyRefused}
 use Rattle.rpc_overload.specs.declared.refusals.Refusal.{Refusal}
 use Rattle.rpc_overload.specs.declared.refusals.Refusal.TheVariants.{Plain, Tail, TakenTail}
 use Rattle.rpc_overload.specs.Overloading.{Coming, Overloading, admits, asks, cleared_all, cleared_body, cleared_call, cleared_resolve, cleared_return, cleared_to, comes, finishes, is_refused, takes, told, with_refusal}
-use Rattle.rpc_overload.specs.Laws.{descriptors_in, given_back, gives, heard_gives, is_question}
+use Rattle.rpc_overload.specs.Laws.{given_back, heard_gives, is_question}
 
 module _ (s : Overloading) where
   one_cleared : (b : Bool) (q : QuestionId) (d : Descriptor) (ds : List Descriptor) → given (d ∷ ds) ≡ given ds → given (cond b descriptor.None d ∷ ds) ≡ given ds
@@ -54,7 +54,7 @@ module _ (s : Overloading) where
 
     -- what is heard gives as much
     is_heard : (w : What) (heard : What) (new : Overloading) → given (descriptors_in heard) ≡ given (descriptors_in w) → Once w (admits new heard)
-    is_heard w heard new same = let a = ap (λ ns. count_by (λ n. n == e.0) ns) same in omega (arith, a)
+    is_heard w heard new same = let a = ap (λ ns. times e ns) same in omega (arith, a)
 
     plainly : (m heard : PlainMessage) → given (descriptors_of (message.Plain heard)) ≡ given (descriptors_of (message.Plain m)) → Once (profile (message.Plain m)) (admits s (profile (message.Plain heard)))
     plainly m heard same = is_heard (profile (message.Plain m)) (profile (message.Plain heard)) s same

@@ -1,33 +1,20 @@
 -- Where no question was refused and the vat has room, it hears what came as it came. Each count is given once.
-use Rattle.std.specs.Prelude.{◌≡◌, ℕ, ◌+◌, ◌==◌, Bool, true, false, if◌then◌else◌, IfOk, List, [], Ok}
-use Rattle.std.specs.List.{count_by}
+use Rattle.std.specs.Prelude.{◌≡◌, ℕ, ◌+◌, ◌==◌, Bool, true, false, if◌then◌else◌, IfOk, [], Ok}
 use Rattle.rpc_msg.specs.Messages.{descriptors_of, given}
 use Rattle.rpc_msg.specs.declared.ids.ExportId.{ExportId}
 use Rattle.rpc_msg.specs.declared.ids.QuestionId.{QuestionId}
-use Rattle.rpc_msg.specs.declared.parts.Descriptor.{Descriptor}
 use Rattle.rpc_msg.specs.declared.message.PlainMessage.{PlainMessage}
 use Rattle.rpc_msg.specs.declared.message.PlainMessage.TheVariants as plain
 use Rattle.rpc_msg.specs.declared.message.Message.{Message}
 use Rattle.rpc_msg.specs.declared.message.Message.TheVariants as message
 use Rattle.rpc_bytes.specs.Envelopes.{What, profile, tail_call, sent_elsewhere, taken_from_other, strange}
+use Rattle.rpc_bytes.specs.Carried.{gives}
 use Rattle.rpc_overload.specs.Overloading.{Outcome, Overloading, admits, admitted, comes, fresh, nothing, overloaded, refused, refused_tail}
 
 abbrev pub StandsAside : Type 0
 StandsAside = (w : What) → comes fresh false w ≡ Ok (admits fresh w)
 
 -- ---- counts
-
--- The descriptors of a Call, of a tail call too, of a Return or of a Resolve, in order.
-abbrev pub descriptors_in : What → List Descriptor
-descriptors_in (profile m) = descriptors_of m
-descriptors_in (tail_call c) = c.descriptors
-descriptors_in (sent_elsewhere t) = []
-descriptors_in (taken_from_other t) = []
-descriptors_in (strange n original) = []
-
--- what a message gives of an export of the peer: what its descriptors add to the count
-abbrev pub gives : ExportId → What → ℕ
-gives e w = count_by (λ n. n == e.0) (given (descriptors_in w))
 
 -- what the vat hears that it gave
 abbrev pub heard_gives : ExportId → Outcome → ℕ

@@ -1,11 +1,9 @@
 -- What a peer gives is heard, owed or given back.
-use Rattle.std.proofs.Common.{◌≡◌, ◌+◌, List, Some, None, Result, Ok, Err, refl, ap, arith}
+use Rattle.std.proofs.Common.{◌≡◌, ◌+◌, Some, None, Result, Ok, Err, refl, ap, arith}
 use Rattle.std.specs.Prelude.{Option, IfOk}
 use Rattle.std.specs.FinMap as finite
 use Rattle.wire_trees.specs.Trees.{Tree}
-use Rattle.rpc_msg.specs.Messages.{given}
 use Rattle.rpc_msg.specs.declared.ids.ExportId.{ExportId}
-use Rattle.rpc_msg.specs.declared.parts.Descriptor.{Descriptor}
 use Rattle.rpc_msg.specs.declared.message.Finish.{Finish}
 use Rattle.rpc_msg.specs.declared.message.PlainMessage.{PlainMessage}
 use Rattle.rpc_msg.specs.declared.message.PlainMessage.TheVariants as plain
@@ -13,6 +11,7 @@ use Rattle.rpc_msg.specs.declared.message.Message.{Message}
 use Rattle.rpc_msg.specs.declared.message.Message.TheVariants as message
 use Rattle.rpc_bytes.specs.declared.envelope.TakenFromOther.{TakenFromOther}
 use Rattle.rpc_bytes.specs.Envelopes.{What, profile, tail_call, sent_elsewhere, taken_from_other, strange}
+use Rattle.rpc_bytes.specs.Carried as carried
 use Rattle.rpc_overload.specs.declared.errors.OverloadFault.{OverloadFault}
 use Rattle.rpc_overload.specs.Overloading.{Overloading, Outcome, admitted, refused, refused_tail, nothing}
 use Rattle.rpc_overload.specs.Overloading as overload
@@ -31,21 +30,6 @@ use Rattle.rpc_adapter.specs.Adapting as tails
 use Rattle.rpc_adapter.specs.Laws as tail_laws
 use Rattle.rpc_peer.specs.Peering.{Coming, Peering, Tables, admits, admits_by, besides_of, gives, goes, heard_by}
 use Rattle.rpc_peer.specs.Laws.{CameOnce, WentOnce, besides_give_back, flag_owes}
-
--- The three parts count the same descriptors.
-as_named : (w : What) → overload_laws.descriptors_in w ≡ names.descriptors_in w
-as_named (profile m) = refl
-as_named (tail_call c) = refl
-as_named (sent_elsewhere t) = refl
-as_named (taken_from_other t) = refl
-as_named (strange n original) = refl
-
-as_heard : (w : What) → held.descriptors_in w ≡ names.descriptors_in w
-as_heard (profile m) = refl
-as_heard (tail_call c) = refl
-as_heard (sent_elsewhere t) = refl
-as_heard (taken_from_other t) = refl
-as_heard (strange n original) = refl
 
 -- Of what the vat understands nothing is kept to go back.
 known_finish : (s : Adapting) (f : Finish) (o : Option Tail) → (tails.finishes s f o).unknown ≡ None
@@ -96,32 +80,25 @@ known s (taken_from_other x) is = known_take s x (finite.get s.tails x.question.
 known s (strange n original) is = absurd is
 
 module _ (e : ExportId) (named : broken_laws.CountsOnce) (turned : tail_laws.CountsOnce) where
-  given_as_named : (w : What) → overload_laws.gives e w ≡ broken_laws.gives e w
-  given_as_named w = ap (λ (ds : List Descriptor). held.times e (given ds)) (as_named w)
-
-  given_as_heard : (w : What) → held.came_gives e w ≡ broken_laws.gives e w
-  given_as_heard w = ap (λ (ds : List Descriptor). held.times e (given ds)) (as_heard w)
-
   module _ (t : Tables) (s : Peering) (w : What) where
     -- It is named, and then heard.
-    heard_once : (v : What) (n : names.Coming) (r : Result tails.Coming AdapterFault) → broken_laws.gives e w ≡ broken_laws.gives e v → broken_laws.CameOnce e s.names v n
-        → IfOk r (λ (c : tails.Coming). held.came_gives e n.came ≡ held.all_give e c.heard) → IfOk r (λ (c : tails.Coming). c.unknown ≡ None)
+    heard_once : (v : What) (n : names.Coming) (r : Result tails.Coming AdapterFault) → carried.gives e w ≡ carried.gives e v → broken_laws.CameOnce e s.names v n
+        → IfOk r (λ (c : tails.Coming). carried.gives e n.came ≡ held.all_give e c.heard) → IfOk r (λ (c : tails.Coming). c.unknown ≡ None)
         → IfOk (heard_by (record s { names = n.state }) n.given_back r) (λ (c : Coming). CameOnce e s w c)
     heard_once v n (Err f) same is_named is_heard is_known = tt
     heard_once v n (Ok c) same is_named is_heard is_known =
-        let a = given_as_heard n.came in
         let b = ap (λ (o : Option Tree). besides_give_back e w (besides_of n.given_back o)) is_known in
-        omega (arith, same, is_named, is_heard, a, b)
+        omega (arith, same, is_named, is_heard, b)
 
     named_as : What → names.Coming
     named_as v = names.comes t.broken t.finished s.names v
 
-    passed_once : (v : What) → IsKnown (named_as v).came → broken_laws.gives e w ≡ broken_laws.gives e v → IfOk (admits t s (admitted v)) (λ (c : Coming). CameOnce e s w c)
+    passed_once : (v : What) → IsKnown (named_as v).came → carried.gives e w ≡ carried.gives e v → IfOk (admits t s (admitted v)) (λ (c : Coming). CameOnce e s w c)
     unfolding named_as
     passed_once v is same =
         heard_once v (named_as v) (tails.comes s.tails (named_as v).came) same (named.came t.broken t.finished s.names v e) (turned.heard s.tails (named_as v).came e) (known s.tails (named_as v).came is)
 
-    admitted_once : (v : What) → broken_laws.gives e w ≡ broken_laws.gives e v → IfOk (admits t s (admitted v)) (λ (c : Coming). CameOnce e s w c)
+    admitted_once : (v : What) → carried.gives e w ≡ carried.gives e v → IfOk (admits t s (admitted v)) (λ (c : Coming). CameOnce e s w c)
     unfolding named_as
     admitted_once (profile m) same = passed_once (profile m) tt same
     admitted_once (tail_call x) same = passed_once (tail_call x) tt same
@@ -129,14 +106,14 @@ module _ (e : ExportId) (named : broken_laws.CountsOnce) (turned : tail_laws.Cou
     admitted_once (taken_from_other x) same = passed_once (taken_from_other x) tt same
     admitted_once (strange n original) same = omega (arith, same)
 
-    outcome_once : (x : Outcome) → overload_laws.gives e w ≡ overload_laws.heard_gives e x + overload_laws.given_back e w x → IfOk (admits t s x) (λ (c : Coming). CameOnce e s w c)
-    outcome_once (admitted v) once = admitted_once v (let a = given_as_named w in let b = given_as_named v in omega (arith, once, a, b))
-    outcome_once (refused q) once = let a = given_as_named w in omega (arith, once, a)
-    outcome_once (refused_tail q) once = let a = given_as_named w in omega (arith, once, a)
-    outcome_once nothing once = let a = given_as_named w in omega (arith, once, a)
+    outcome_once : (x : Outcome) → carried.gives e w ≡ overload_laws.heard_gives e x + overload_laws.given_back e w x → IfOk (admits t s x) (λ (c : Coming). CameOnce e s w c)
+    outcome_once (admitted v) once = admitted_once v (omega (arith, once))
+    outcome_once (refused q) once = omega (arith, once)
+    outcome_once (refused_tail q) once = omega (arith, once)
+    outcome_once nothing once = omega (arith, once)
 
   pub came_once : (t : Tables) (s : Peering) (w : What) (r : Result overload.Coming OverloadFault)
-      → IfOk r (λ (c : overload.Coming). overload_laws.gives e w ≡ overload_laws.heard_gives e c.outcome + overload_laws.given_back e w c.outcome)
+      → IfOk r (λ (c : overload.Coming). carried.gives e w ≡ overload_laws.heard_gives e c.outcome + overload_laws.given_back e w c.outcome)
       → IfOk (admits_by t s r) (λ (c : Coming). CameOnce e s w c)
   came_once t s w (Ok c) once = outcome_once t (record s { overload = c.state }) w c.outcome once
   came_once t s w (Err f) once = tt

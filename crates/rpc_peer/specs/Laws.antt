@@ -8,9 +8,10 @@ use Rattle.rpc_msg.specs.declared.message.PlainMessage.TheVariants as plain
 use Rattle.rpc_msg.specs.declared.message.Message.{Message}
 use Rattle.rpc_msg.specs.declared.message.Message.TheVariants as message
 use Rattle.rpc_bytes.specs.Envelopes.{What, profile}
+use Rattle.rpc_bytes.specs.Carried.{gives}
 use Rattle.rpc_overload.specs.Laws.{flag_gives_back, gives_back}
 use Rattle.rpc_broken.specs.Naming.{Naming, flagged, names_of, owed_under}
-use Rattle.rpc_broken.specs.Laws.{gives, owed, times}
+use Rattle.rpc_broken.specs.Laws.{owed, times}
 use Rattle.rpc_adapter.specs.declared.heard.Said.{Said}
 use Rattle.rpc_adapter.specs.declared.heard.Said.TheVariants as said
 use Rattle.rpc_adapter.specs.Adapting as tails

@@ -16,11 +16,12 @@ use Rattle.rpc_msg.specs.declared.message.Message.{Message}
 use Rattle.rpc_msg.specs.declared.message.Message.TheVariants as message
 use Rattle.rpc_bytes.specs.declared.envelope.TakenFromOther.{TakenFromOther}
 use Rattle.rpc_bytes.specs.Envelopes.{What, profile, tail_call, sent_elsewhere, taken_from_other, strange}
+use Rattle.rpc_bytes.specs.Carried.{gives, times}
 use Rattle.rpc_adapter.specs.declared.tails.Tail.{Tail}
 use Rattle.rpc_adapter.specs.declared.tails.Tail.TheVariants.{Asked, Taken, Finishing, Finished, Kept, Told}
 use Rattle.rpc_adapter.specs.Nulling.{nulled_body, nulled_call, nulled_return}
 use Rattle.rpc_adapter.specs.Adapting.{Adapting, Coming, Going, comes, finish_of, finishes, gives as goes_as, goes, hears, return_to, says, taker_of, takes, told, told_by, with_tail, without_tail}
-use Rattle.rpc_adapter.specs.Held.{Agrees, AgreesAt, FlagOfOneIsTrue, FlagsAreTrue, Held, after, after_one, given_with, gives, gives_late, held_of, held_with, holds, late, takes_off, takes_off_one, times, told_gives, under}
+use Rattle.rpc_adapter.specs.Held.{Agrees, AgreesAt, FlagOfOneIsTrue, FlagsAreTrue, Held, after, after_one, given_with, gives_late, held_of, held_with, holds, late, takes_off, takes_off_one, told_gives, under}
 use Rattle.rpc_adapter.specs.Laws.{CameOnce, IsNew, WentOnce}
 use Rattle.rpc_adapter.proofs.Holding.{apart, at_key, both, both_gone, both_put, held_gone, if_none, none_under, not_some, one_more, says_here, tail_gone, tail_put}
 use Rattle.rpc_adapter.proofs.HeardGive.{heard_same, none_beside}
@@ -130,7 +131,7 @@ module _ (h : Held) (s : Adapting) (agrees : Agrees h s) where
   -- A message goes, where with it that is held, and so much of each export comes late.
   abbrev Went : Held → (ExportId → ℕ) → Message → Going → Type 0
   Went k comes_late m g =
-      ((e : ExportId) → gives e m + held_of e h ≡ told_gives e g.said + (held_of e (after k g.heard) + takes_off e k g.heard) + comes_late e)
+      ((e : ExportId) → gives e (profile m) + held_of e h ≡ told_gives e g.said + (held_of e (after k g.heard) + takes_off e k g.heard) + comes_late e)
       × FlagsAreTrue k g.heard
       × Agrees (after k g.heard) g.state
 
