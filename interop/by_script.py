@@ -1,7 +1,8 @@
-"""Conversations in which vat_call plays a script with a server: a server of C++, or vat_serve.
+"""Conversations in which vat_call plays a script with a server: a server of C++ or Rust, or vat_serve.
 
 A script NAME of `scripts/` has beside it what vat_call has to be told, NAME.told, line for line, and what the objects of a server of
-C++ are asked meanwhile, NAME.seen. Those of `scripts/vat_serve/` are for vat_serve alone, which answers some things in another order.
+C++ are asked meanwhile, NAME.seen. Those of `scripts/rust/` and `scripts/vat_serve/` are for a server of Rust and for vat_serve alone,
+which answer some things in another order.
 In the reason of an exception `*` stands for any text: what C++ says there is its own matter. A struct of nothing and the null payload
 are the same to who reads them, and count as the same. LONG has scripts that are made."""
 import base64
@@ -154,8 +155,19 @@ def named(name):
     return LONG[name]() if name in LONG else kept(name)
 
 
+# A server of Rust doesn't answer it.
+NOT_FOR_RUST = {"broken-again"}
+
+
+def for_rust():
+    """The scripts that are played with a server of Rust: its own in the place of those of the same name."""
+    own = {path.stem: f"rust/{path.stem}" for path in SCRIPTS.glob("rust/*.script")}
+    names = [*sorted(path.stem for path in SCRIPTS.glob("*.script")), *LONG]
+    return [own.get(name, name) for name in names if name not in NOT_FOR_RUST]
+
+
 def with_server(program, server, name, folder, record=None):
-    """Plays a script with a server of C++; gives what was wrong."""
+    """Plays a script with a server of C++ or Rust; gives what was wrong."""
     script = named(name)
     path = f"{folder}/told"
     if os.path.exists(path):
