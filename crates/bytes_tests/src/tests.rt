@@ -1,5 +1,6 @@
 //! Each kind of message through its frame, contents as deep as frames allow, and what is not understood. Where an allocation is
 //! refused (`scripts/refused`) each ends in an error that says so, and in no other answer.
+use rpc_bytes::laws::encode_and_decode;
 use rpc_bytes::{
     DecodeError, EncodeError, EncodeFault, Envelope, EnvelopeFault, Unknown, decode, echo, encode,
 };
@@ -248,12 +249,19 @@ fn is_the_call(
     }
 }
 
+/// What a message is, encoded and decoded at once.
+fn read_back(alloc: Global, message: Message) -> Result<Message, Fail> {
+    match message_of(encode_and_decode(alloc, &message, STAMP)??) {
+        Some(message) => Ok(message),
+        None => Err("no message")?,
+    }
+}
+
 fn full_call_comes_back(alloc: Global) -> Result<bool, Fail> {
     let target = target()?;
     let payload = last_of_six(alloc)?;
     let descriptors = all_descriptors(alloc)?;
-    let frame = frame_of(alloc, CALL)?;
-    let back = decoded(alloc, &frame)?;
+    let back = read_back(alloc, Message::Plain(message(alloc, CALL)?))?;
     Ok(is_the_call(&back, &target, &payload, descriptors.as_slice()))
 }
 
