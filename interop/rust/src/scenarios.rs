@@ -9,7 +9,7 @@ use futures::future::try_join_all;
 use std::future::Future;
 use std::pin::Pin;
 
-type Done = Result<(), Error>;
+pub type Done = Result<(), Error>;
 
 /// An error with the place in this file, where something is not so.
 macro_rules! check {
@@ -34,11 +34,11 @@ fn added(counter: &Object, by: u64) -> Call {
 }
 
 /// A call of a registry with an object.
-fn give(registry: &Object, method: u16, object: &Object) -> Call {
+pub fn give(registry: &Object, method: u16, object: &Object) -> Call {
     registry.call::<0, 1>(REGISTRY, method, |params| params.set_object(0, object.clone()))
 }
 
-fn told(registry: &Object, printer: &Object, line: u64) -> Call {
+pub fn told(registry: &Object, printer: &Object, line: u64) -> Call {
     registry.call::<1, 1>(REGISTRY, registry::TELL, |params| {
         params.set_object(0, printer.clone());
         params.set_number(0, line);
@@ -55,15 +55,20 @@ async fn object(call: Call) -> Result<Object, Error> {
     call.answer().await?.get()?.object(0)
 }
 
+/// Has each printer that the registry keeps print a line.
+pub fn on_air(registry: &Object, line: u64) -> Call {
+    registry.call::<1, 0>(REGISTRY, registry::BROADCAST, |params| params.set_number(0, line))
+}
+
 async fn broadcast(registry: &Object, line: u64) -> Done {
-    registry.call::<1, 0>(REGISTRY, registry::BROADCAST, |params| params.set_number(0, line)).end().await
+    on_air(registry, line).end().await
 }
 
 async fn unsubscribe(registry: &Object) -> Done {
     registry.ask(REGISTRY, registry::UNSUBSCRIBE).end().await
 }
 
-async fn lines(printer: &Object) -> Result<Vec<u64>, Error> {
+pub async fn lines(printer: &Object) -> Result<Vec<u64>, Error> {
     printer.ask(PRINTER, printer::PRINTED).answer().await?.get()?.numbers(0)
 }
 
@@ -100,7 +105,7 @@ impl Calls {
 }
 
 /// An own printer, and what it has printed.
-fn own() -> (Object, Sheet) {
+pub fn own() -> (Object, Sheet) {
     let sheet = Sheet::default();
     (Object::of(Printer::new(&sheet)), sheet)
 }
@@ -444,7 +449,7 @@ pub const SCENARIOS: &[(&str, Scenario)] = scenarios![
 
 /// Plays a scenario with a registry. The other vat has heard of all that was let go before once it has answered, and gets the time to hear of
 /// the rest.
-pub async fn play(scenario: Scenario, registry: Object) -> Done {
+pub async fn play(scenario: impl AsyncFnOnce(Object) -> Done, registry: Object) -> Done {
     scenario(registry.clone()).await?;
     echoed(&registry, 0).await?;
     drop(registry);
