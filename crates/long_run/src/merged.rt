@@ -1,5 +1,4 @@
 //! The one order in which two ends' logs say that all happened, and a world in which it happens so.
-ghost use Rattle.std.specs.Prelude.{Unit};
 
 use crate::ROOT;
 use crate::asked::Asked;
