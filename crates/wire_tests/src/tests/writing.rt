@@ -75,15 +75,18 @@ fn data_and_pointers(alloc: Global) -> Result<Tree, Fail> {
     Ok(Tree::Struct { words, pointers })
 }
 
+fn row(alloc: Global, number: u64, tree: Tree) -> Result<Fields, Fail> {
+    let mut words = Vec::new(alloc);
+    words.push(number)?;
+    let mut pointers = Pointers::new(alloc);
+    point_to(&mut pointers, tree)?;
+    Ok(Fields { words, pointers })
+}
+
 fn two_structs(alloc: Global) -> Result<Tree, Fail> {
     let mut items = Vec::new(alloc);
-    for (number, tree) in [(1, Tree::Cap(0)), (2, Tree::Null)] {
-        let mut words = Vec::new(alloc);
-        words.push(number)?;
-        let mut pointers = Pointers::new(alloc);
-        point_to(&mut pointers, tree)?;
-        items.push(Fields { words, pointers })?;
-    }
+    items.push(row(alloc, 1, Tree::Cap(0))?)?;
+    items.push(row(alloc, 2, Tree::Null)?)?;
     Ok(Tree::List(Items::Structs {
         data_words: 1,
         pointer_words: 1,
@@ -91,69 +94,63 @@ fn two_structs(alloc: Global) -> Result<Tree, Fail> {
     }))
 }
 
-fn two_pointers(alloc: Global) -> Result<Tree, Fail> {
+fn three_bits(alloc: Global) -> Result<Tree, Fail> {
     let mut bits = Vec::new(alloc);
     bits.extend_from_slice(&[true, false, true])?;
+    Ok(Tree::List(Items::Bits(bits)))
+}
+
+/// A struct of one word.
+fn one_word(alloc: Global) -> Result<Tree, Fail> {
     let mut words = Vec::new(alloc);
     words.push(5)?;
-    let inner = Pointers::new(alloc);
+    let pointers = Pointers::new(alloc);
+    Ok(Tree::Struct { words, pointers })
+}
+
+fn two_pointers(alloc: Global) -> Result<Tree, Fail> {
     let mut pointers = Pointers::new(alloc);
-    point_to(
-        &mut pointers,
-        Tree::Struct {
-            words,
-            pointers: inner,
-        },
-    )?;
-    point_to(&mut pointers, Tree::List(Items::Bits(bits)))?;
+    point_to(&mut pointers, one_word(alloc)?)?;
+    point_to(&mut pointers, three_bits(alloc)?)?;
     Ok(Tree::List(Items::Pointers(pointers)))
 }
 
-/// Trees that are written, by their numbers.
-const WRITTEN: u32 = 10;
+/// How many capabilities go with each tree that is written, and the bytes that it is written as.
+const WRITTEN: [(u32, &str); 10] = [
+    (0, "00000000 01000000 0000000000000000"),
+    (0, "00000000 01000000 fcffffff00000000"),
+    (3, "00000000 01000000 0300000002000000"),
+    (0, "00000000 01000000 01000000f8ffffff"),
+    (1, "00000000 02000000 0000000000000100 0300000000000000"),
+    (0, "00000000 02000000 | 010000001b000000 0100020003000000"),
+    (
+        0,
+        "00000000 05000000 | 0000000001000200 0700000000000000 0000000000000000 010000001b000000 0100020003000000",
+    ),
+    (
+        1,
+        "00000000 06000000 | 0100000027000000 0800000001000100 0100000000000000 0300000000000000 0200000000000000 0000000000000000",
+    ),
+    (
+        0,
+        "00000000 05000000 | 0100000016000000 0400000001000000 0500000019000000 0500000000000000 0500000000000000",
+    ),
+    (0, "00000000 02000000 | 0100000007000000 fcff030000000000"),
+];
 
-/// A tree, how many capabilities go with it, and the bytes that it is written as.
-fn written(alloc: Global, number: u32) -> Result<(Tree, u32, &'static str), Fail> {
-    Ok(match number {
-        0 => (Tree::Null, 0, "00000000 01000000 0000000000000000"),
-        1 => (empty_struct(alloc), 0, "00000000 01000000 fcffffff00000000"),
-        2 => (Tree::Cap(2), 3, "00000000 01000000 0300000002000000"),
-        3 => (
-            Tree::List(Items::Void(536_870_911)),
-            0,
-            "00000000 01000000 01000000f8ffffff",
-        ),
-        4 => (
-            pointing_at(alloc, Tree::Cap(0))?,
-            1,
-            "00000000 02000000 0000000000000100 0300000000000000",
-        ),
-        5 => (
-            three_numbers(alloc)?,
-            0,
-            "00000000 02000000 | 010000001b000000 0100020003000000",
-        ),
-        6 => (
-            data_and_pointers(alloc)?,
-            0,
-            "00000000 05000000 | 0000000001000200 0700000000000000 0000000000000000 010000001b000000 0100020003000000",
-        ),
-        7 => (
-            two_structs(alloc)?,
-            1,
-            "00000000 06000000 | 0100000027000000 0800000001000100 0100000000000000 0300000000000000 0200000000000000 0000000000000000",
-        ),
-        8 => (
-            two_pointers(alloc)?,
-            0,
-            "00000000 05000000 | 0100000016000000 0400000001000000 0500000019000000 0500000000000000 0500000000000000",
-        ),
-        _ => (
-            empty_structs(alloc, 65_535, 0)?,
-            0,
-            "00000000 02000000 | 0100000007000000 fcff030000000000",
-        ),
-    })
+fn written(alloc: Global, number: usize) -> Result<Tree, Fail> {
+    match number {
+        0 => Ok(Tree::Null),
+        1 => Ok(empty_struct(alloc)),
+        2 => Ok(Tree::Cap(2)),
+        3 => Ok(Tree::List(Items::Void(536_870_911))),
+        4 => pointing_at(alloc, Tree::Cap(0)),
+        5 => three_numbers(alloc),
+        6 => data_and_pointers(alloc),
+        7 => two_structs(alloc),
+        8 => two_pointers(alloc),
+        _ => empty_structs(alloc, 65_535, 0),
+    }
 }
 
 // The bytes that are written for a tree, and read again.
@@ -173,9 +170,9 @@ fn is_written(
 
 #[test]
 fn writes_worked_values(rt: HostRuntime) -> Result<(), Fail> {
-    for number in 0..WRITTEN {
-        let (tree, caps, text) = written(rt.alloc(), number)?;
-        is_written(&rt, rt.alloc(), &tree, caps, text)?;
+    for (number, (caps, text)) in WRITTEN.iter().enumerate() {
+        let tree = written(rt.alloc(), number)?;
+        is_written(&rt, rt.alloc(), &tree, *caps, text)?;
     }
     Ok(())
 }
@@ -190,8 +187,8 @@ fn is_copied(rt: &impl Abort, alloc: Global, tree: &Tree) -> Result<(), Fail> {
 
 #[test]
 fn trees_are_copied(rt: HostRuntime) -> Result<(), Fail> {
-    for number in 0..WRITTEN {
-        let (tree, _, _) = written(rt.alloc(), number)?;
+    for number in 0..WRITTEN.len() {
+        let tree = written(rt.alloc(), number)?;
         is_copied(&rt, rt.alloc(), &tree)?;
     }
     Ok(())
@@ -214,31 +211,38 @@ fn texts_and_data_are_bytes(rt: HostRuntime) -> Result<(), Fail> {
     Ok(())
 }
 
-/// Trees at the limits, and some that are not written, by their numbers.
-const LIMITED: u32 = 12;
+/// How many capabilities go with each tree at a limit or past it, and the number of its fault, or 0.
+const LIMITED: [(u32, u16); 12] = [
+    (0, 4),
+    (0, 0),
+    (0, 4),
+    (0, 0),
+    (0, 11),
+    (0, 12),
+    (0, 8),
+    (0, 10),
+    (0, 8),
+    (0, 11),
+    (0, 10),
+    (1, 0),
+];
 
-/// A tree, how many capabilities go with it, and the number of its fault, or 0.
-fn limited(alloc: Global, number: u32) -> Result<(Tree, u32, u16), Fail> {
-    Ok(match number {
-        0 => (Tree::List(Items::Void(536_870_912)), 0, 4),
-        1 => (zeros(alloc, 65_535)?, 0, 0),
-        2 => (zeros(alloc, 65_536)?, 0, 4),
-        3 => (nested(alloc, Tree::Null, 64)?, 0, 0),
-        4 => (nested(alloc, Tree::Null, 65)?, 0, 11),
-        5 => (empty_structs(alloc, 65_536, 0)?, 0, 12),
-        6 => (empty_structs(alloc, 1, 1)?, 0, WriteFault::BadTag.code()),
-        7 => (
-            pointing_at(alloc, Tree::Cap(0))?,
-            0,
-            WriteFault::CapIndex.code(),
-        ),
+fn limited(alloc: Global, number: usize) -> Result<Tree, Fail> {
+    match number {
+        0 => Ok(Tree::List(Items::Void(536_870_912))),
+        1 => zeros(alloc, 65_535),
+        2 => zeros(alloc, 65_536),
+        3 => nested(alloc, Tree::Null, 64),
+        4 => nested(alloc, Tree::Null, 65),
+        5 => empty_structs(alloc, 65_536, 0),
+        6 => empty_structs(alloc, 1, 1),
+        7 => pointing_at(alloc, Tree::Cap(0)),
         // uneven structs 65 levels deep: the lengths are told before the depth
-        8 => (uneven_and_deep(alloc)?, 0, 8),
+        8 => uneven_and_deep(alloc),
         // a capability that is not there, 65 levels deep: the depth is told before it
-        9 => (nested(alloc, Tree::Cap(0), 65)?, 0, 11),
-        10 => (nested(alloc, Tree::Cap(0), 64)?, 0, 10),
-        _ => (nested(alloc, Tree::Cap(0), 64)?, 1, 0),
-    })
+        9 => nested(alloc, Tree::Cap(0), 65),
+        _ => nested(alloc, Tree::Cap(0), 64),
+    }
 }
 
 fn uneven_and_deep(alloc: Global) -> Result<Tree, Fail> {
@@ -256,9 +260,9 @@ fn fault_of(alloc: Global, tree: &Tree, caps: u32) -> u16 {
 
 #[test]
 fn refuses_to_write(rt: HostRuntime) -> Result<(), Fail> {
-    for number in 0..LIMITED {
-        let (tree, caps, fault) = limited(rt.alloc(), number)?;
-        assert_eq!(rt; fault_of(rt.alloc(), &tree, caps), fault, "tree {number}");
+    for (number, (caps, fault)) in LIMITED.iter().enumerate() {
+        let tree = limited(rt.alloc(), number)?;
+        assert_eq!(rt; fault_of(rt.alloc(), &tree, *caps), *fault, "tree {number}");
     }
     Ok(())
 }
