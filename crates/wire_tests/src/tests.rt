@@ -6,6 +6,7 @@ mod segments;
 mod values;
 mod writing;
 
+use capn_wire::{CapAt, Op, Payload, Tree};
 use std::alloc::Global;
 use std::test::Fail;
 
@@ -28,4 +29,25 @@ fn bytes_of(alloc: Global, text: &str) -> Result<Vec<u8>, Fail> {
         };
     }
     Ok(bytes)
+}
+
+// No clause says what these do: a test is proved quicker where nothing is known of what it compares.
+fn read(alloc: Global, bytes: &[u8], caps: u32) -> Result<Payload, Fail> {
+    Ok(Payload::read(alloc, bytes, caps)?)
+}
+
+fn copied(alloc: Global, payload: &Payload) -> Result<Payload, Fail> {
+    Ok(payload.copy(alloc)?)
+}
+
+fn tree_in(alloc: Global, payload: &Payload) -> Result<Tree, Fail> {
+    Ok(payload.tree(alloc)?)
+}
+
+fn cap_at(payload: &Payload, path: &[Op]) -> CapAt {
+    payload.cap_at(path)
+}
+
+fn has_bytes(payload: &Payload, bytes: &[u8]) -> bool {
+    payload.bytes() == bytes
 }

@@ -145,25 +145,38 @@ fn copied(alloc: Global, message: &PlainMessage) -> Result<PlainMessage, Memory>
     }
 }
 
+fn echo_copied(alloc: Global, echo: &Message) -> Result<Message, Memory> {
+    match echo.copy(alloc) {
+        Ok(copy) => Ok(copy),
+        Err(Memory) => echo.copy(alloc),
+    }
+}
+
+fn is_echo(message: &Message) -> bool {
+    matches!(message, Message::Unimplemented(_))
+}
+
+fn echo_of(message: PlainMessage) -> Message {
+    Message::Unimplemented(message)
+}
+
+fn is_copied(alloc: Global, echo: &Message) -> Result<bool, Memory> {
+    match echo_copied(alloc, echo) {
+        Ok(copy) => Ok(is_echo(&copy)),
+        Err(Memory) => Err(Memory),
+    }
+}
+
 // The message as an echo.
-fn is_copied_as_an_echo(
-    rt: &impl Abort,
-    alloc: Global,
-    message: PlainMessage,
-) -> Result<(), Memory> {
-    let echo = Message::Unimplemented(message);
-    let copy = match echo.copy(alloc) {
-        Ok(copy) => copy,
-        Err(Memory) => echo.copy(alloc)?,
-    };
-    assert!(rt; matches!(&copy, Message::Unimplemented(_)));
-    Ok(())
+fn is_copied_as_an_echo(alloc: Global, message: PlainMessage) -> Result<bool, Memory> {
+    is_copied(alloc, &echo_of(message))
 }
 
 fn message_is_copied(rt: &impl Abort, alloc: Global, number: u32) -> Result<(), Memory> {
     let message = message(alloc, number)?;
     let copy = copied(alloc, &message)?;
-    is_copied_as_an_echo(rt, alloc, copy)
+    assert!(rt; is_copied_as_an_echo(alloc, copy)?, "message {number}");
+    Ok(())
 }
 
 /// Holds whichever allocation of a copy is refused: run it with `rt try --test --fail-alloc N` too.
@@ -175,32 +188,29 @@ fn each_message_is_copied(rt: HostRuntime) -> Result<(), Memory> {
     Ok(())
 }
 
-fn has_descriptors(
-    rt: &impl Abort,
-    alloc: Global,
-    number: u32,
-    descriptors: &[Descriptor],
-) -> Result<(), Memory> {
-    let message = message(alloc, number)?;
-    let plain = Message::Plain(message);
-    assert!(rt; plain.descriptors() == descriptors, "message {number}");
-    Ok(())
+fn is_with(message: &Message, descriptors: &[Descriptor]) -> bool {
+    message.descriptors() == descriptors
 }
 
-fn echo_has_none(rt: &impl Abort, alloc: Global, number: u32) -> Result<(), Memory> {
+fn has_descriptors(alloc: Global, number: u32, descriptors: &[Descriptor]) -> Result<bool, Memory> {
+    let plain = Message::Plain(message(alloc, number)?);
+    Ok(is_with(&plain, descriptors))
+}
+
+fn echo_has_none(alloc: Global, number: u32) -> Result<bool, Memory> {
     let message = message(alloc, number)?;
-    let echo = Message::Unimplemented(message);
-    assert!(rt; echo.descriptors().is_empty(), "message {number}");
-    Ok(())
+    Ok(is_with(&echo_of(message), &[]))
 }
 
 /// A Call, a Return, a Resolve, and an echo of the Call.
 #[test]
 fn messages_have_descriptors(rt: HostRuntime) -> Result<(), Memory> {
-    has_descriptors(&rt, rt.alloc(), 2, &kinds())?;
-    has_descriptors(&rt, rt.alloc(), 3, &kinds())?;
-    has_descriptors(&rt, rt.alloc(), 7, &[HOSTED])?;
-    echo_has_none(&rt, rt.alloc(), 2)
+    let kinds = kinds();
+    assert!(rt; has_descriptors(rt.alloc(), 2, &kinds)?);
+    assert!(rt; has_descriptors(rt.alloc(), 3, &kinds)?);
+    assert!(rt; has_descriptors(rt.alloc(), 7, &[HOSTED])?);
+    assert!(rt; echo_has_none(rt.alloc(), 2)?);
+    Ok(())
 }
 
 fn references(alloc: Global) -> Result<Items<RefId>, Memory> {

@@ -1,5 +1,5 @@
 //! Payloads looked into without their trees.
-use crate::tests::bytes_of;
+use crate::tests::{bytes_of, cap_at, read};
 use capn_wire::{CapAt, Fields, Items, Kind, Op, Payload, Place, Pointers, Tree};
 use std::alloc::Global;
 use std::process::Abort;
@@ -114,10 +114,6 @@ fn element_of_four(place: &Place, number: u32) -> Option<u32> {
     place.element(number)
 }
 
-fn cap_at(payload: &Payload, path: &[Op]) -> CapAt {
-    payload.cap_at(path)
-}
-
 fn field<'m>(rt: &impl Abort, place: &Place<'m>, number: u16) -> Place<'m> {
     match place.field(number) {
         Some(place) => place,
@@ -140,44 +136,47 @@ fn hello(alloc: Global) -> Result<Payload, Fail> {
     let words = vec![in alloc; 7]?;
     let tree = Tree::Struct { words, pointers };
     let written = Payload::write(alloc, &tree, 1)?;
-    Ok(Payload::read(alloc, written.bytes(), written.caps())?)
+    read(alloc, written.bytes(), written.caps())
 }
 
 #[test]
 fn a_text_and_a_capability(rt: HostRuntime) -> Result<(), Fail> {
     let payload = hello(rt.alloc())?;
-    assert_eq!(rt; cap_at(&payload, &[Op::Field(1)]), CapAt::Cap(0));
-    assert_eq!(rt; cap_at(&payload, &[Op::Field(0)]), CapAt::NotCap);
-    assert_eq!(rt; cap_at(&payload, &[Op::Field(2)]), CapAt::Null);
+    assert!(rt; cap_at(&payload, &[Op::Field(1)]) == CapAt::Cap(0));
+    assert!(rt; cap_at(&payload, &[Op::Field(0)]) == CapAt::NotCap);
+    assert!(rt; cap_at(&payload, &[Op::Field(2)]) == CapAt::Null);
     let view = payload.view();
     let root = view.root();
-    assert_eq!(rt; word(&root, 0), Some(7));
+    assert!(rt; word(&root, 0) == Some(7));
     assert!(rt; is_text(&field(&rt, &root, 0), "hello"));
     Ok(())
 }
 
-fn has_its_numbers(rt: &impl Abort, root: &Place) {
-    assert_eq!(rt; kind(root), Kind::Struct);
-    assert_eq!(rt; word(root, 0), Some(7));
-    assert_eq!(rt; word(root, 1), Some(256));
-    assert_eq!(rt; word(root, 2), Some(0));
-    assert_eq!(rt; byte(root, 9), Some(1));
-    assert_eq!(rt; bit(root, 2), Some(true));
-    assert_eq!(rt; bit(root, 3), Some(false));
-    assert_eq!(rt; len(root), None);
+fn is_a_struct(rt: &impl Abort, root: &Place) {
+    assert!(rt; kind(root) == Kind::Struct);
+    assert!(rt; len(root).is_none());
     assert!(rt; !is_text(root, ""));
+}
+
+fn has_its_numbers(rt: &impl Abort, root: &Place) {
+    for (at, want) in [(0, 7), (1, 256), (2, 0)] {
+        assert!(rt; word(root, at) == Some(want));
+    }
+    assert!(rt; byte(root, 9) == Some(1));
+    assert!(rt; bit(root, 2) == Some(true));
+    assert!(rt; bit(root, 3) == Some(false));
 }
 
 fn is_the_text(rt: &impl Abort, text: &Place) {
     assert!(rt; is_text(text, "ab"));
     assert!(rt; has_bytes(text, &[97, 98, 0]));
-    assert_eq!(rt; byte(text, 0), None);
+    assert!(rt; byte(text, 0).is_none());
 }
 
 fn is_null(rt: &impl Abort, null: &Place) {
-    assert_eq!(rt; kind(null), Kind::Null);
+    assert!(rt; kind(null) == Kind::Null);
     assert!(rt; is_text(null, ""));
-    assert_eq!(rt; len(null), Some(0));
+    assert!(rt; len(null) == Some(0));
 }
 
 #[test]
@@ -185,6 +184,7 @@ fn numbers_and_texts_are_found(rt: HostRuntime) -> Result<(), Fail> {
     let payload = sample(rt.alloc())?;
     let view = payload.view();
     let root = view.root();
+    is_a_struct(&rt, &root);
     has_its_numbers(&rt, &root);
     is_the_text(&rt, &field(&rt, &root, 0));
     is_null(&rt, &field(&rt, &root, 9));
@@ -192,24 +192,24 @@ fn numbers_and_texts_are_found(rt: HostRuntime) -> Result<(), Fail> {
 }
 
 fn are_three_numbers(rt: &impl Abort, twos: &Place) {
-    assert_eq!(rt; kind(twos), Kind::List);
-    assert_eq!(rt; len(twos), Some(3));
-    assert_eq!(rt; element_of_two(twos, 2), Some(3));
-    assert_eq!(rt; element_of_two(twos, 3), None);
-    assert_eq!(rt; element_of_four(twos, 0), None);
+    assert!(rt; kind(twos) == Kind::List);
+    assert!(rt; len(twos) == Some(3));
+    assert!(rt; element_of_two(twos, 2) == Some(3));
+    assert!(rt; element_of_two(twos, 3).is_none());
+    assert!(rt; element_of_four(twos, 0).is_none());
 }
 
 fn are_two_structs(rt: &impl Abort, rows: &Place) {
-    assert_eq!(rt; len(rows), Some(2));
-    assert_eq!(rt; word(&item(rt, rows, 0), 0), Some(10));
-    assert_eq!(rt; word(&item(rt, rows, 1), 0), Some(20));
-    assert_eq!(rt; kind(&item(rt, rows, 2)), Kind::Null);
+    assert!(rt; len(rows) == Some(2));
+    assert!(rt; word(&item(rt, rows, 0), 0) == Some(10));
+    assert!(rt; word(&item(rt, rows, 1), 0) == Some(20));
+    assert!(rt; kind(&item(rt, rows, 2)) == Kind::Null);
 }
 
 fn are_two_pointers(rt: &impl Abort, inner: &Place) {
-    assert_eq!(rt; kind(&item(rt, inner, 0)), Kind::Capability(1));
-    assert_eq!(rt; kind(&item(rt, inner, 1)), Kind::Null);
-    assert_eq!(rt; element_of_one(inner, 0), None);
+    assert!(rt; kind(&item(rt, inner, 0)) == Kind::Capability(1));
+    assert!(rt; kind(&item(rt, inner, 1)) == Kind::Null);
+    assert!(rt; element_of_one(inner, 0).is_none());
 }
 
 #[test]
@@ -243,8 +243,8 @@ const TWO_BYTES: [(&str, bool); 3] = [
 fn a_text_ends_with_a_zero(rt: HostRuntime) -> Result<(), Fail> {
     for (text, is_one) in TWO_BYTES {
         let bytes = bytes_of(rt.alloc(), text)?;
-        let payload = Payload::read(rt.alloc(), &bytes, 0)?;
-        assert_eq!(rt; is_text(&payload.view().root(), "a"), is_one);
+        let payload = read(rt.alloc(), &bytes, 0)?;
+        assert!(rt; is_text(&payload.view().root(), "a") == is_one);
     }
     Ok(())
 }

@@ -1,5 +1,5 @@
 //! Payloads that are read, and what is found in them.
-use crate::tests::bytes_of;
+use crate::tests::{bytes_of, cap_at, copied, has_bytes, read, tree_in};
 use capn_wire::{CapAt, Items, Memory, Op, Payload, PayloadFault, Tree, WriteFault};
 use std::alloc::Global;
 use std::process::Abort;
@@ -78,25 +78,25 @@ fn fault_of(alloc: Global, text: &str, caps: u32) -> Result<u16, Fail> {
 
 #[test]
 fn reads_worked_values(rt: HostRuntime) -> Result<(), Fail> {
-    for (text, caps, number) in READ {
-        assert_eq!(rt;
-            fault_of(rt.alloc(), text, caps)?,
-            number,
-            "at {text} with {caps}"
-        );
+    for (text, caps, number) in &READ {
+        let fault = fault_of(rt.alloc(), text, *caps)?;
+        assert!(rt; fault == *number, "at {text} with {caps}");
     }
     Ok(())
+}
+
+fn refused(alloc: Global, bytes: &[u8], caps: u32) -> Option<PayloadFault> {
+    Payload::read(alloc, bytes, caps).err()
 }
 
 #[test]
 fn refuses_each_beginning(rt: HostRuntime) -> Result<(), Fail> {
     let bytes = bytes_of(rt.alloc(), DOUBLE_FAR)?;
-    assert_eq!(rt; bytes.len(), 48);
+    assert!(rt; bytes.len() == 48);
     for len in 0..bytes.len() {
-        let fault = Payload::read(rt.alloc(), &bytes[..len], 1).err();
-        assert_eq!(rt;
-            fault,
-            Some(PayloadFault::Short),
+        let fault = refused(rt.alloc(), &bytes[..len], 1);
+        assert!(rt;
+            fault == Some(PayloadFault::Short),
             "of the first {len} bytes"
         );
     }
@@ -127,23 +127,22 @@ fn bounds_the_visited_words(rt: HostRuntime) -> Result<(), Fail> {
         ),
     ] {
         let bytes = with_zeros(rt.alloc(), text, words)?;
-        assert_eq!(rt;
-            Payload::read(rt.alloc(), &bytes, 0).err(),
-            fault,
-            "at {text}"
-        );
+        assert!(rt; refused(rt.alloc(), &bytes, 0) == fault, "at {text}");
     }
     Ok(())
+}
+
+fn not_written(alloc: Global, tree: &Tree) -> Option<WriteFault> {
+    Payload::write(alloc, tree, 0).err()
 }
 
 /// Its tree has 65,536 words, and the root pointer is one more.
 #[test]
 fn reads_what_is_too_large_to_write(rt: HostRuntime) -> Result<(), Fail> {
     let bytes = with_zeros(rt.alloc(), TWICE, 32_767)?;
-    let payload = Payload::read(rt.alloc(), &bytes, 0)?;
-    let tree = payload.tree(rt.alloc())?;
-    let fault = Payload::write(rt.alloc(), &tree, 0).err();
-    assert_eq!(rt; fault, Some(WriteFault::TooLarge));
+    let payload = read(rt.alloc(), &bytes, 0)?;
+    let tree = tree_in(rt.alloc(), &payload)?;
+    assert!(rt; not_written(rt.alloc(), &tree) == Some(WriteFault::TooLarge));
     Ok(())
 }
 
@@ -169,10 +168,10 @@ const FOUND: [(&str, u32, &[Op], CapAt); 11] = [
 
 #[test]
 fn finds_worked_capabilities(rt: HostRuntime) -> Result<(), Fail> {
-    for (text, caps, path, found) in FOUND {
+    for (text, caps, path, found) in &FOUND {
         let bytes = bytes_of(rt.alloc(), text)?;
-        let payload = Payload::read(rt.alloc(), &bytes, caps)?;
-        assert_eq!(rt; payload.cap_at(path), found, "at {text}");
+        let payload = read(rt.alloc(), &bytes, *caps)?;
+        assert!(rt; cap_at(&payload, path) == *found, "at {text}");
     }
     Ok(())
 }
@@ -193,10 +192,10 @@ fn is_made_with(
     caps: u32,
     found: &[(&[Op], CapAt)],
 ) {
-    assert_eq!(rt; payload.bytes(), bytes);
-    assert_eq!(rt; payload.caps(), caps);
+    assert!(rt; has_bytes(payload, bytes));
+    assert!(rt; payload.caps() == caps);
     for (path, want) in found {
-        assert_eq!(rt; payload.cap_at(path), *want);
+        assert!(rt; cap_at(payload, path) == *want);
     }
 }
 
@@ -215,12 +214,12 @@ fn makes_null_and_a_root_capability(rt: HostRuntime) -> Result<(), Memory> {
 #[test]
 fn copies_its_bytes_and_capabilities(rt: HostRuntime) -> Result<(), Fail> {
     let bytes = bytes_of(rt.alloc(), BOOTSTRAP)?;
-    let payload = Payload::read(rt.alloc(), &bytes, 1)?;
-    let copy = payload.copy(rt.alloc())?;
+    let payload = read(rt.alloc(), &bytes, 1)?;
+    let copy = copied(rt.alloc(), &payload)?;
     assert!(rt; copy == payload);
-    assert_eq!(rt; copy.bytes(), bytes.as_slice());
-    assert_eq!(rt; copy.caps(), 1);
-    let other = Payload::read(rt.alloc(), &bytes, 2)?;
+    assert!(rt; has_bytes(&copy, &bytes));
+    assert!(rt; copy.caps() == 1);
+    let other = read(rt.alloc(), &bytes, 2)?;
     assert!(rt; copy != other);
     Ok(())
 }
@@ -236,17 +235,19 @@ fn is_three_numbers(tree: &Tree) -> bool {
     words.as_slice() == [7].as_slice() && twos.as_slice() == [1, 2, 3].as_slice()
 }
 
+const NUMBERS: &str =
+    "00000000 05000000 | 0000000001000200 0700000000000000 0000000000000000 010000001b000000 0100020003000000";
+
+fn tree_read(alloc: Global, text: &str, caps: u32) -> Result<Tree, Fail> {
+    let bytes = bytes_of(alloc, text)?;
+    let payload = read(alloc, &bytes, caps)?;
+    tree_in(alloc, &payload)
+}
+
 #[test]
 fn reads_trees(rt: HostRuntime) -> Result<(), Fail> {
-    let bytes = bytes_of(
-        rt.alloc(),
-        "00000000 05000000 | 0000000001000200 0700000000000000 0000000000000000 010000001b000000 0100020003000000",
-    )?;
-    let payload = Payload::read(rt.alloc(), &bytes, 0)?;
-    assert!(rt; is_three_numbers(&payload.tree(rt.alloc())?));
-    let bootstrap = bytes_of(rt.alloc(), BOOTSTRAP)?;
-    let payload = Payload::read(rt.alloc(), &bootstrap, 1)?;
-    assert!(rt; matches!(payload.tree(rt.alloc())?, Tree::Cap(0)));
+    assert!(rt; is_three_numbers(&tree_read(rt.alloc(), NUMBERS, 0)?));
+    assert!(rt; matches!(tree_read(rt.alloc(), BOOTSTRAP, 1)?, Tree::Cap(0)));
     Ok(())
 }
 
@@ -255,9 +256,9 @@ fn reads_trees(rt: HostRuntime) -> Result<(), Fail> {
 fn answers_want_of_memory(rt: HostRuntime) {
     let root = [0, 0, 0, 0, 1, 0, 0, 0, 3, 0, 0, 0, 0, 0, 0, 0];
     match Payload::read(rt.alloc(), &root, 1) {
-        Err(fault) => assert_eq!(rt; fault.code(), 1),
+        Err(fault) => assert!(rt; fault.code() == 1),
         Ok(payload) => {
-            assert_eq!(rt; payload.cap_at(&[]), CapAt::Cap(0));
+            assert!(rt; cap_at(&payload, &[]) == CapAt::Cap(0));
             if let Ok(copy) = payload.copy(rt.alloc()) {
                 assert!(rt; copy == payload);
             }
@@ -279,6 +280,6 @@ fn outlives_its_tree_and_copy(rt: &impl Abort, alloc: Global, payload: &Payload,
     if let Ok(copy) = payload.copy(alloc) {
         assert!(rt; copy == *payload);
     }
-    assert_eq!(rt; payload.bytes(), bytes);
-    assert_eq!(rt; payload.caps(), 0);
+    assert!(rt; has_bytes(payload, bytes));
+    assert!(rt; payload.caps() == 0);
 }

@@ -1,5 +1,5 @@
 //! Trees that are written.
-use crate::tests::bytes_of;
+use crate::tests::{bytes_of, copied, has_bytes, tree_in};
 use capn_wire::laws::write_and_read;
 use capn_wire::{Fields, Items, Payload, Pointers, PushError, Tree, WriteFault};
 use std::alloc::Global;
@@ -153,7 +153,11 @@ fn written(alloc: Global, number: usize) -> Result<Tree, Fail> {
     }
 }
 
-// The bytes that are written for a tree, and read again.
+// The bytes that are written for a tree are read again.
+fn written_and_read(alloc: Global, tree: &Tree, caps: u32) -> Result<Payload, Fail> {
+    Ok(write_and_read(alloc, tree, caps)??)
+}
+
 fn is_written(
     rt: &impl Abort,
     alloc: Global,
@@ -162,9 +166,9 @@ fn is_written(
     text: &str,
 ) -> Result<(), Fail> {
     let bytes = bytes_of(alloc, text)?;
-    let payload = write_and_read(alloc, tree, caps)??;
-    assert_eq!(rt; payload.bytes(), bytes.as_slice(), "{text}");
-    assert_eq!(rt; payload.caps(), caps, "{text}");
+    let payload = written_and_read(alloc, tree, caps)?;
+    assert!(rt; has_bytes(&payload, &bytes), "{text}");
+    assert!(rt; payload.caps() == caps, "{text}");
     Ok(())
 }
 
@@ -181,7 +185,7 @@ fn writes_worked_values(rt: HostRuntime) -> Result<(), Fail> {
 fn is_copied(rt: &impl Abort, alloc: Global, tree: &Tree) -> Result<(), Fail> {
     let copy = tree.copy(alloc)?;
     assert!(rt; copy == *tree);
-    assert_eq!(rt; copy == Tree::Null, matches!(tree, Tree::Null));
+    assert!(rt; (copy == Tree::Null) == matches!(tree, Tree::Null));
     Ok(())
 }
 
@@ -194,20 +198,23 @@ fn trees_are_copied(rt: HostRuntime) -> Result<(), Fail> {
     Ok(())
 }
 
+fn text(alloc: Global, letters: &str) -> Result<Tree, Fail> {
+    Ok(Tree::text(alloc, letters)?)
+}
+
+fn is_data(alloc: Global, tree: &Tree, bytes: &[u8]) -> Result<bool, Fail> {
+    let data = Tree::data(alloc, bytes)?;
+    Ok(data == *tree)
+}
+
+const AB: &str = "00000000 02000000 | 010000001a000000 6162000000000000";
+
 #[test]
 fn texts_and_data_are_bytes(rt: HostRuntime) -> Result<(), Fail> {
-    let text = Tree::text(rt.alloc(), "ab")?;
-    is_written(
-        &rt,
-        rt.alloc(),
-        &text,
-        0,
-        "00000000 02000000 | 010000001a000000 6162000000000000",
-    )?;
-    let data = Tree::data(rt.alloc(), &[97, 98, 0])?;
-    assert!(rt; data == text);
-    let other = Tree::data(rt.alloc(), &[97, 98, 1])?;
-    assert!(rt; other != text);
+    let text = text(rt.alloc(), "ab")?;
+    is_written(&rt, rt.alloc(), &text, 0, AB)?;
+    assert!(rt; is_data(rt.alloc(), &text, &[97, 98, 0])?);
+    assert!(rt; !is_data(rt.alloc(), &text, &[97, 98, 1])?);
     Ok(())
 }
 
@@ -262,7 +269,10 @@ fn fault_of(alloc: Global, tree: &Tree, caps: u32) -> u16 {
 fn refuses_to_write(rt: HostRuntime) -> Result<(), Fail> {
     for (number, (caps, fault)) in LIMITED.iter().enumerate() {
         let tree = limited(rt.alloc(), number)?;
-        assert_eq!(rt; fault_of(rt.alloc(), &tree, *caps), *fault, "tree {number}");
+        assert!(rt;
+            fault_of(rt.alloc(), &tree, *caps) == *fault,
+            "tree {number}"
+        );
     }
     Ok(())
 }
@@ -276,28 +286,31 @@ fn builds_no_deeper_tree(rt: HostRuntime) -> Result<(), Fail> {
         assert!(rt; false, "a deeper tree was built");
         return Ok(());
     };
-    assert_eq!(rt; fault, WriteFault::Depth);
+    assert!(rt; fault == WriteFault::Depth);
     assert!(rt; pointers.as_slice().is_empty());
-    assert_eq!(rt; fault_of(rt.alloc(), &back, 0), 11);
+    assert!(rt; fault_of(rt.alloc(), &back, 0) == 11);
     is_copied(&rt, rt.alloc(), &back)
+}
+
+fn payload_of(alloc: Global, tree: Tree) -> Result<Payload, Fail> {
+    written_and_read(alloc, &tree, 0)
 }
 
 #[test]
 fn writes_and_copies_the_deepest_payload(rt: HostRuntime) -> Result<(), Fail> {
-    let tree = nested(rt.alloc(), Tree::Null, 64)?;
-    let payload = write_and_read(rt.alloc(), &tree, 0)??;
-    let again = payload.copy(rt.alloc())?.tree(rt.alloc())?;
-    assert!(rt; Payload::write(rt.alloc(), &again, 0)? == payload);
+    let payload = payload_of(rt.alloc(), nested(rt.alloc(), Tree::Null, 64)?)?;
+    let copy = copied(rt.alloc(), &payload)?;
+    let again = payload_of(rt.alloc(), tree_in(rt.alloc(), &copy)?)?;
+    assert!(rt; again == payload);
     Ok(())
 }
 
 /// The largest message.
 #[test]
 fn writes_reads_and_copies_a_large_message(rt: HostRuntime) -> Result<(), Fail> {
-    let tree = zeros(rt.alloc(), 65_535)?;
-    let payload = write_and_read(rt.alloc(), &tree, 0)??;
-    assert_eq!(rt; payload.bytes().len(), 8 * 65_537);
-    let copy = payload.copy(rt.alloc())?;
+    let payload = payload_of(rt.alloc(), zeros(rt.alloc(), 65_535)?)?;
+    assert!(rt; payload.bytes().len() == 8 * 65_537);
+    let copy = copied(rt.alloc(), &payload)?;
     assert!(rt; copy == payload);
     Ok(())
 }
@@ -306,11 +319,11 @@ fn writes_reads_and_copies_a_large_message(rt: HostRuntime) -> Result<(), Fail> 
 #[test]
 fn answers_want_of_memory_for_writing(rt: HostRuntime) {
     match Payload::write(rt.alloc(), &Tree::Cap(0), 1) {
-        Err(fault) => assert_eq!(rt; fault.code(), 1),
+        Err(fault) => assert!(rt; fault.code() == 1),
         Ok(payload) => {
             let bytes = [0, 0, 0, 0, 1, 0, 0, 0, 3, 0, 0, 0, 0, 0, 0, 0];
-            assert_eq!(rt; payload.bytes(), bytes.as_slice());
-            assert_eq!(rt; payload.caps(), 1);
+            assert!(rt; has_bytes(&payload, &bytes));
+            assert!(rt; payload.caps() == 1);
         }
     }
 }
