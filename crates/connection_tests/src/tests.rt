@@ -1,11 +1,17 @@
 //! Two connections that exchange bytes, one whose peer sends what is no conversation, and one whose peer makes a tail call.
+mod calls;
+
+use crate::tests::calls::{
+    command, has_outgoing, is_up, next_event, outgoing, received, shares_nothing, stream_ended, vat,
+};
 use rpc_msg::{
     CallId, CapAt, Exception, ExceptionKind, Items, ObjectId, Op, Payload, RefId, TaskId, Text, Vat,
 };
 use std::alloc::Global;
+use std::process::Abort;
 use std::test::Fail;
-use vat_connection::{Connection, Delivery, Event, Outcome};
-use vat_machine::{CallCommand, Command, Granted, Level, Refusal};
+use vat_connection::{Connection, Delivery, Ended, Event, Outcome, Refused};
+use vat_machine::{CallCommand, Command, Granted, Refusal};
 use vat_payloads::contents;
 
 /// One segment of three words: a struct of one word and one pointer, number 9 in the union, and null.
@@ -59,72 +65,119 @@ const FINISHES: [u8; 80] = [
     0, 0, 0, 0, 1, 0, 0, 0, 0, 0, 0, 0, 0, 0, 0, 0,
 ];
 
-fn vat(alloc: Global, vat: Vat, root: Option<ObjectId>) -> Result<Connection, Fail> {
-    Ok(Connection::new(alloc, vat, Level::One, root)?)
-}
-
 /// Asks the peer for its bootstrap object.
-fn asked(connection: &mut Connection) -> Result<CallId, Fail> {
-    match connection.command(Command::Bootstrap)? {
+pub(crate) fn asked(connection: &mut Connection) -> Result<CallId, Fail> {
+    match command(connection, Command::Bootstrap)? {
         Granted::Call(call) => Ok(call),
         _ => Err("no call")?,
     }
 }
 
 /// The reference that a command makes.
-fn made(connection: &mut Connection, command: Command) -> Result<RefId, Fail> {
-    match connection.command(command)? {
+fn made(connection: &mut Connection, making: Command) -> Result<RefId, Fail> {
+    match command(connection, making)? {
         Granted::Reference(reference) => Ok(reference),
         _ => Err("no reference")?,
     }
 }
 
 /// Hands all that one has to send to the other, in pieces of that length, and gives how many bytes.
-fn carry(from: &mut Connection, to: &mut Connection, piece: usize) -> usize {
-    let bytes = from.outgoing();
+pub(crate) fn carry(from: &mut Connection, to: &mut Connection, piece: usize) -> usize {
+    let bytes = outgoing(from);
     if piece > 0 {
         for part in bytes.chunks(piece) {
-            to.received(part);
+            received(to, part);
         }
     }
     bytes.len()
 }
 
+fn drops(connection: &mut Connection, reference: RefId) -> bool {
+    connection.command(Command::DropRef(reference)).is_ok()
+}
+
 fn let_go(connection: &mut Connection, refs: &[RefId]) -> Result<(), Fail> {
+    let mut all = true;
     for reference in refs {
-        connection.command(Command::DropRef(*reference))?;
+        if !drops(connection, *reference) {
+            all = false;
+        }
     }
-    Ok(())
+    match all {
+        true => Ok(()),
+        false => Err("a reference is kept")?,
+    }
+}
+
+fn served_by(event: Option<Event>) -> Option<Delivery> {
+    match event {
+        Some(Event::Served(task)) => Some(task),
+        _ => None,
+    }
+}
+
+fn ended_by(event: Option<Event>) -> Option<Ended> {
+    match event {
+        Some(Event::Ended(ended)) => Some(ended),
+        _ => None,
+    }
+}
+
+fn down_by(event: Option<Event>) -> Option<u16> {
+    match event {
+        Some(Event::Down(number)) => Some(number),
+        _ => None,
+    }
+}
+
+/// The number with which a vat went down, where that is told next.
+pub(crate) fn next_down(connection: &mut Connection) -> Option<u16> {
+    down_by(next_event(connection))
+}
+
+/// The own call that is told next as ended.
+pub(crate) fn next_ended(connection: &mut Connection) -> Option<Ended> {
+    ended_by(next_event(connection))
+}
+
+pub(crate) fn tells_nothing(connection: &mut Connection) -> bool {
+    next_event(connection).is_none()
 }
 
 fn answer_task(alloc: Global, connection: &mut Connection, task: &Delivery) -> Result<(), Fail> {
     let refs = &task.refs;
     let (payload, given) = contents(alloc, &[7], "seven", refs)?;
-    connection.command(Command::Answer(task.task, payload, given))?;
+    command(connection, Command::Answer(task.task, payload, given))?;
     let_go(connection, refs)
 }
 
 /// What the served call of a connection is answered with: the references that came with it.
-fn answer(alloc: Global, connection: &mut Connection) -> Result<(), Fail> {
-    let Some(Event::Served(task)) = connection.next_event() else {
-        return Err("no call")?;
-    };
-    answer_task(alloc, connection, &task)
+pub(crate) fn answer(alloc: Global, connection: &mut Connection) -> Result<(), Fail> {
+    match served_by(next_event(connection)) {
+        Some(task) => answer_task(alloc, connection, &task),
+        None => Err("no call")?,
+    }
 }
 
-/// The call that has ended, and what it gave.
-fn ended(connection: &mut Connection) -> Result<(CallId, Items<RefId>), Fail> {
-    let Some(Event::Ended(ended)) = connection.next_event() else {
-        return Err("no end")?;
-    };
-    Ok((ended.call, ended.refs))
+/// The call that has ended.
+fn ended(connection: &mut Connection) -> Result<CallId, Fail> {
+    match next_ended(connection) {
+        Some(ended) => Ok(ended.call),
+        None => Err("no end")?,
+    }
+}
+
+fn finish_call(connection: &mut Connection, ended: &Ended) -> Result<(), Fail> {
+    command(connection, Command::Finish(ended.call))?;
+    let_go(connection, &ended.refs)
 }
 
 /// Finishes a call that has ended, and drops what it gave.
 fn finish(connection: &mut Connection) -> Result<(), Fail> {
-    let (call, refs) = ended(connection)?;
-    connection.command(Command::Finish(call))?;
-    let_go(connection, &refs)
+    match next_ended(connection) {
+        Some(ended) => finish_call(connection, &ended),
+        None => Err("no end")?,
+    }
 }
 
 /// A reference to the peer's bootstrap object, and one to an object of its own.
@@ -136,7 +189,7 @@ fn referred(alloc: Global, connection: &mut Connection) -> Result<(RefId, RefId)
 }
 
 /// A call that says these numbers and a word, with these references.
-fn call(
+fn saying(
     alloc: Global,
     reference: RefId,
     numbers: &[u64],
@@ -152,6 +205,17 @@ fn call(
     })
 }
 
+/// Makes that call.
+pub(crate) fn call(
+    alloc: Global,
+    connection: &mut Connection,
+    reference: RefId,
+    given: &[RefId],
+) -> Result<CallId, Fail> {
+    let call = saying(alloc, reference, &[7], given)?;
+    Ok(connection.call(call)?)
+}
+
 /// A call with a reference, answered and let go, by pieces of that length: the bytes that went over.
 fn converse(
     alloc: Global,
@@ -160,7 +224,7 @@ fn converse(
     piece: usize,
 ) -> Result<[usize; 4], Fail> {
     let (object, own) = referred(alloc, a)?;
-    a.call(call(alloc, object, &[7], &[own])?)?;
+    call(alloc, a, object, &[own])?;
     let asked = carry(a, b, piece);
     answer(alloc, b)?;
     let answered = carry(b, a, piece);
@@ -172,15 +236,25 @@ fn converse(
     Ok([asked, answered, finished, released])
 }
 
-/// The bytes of a whole conversation, after which the two share nothing.
+/// The bytes of that, after which the two share nothing.
+fn conversed(
+    alloc: Global,
+    a: &mut Connection,
+    b: &mut Connection,
+    piece: usize,
+) -> Result<[usize; 4], Fail> {
+    let sent = converse(alloc, a, b, piece)?;
+    match shares_nothing(a) && shares_nothing(b) {
+        true => Ok(sent),
+        false => Err("something is left")?,
+    }
+}
+
+// A connection is let go at each exit, and so a scene is a function of its own.
 fn conversation(alloc: Global, piece: usize) -> Result<[usize; 4], Fail> {
     let mut a = vat(alloc, Vat::A, None)?;
     let mut b = vat(alloc, Vat::B, Some(ObjectId(0)))?;
-    let sent = converse(alloc, &mut a, &mut b, piece)?;
-    if a.core().shares_nothing() && b.core().shares_nothing() {
-        return Ok(sent);
-    }
-    Err("something is left")?
+    conversed(alloc, &mut a, &mut b, piece)
 }
 
 #[test]
@@ -193,48 +267,75 @@ fn pieces_of_any_length_say_the_same(rt: HostRuntime) -> Result<(), Fail> {
     Ok(())
 }
 
+fn sends_back(rt: &impl Abort, a: &mut Connection) {
+    received(a, &STRANGE);
+    assert!(rt; has_outgoing(a));
+    let bytes = outgoing(a);
+    assert!(rt; bytes.as_slice() == SENT_BACK.as_slice());
+    assert!(rt; !has_outgoing(a));
+    assert!(rt; is_up(a));
+}
+
 #[test]
 fn what_is_not_understood_goes_back_whole(rt: HostRuntime) -> Result<(), Fail> {
     let mut a = vat(rt.alloc(), Vat::A, None)?;
-    a.received(&STRANGE);
-    assert!(rt; a.has_outgoing());
-    let bytes = a.outgoing();
-    assert!(rt; bytes.as_slice() == SENT_BACK.as_slice());
-    assert!(rt; !a.has_outgoing());
-    assert!(rt; a.core().down().is_none());
+    sends_back(&rt, &mut a);
+    Ok(())
+}
+
+/// What is no frame, and what comes behind it: the vat is down, and so is its peer then.
+fn goes_down(rt: &impl Abort, a: &mut Connection, b: &mut Connection, bytes: &[u8], number: u16) {
+    received(a, bytes);
+    received(a, &STRANGE);
+    assert!(rt; next_down(a) == Some(number));
+    assert!(rt; tells_nothing(a));
+    carry(a, b, 5);
+    assert!(rt; next_down(b) == Some(34));
+    assert!(rt; !has_outgoing(b));
+}
+
+fn takes_down(rt: &impl Abort, alloc: Global, bytes: &[u8], number: u16) -> Result<(), Fail> {
+    let mut a = vat(alloc, Vat::A, None)?;
+    let mut b = vat(alloc, Vat::B, None)?;
+    goes_down(rt, &mut a, &mut b, bytes, number);
     Ok(())
 }
 
 #[test]
 fn what_is_no_frame_takes_a_vat_down(rt: HostRuntime) -> Result<(), Fail> {
     for (bytes, number) in &AT_FAULT {
-        let mut a = vat(rt.alloc(), Vat::A, None)?;
-        let mut b = vat(rt.alloc(), Vat::B, None)?;
-        a.received(bytes);
-        a.received(&STRANGE);
-        assert!(rt; matches!(a.next_event(), Some(Event::Down(down)) if down == *number));
-        assert!(rt; a.next_event().is_none());
-        carry(&mut a, &mut b, 5);
-        assert!(rt; matches!(b.next_event(), Some(Event::Down(34))));
-        assert!(rt; !b.has_outgoing());
+        takes_down(&rt, rt.alloc(), bytes, *number)?;
     }
     Ok(())
+}
+
+fn refuses_bootstrap(connection: &mut Connection) -> bool {
+    connection.command(Command::Bootstrap).is_err()
+}
+
+/// The stream of a vat with an open call ends behind these bytes, and once more.
+fn ends_behind(rt: &impl Abort, a: &mut Connection, bytes: &[u8], number: u16) -> Result<(), Fail> {
+    let own = asked(a)?;
+    received(a, bytes);
+    stream_ended(a);
+    assert!(rt; ended(a)? == own);
+    assert!(rt; next_down(a) == Some(number));
+    stream_ended(a);
+    assert!(rt; tells_nothing(a));
+    assert!(rt; has_outgoing(a));
+    assert!(rt; refuses_bootstrap(a));
+    Ok(())
+}
+
+fn stream_ends(rt: &impl Abort, alloc: Global, bytes: &[u8], number: u16) -> Result<(), Fail> {
+    let mut a = vat(alloc, Vat::A, None)?;
+    ends_behind(rt, &mut a, bytes, number)
 }
 
 #[test]
 fn the_stream_ends(rt: HostRuntime) -> Result<(), Fail> {
     for (bytes, number) in [(0, 0), (1, 2), (31, 2), (32, 0)] {
-        let mut a = vat(rt.alloc(), Vat::A, None)?;
-        let own = asked(&mut a)?;
-        a.received(&STRANGE[..bytes]);
-        a.ended();
-        let (call, _) = ended(&mut a)?;
-        assert!(rt; call == own);
-        assert!(rt; matches!(a.next_event(), Some(Event::Down(down)) if down == number));
-        a.ended();
-        assert!(rt; a.next_event().is_none());
-        assert!(rt; a.has_outgoing());
-        assert!(rt; a.command(Command::Bootstrap).is_err());
+        stream_ends(&rt, rt.alloc(), &STRANGE[..bytes], number)?;
     }
     Ok(())
 }
@@ -250,23 +351,42 @@ fn fits(
     for _ in 0..count {
         numbers.push(7)?;
     }
-    match connection.call(call(alloc, reference, numbers.as_slice(), &[])?) {
-        Ok(_) => Ok(true),
-        Err(refused) if refused.refusal == Refusal::Full => Ok(false),
-        Err(refused) => Err(refused.refusal)?,
+    let call = saying(alloc, reference, numbers.as_slice(), &[])?;
+    match refusal_of(connection, call) {
+        None => Ok(true),
+        Some(Refusal::Full) => Ok(false),
+        Some(refusal) => Err(refusal)?,
     }
+}
+
+fn refusal_in(answer: Result<CallId, Refused<CallCommand>>) -> Option<Refusal> {
+    match answer {
+        Ok(_) => None,
+        Err(refused) => Some(refused.refusal),
+    }
+}
+
+fn refusal_of(connection: &mut Connection, call: CallCommand) -> Option<Refusal> {
+    refusal_in(connection.call(call))
+}
+
+fn refuses_what_is_too_large(
+    rt: &impl Abort,
+    alloc: Global,
+    a: &mut Connection,
+) -> Result<(), Fail> {
+    let (reference, _) = referred(alloc, a)?;
+    assert!(rt; fits(alloc, a, reference, 65_502)?);
+    assert!(rt; !fits(alloc, a, reference, 65_505)?);
+    assert!(rt; 8 * 65_502 < outgoing(a).len());
+    assert!(rt; is_up(a));
+    Ok(())
 }
 
 #[test]
 fn a_payload_too_large_for_a_frame_is_refused(rt: HostRuntime) -> Result<(), Fail> {
     let mut a = vat(rt.alloc(), Vat::A, None)?;
-    let (reference, _) = referred(rt.alloc(), &mut a)?;
-    for (count, wanted) in [(65_502, true), (65_505, false)] {
-        assert!(rt; fits(rt.alloc(), &mut a, reference, count)? == wanted);
-    }
-    assert!(rt; 8 * 65_502 < a.outgoing().len());
-    assert!(rt; a.core().down().is_none());
-    Ok(())
+    refuses_what_is_too_large(&rt, rt.alloc(), &mut a)
 }
 
 fn gone(alloc: Global) -> Result<Exception, Fail> {
@@ -291,16 +411,9 @@ fn broken_and_own(alloc: Global, connection: &mut Connection) -> Result<[RefId; 
     Ok([broken, own])
 }
 
-fn task_in(event: Option<Event>) -> Option<TaskId> {
-    match event {
-        Some(Event::Served(task)) => Some(task.task),
-        _ => None,
-    }
-}
-
 fn served(connection: &mut Connection) -> Result<TaskId, Fail> {
-    match task_in(connection.next_event()) {
-        Some(task) => Ok(task),
+    match served_by(next_event(connection)) {
+        Some(task) => Ok(task.task),
         None => Err("no call")?,
     }
 }
@@ -330,10 +443,10 @@ fn payload_of(outcome: Outcome) -> Option<Payload> {
     }
 }
 
-fn results_in(event: Option<Event>) -> Option<Payload> {
-    match event {
-        Some(Event::Ended(ended)) => payload_of(ended.outcome),
-        _ => None,
+fn results_of(ended: Option<Ended>) -> Option<Payload> {
+    match ended {
+        Some(ended) => payload_of(ended.outcome),
+        None => None,
     }
 }
 
@@ -344,8 +457,8 @@ fn is_null_first(payload: &Payload) -> bool {
         && payload.cap_at(&[Op::Field(2)]) == CapAt::Cap(1)
 }
 
-fn ends_with_null_first(event: Option<Event>) -> bool {
-    match results_in(event) {
+fn ends_with_null_first(ended: Option<Ended>) -> bool {
+    match results_of(ended) {
         Some(payload) => is_null_first(&payload),
         None => false,
     }
@@ -354,7 +467,7 @@ fn ends_with_null_first(event: Option<Event>) -> bool {
 /// Calls the peer's bootstrap object.
 fn called(alloc: Global, connection: &mut Connection) -> Result<(), Fail> {
     let (object, _) = referred(alloc, connection)?;
-    connection.call(call(alloc, object, &[], &[])?)?;
+    call(alloc, connection, object, &[])?;
     Ok(())
 }
 
@@ -365,7 +478,7 @@ fn null_came(alloc: Global, a: &mut Connection, b: &mut Connection) -> Result<bo
     answer_with_broken(alloc, b)?;
     carry(b, a, 99);
     ended(a)?;
-    Ok(ends_with_null_first(a.next_event()))
+    Ok(ends_with_null_first(next_ended(a)))
 }
 
 fn null_goes(alloc: Global) -> Result<bool, Fail> {
@@ -381,20 +494,27 @@ fn a_broken_reference_goes_as_null(rt: HostRuntime) -> Result<(), Fail> {
     Ok(())
 }
 
+fn hear_tail_call(a: &mut Connection) {
+    for bytes in [BOOTSTRAP.as_slice(), TAIL_CALL.as_slice(), TAKE.as_slice()] {
+        received(a, bytes);
+    }
+}
+
+fn ends_by_tail_call(rt: &impl Abort, alloc: Global, a: &mut Connection) -> Result<(), Fail> {
+    let own = asked(a)?;
+    hear_tail_call(a);
+    answer(alloc, a)?;
+    assert!(rt; ended(a)? == own);
+    command(a, Command::Finish(own))?;
+    received(a, &FINISHES);
+    assert!(rt; tells_nothing(a));
+    assert!(rt; shares_nothing(a));
+    Ok(())
+}
+
 /// The peer asks for the bootstrap object, makes a tail call to it, and gives that call's results as those of this vat's own call.
 #[test]
 fn a_tail_call_ends_an_own_call(rt: HostRuntime) -> Result<(), Fail> {
     let mut a = vat(rt.alloc(), Vat::A, Some(ObjectId(0)))?;
-    let own = asked(&mut a)?;
-    for bytes in [BOOTSTRAP.as_slice(), TAIL_CALL.as_slice(), TAKE.as_slice()] {
-        a.received(bytes);
-    }
-    answer(rt.alloc(), &mut a)?;
-    let (call, _) = ended(&mut a)?;
-    assert!(rt; call == own);
-    a.command(Command::Finish(own))?;
-    a.received(&FINISHES);
-    assert!(rt; a.next_event().is_none());
-    assert!(rt; a.core().shares_nothing());
-    Ok(())
+    ends_by_tail_call(&rt, rt.alloc(), &mut a)
 }

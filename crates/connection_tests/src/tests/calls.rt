@@ -1,0 +1,43 @@
+//! The calls of a connection. No clause says what they do here: a test is proved quicker where nothing is known of what it
+//! compares.
+use rpc_msg::{ObjectId, Vat};
+use std::alloc::Global;
+use std::test::Fail;
+use vat_connection::{Connection, Event};
+use vat_machine::{Command, Granted, Level};
+
+pub(crate) fn vat(alloc: Global, vat: Vat, root: Option<ObjectId>) -> Result<Connection, Fail> {
+    Ok(Connection::new(alloc, vat, Level::One, root)?)
+}
+
+pub(crate) fn command(connection: &mut Connection, command: Command) -> Result<Granted, Fail> {
+    Ok(connection.command(command)?)
+}
+
+pub(crate) fn received(connection: &mut Connection, bytes: &[u8]) {
+    connection.received(bytes);
+}
+
+pub(crate) fn outgoing(connection: &mut Connection) -> Vec<u8> {
+    connection.outgoing()
+}
+
+pub(crate) fn has_outgoing(connection: &Connection) -> bool {
+    connection.has_outgoing()
+}
+
+pub(crate) fn stream_ended(connection: &mut Connection) {
+    connection.ended();
+}
+
+pub(crate) fn is_up(connection: &Connection) -> bool {
+    connection.core().down().is_none()
+}
+
+pub(crate) fn shares_nothing(connection: &Connection) -> bool {
+    connection.core().shares_nothing()
+}
+
+pub(crate) fn next_event(connection: &mut Connection) -> Option<Event> {
+    connection.next_event()
+}
