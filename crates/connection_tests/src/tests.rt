@@ -1,5 +1,6 @@
 //! Two connections that exchange bytes, one whose peer sends what is no conversation, and one whose peer makes a tail call.
 mod calls;
+mod going_down;
 
 use crate::tests::calls::{
     command, has_outgoing, is_up, next_event, outgoing, received, shares_nothing, stream_ended, vat,
@@ -205,7 +206,7 @@ fn saying(
     })
 }
 
-/// Makes that call.
+/// Makes a call that says 7 and a word, with these references.
 pub(crate) fn call(
     alloc: Global,
     connection: &mut Connection,

@@ -1,10 +1,10 @@
 //! The calls of a connection. No clause says what they do here: a test is proved quicker where nothing is known of what it
 //! compares.
-use rpc_msg::{ObjectId, Vat};
+use rpc_msg::{CallId, ObjectId, RefId, Vat};
 use std::alloc::Global;
 use std::test::Fail;
 use vat_connection::{Connection, Event};
-use vat_machine::{Command, Granted, Level};
+use vat_machine::{Command, Granted, Level, Refusal};
 
 pub(crate) fn vat(alloc: Global, vat: Vat, root: Option<ObjectId>) -> Result<Connection, Fail> {
     Ok(Connection::new(alloc, vat, Level::One, root)?)
@@ -40,4 +40,20 @@ pub(crate) fn shares_nothing(connection: &Connection) -> bool {
 
 pub(crate) fn next_event(connection: &mut Connection) -> Option<Event> {
     connection.next_event()
+}
+
+pub(crate) fn bootstrap(connection: &mut Connection) -> Result<CallId, Refusal> {
+    connection.bootstrap()
+}
+
+pub(crate) fn result_of(connection: &mut Connection, call: CallId) -> Result<RefId, Fail> {
+    Ok(connection.result_of(call)?)
+}
+
+pub(crate) fn finish(connection: &mut Connection, call: CallId) -> Result<(), Fail> {
+    Ok(connection.finish(call)?)
+}
+
+pub(crate) fn shut(connection: &mut Connection, number: u16) {
+    connection.shut(number);
 }
