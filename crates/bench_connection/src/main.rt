@@ -21,8 +21,7 @@ fn rate(count: u32, nanos: u128) -> u128 {
 }
 
 /// Prints how many round trips take place in a second, and how many cycles with an embargo.
-fn measure(rt: &HostRuntime, trips: u32, cycles: u32) -> Result<()> {
-    let mut pair = Pair::new(rt.alloc())?;
+fn measure(rt: &HostRuntime, pair: &mut Pair, trips: u32, cycles: u32) -> Result<()> {
     let start = Instant::now(rt)?;
     for _ in 0..trips {
         pair.round_trip()?;
@@ -46,6 +45,8 @@ fn main(rt: HostRuntime) -> Result<ExitCode> {
     let Some(cycles) = words.next() else {
         bail!("usage: bench_connection TRIPS CYCLES");
     };
-    measure(&rt, trips.as_str().parse()?, cycles.as_str().parse()?)?;
+    let (trips, cycles) = (trips.as_str().parse()?, cycles.as_str().parse()?);
+    let mut pair = Pair::new(rt.alloc())?;
+    measure(&rt, &mut pair, trips, cycles)?;
     Ok(ExitCode::SUCCESS)
 }

@@ -18,18 +18,7 @@ impl Pair {
     pub(crate) fn new(alloc: Global) -> Result<Pair> {
         let mut a = Side::new(alloc, Vat::A, None)?;
         let mut b = Side::new(alloc, Vat::B, Some(ObjectId(0)))?;
-        a.connection.bootstrap()?;
-        a.send(&mut b);
-        b.send(&mut a);
-        let root = given(a.ended()?)?;
-        let own = a.connection.host(ObjectId(1))?;
-        a.call(root, Some(own))?;
-        a.send(&mut b);
-        let task = b.served()?;
-        b.answer(task.id, None)?;
-        b.send(&mut a);
-        a.ended()?;
-        let theirs = given(task.given)?;
+        let (root, theirs) = meet(&mut a, &mut b)?;
         Ok(Pair { a, b, root, theirs })
     }
 
@@ -82,6 +71,23 @@ impl Pair {
         self.b.send(&mut self.a);
         Ok(reference)
     }
+}
+
+// Each gets a reference to an object of the other's.
+fn meet(a: &mut Side, b: &mut Side) -> Result<(RefId, RefId)> {
+    a.connection.bootstrap()?;
+    a.send(b);
+    b.send(a);
+    let root = given(a.ended()?)?;
+    let own = a.connection.host(ObjectId(1))?;
+    a.call(root, Some(own))?;
+    a.send(b);
+    let task = b.served()?;
+    b.answer(task.id, None)?;
+    b.send(a);
+    a.ended()?;
+    let theirs = given(task.given)?;
+    Ok((root, theirs))
 }
 
 fn given(reference: Option<RefId>) -> Result<RefId> {

@@ -24,10 +24,12 @@ pub(crate) struct Side {
 
 impl Side {
     pub(crate) fn new(alloc: Global, vat: Vat, root: Option<ObjectId>) -> Result<Side> {
+        let null = Payload::null(alloc)?;
+        let capability = Payload::root_capability(alloc)?;
         Ok(Side {
             connection: Connection::new(alloc, vat, Level::One, root)?,
-            null: Payload::null(alloc)?,
-            capability: Payload::root_capability(alloc)?,
+            null,
+            capability,
             alloc,
         })
     }
