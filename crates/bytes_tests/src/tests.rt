@@ -1,5 +1,7 @@
 //! Each kind of message through its frame, contents as deep as frames allow, and what is not understood. Where an allocation is
 //! refused (`scripts/refused`) each ends in an error that says so, and in no other answer.
+mod texts;
+
 use rpc_bytes::laws::encode_and_decode;
 use rpc_bytes::{
     DecodeError, EncodeError, EncodeFault, Envelope, EnvelopeFault, Unknown, decode, echo, encode,
