@@ -5,8 +5,8 @@ a stream says what its frames say, up to the first fault.
 
     python3 scripts/drawn_bytes.py [SEED]
 
-at the top of the repository, once `rt run` has built `rpc_dump` and `bytes_scenes` (in their folders); `RPC_DUMP` and
-`BYTES_SCENES` name other files to run. The envelopes that are mutated are those of `bytes_scenes`. It prints the seed, and
+at the top of the repository, once `rt run` has built `rpc_dump` and `scenes_bytes` (in their folders); `RPC_DUMP` and
+`BYTES_SCENES` name other files to run. The envelopes that are mutated are those of `scenes_bytes`. It prints the seed, and
 what it saw; the same seed draws the same bytes."""
 import json
 import os
@@ -16,8 +16,8 @@ import sys
 import tempfile
 
 DUMP = os.environ.get("RPC_DUMP", "crates/rpc_dump/out/rpc_dump")
-SCENES = os.environ.get("BYTES_SCENES", "crates/bytes_scenes/out/bytes_scenes")
-ENVELOPES = "crates/bytes_scenes/stdin"
+SCENES = os.environ.get("BYTES_SCENES", "crates/scenes_bytes/out/scenes_bytes")
+ENVELOPES = "crates/scenes_bytes/stdin"
 RANDOM_BYTES = 1_000_000
 MUTATED = 20_000
 STREAMS = 400
@@ -102,7 +102,7 @@ def mutated(draw, envelopes):
 
 
 def encoded(frames):
-    """What `bytes_scenes` says of each frame; None of a message that can't be encoded, at which it ends."""
+    """What `scenes_bytes` says of each frame; None of a message that can't be encoded, at which it ends."""
     answers = []
     while len(answers) < len(frames):
         out, error, status = ended([SCENES], in_hex(frames[len(answers) :]))

@@ -5,7 +5,7 @@ links of 5,000.
 
     python3 scripts/ends_ratio.py [TIMES]
 
-at the top of the repository, with nothing else running, once `rt run` has built `bench` and `bench_ends` (in their folders); `BENCH`
+at the top of the repository, with nothing else running, once `rt run` has built `bench_parts` and `bench_ends` (in their folders); `BENCH`
 and `BENCH_ENDS` name other files to run. It prints the least, the middle and the greatest of TIMES (15) runs of each, in round trips a
 second, and of each run by one thread its ratio to the world's run beside it.
 
@@ -17,7 +17,7 @@ import statistics
 import subprocess
 import sys
 
-BENCH = os.environ.get("BENCH", "crates/bench/out/bench")
+BENCH = os.environ.get("BENCH", "crates/bench_parts/out/bench_parts")
 ENDS = os.environ.get("BENCH_ENDS", "crates/bench_ends/out/bench_ends")
 KEPT = {"MALLOC_TRIM_THRESHOLD_": str(1 << 30), "MALLOC_MMAP_THRESHOLD_": str(1 << 30)}
 PLAYED = {

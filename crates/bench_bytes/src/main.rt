@@ -7,7 +7,7 @@
 #![tactic(auto)]
 
 use anyhow::{Result, anyhow};
-use rpc_bytes::{decode, encode};
+use rpc_codec::{decode, encode};
 use rpc_msg::{
     Call, ExportId, Finish, Items, Message, Payload, PlainMessage, QuestionId, RefId, Return,
     ReturnBody, Stamp, Target, Tree, Vat,

@@ -1,9 +1,9 @@
 //! Why a measurement is given up.
 
 use link_driver::LinkFault;
+use rpc_machine::Refusal;
 use rpc_msg::Memory;
 use thiserror::Error;
-use vat_machine::Refusal;
 
 /// A step did not do what is measured.
 #[derive(Clone, Copy, Debug, PartialEq, Eq, Drop, Error)]

@@ -5,10 +5,10 @@ ghost use Rattle.link_driver.specs.Ends.{IsNewCore};
 
 use crate::astray::Astray;
 use link_driver::{EndA, EndB, Turn, VatEnd, link};
+use rpc_machine::{CallCommand, Effects, Level};
 use rpc_msg::{CallId, Items, ObjectId, Payload, RefId, TaskId, Vat};
 use std::alloc::Global;
 use vat_core::Core;
-use vat_machine::{CallCommand, Effects, Level};
 
 /// The ends of two new vats, over rings of that many places; B has a bootstrap object.
 pub(crate) fn linked(alloc: Global, places: usize) -> Result<(EndA, EndB), Astray> {

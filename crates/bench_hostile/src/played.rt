@@ -1,8 +1,8 @@
 //! What steps did, counted.
 
 use anyhow::{Result, bail};
+use rpc_machine::Effects;
 use rpc_msg::{Message, PlainMessage};
-use vat_machine::Effects;
 
 /// How many steps there were, what they sent, and how many calls reached the vat's objects.
 #[derive(Clone, Copy, PartialEq, Eq, Drop)]

@@ -3,13 +3,13 @@
 use crate::contents::{fields, null_with};
 use crate::played::Played;
 use anyhow::{Result, bail};
+use rpc_machine::{CallCommand, Effects, Level, Refusal};
 use rpc_msg::{
     Call, CallId, Descriptor, ExportId, Finish, Items, Message, ObjectId, Path, Payload,
     PlainMessage, PromiseId, QuestionId, RefId, Return, ReturnBody, Stamp, Target, TaskId, Vat,
 };
 use std::alloc::Global;
 use vat_core::Core;
-use vat_machine::{CallCommand, Effects, Level, Refusal};
 
 /// What the peer gives at first.
 const OBJECT: ExportId = ExportId(7);

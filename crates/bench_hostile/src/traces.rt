@@ -3,12 +3,12 @@
 use crate::contents::null_with;
 use crate::played::Played;
 use anyhow::{Result, bail};
+use rpc_check::{Verdict, check};
+use rpc_journal::{Counts, JournalEntry};
 use rpc_msg::{
     Descriptor, ExportId, Finish, Items, Message, PlainMessage, QuestionId, Return, ReturnBody, Vat,
 };
 use std::alloc::Global;
-use trace_check::{Verdict, check};
-use vat_journal::{Counts, JournalEntry};
 
 /// A Return with so many descriptors, so many Finishes of its question, each of which gives all of them back, and the counts
 /// that these messages make.

@@ -1,7 +1,7 @@
 -- The payloads of one word each that are made of constant bytes.
 use Rattle.std.proofs.Common.{◌≡◌, ℕ, zero, suc, ◌<◌, List, [], ◌∷◌, refl, arith}
-use Rattle.wire_trees.specs.Trees.{null, capability}
-use Rattle.wire_trees.specs.Widths.{AreOf}
+use Rattle.capn_trees.specs.Trees.{null, capability}
+use Rattle.capn_trees.specs.Widths.{AreOf}
 use Rattle.capn_wire.specs.Payloads.{IsEncoded, tree_of, null_payload, root_payload}
 use Rattle.capn_wire.proofs.Written.{says_written}
 

@@ -2,11 +2,11 @@
 use Rattle.std.proofs.Common.{◌≡◌, ℕ, ◌+◌, ◌<◌, ◌≤◌, List, [], ◌∷◌, Option, Some, drop, get_or, length, refl, sym, ap, ◌∙◌}
 use Rattle.std.specs.Option.{option_and_then}
 use Rattle.std.proofs.lemmas.List.{drop_all, drop_more}
-use Rattle.wire_trees.specs.Trees as tree
-use Rattle.wire_trees.specs.Trees.{Tree}
-use Rattle.wire_reading.specs.declared.place.Kind.{Kind}
-use Rattle.wire_reading.specs.declared.place.Kind.TheVariants as kind
-use Rattle.wire_reading.specs.Looking.{field, kind_of}
+use Rattle.capn_trees.specs.Trees as tree
+use Rattle.capn_trees.specs.Trees.{Tree}
+use Rattle.capn_reading.specs.declared.place.Kind.{Kind}
+use Rattle.capn_reading.specs.declared.place.Kind.TheVariants as kind
+use Rattle.capn_reading.specs.Looking.{field, kind_of}
 use Rattle.capn_wire.specs.declared.path.Op.{Op}
 use Rattle.capn_wire.specs.declared.path.Op.TheVariants as op
 use Rattle.capn_wire.specs.declared.path.CapAt.{CapAt}

@@ -5,13 +5,13 @@ use Rattle.std.proofs.lemmas.List.{get_or-drop, get_or-take, get_or_past, length
 use Rattle.std.proofs.lemmas.Nat.{shr-shr, shr_high, mod_low, pow_pos}
 use Rattle.std.proofs.lemmas.Bool.{cases_lt}
 use Rattle.std.proofs.Math.Nat.{mul-le-mul_right}
-use Rattle.wire_trees.specs.declared.width.Width.{Width}
-use Rattle.wire_trees.specs.declared.width.Width.TheVariants as width
-use Rattle.wire_trees.specs.Widths.{AreOf, bits_of, packed_size}
-use Rattle.wire_reading.specs.Reading.{element, elements}
-use Rattle.wire_writing.specs.Placing.{joined, packed_words}
-use Rattle.wire_reading.proofs.Building.{elements_void}
-use Rattle.wire_writing.proofs.Filled.{are_drop, are_take}
+use Rattle.capn_trees.specs.declared.width.Width.{Width}
+use Rattle.capn_trees.specs.declared.width.Width.TheVariants as width
+use Rattle.capn_trees.specs.Widths.{AreOf, bits_of, packed_size}
+use Rattle.capn_reading.specs.Reading.{element, elements}
+use Rattle.capn_writing.specs.Placing.{joined, packed_words}
+use Rattle.capn_reading.proofs.Building.{elements_void}
+use Rattle.capn_writing.proofs.Filled.{are_drop, are_take}
 
 digit : (b : ℕ) (xs : List ℕ) (k : ℕ) → AreOf b xs → k < length xs → joined b xs / 2 ^ (k * b) % 2 ^ b ≡ get_or xs k 0
 digit b [] k fit lt = absurd (omega arith)

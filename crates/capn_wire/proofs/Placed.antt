@@ -3,33 +3,33 @@ use Rattle.std.proofs.Common.{◌≡◌, ℕ, zero, suc, ◌+◌, ◌-◌, ◌*�
 use Rattle.std.specs.Prelude.{⊤}
 use Rattle.std.proofs.lemmas.List.{length-append, get_or_at, drop_at, take_at, take-append-drop, length-take-le}
 use Rattle.std.proofs.lemmas.Bool.{eqb-true, eqb-false, ltb-false, le-ltb, and_parts, or_parts, not-false}
-use Rattle.wire_trees.specs.declared.width.Width.{Width}
-use Rattle.wire_trees.specs.declared.width.Width.TheVariants as width
-use Rattle.wire_reading.specs.declared.pointer.Shape.{Shape}
-use Rattle.wire_reading.specs.declared.pointer.Shape.TheVariants as shape
-use Rattle.wire_reading.specs.declared.pointer.Pointer.{Pointer}
-use Rattle.wire_reading.specs.declared.pointer.Pointer.TheVariants as pointer
-use Rattle.wire_reading.specs.declared.referent.Referent.{Referent}
-use Rattle.wire_reading.specs.declared.referent.Referent.TheVariants as referent
-use Rattle.wire_reading.specs.declared.layout.Layout.{Layout}
-use Rattle.wire_reading.specs.declared.layout.Layout.TheVariants as layout
-use Rattle.wire_trees.specs.Widths.{AreOf, bits_of, packed_size}
-use Rattle.wire_reading.specs.Pointers.{decoded, tag_of}
-use Rattle.wire_reading.specs.Following.{◌>>=◌, visit, target, leads, followed}
-use Rattle.wire_trees.specs.Limits.{most_visited}
-use Rattle.wire_reading.specs.Layouts.{laid, weight, tagged}
-use Rattle.wire_trees.specs.Trees as tree
-use Rattle.wire_trees.specs.Trees.{Tree, Trees, Elements, Structs, trees_count, structs_count}
-use Rattle.wire_reading.specs.Reading.{Reading, elements, pointers_at, structs_at, content_of, reading}
-use Rattle.wire_writing.specs.Placing.{packed_words, size_number, struct_word, list_word, struct_pointer, offset_of, placed, placed_all, placed_list, placed_structs}
-use Rattle.wire_writing.specs.Fitting.{Fits, FitsAll, FitsList, FitsStructs}
-use Rattle.wire_trees.specs.Writable.{Part, parts, parts_of_all, parts_of_list, parts_of_structs, are_even, is_content, is_too_deep, is_too_wide, words_visited, all_words}
-use Rattle.wire_reading.proofs.Rooted.{read_as}
-use Rattle.wire_reading.proofs.Joining.{reading_null, reading_capability, deep_content, struct_is, packed_is, pointers_is, structs_is}
+use Rattle.capn_trees.specs.declared.width.Width.{Width}
+use Rattle.capn_trees.specs.declared.width.Width.TheVariants as width
+use Rattle.capn_reading.specs.declared.pointer.Shape.{Shape}
+use Rattle.capn_reading.specs.declared.pointer.Shape.TheVariants as shape
+use Rattle.capn_reading.specs.declared.pointer.Pointer.{Pointer}
+use Rattle.capn_reading.specs.declared.pointer.Pointer.TheVariants as pointer
+use Rattle.capn_reading.specs.declared.referent.Referent.{Referent}
+use Rattle.capn_reading.specs.declared.referent.Referent.TheVariants as referent
+use Rattle.capn_reading.specs.declared.layout.Layout.{Layout}
+use Rattle.capn_reading.specs.declared.layout.Layout.TheVariants as layout
+use Rattle.capn_trees.specs.Widths.{AreOf, bits_of, packed_size}
+use Rattle.capn_reading.specs.Pointers.{decoded, tag_of}
+use Rattle.capn_reading.specs.Following.{◌>>=◌, visit, target, leads, followed}
+use Rattle.capn_trees.specs.Limits.{most_visited}
+use Rattle.capn_reading.specs.Layouts.{laid, weight, tagged}
+use Rattle.capn_trees.specs.Trees as tree
+use Rattle.capn_trees.specs.Trees.{Tree, Trees, Elements, Structs, trees_count, structs_count}
+use Rattle.capn_reading.specs.Reading.{Reading, elements, pointers_at, structs_at, content_of, reading}
+use Rattle.capn_writing.specs.Placing.{packed_words, size_number, struct_word, list_word, struct_pointer, offset_of, placed, placed_all, placed_list, placed_structs}
+use Rattle.capn_writing.specs.Fitting.{Fits, FitsAll, FitsList, FitsStructs}
+use Rattle.capn_trees.specs.Writable.{Part, parts, parts_of_all, parts_of_list, parts_of_structs, are_even, is_content, is_too_deep, is_too_wide, words_visited, all_words}
+use Rattle.capn_reading.proofs.Rooted.{read_as}
+use Rattle.capn_reading.proofs.Joining.{reading_null, reading_capability, deep_content, struct_is, packed_is, pointers_is, structs_is}
 use Rattle.capn_wire.proofs.Packed.{elements_again}
 use Rattle.capn_wire.proofs.Words.{decoded_struct, tag_again, decoded_packed, decoded_pointers, decoded_structs, decoded_capability, target_ahead, target_here}
-use Rattle.wire_trees.proofs.Parts.{AreGood, IsGood, words_append, even_parts}
-use Rattle.wire_writing.proofs.Lengths.{length-packed, length-placed_all, length-placed_structs}
+use Rattle.capn_trees.proofs.Parts.{AreGood, IsGood, words_append, even_parts}
+use Rattle.capn_writing.proofs.Lengths.{length-packed, length-placed_all, length-placed_structs}
 
 -- the segment has these words from word i on
 pub record Has (seg : List ℕ) (i : ℕ) (ws : List ℕ) : Type 0 where

@@ -1,17 +1,17 @@
 -- Bytes are a message that says a tree exactly where they read to that tree.
 use Rattle.std.proofs.Common.{◌≡◌, ℕ, List, Option, Some, None, Result, Ok, Err, refl, sym, ap, subst, ◌∙◌, inl, inr}
 use Rattle.std.specs.Prelude.{◌⊎◌, IsOk, IfOk, IfErr, MatchOption, MatchResult}
-use Rattle.wire_trees.specs.declared.faults.PayloadFault.{PayloadFault}
-use Rattle.wire_trees.specs.declared.faults.PayloadFault.TheVariants as faults
-use Rattle.wire_trees.specs.declared.faults.WriteFault.{WriteFault}
-use Rattle.wire_trees.specs.declared.faults.WriteFault.TheVariants as write_faults
-use Rattle.wire_reading.specs.Following.{◌>>=◌}
-use Rattle.wire_reading.specs.Framing.{framing}
-use Rattle.wire_trees.specs.Trees.{Tree}
-use Rattle.wire_reading.specs.Reading.{Reading, root_of, message_of, tree_read}
+use Rattle.capn_trees.specs.declared.faults.PayloadFault.{PayloadFault}
+use Rattle.capn_trees.specs.declared.faults.PayloadFault.TheVariants as faults
+use Rattle.capn_trees.specs.declared.faults.WriteFault.{WriteFault}
+use Rattle.capn_trees.specs.declared.faults.WriteFault.TheVariants as write_faults
+use Rattle.capn_reading.specs.Following.{◌>>=◌}
+use Rattle.capn_reading.specs.Framing.{framing}
+use Rattle.capn_trees.specs.Trees.{Tree}
+use Rattle.capn_reading.specs.Reading.{Reading, root_of, message_of, tree_read}
 use Rattle.capn_wire.specs.Payloads.{Contents, IsEncoded, Says, tree_of}
-use Rattle.wire_reading.proofs.Framed.{IsBytes, framed_again, framing_takes}
-use Rattle.wire_reading.proofs.Rooted.{bind_ok}
+use Rattle.capn_reading.proofs.Framed.{IsBytes, framed_again, framing_takes}
+use Rattle.capn_reading.proofs.Rooted.{bind_ok}
 
 message_is : (p : Contents) (m : List (List ℕ)) (t : Tree) (says : Says p m t) → message_of p.bytes p.caps ≡ Ok (t, says.visited)
 unfolding message_of

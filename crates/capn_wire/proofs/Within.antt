@@ -1,19 +1,19 @@
 -- A content that nests at most so deep, as it was visited, can be written there.
 use Rattle.std.proofs.Common.{◌≡◌, ℕ, zero, suc, ◌+◌, ◌-◌, ◌^◌, ◌<◌, ◌≤◌, eqb, List, [], ◌∷◌, length, get_or, Result, Ok, Err, sym, ap, subst, ◌∙◌, arith, lit<}
 use Rattle.std.specs.List.{AllByRecursion}
-use Rattle.wire_trees.specs.declared.faults.PayloadFault.{PayloadFault}
-use Rattle.wire_trees.specs.declared.faults.PayloadFault.TheVariants.{OutOfBounds}
-use Rattle.wire_trees.specs.Trees.{Tree}
-use Rattle.wire_trees.specs.Writable.{parts}
-use Rattle.wire_reading.specs.Segments.{segment_of}
-use Rattle.wire_reading.specs.Following.{◌>>=◌}
-use Rattle.wire_reading.specs.Framing.{framing}
-use Rattle.wire_reading.specs.Reading.{Reading, reading, root_of, message_of, root_within, message_within, visited_of, tree_read}
-use Rattle.wire_reading.proofs.Counted.{HaveBits, Counts, reading_fine}
-use Rattle.wire_reading.proofs.Fine.{fine_good, few_none}
-use Rattle.wire_reading.proofs.Framed.{framing_takes}
-use Rattle.wire_reading.proofs.Levels.{reading_by}
-use Rattle.wire_reading.proofs.Rooted.{bind_ok, passed}
+use Rattle.capn_trees.specs.declared.faults.PayloadFault.{PayloadFault}
+use Rattle.capn_trees.specs.declared.faults.PayloadFault.TheVariants.{OutOfBounds}
+use Rattle.capn_trees.specs.Trees.{Tree}
+use Rattle.capn_trees.specs.Writable.{parts}
+use Rattle.capn_reading.specs.Segments.{segment_of}
+use Rattle.capn_reading.specs.Following.{◌>>=◌}
+use Rattle.capn_reading.specs.Framing.{framing}
+use Rattle.capn_reading.specs.Reading.{Reading, reading, root_of, message_of, root_within, message_within, visited_of, tree_read}
+use Rattle.capn_reading.proofs.Counted.{HaveBits, Counts, reading_fine}
+use Rattle.capn_reading.proofs.Fine.{fine_good, few_none}
+use Rattle.capn_reading.proofs.Framed.{framing_takes}
+use Rattle.capn_reading.proofs.Levels.{reading_by}
+use Rattle.capn_reading.proofs.Rooted.{bind_ok, passed}
 use Rattle.capn_wire.specs.Payloads.{Contents, IsPayload, tree_of, FitsWithin}
 
 words_fit : (xs : List ℕ) → AllByRecursion (λ w. w < 2 ^ 64) xs → (i : ℕ) → get_or xs i 0 < 2 ^ 64

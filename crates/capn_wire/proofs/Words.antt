@@ -1,17 +1,17 @@
 -- Pointer words that were laid down are read again.
 use Rattle.std.proofs.Common.{◌≡◌, ℕ, ◌+◌, ◌-◌, ◌*◌, ◌/◌, ◌%◌, ◌^◌, ◌<◌, true, false, eqb, ltb, Option, Some, refl, ap, ◌∙◌, arith}
 use Rattle.std.proofs.lemmas.Bool.{eq-eqb, ne_eqb, lt-ltb, le-ltb}
-use Rattle.wire_trees.specs.declared.width.Width.{Width}
-use Rattle.wire_trees.specs.declared.width.Width.TheVariants as width
-use Rattle.wire_reading.specs.declared.pointer.Shape.{Shape}
-use Rattle.wire_reading.specs.declared.pointer.Shape.TheVariants as shape
-use Rattle.wire_reading.specs.declared.pointer.Pointer.{Pointer}
-use Rattle.wire_reading.specs.declared.pointer.Pointer.TheVariants as pointer
-use Rattle.wire_reading.specs.declared.pointer.Tag.{Tag}
-use Rattle.wire_trees.specs.Widths.{bits_of}
-use Rattle.wire_reading.specs.Pointers.{decoded, list_shape, middle, upper, tag_of}
-use Rattle.wire_reading.specs.Following.{target}
-use Rattle.wire_writing.specs.Placing.{struct_word, list_word, capability_word, offset_of, size_number}
+use Rattle.capn_trees.specs.declared.width.Width.{Width}
+use Rattle.capn_trees.specs.declared.width.Width.TheVariants as width
+use Rattle.capn_reading.specs.declared.pointer.Shape.{Shape}
+use Rattle.capn_reading.specs.declared.pointer.Shape.TheVariants as shape
+use Rattle.capn_reading.specs.declared.pointer.Pointer.{Pointer}
+use Rattle.capn_reading.specs.declared.pointer.Pointer.TheVariants as pointer
+use Rattle.capn_reading.specs.declared.pointer.Tag.{Tag}
+use Rattle.capn_trees.specs.Widths.{bits_of}
+use Rattle.capn_reading.specs.Pointers.{decoded, list_shape, middle, upper, tag_of}
+use Rattle.capn_reading.specs.Following.{target}
+use Rattle.capn_writing.specs.Placing.{struct_word, list_word, capability_word, offset_of, size_number}
 
 abbrev content : ℕ → Shape → Pointer
 content offset s = pointer.Content offset s

@@ -1,26 +1,26 @@
 -- The bytes that are written for a tree are a message that says it.
 use Rattle.std.proofs.Common.{◌≡◌, ℕ, suc, ◌+◌, ◌^◌, ◌<◌, ◌≤◌, false, eqb, List, [], ◌∷◌, ◌++◌, length, get_or, refl, sym, ap, subst, ◌∙◌, Option, None, arith}
 use Rattle.std.specs.Prelude.{MatchOption}
-use Rattle.wire_trees.specs.declared.faults.WriteFault.{WriteFault}
+use Rattle.capn_trees.specs.declared.faults.WriteFault.{WriteFault}
 use Rattle.std.specs.List.{flat_map, AllByRecursion}
 use Rattle.std.proofs.lemmas.List.{append-nil}
 use Rattle.std.proofs.lemmas.Bool.{ne_eqb}
 use Rattle.std.proofs.lemmas.List.Concat.{flat_map-cons}
 use Rattle.std.proofs.lemmas.List.Sums.{sum_by-cons}
 use Rattle.byteorder.specs.Endian.{little_bytes}
-use Rattle.wire_trees.specs.Trees.{Tree}
-use Rattle.wire_reading.specs.Reading.{root_of}
-use Rattle.wire_reading.specs.Framing.{body_of, IsFramed}
+use Rattle.capn_trees.specs.Trees.{Tree}
+use Rattle.capn_reading.specs.Reading.{root_of}
+use Rattle.capn_reading.specs.Framing.{body_of, IsFramed}
 use Rattle.capn_wire.specs.Payloads.{Contents, IsEncoded, Says, tree_of}
 use Rattle.capn_wire.proofs.Saying.{says_encoded, says_tree}
-use Rattle.wire_writing.specs.Placing.{placed, segment_for, one_segment, written}
-use Rattle.wire_trees.specs.Widths.{AreOf}
-use Rattle.wire_writing.specs.Fitting.{Fits}
-use Rattle.wire_trees.specs.Writable.{parts, words_taken, words_visited, all_words, refusal}
+use Rattle.capn_writing.specs.Placing.{placed, segment_for, one_segment, written}
+use Rattle.capn_trees.specs.Widths.{AreOf}
+use Rattle.capn_writing.specs.Fitting.{Fits}
+use Rattle.capn_trees.specs.Writable.{parts, words_taken, words_visited, all_words, refusal}
 use Rattle.capn_wire.proofs.Placed.{Has, reads}
-use Rattle.wire_trees.proofs.Parts.{AreGood}
-use Rattle.wire_writing.proofs.Sized.{taken_by}
-use Rattle.wire_writing.proofs.Writing.{can_write, good_sizes, no_reason}
+use Rattle.capn_trees.proofs.Parts.{AreGood}
+use Rattle.capn_writing.proofs.Sized.{taken_by}
+use Rattle.capn_writing.proofs.Writing.{can_write, good_sizes, no_reason}
 
 all_fit : (xs : List ℕ) → ((i : ℕ) → get_or xs i 0 < 2 ^ 64) → AllByRecursion (λ w. w < 2 ^ 64) xs
 all_fit [] fit = tt

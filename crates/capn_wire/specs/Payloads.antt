@@ -2,10 +2,10 @@
 use Rattle.std.specs.Prelude.{◌≡◌, ◌<◌, ◌≤◌, ℕ, slice_index, Bool, ◌==◌, ◌&&◌, nat_eq, List, [], ◌∷◌, Ok, Err, IsOk, None}
 use Rattle.std.specs.Cmp.{IsEquivalence, and_equiv, on_equiv, nat_eq_equiv}
 use Rattle.std.specs.Cmp.Lexicographic.{pointwise, nat_list_eq_equiv}
-use Rattle.wire_trees.specs.Trees.{Tree, null}
-use Rattle.wire_trees.specs.Writable.{parts, words_visited, all_words, refused}
-use Rattle.wire_reading.specs.Reading.{root_of, message_of, tree_read}
-use Rattle.wire_reading.specs.Framing.{IsFramed}
+use Rattle.capn_trees.specs.Trees.{Tree, null}
+use Rattle.capn_trees.specs.Writable.{parts, words_visited, all_words, refused}
+use Rattle.capn_reading.specs.Reading.{root_of, message_of, tree_read}
+use Rattle.capn_reading.specs.Framing.{IsFramed}
 
 -- its bytes, and how many capabilities go with it
 pub record Contents : Type 0 where

@@ -5,8 +5,8 @@ use Rattle.capn_wire.specs.declared.path.Op.{Op}
 use Rattle.capn_wire.specs.declared.path.Op.TheVariants as op
 use Rattle.capn_wire.specs.declared.path.CapAt.{CapAt}
 use Rattle.capn_wire.specs.declared.path.CapAt.TheVariants as cap_at
-use Rattle.wire_trees.specs.Trees.{Tree, null, struct, list, capability}
-pub use Rattle.wire_reading.specs.Looking.{field}
+use Rattle.capn_trees.specs.Trees.{Tree, null, struct, list, capability}
+pub use Rattle.capn_reading.specs.Looking.{field}
 
 abbrev pub walk : Tree → List Op → Option Tree
 walk t [] = Some t

@@ -1,10 +1,10 @@
 //! The walk of a path, by the places in a message.
 ghost use Rattle.std.specs.Prelude.{◌≡◌};
-ghost use Rattle.wire_reading.specs.Reading.{root_of, tree_read};
+ghost use Rattle.capn_reading.specs.Reading.{root_of, tree_read};
 ghost use Rattle.capn_wire.specs.Walking.{capability_at};
 
 use crate::path::{CapAt, Op};
-use wire_reading::{Kind, View};
+use capn_reading::{Kind, View};
 
 /// What stands at a path from the root.
 pub fn find(view: &View, path: &[Op]) -> CapAt

@@ -1,15 +1,15 @@
 //! The law of writing and reading: what was written is read, and says the tree that was written.
 ghost use Rattle.std.specs.Prelude.{◌≡◌, Err, IfErr, IfOk, MatchOption, MatchResult};
-ghost use Rattle.wire_trees.specs.declared.faults.PayloadFault.TheVariants as faults;
-ghost use Rattle.wire_trees.specs.declared.faults.WriteFault.TheVariants as write_faults;
+ghost use Rattle.capn_trees.specs.declared.faults.PayloadFault.TheVariants as faults;
+ghost use Rattle.capn_trees.specs.declared.faults.WriteFault.TheVariants as write_faults;
 ghost use Rattle.capn_wire.specs.Payloads.{tree_of};
-ghost use Rattle.wire_writing.specs.Placing.{written};
-ghost use Rattle.wire_trees.specs.Views.{view};
-ghost use Rattle.wire_trees.specs.Writable.{refusal};
+ghost use Rattle.capn_writing.specs.Placing.{written};
+ghost use Rattle.capn_trees.specs.Views.{view};
+ghost use Rattle.capn_trees.specs.Writable.{refusal};
 
 use crate::payload::Payload;
+use capn_trees::{PayloadFault, Tree, WriteFault};
 use std::alloc::Global;
-use wire_trees::{PayloadFault, Tree, WriteFault};
 
 /// Writes a tree that goes with `caps` capabilities, and reads the bytes with the same capabilities:
 /// that gives a payload that says the tree, unless memory runs out. A tree that can't be written is

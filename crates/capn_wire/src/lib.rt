@@ -41,8 +41,8 @@ pub mod laws;
 mod path;
 mod payload;
 
+pub use capn_reading::{Kind, Place, View};
+pub use capn_trees::{Element, Fields, Items, PayloadFault, Pointers, PushError, Tree, WriteFault};
 pub use faults::Memory;
 pub use path::{CapAt, Op};
 pub use payload::Payload;
-pub use wire_reading::{Kind, Place, View};
-pub use wire_trees::{Element, Fields, Items, PayloadFault, Pointers, PushError, Tree, WriteFault};

@@ -1,18 +1,18 @@
 //! A payload: bytes of the encoding that were read once, and the number of its capabilities.
 ghost use Rattle.std.specs.Prelude.{◌≡◌, ◌<◌, ◌≤◌, ◌⊎◌, ℕ, List, length, IfSome, IfOk, IfErr, MatchOption, MatchResult, Err};
-ghost use Rattle.wire_reading.specs.Reading.{message_of, root_of, tree_read};
-ghost use Rattle.wire_trees.specs.declared.faults.PayloadFault.TheVariants as faults;
-ghost use Rattle.wire_trees.specs.declared.faults.WriteFault.TheVariants as write_faults;
+ghost use Rattle.capn_reading.specs.Reading.{message_of, root_of, tree_read};
+ghost use Rattle.capn_trees.specs.declared.faults.PayloadFault.TheVariants as faults;
+ghost use Rattle.capn_trees.specs.declared.faults.WriteFault.TheVariants as write_faults;
 
 use crate::faults::Memory;
 use crate::find::find;
 use crate::path::{CapAt, Op};
+use capn_reading::{Message, View, build_tree, visited_within, visited_words};
+use capn_trees::{PayloadFault, Tree, WriteFault};
+use capn_writing::{message_of, write_tree};
 use std::alloc::{AllocError, Global};
 use std::marker::Model;
 use std::sync::Arc;
-use wire_reading::{Message, View, build_tree, visited_within, visited_words};
-use wire_trees::{PayloadFault, Tree, WriteFault};
-use wire_writing::{message_of, write_tree};
 
 /// Bytes of the encoding, and the number of the capabilities that go with them. It can't be malformed.
 /// Copies share their bytes.
@@ -35,11 +35,11 @@ impl Model for Payload {
 
 impl Payload {
     ghost use Rattle.capn_wire.specs.Payloads.{IsEncoded, IsPayload, FitsWithin, Says, tree_of, null_payload, root_payload};
-    ghost use Rattle.wire_trees.specs.Trees.{Tree as SpecTree, null, capability};
-    ghost use Rattle.wire_trees.specs.Views.{view};
+    ghost use Rattle.capn_trees.specs.Trees.{Tree as SpecTree, null, capability};
+    ghost use Rattle.capn_trees.specs.Views.{view};
     ghost use Rattle.capn_wire.specs.Walking.{capability_at};
-    ghost use Rattle.wire_writing.specs.Placing.{one_segment, written};
-    ghost use Rattle.wire_trees.specs.Writable.{refusal};
+    ghost use Rattle.capn_writing.specs.Placing.{one_segment, written};
+    ghost use Rattle.capn_trees.specs.Writable.{refusal};
 
     /// Reads a message of the encoding that goes with `caps` capabilities: "Serialization Over a Stream"
     /// and "Encoding" of the Cap'n Proto specification, within the limits of docs/encoding.md.

@@ -1,35 +1,35 @@
 -- What the words of the machine change of a state: one table, and nothing else.
 use Rattle.std.proofs.Common.{◌≡◌, inl, inr, ℕ, ◌+◌, Bool, true, false, List, [], ◌∷◌, Option, None, Some, refl, sym, ap, subst, ◌∙◌}
 use Rattle.std.specs.FinMap as map
-use Rattle.vat_machine.specs.rpc_msg.specs.declared.parts.Descriptor.{Descriptor}
-use Rattle.vat_machine.specs.rpc_msg.specs.declared.parts.Descriptor.TheVariants as descriptor
-use Rattle.vat_machine.specs.rpc_msg.specs.declared.message.ReturnBody.{ReturnBody}
-use Rattle.vat_machine.specs.rpc_msg.specs.declared.message.ResolvedTo.{ResolvedTo}
-use Rattle.vat_machine.specs.rpc_msg.specs.declared.message.ResolvedTo.TheVariants as resolved
-use Rattle.vat_machine.specs.rpc_msg.specs.Payloads.{Contents as Payload}
+use Rattle.rpc_machine.specs.rpc_msg.specs.declared.parts.Descriptor.{Descriptor}
+use Rattle.rpc_machine.specs.rpc_msg.specs.declared.parts.Descriptor.TheVariants as descriptor
+use Rattle.rpc_machine.specs.rpc_msg.specs.declared.message.ReturnBody.{ReturnBody}
+use Rattle.rpc_machine.specs.rpc_msg.specs.declared.message.ResolvedTo.{ResolvedTo}
+use Rattle.rpc_machine.specs.rpc_msg.specs.declared.message.ResolvedTo.TheVariants as resolved
+use Rattle.rpc_machine.specs.rpc_msg.specs.Payloads.{Contents as Payload}
 use Rattle.finite_maps.specs.Tally.{Map}
-use Rattle.vat_machine.specs.declared.node.Node.{Node}
-use Rattle.vat_machine.specs.declared.node.Node.TheVariants as node
-use Rattle.vat_machine.specs.declared.calls.HeldCall.{HeldCall}
-use Rattle.vat_machine.specs.declared.calls.Promise.{Promise}
-use Rattle.vat_machine.specs.declared.calls.Promise.TheVariants as promise
-use Rattle.vat_machine.specs.declared.calls.Value.{Value}
-use Rattle.vat_machine.specs.declared.calls.Value.TheVariants as value
-use Rattle.vat_machine.specs.declared.calls.Caller.{Caller}
-use Rattle.vat_machine.specs.declared.command.Level.{Level}
-use Rattle.vat_machine.specs.declared.command.Level.TheVariants.{Zero, One}
-use Rattle.vat_machine.specs.declared.entries.Export.{Export}
-use Rattle.vat_machine.specs.declared.entries.Import.{Import}
-use Rattle.vat_machine.specs.declared.entries.Reference.{Reference}
-use Rattle.vat_machine.specs.declared.calls.OwnCall.{OwnCall}
-use Rattle.vat_machine.specs.declared.entries.Resolution.{Resolution}
-use Rattle.vat_machine.specs.State.{State}
-use Rattle.vat_machine.specs.Nodes.{settle}
-use Rattle.vat_machine.specs.Progress.{with_refs}
-use Rattle.vat_machine.specs.Descriptors.{ExportedAs, Exported, Described, DescribesAll, take_one, take_each, take_at, take_all}
-use Rattle.vat_machine.specs.Flags.{give_if, give_back, flag_for, obey}
-use Rattle.vat_machine.specs.Settling.{PutsIn, Untangles, Fits, SaysBack}
-use Rattle.vat_machine.specs.Messages.{resolve_import, take_resolve}
+use Rattle.rpc_machine.specs.declared.node.Node.{Node}
+use Rattle.rpc_machine.specs.declared.node.Node.TheVariants as node
+use Rattle.rpc_machine.specs.declared.calls.HeldCall.{HeldCall}
+use Rattle.rpc_machine.specs.declared.calls.Promise.{Promise}
+use Rattle.rpc_machine.specs.declared.calls.Promise.TheVariants as promise
+use Rattle.rpc_machine.specs.declared.calls.Value.{Value}
+use Rattle.rpc_machine.specs.declared.calls.Value.TheVariants as value
+use Rattle.rpc_machine.specs.declared.calls.Caller.{Caller}
+use Rattle.rpc_machine.specs.declared.command.Level.{Level}
+use Rattle.rpc_machine.specs.declared.command.Level.TheVariants.{Zero, One}
+use Rattle.rpc_machine.specs.declared.entries.Export.{Export}
+use Rattle.rpc_machine.specs.declared.entries.Import.{Import}
+use Rattle.rpc_machine.specs.declared.entries.Reference.{Reference}
+use Rattle.rpc_machine.specs.declared.calls.OwnCall.{OwnCall}
+use Rattle.rpc_machine.specs.declared.entries.Resolution.{Resolution}
+use Rattle.rpc_machine.specs.State.{State}
+use Rattle.rpc_machine.specs.Nodes.{settle}
+use Rattle.rpc_machine.specs.Progress.{with_refs}
+use Rattle.rpc_machine.specs.Descriptors.{ExportedAs, Exported, Described, DescribesAll, take_one, take_each, take_at, take_all}
+use Rattle.rpc_machine.specs.Flags.{give_if, give_back, flag_for, obey}
+use Rattle.rpc_machine.specs.Settling.{PutsIn, Untangles, Fits, SaysBack}
+use Rattle.rpc_machine.specs.Messages.{resolve_import, take_resolve}
 use Rattle.laws_acts.specs.GoingOut.{is_own, said, GoesOut, Again, AsNew, AsOther, GoOut, Says}
 
 pub refs_alone : (s : State) (ns : List Node) → with_refs s ns ≡ record s { refs = (with_refs s ns).refs; next_ref = (with_refs s ns).next_ref }

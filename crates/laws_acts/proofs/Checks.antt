@@ -1,16 +1,16 @@
 -- What is known where no check fails.
 use Rattle.std.proofs.Common.{◌≡◌, ℕ, Bool, true, false, is_some, List, [], ◌∷◌, Option, None, Some, refl, subst}
 use Rattle.std.specs.FinMap as map
-use Rattle.vat_machine.specs.rpc_msg.specs.declared.ids.PromiseId.{PromiseId}
-use Rattle.vat_machine.specs.rpc_msg.specs.declared.ids.RefId.{RefId}
-use Rattle.vat_machine.specs.vat_journal.specs.History.{if_so}
-use Rattle.vat_machine.specs.declared.command.Command.TheVariants as command
-use Rattle.vat_machine.specs.declared.command.Refusal.TheVariants as refusal
-use Rattle.vat_machine.specs.declared.entries.Reference.{Reference}
-use Rattle.vat_machine.specs.State.{State}
-use Rattle.vat_machine.specs.Nodes.{settle, is_promise}
-use Rattle.vat_machine.specs.Lists.{earliest}
-use Rattle.vat_machine.specs.Refusals.{while_down, wrong_level, unknown_ref, unknown_promise, is_cycle, leads_to, without_room, refused}
+use Rattle.rpc_machine.specs.rpc_msg.specs.declared.ids.PromiseId.{PromiseId}
+use Rattle.rpc_machine.specs.rpc_msg.specs.declared.ids.RefId.{RefId}
+use Rattle.rpc_machine.specs.rpc_journal.specs.History.{if_so}
+use Rattle.rpc_machine.specs.declared.command.Command.TheVariants as command
+use Rattle.rpc_machine.specs.declared.command.Refusal.TheVariants as refusal
+use Rattle.rpc_machine.specs.declared.entries.Reference.{Reference}
+use Rattle.rpc_machine.specs.State.{State}
+use Rattle.rpc_machine.specs.Nodes.{settle, is_promise}
+use Rattle.rpc_machine.specs.Lists.{earliest}
+use Rattle.rpc_machine.specs.Refusals.{while_down, wrong_level, unknown_ref, unknown_promise, is_cycle, leads_to, without_room, refused}
 
 -- Where no check of a list says anything, none of them does.
 

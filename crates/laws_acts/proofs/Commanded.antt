@@ -1,46 +1,46 @@
 -- What a command does first is its first act, and then acts.
 use Rattle.std.proofs.Common.{◌≡◌, ◌≢◌, inl, inr, ℕ, true, false, List, [], ◌∷◌, Option, None, Some, refl, ap, ◌∙◌}
 use Rattle.std.specs.FinMap as map
-use Rattle.vat_machine.specs.rpc_msg.specs.declared.ids.CallId.{CallId}
-use Rattle.vat_machine.specs.rpc_msg.specs.declared.ids.EmbargoId.{EmbargoId}
-use Rattle.vat_machine.specs.rpc_msg.specs.declared.ids.PromiseId.{PromiseId}
-use Rattle.vat_machine.specs.rpc_msg.specs.declared.ids.RefId.{RefId}
-use Rattle.vat_machine.specs.rpc_msg.specs.declared.ids.TaskId.{TaskId}
-use Rattle.vat_machine.specs.rpc_msg.specs.Op.{Op}
-use Rattle.vat_machine.specs.rpc_msg.specs.Payloads.{Contents as Payload}
-use Rattle.vat_machine.specs.rpc_msg.specs.declared.parts.Descriptor.{Descriptor}
-use Rattle.vat_machine.specs.rpc_msg.specs.declared.parts.Descriptor.TheVariants as descriptor
-use Rattle.vat_machine.specs.rpc_msg.specs.declared.parts.Target.{Target}
-use Rattle.vat_machine.specs.rpc_msg.specs.declared.parts.Target.TheVariants.{ImportedCap, PromisedAnswer}
-use Rattle.vat_machine.specs.rpc_msg.specs.declared.exception.Exception.{Exception}
-use Rattle.vat_machine.specs.vat_journal.specs.declared.report.Advanced.TheVariants as advanced
-use Rattle.vat_machine.specs.declared.node.Node.{Node}
-use Rattle.vat_machine.specs.declared.node.Node.TheVariants as node
-use Rattle.vat_machine.specs.declared.node.Reason.TheVariants.{BrokenPromise}
-use Rattle.vat_machine.specs.declared.calls.WaitingCall.{WaitingCall}
-use Rattle.vat_machine.specs.declared.calls.Promise.{Promise}
-use Rattle.vat_machine.specs.declared.calls.Promise.TheVariants as promise
-use Rattle.vat_machine.specs.declared.calls.OwnCall.{OwnCall}
-use Rattle.vat_machine.specs.declared.calls.OwnCall.TheVariants as own
-use Rattle.vat_machine.specs.declared.calls.Value.TheVariants as value
-use Rattle.vat_machine.specs.declared.command.CallCommand.{CallCommand}
-use Rattle.vat_machine.specs.declared.command.Command.{Command}
-use Rattle.vat_machine.specs.declared.command.Command.TheVariants as command
-use Rattle.vat_machine.specs.declared.command.Granted.{Granted}
-use Rattle.vat_machine.specs.declared.command.Granted.TheVariants as granted
-use Rattle.vat_machine.specs.declared.entries.Role.TheVariants as role
-use Rattle.vat_machine.specs.declared.entries.Question.{Question}
-use Rattle.vat_machine.specs.declared.entries.Reference.{Reference}
-use Rattle.vat_machine.specs.declared.entries.Embargo.{Embargo}
-use Rattle.vat_machine.specs.State.{State}
-use Rattle.vat_machine.specs.Nodes.{settle, is_wire}
-use Rattle.vat_machine.specs.Progress.{Progress, begin, with_state}
-use Rattle.vat_machine.specs.Settling.{FixesFrom}
-use Rattle.vat_machine.specs.Commands.{request, counted, kept, field_node, settled_now, answered, heads, NewRef, ClonesRef, DropsRef, AsksBootstrap, CallsHere, CallsBy, WaitsForEmbargo, CallsThrough, MakesCall, NamesField, ResolvesPromise, RejectsPromise, AnswersTask, FinishesCall}
-use Rattle.vat_machine.specs.Commands as commands
-use Rattle.vat_machine.specs.Advancing.{Known, NothingYet, IsBroken, Leads, known_of_wire, wire_target, Embargoes, AdvancesBy, AdvancesTo, AdvancesFrom, Advances}
-use Rattle.vat_machine.specs.Steps.{Does}
-use Rattle.vat_machine.specs.declared.command.Effects.{Effects}
+use Rattle.rpc_machine.specs.rpc_msg.specs.declared.ids.CallId.{CallId}
+use Rattle.rpc_machine.specs.rpc_msg.specs.declared.ids.EmbargoId.{EmbargoId}
+use Rattle.rpc_machine.specs.rpc_msg.specs.declared.ids.PromiseId.{PromiseId}
+use Rattle.rpc_machine.specs.rpc_msg.specs.declared.ids.RefId.{RefId}
+use Rattle.rpc_machine.specs.rpc_msg.specs.declared.ids.TaskId.{TaskId}
+use Rattle.rpc_machine.specs.rpc_msg.specs.Op.{Op}
+use Rattle.rpc_machine.specs.rpc_msg.specs.Payloads.{Contents as Payload}
+use Rattle.rpc_machine.specs.rpc_msg.specs.declared.parts.Descriptor.{Descriptor}
+use Rattle.rpc_machine.specs.rpc_msg.specs.declared.parts.Descriptor.TheVariants as descriptor
+use Rattle.rpc_machine.specs.rpc_msg.specs.declared.parts.Target.{Target}
+use Rattle.rpc_machine.specs.rpc_msg.specs.declared.parts.Target.TheVariants.{ImportedCap, PromisedAnswer}
+use Rattle.rpc_machine.specs.rpc_msg.specs.declared.exception.Exception.{Exception}
+use Rattle.rpc_machine.specs.rpc_journal.specs.declared.report.Advanced.TheVariants as advanced
+use Rattle.rpc_machine.specs.declared.node.Node.{Node}
+use Rattle.rpc_machine.specs.declared.node.Node.TheVariants as node
+use Rattle.rpc_machine.specs.declared.node.Reason.TheVariants.{BrokenPromise}
+use Rattle.rpc_machine.specs.declared.calls.WaitingCall.{WaitingCall}
+use Rattle.rpc_machine.specs.declared.calls.Promise.{Promise}
+use Rattle.rpc_machine.specs.declared.calls.Promise.TheVariants as promise
+use Rattle.rpc_machine.specs.declared.calls.OwnCall.{OwnCall}
+use Rattle.rpc_machine.specs.declared.calls.OwnCall.TheVariants as own
+use Rattle.rpc_machine.specs.declared.calls.Value.TheVariants as value
+use Rattle.rpc_machine.specs.declared.command.CallCommand.{CallCommand}
+use Rattle.rpc_machine.specs.declared.command.Command.{Command}
+use Rattle.rpc_machine.specs.declared.command.Command.TheVariants as command
+use Rattle.rpc_machine.specs.declared.command.Granted.{Granted}
+use Rattle.rpc_machine.specs.declared.command.Granted.TheVariants as granted
+use Rattle.rpc_machine.specs.declared.entries.Role.TheVariants as role
+use Rattle.rpc_machine.specs.declared.entries.Question.{Question}
+use Rattle.rpc_machine.specs.declared.entries.Reference.{Reference}
+use Rattle.rpc_machine.specs.declared.entries.Embargo.{Embargo}
+use Rattle.rpc_machine.specs.State.{State}
+use Rattle.rpc_machine.specs.Nodes.{settle, is_wire}
+use Rattle.rpc_machine.specs.Progress.{Progress, begin, with_state}
+use Rattle.rpc_machine.specs.Settling.{FixesFrom}
+use Rattle.rpc_machine.specs.Commands.{request, counted, kept, field_node, settled_now, answered, heads, NewRef, ClonesRef, DropsRef, AsksBootstrap, CallsHere, CallsBy, WaitsForEmbargo, CallsThrough, MakesCall, NamesField, ResolvesPromise, RejectsPromise, AnswersTask, FinishesCall}
+use Rattle.rpc_machine.specs.Commands as commands
+use Rattle.rpc_machine.specs.Advancing.{Known, NothingYet, IsBroken, Leads, known_of_wire, wire_target, Embargoes, AdvancesBy, AdvancesTo, AdvancesFrom, Advances}
+use Rattle.rpc_machine.specs.Steps.{Does}
+use Rattle.rpc_machine.specs.declared.command.Effects.{Effects}
 use Rattle.laws_acts.specs.Moments.{Moment, at_rest, beginning, sending, each_to, ThePromise}
 use Rattle.laws_acts.specs.FirstActs.{asked, asking, keeping, waiting_call, is_sender, is_receiver, Starts}
 use Rattle.laws_acts.specs.FirstActs as first

@@ -6,20 +6,20 @@ use Rattle.std.specs.FinMap as map
 use Rattle.std.specs.FinMap.Entries as entries
 use Rattle.finite_maps.specs.Tally.{Map}
 use Rattle.finite_maps.proofs.Gets.{get-insert_same, get-insert_other, get-remove_other}
-use Rattle.vat_machine.specs.declared.calls.OwnCall.{OwnCall}
-use Rattle.vat_machine.specs.declared.command.Effects.{Effects}
-use Rattle.vat_machine.specs.declared.entries.Role.{Role}
-use Rattle.vat_machine.specs.declared.entries.Role.TheVariants as role
-use Rattle.vat_machine.specs.declared.entries.Finishing.{Finishing}
-use Rattle.vat_machine.specs.declared.entries.Finishing.TheVariants as finishing
-use Rattle.vat_machine.specs.declared.entries.Returned.{Returned}
-use Rattle.vat_machine.specs.declared.entries.Question.{Question}
-use Rattle.vat_machine.specs.State.{State}
-use Rattle.vat_machine.specs.Progress.{Progress, with_state}
-use Rattle.vat_machine.specs.Collecting.{IsTight, Collects}
-use Rattle.vat_machine.specs.Flags.{give_back}
-use Rattle.vat_machine.specs.Sweeping.{IsOver, IsNotSent, closed_map, closed, Withers, Over, Thing, Asked, got_of, finished_by, FinishesEach, release_each, Sweeps as SweepsAll}
-use Rattle.vat_machine.specs.Steps.{Ends}
+use Rattle.rpc_machine.specs.declared.calls.OwnCall.{OwnCall}
+use Rattle.rpc_machine.specs.declared.command.Effects.{Effects}
+use Rattle.rpc_machine.specs.declared.entries.Role.{Role}
+use Rattle.rpc_machine.specs.declared.entries.Role.TheVariants as role
+use Rattle.rpc_machine.specs.declared.entries.Finishing.{Finishing}
+use Rattle.rpc_machine.specs.declared.entries.Finishing.TheVariants as finishing
+use Rattle.rpc_machine.specs.declared.entries.Returned.{Returned}
+use Rattle.rpc_machine.specs.declared.entries.Question.{Question}
+use Rattle.rpc_machine.specs.State.{State}
+use Rattle.rpc_machine.specs.Progress.{Progress, with_state}
+use Rattle.rpc_machine.specs.Collecting.{IsTight, Collects}
+use Rattle.rpc_machine.specs.Flags.{give_back}
+use Rattle.rpc_machine.specs.Sweeping.{IsOver, IsNotSent, closed_map, closed, Withers, Over, Thing, Asked, got_of, finished_by, FinishesEach, release_each, Sweeps as SweepsAll}
+use Rattle.rpc_machine.specs.Steps.{Ends}
 use Rattle.laws_acts.specs.Moments.{Moment, at_rest, onto, is_collecting}
 use Rattle.laws_acts.specs.SmallActs.{IsDue, release_messages, Sweeps as SweepsOver, SendsFinish, Closes, Releases, Acts, NoMore, Then, IsEnd}
 use Rattle.laws_acts.proofs.Alone.{back_alone}

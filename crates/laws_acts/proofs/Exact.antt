@@ -1,22 +1,22 @@
 -- A delivery, a report, a Return and a Finish, as what they change of a progress and no more.
 use Rattle.std.proofs.Common.{◌≡◌, ℕ, ◌+◌, [], ◌∷◌, ◌++◌, ap}
 use Rattle.std.specs.FinMap as map
-use Rattle.vat_machine.specs.rpc_msg.specs.declared.ids.ObjectId.{ObjectId}
-use Rattle.vat_machine.specs.rpc_msg.specs.declared.message.PlainMessage.{PlainMessage}
-use Rattle.vat_machine.specs.rpc_msg.specs.declared.message.PlainMessage.TheVariants as plain
-use Rattle.vat_machine.specs.rpc_msg.specs.Messages.{given}
-use Rattle.vat_machine.specs.vat_journal.specs.declared.report.Ended.{Ended}
-use Rattle.vat_machine.specs.declared.calls.WaitingCall.{WaitingCall}
-use Rattle.vat_machine.specs.declared.calls.Value.{Value}
-use Rattle.vat_machine.specs.declared.entries.AnswerEntry.{AnswerEntry}
-use Rattle.vat_machine.specs.declared.entries.Finishing.TheVariants as finishing
-use Rattle.vat_machine.specs.declared.entries.Question.{Question}
-use Rattle.vat_machine.specs.State.{State}
-use Rattle.vat_machine.specs.Progress.{Progress, with_state, with_refs, send, tell_delivery, tell_ended, numbers, new_refs, caps_of, outcome_of}
-use Rattle.vat_machine.specs.Routing.{deliver}
-use Rattle.vat_machine.specs.Flags.{give_back, flag_for}
-use Rattle.vat_machine.specs.Settling.{report, returned_map, returned}
-use Rattle.vat_machine.specs.Sweeping.{closed_map, got_of, finished_by}
+use Rattle.rpc_machine.specs.rpc_msg.specs.declared.ids.ObjectId.{ObjectId}
+use Rattle.rpc_machine.specs.rpc_msg.specs.declared.message.PlainMessage.{PlainMessage}
+use Rattle.rpc_machine.specs.rpc_msg.specs.declared.message.PlainMessage.TheVariants as plain
+use Rattle.rpc_machine.specs.rpc_msg.specs.Messages.{given}
+use Rattle.rpc_machine.specs.rpc_journal.specs.declared.report.Ended.{Ended}
+use Rattle.rpc_machine.specs.declared.calls.WaitingCall.{WaitingCall}
+use Rattle.rpc_machine.specs.declared.calls.Value.{Value}
+use Rattle.rpc_machine.specs.declared.entries.AnswerEntry.{AnswerEntry}
+use Rattle.rpc_machine.specs.declared.entries.Finishing.TheVariants as finishing
+use Rattle.rpc_machine.specs.declared.entries.Question.{Question}
+use Rattle.rpc_machine.specs.State.{State}
+use Rattle.rpc_machine.specs.Progress.{Progress, with_state, with_refs, send, tell_delivery, tell_ended, numbers, new_refs, caps_of, outcome_of}
+use Rattle.rpc_machine.specs.Routing.{deliver}
+use Rattle.rpc_machine.specs.Flags.{give_back, flag_for}
+use Rattle.rpc_machine.specs.Settling.{report, returned_map, returned}
+use Rattle.rpc_machine.specs.Sweeping.{closed_map, got_of, finished_by}
 use Rattle.laws_acts.specs.Moments.{Saying}
 use Rattle.laws_acts.specs.SmallActs.{delivery}
 use Rattle.laws_acts.proofs.Alone.{refs_alone, back_alone}

@@ -1,24 +1,24 @@
 -- What changes of imports and exports let come and go among the places of a vat.
 use Rattle.std.proofs.Common.{◌≡◌, ℕ, ◌+◌, ◌-◌, nat_le, cond, Bool, true, false, List, [], ◌∷◌, ◌++◌, Option, None, Some, refl, sym, ap, subst}
 use Rattle.std.specs.FinMap as map
-use Rattle.vat_machine.specs.rpc_msg.specs.declared.parts.Descriptor.{Descriptor}
-use Rattle.vat_machine.specs.rpc_msg.specs.declared.parts.Descriptor.TheVariants as descriptor
-use Rattle.vat_machine.specs.declared.node.Node.{Node}
-use Rattle.vat_machine.specs.declared.command.Level.{Level}
-use Rattle.vat_machine.specs.declared.command.Level.TheVariants.{Zero, One}
-use Rattle.vat_machine.specs.declared.entries.Import.{Import}
-use Rattle.vat_machine.specs.declared.entries.Export.{Export}
-use Rattle.vat_machine.specs.declared.entries.Resolution.{Resolution}
-use Rattle.vat_machine.specs.declared.entries.SenderKind.{SenderKind}
-use Rattle.vat_machine.specs.declared.entries.SenderKind.TheVariants as kind
-use Rattle.vat_machine.specs.State.{State}
-use Rattle.vat_machine.specs.Lists.{how_many, updated}
-use Rattle.vat_machine.specs.Places.{places, named_by_resolution, named_by_import}
-use Rattle.vat_machine.specs.Progress.{Progress}
-use Rattle.vat_machine.specs.Descriptors.{Exported, ExportedAs, import_one, received, take_one, take_each, take_at, take_all}
-use Rattle.vat_machine.specs.Messages.{resolve_import, set_resolution}
-use Rattle.vat_machine.specs.Flags.{give_one, lowered, lower_by}
-use Rattle.vat_machine.specs.Collecting.{without_import}
+use Rattle.rpc_machine.specs.rpc_msg.specs.declared.parts.Descriptor.{Descriptor}
+use Rattle.rpc_machine.specs.rpc_msg.specs.declared.parts.Descriptor.TheVariants as descriptor
+use Rattle.rpc_machine.specs.declared.node.Node.{Node}
+use Rattle.rpc_machine.specs.declared.command.Level.{Level}
+use Rattle.rpc_machine.specs.declared.command.Level.TheVariants.{Zero, One}
+use Rattle.rpc_machine.specs.declared.entries.Import.{Import}
+use Rattle.rpc_machine.specs.declared.entries.Export.{Export}
+use Rattle.rpc_machine.specs.declared.entries.Resolution.{Resolution}
+use Rattle.rpc_machine.specs.declared.entries.SenderKind.{SenderKind}
+use Rattle.rpc_machine.specs.declared.entries.SenderKind.TheVariants as kind
+use Rattle.rpc_machine.specs.State.{State}
+use Rattle.rpc_machine.specs.Lists.{how_many, updated}
+use Rattle.rpc_machine.specs.Places.{places, named_by_resolution, named_by_import}
+use Rattle.rpc_machine.specs.Progress.{Progress}
+use Rattle.rpc_machine.specs.Descriptors.{Exported, ExportedAs, import_one, received, take_one, take_each, take_at, take_all}
+use Rattle.rpc_machine.specs.Messages.{resolve_import, set_resolution}
+use Rattle.rpc_machine.specs.Flags.{give_one, lowered, lower_by}
+use Rattle.rpc_machine.specs.Collecting.{without_import}
 use Rattle.laws_acts.specs.Alike.{Alike, come_by_naming, gone_by_lowering, gone_by_giving}
 use Rattle.laws_acts.proofs.Tables.{tables}
 use Rattle.laws_acts.proofs.Likeness.{alike_on, stays}

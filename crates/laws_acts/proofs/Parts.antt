@@ -9,9 +9,9 @@ use Rattle.std.specs.FinMap.{find, put, get-entries, entries-insert}
 use Rattle.std.specs.FinMap.Entries.{by_order}
 use Rattle.finite_maps.specs.Tally.{Map}
 use Rattle.finite_maps.proofs.Gets.{put_back, get-remove_same, insert_removed}
-use Rattle.vat_machine.specs.declared.node.Node.{Node}
-use Rattle.vat_machine.specs.Lists.{how_many, from_each, of_map}
-use Rattle.vat_machine.specs.Places.{named_by_reference, named_by_embargo, named_by_promise, named_by_outcome, named_by_question, named_by_import, named_by_export, named_by_answer}
+use Rattle.rpc_machine.specs.declared.node.Node.{Node}
+use Rattle.rpc_machine.specs.Lists.{how_many, from_each, of_map}
+use Rattle.rpc_machine.specs.Places.{named_by_reference, named_by_embargo, named_by_promise, named_by_outcome, named_by_question, named_by_import, named_by_export, named_by_answer}
 use Rattle.laws_acts.specs.Alike.{part}
 use Rattle.laws_acts.specs.Laws.{NamesAreSummed}
 

@@ -4,33 +4,33 @@ use Rattle.std.proofs.Common.{◌≡◌, ◌⊎◌, inl, inr, ℕ, Bool, true, f
 use Rattle.std.specs.FinMap as map
 use Rattle.finite_maps.specs.Tally.{Map}
 use Rattle.finite_maps.proofs.Gets.{get-insert_same, get-remove_same, get-remove_other}
-use Rattle.vat_machine.specs.rpc_msg.specs.declared.ids.QuestionId.{QuestionId}
-use Rattle.vat_machine.specs.rpc_msg.specs.declared.parts.Target.{Target}
-use Rattle.vat_machine.specs.rpc_msg.specs.declared.parts.Target.TheVariants.{ImportedCap, PromisedAnswer}
-use Rattle.vat_machine.specs.rpc_msg.specs.declared.exception.Exception.{Exception}
-use Rattle.vat_machine.specs.rpc_msg.specs.declared.message.ResolvedTo.TheVariants as resolved
-use Rattle.vat_machine.specs.declared.node.Node.{Node}
-use Rattle.vat_machine.specs.declared.node.Node.TheVariants as node
-use Rattle.vat_machine.specs.declared.calls.WaitingCall.{WaitingCall}
-use Rattle.vat_machine.specs.declared.calls.HeldCall.{HeldCall}
-use Rattle.vat_machine.specs.declared.calls.Promise.{Promise}
-use Rattle.vat_machine.specs.declared.calls.Promise.TheVariants as promise
-use Rattle.vat_machine.specs.declared.calls.KeptOutcome.{KeptOutcome}
-use Rattle.vat_machine.specs.declared.calls.OwnCall.{OwnCall}
-use Rattle.vat_machine.specs.declared.calls.Value.{Value}
-use Rattle.vat_machine.specs.declared.calls.Caller.{Caller}
-use Rattle.vat_machine.specs.declared.calls.Caller.TheVariants as caller
-use Rattle.vat_machine.specs.declared.entries.Role.TheVariants as role
-use Rattle.vat_machine.specs.declared.entries.Question.{Question}
-use Rattle.vat_machine.specs.declared.entries.AnswerEntry.{AnswerEntry}
-use Rattle.vat_machine.specs.declared.entries.Import.{Import}
-use Rattle.vat_machine.specs.State.{State}
-use Rattle.vat_machine.specs.Nodes.{settle}
-use Rattle.vat_machine.specs.Progress.{Progress, with_state, numbers, caps_of}
-use Rattle.vat_machine.specs.Routing.{Relays as GoesOn, WaitsForPromise, WaitsForField, RoutedTo, Routes, RoutesAll, RoutesHeld}
-use Rattle.vat_machine.specs.Collecting.{IsLoosePromise, IsLooseValue, IsLooseOutcome, IsLooseImport, Goes, PromiseGoes as LoosePromise, OutcomeGoes as LooseOutcome, ImportGoes as LooseImport, without_import, release, IsTight, Collects, Tight, Loose}
-use Rattle.vat_machine.specs.Settling.{known, Fits, TellsCall, Returns, TellsPeer, Tells, ResolvesTo, ResolvesBy, ResolvesEach, SettlesOpen, SettlesFrom, SettlesOutcome, resolve_message, exports_where, Drains, NoneLeft, OneMore}
-use Rattle.vat_machine.specs.Advancing.{wire_target}
+use Rattle.rpc_machine.specs.rpc_msg.specs.declared.ids.QuestionId.{QuestionId}
+use Rattle.rpc_machine.specs.rpc_msg.specs.declared.parts.Target.{Target}
+use Rattle.rpc_machine.specs.rpc_msg.specs.declared.parts.Target.TheVariants.{ImportedCap, PromisedAnswer}
+use Rattle.rpc_machine.specs.rpc_msg.specs.declared.exception.Exception.{Exception}
+use Rattle.rpc_machine.specs.rpc_msg.specs.declared.message.ResolvedTo.TheVariants as resolved
+use Rattle.rpc_machine.specs.declared.node.Node.{Node}
+use Rattle.rpc_machine.specs.declared.node.Node.TheVariants as node
+use Rattle.rpc_machine.specs.declared.calls.WaitingCall.{WaitingCall}
+use Rattle.rpc_machine.specs.declared.calls.HeldCall.{HeldCall}
+use Rattle.rpc_machine.specs.declared.calls.Promise.{Promise}
+use Rattle.rpc_machine.specs.declared.calls.Promise.TheVariants as promise
+use Rattle.rpc_machine.specs.declared.calls.KeptOutcome.{KeptOutcome}
+use Rattle.rpc_machine.specs.declared.calls.OwnCall.{OwnCall}
+use Rattle.rpc_machine.specs.declared.calls.Value.{Value}
+use Rattle.rpc_machine.specs.declared.calls.Caller.{Caller}
+use Rattle.rpc_machine.specs.declared.calls.Caller.TheVariants as caller
+use Rattle.rpc_machine.specs.declared.entries.Role.TheVariants as role
+use Rattle.rpc_machine.specs.declared.entries.Question.{Question}
+use Rattle.rpc_machine.specs.declared.entries.AnswerEntry.{AnswerEntry}
+use Rattle.rpc_machine.specs.declared.entries.Import.{Import}
+use Rattle.rpc_machine.specs.State.{State}
+use Rattle.rpc_machine.specs.Nodes.{settle}
+use Rattle.rpc_machine.specs.Progress.{Progress, with_state, numbers, caps_of}
+use Rattle.rpc_machine.specs.Routing.{Relays as GoesOn, WaitsForPromise, WaitsForField, RoutedTo, Routes, RoutesAll, RoutesHeld}
+use Rattle.rpc_machine.specs.Collecting.{IsLoosePromise, IsLooseValue, IsLooseOutcome, IsLooseImport, Goes, PromiseGoes as LoosePromise, OutcomeGoes as LooseOutcome, ImportGoes as LooseImport, without_import, release, IsTight, Collects, Tight, Loose}
+use Rattle.rpc_machine.specs.Settling.{known, Fits, TellsCall, Returns, TellsPeer, Tells, ResolvesTo, ResolvesBy, ResolvesEach, SettlesOpen, SettlesFrom, SettlesOutcome, resolve_message, exports_where, Drains, NoneLeft, OneMore}
+use Rattle.rpc_machine.specs.Advancing.{wire_target}
 use Rattle.laws_acts.specs.Moments.{Saying, Clearing, TheOutcome, Settled, Owing, Moment, at_rest, progress, onto, sending, each_to, held_to, is_of, is_collecting, why_of, owing}
 use Rattle.laws_acts.specs.GoingOut.{GoesOut}
 use Rattle.laws_acts.specs.FirstActs.{asked, asking}

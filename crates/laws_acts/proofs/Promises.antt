@@ -1,22 +1,22 @@
 -- What changes of promises and kept outcomes let come and go among the places of a vat.
 use Rattle.std.proofs.Common.{◌≡◌, ℕ, List, [], ◌∷◌, ◌++◌, Option, None, Some, refl, ap, arith}
 use Rattle.std.specs.FinMap as map
-use Rattle.vat_machine.specs.declared.node.Node.{Node}
-use Rattle.vat_machine.specs.declared.node.Node.TheVariants as node
-use Rattle.vat_machine.specs.declared.calls.WaitingCall.{WaitingCall}
-use Rattle.vat_machine.specs.declared.calls.HeldCall.{HeldCall}
-use Rattle.vat_machine.specs.declared.calls.Promise.TheVariants as promise
-use Rattle.vat_machine.specs.declared.calls.Value.{Value}
-use Rattle.vat_machine.specs.declared.calls.Value.TheVariants as value
-use Rattle.vat_machine.specs.declared.calls.Caller.{Caller}
-use Rattle.vat_machine.specs.declared.calls.KeptOutcome.{KeptOutcome}
-use Rattle.vat_machine.specs.State.{State}
-use Rattle.vat_machine.specs.Lists.{how_many}
-use Rattle.vat_machine.specs.Places.{places, named_by_calls, named_by_held, named_by_value, named_by_outcome}
-use Rattle.vat_machine.specs.Progress.{Progress, caps_of}
-use Rattle.vat_machine.specs.Commands.{with_outcome}
-use Rattle.vat_machine.specs.Settling.{known}
-use Rattle.vat_machine.specs.Collecting.{without_promise, without_outcome}
+use Rattle.rpc_machine.specs.declared.node.Node.{Node}
+use Rattle.rpc_machine.specs.declared.node.Node.TheVariants as node
+use Rattle.rpc_machine.specs.declared.calls.WaitingCall.{WaitingCall}
+use Rattle.rpc_machine.specs.declared.calls.HeldCall.{HeldCall}
+use Rattle.rpc_machine.specs.declared.calls.Promise.TheVariants as promise
+use Rattle.rpc_machine.specs.declared.calls.Value.{Value}
+use Rattle.rpc_machine.specs.declared.calls.Value.TheVariants as value
+use Rattle.rpc_machine.specs.declared.calls.Caller.{Caller}
+use Rattle.rpc_machine.specs.declared.calls.KeptOutcome.{KeptOutcome}
+use Rattle.rpc_machine.specs.State.{State}
+use Rattle.rpc_machine.specs.Lists.{how_many}
+use Rattle.rpc_machine.specs.Places.{places, named_by_calls, named_by_held, named_by_value, named_by_outcome}
+use Rattle.rpc_machine.specs.Progress.{Progress, caps_of}
+use Rattle.rpc_machine.specs.Commands.{with_outcome}
+use Rattle.rpc_machine.specs.Settling.{known}
+use Rattle.rpc_machine.specs.Collecting.{without_promise, without_outcome}
 use Rattle.laws_acts.specs.Alike.{Alike}
 use Rattle.laws_acts.proofs.Parts.{how_many_append}
 use Rattle.laws_acts.proofs.Tables.{tables}

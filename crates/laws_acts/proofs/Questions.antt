@@ -1,22 +1,22 @@
 -- What changes of questions and answers let come and go among the places of a vat.
 use Rattle.std.proofs.Common.{◌≡◌, ℕ, Bool, true, false, List, [], ◌++◌, Option, None, Some, refl, ap, subst, arith}
 use Rattle.std.specs.FinMap as map
-use Rattle.vat_machine.specs.rpc_msg.specs.declared.ids.ExportId.{ExportId}
-use Rattle.vat_machine.specs.declared.entries.Question.{Question}
-use Rattle.vat_machine.specs.declared.entries.AnswerEntry.{AnswerEntry}
-use Rattle.vat_machine.specs.declared.entries.Returned.{Returned}
-use Rattle.vat_machine.specs.declared.entries.Role.{Role}
-use Rattle.vat_machine.specs.declared.entries.Finishing.{Finishing}
-use Rattle.vat_machine.specs.declared.entries.Finishing.TheVariants as finishing
-use Rattle.vat_machine.specs.declared.calls.Caller.TheVariants as caller
-use Rattle.vat_machine.specs.State.{State}
-use Rattle.vat_machine.specs.Lists.{how_many}
-use Rattle.vat_machine.specs.Places.{places, imports_of, named_by_returned, named_by_answer}
-use Rattle.vat_machine.specs.Progress.{Progress, export_ids}
-use Rattle.vat_machine.specs.Commands.{with_outcome}
-use Rattle.vat_machine.specs.Messages.{opened, kept_returned, finished_map}
-use Rattle.vat_machine.specs.Settling.{returned, returned_map}
-use Rattle.vat_machine.specs.Sweeping.{closed, closed_map}
+use Rattle.rpc_machine.specs.rpc_msg.specs.declared.ids.ExportId.{ExportId}
+use Rattle.rpc_machine.specs.declared.entries.Question.{Question}
+use Rattle.rpc_machine.specs.declared.entries.AnswerEntry.{AnswerEntry}
+use Rattle.rpc_machine.specs.declared.entries.Returned.{Returned}
+use Rattle.rpc_machine.specs.declared.entries.Role.{Role}
+use Rattle.rpc_machine.specs.declared.entries.Finishing.{Finishing}
+use Rattle.rpc_machine.specs.declared.entries.Finishing.TheVariants as finishing
+use Rattle.rpc_machine.specs.declared.calls.Caller.TheVariants as caller
+use Rattle.rpc_machine.specs.State.{State}
+use Rattle.rpc_machine.specs.Lists.{how_many}
+use Rattle.rpc_machine.specs.Places.{places, imports_of, named_by_returned, named_by_answer}
+use Rattle.rpc_machine.specs.Progress.{Progress, export_ids}
+use Rattle.rpc_machine.specs.Commands.{with_outcome}
+use Rattle.rpc_machine.specs.Messages.{opened, kept_returned, finished_map}
+use Rattle.rpc_machine.specs.Settling.{returned, returned_map}
+use Rattle.rpc_machine.specs.Sweeping.{closed, closed_map}
 use Rattle.laws_acts.specs.Alike.{Alike}
 use Rattle.laws_acts.proofs.Parts.{how_many_append}
 use Rattle.laws_acts.proofs.Tables.{tables}

@@ -1,42 +1,42 @@
 -- What a received message does first is its first act, and then acts.
 use Rattle.std.proofs.Common.{◌≡◌, ◌⊎◌, inl, inr, ℕ, Bool, true, false, is_some, not, nat_eq, length, List, [], ◌∷◌, Option, None, Some, refl, sym, ap, subst, ◌∙◌}
 use Rattle.std.specs.FinMap as map
-use Rattle.vat_machine.specs.vat_journal.specs.History.{if_so}
-use Rattle.vat_machine.specs.rpc_msg.specs.declared.ids.EmbargoId.{EmbargoId}
-use Rattle.vat_machine.specs.rpc_msg.specs.declared.parts.Target.{Target}
-use Rattle.vat_machine.specs.rpc_msg.specs.declared.message.Call.{Call}
-use Rattle.vat_machine.specs.rpc_msg.specs.declared.message.Return.{Return}
-use Rattle.vat_machine.specs.rpc_msg.specs.declared.message.Finish.{Finish}
-use Rattle.vat_machine.specs.rpc_msg.specs.declared.message.DisembargoContext.{DisembargoContext}
-use Rattle.vat_machine.specs.rpc_msg.specs.declared.message.DisembargoContext.TheVariants.{SenderLoopback, ReceiverLoopback}
-use Rattle.vat_machine.specs.rpc_msg.specs.declared.message.PlainMessage.{PlainMessage}
-use Rattle.vat_machine.specs.rpc_msg.specs.declared.message.PlainMessage.TheVariants as plain
-use Rattle.vat_machine.specs.rpc_msg.specs.declared.message.Message.{Message}
-use Rattle.vat_machine.specs.rpc_msg.specs.declared.message.Message.TheVariants as message
-use Rattle.vat_machine.specs.declared.command.Level.{Level}
-use Rattle.vat_machine.specs.declared.command.Level.TheVariants.{Zero, One}
-use Rattle.vat_machine.specs.declared.command.Effects.{Effects}
-use Rattle.vat_machine.specs.declared.calls.WaitingCall.{WaitingCall}
-use Rattle.vat_machine.specs.declared.calls.Caller.TheVariants as caller
-use Rattle.vat_machine.specs.declared.entries.Role.{Role}
-use Rattle.vat_machine.specs.declared.entries.Role.TheVariants as role
-use Rattle.vat_machine.specs.declared.entries.Finishing.{Finishing}
-use Rattle.vat_machine.specs.declared.entries.Finishing.TheVariants as finishing
-use Rattle.vat_machine.specs.declared.entries.Question.{Question}
-use Rattle.vat_machine.specs.declared.entries.AnswerEntry.{AnswerEntry}
-use Rattle.vat_machine.specs.declared.entries.Embargo.{Embargo}
-use Rattle.vat_machine.specs.State.{State}
-use Rattle.vat_machine.specs.Nodes.{settle}
-use Rattle.vat_machine.specs.Payloads.{caps_in}
-use Rattle.vat_machine.specs.Lists.{update}
-use Rattle.vat_machine.specs.Progress.{Progress, begin, with_state, numbers}
-use Rattle.vat_machine.specs.Descriptors.{take_at, take_all, taken_of}
-use Rattle.vat_machine.specs.Flags.{obey}
-use Rattle.vat_machine.specs.Numbers.{question_in_use, unknown_question, unknown_answer, bad_payload}
-use Rattle.vat_machine.specs.Faults.{target_node, gave, body_fault, flag_fault, target_fault, descriptors_fault, held_fault, is_foreign, plain_fault, unimplemented_fault, unless_foreign, return_fault, finish_fault, echoed_fault, fault_of}
-use Rattle.vat_machine.specs.Advancing.{wire_target}
-use Rattle.vat_machine.specs.Messages.{opened, received_request, bootstrap_value, value_of_results, waived, finished_map, unembargoed, ComesFor, ComesBack, TakesReturn, TakesEchoed, TakesFinish, Bounces, Lifts, TakesDisembargo, TakesPlain, TakesUnimplemented, TakesUnless, Takes}
-use Rattle.vat_machine.specs.Steps.{Handles}
+use Rattle.rpc_machine.specs.rpc_journal.specs.History.{if_so}
+use Rattle.rpc_machine.specs.rpc_msg.specs.declared.ids.EmbargoId.{EmbargoId}
+use Rattle.rpc_machine.specs.rpc_msg.specs.declared.parts.Target.{Target}
+use Rattle.rpc_machine.specs.rpc_msg.specs.declared.message.Call.{Call}
+use Rattle.rpc_machine.specs.rpc_msg.specs.declared.message.Return.{Return}
+use Rattle.rpc_machine.specs.rpc_msg.specs.declared.message.Finish.{Finish}
+use Rattle.rpc_machine.specs.rpc_msg.specs.declared.message.DisembargoContext.{DisembargoContext}
+use Rattle.rpc_machine.specs.rpc_msg.specs.declared.message.DisembargoContext.TheVariants.{SenderLoopback, ReceiverLoopback}
+use Rattle.rpc_machine.specs.rpc_msg.specs.declared.message.PlainMessage.{PlainMessage}
+use Rattle.rpc_machine.specs.rpc_msg.specs.declared.message.PlainMessage.TheVariants as plain
+use Rattle.rpc_machine.specs.rpc_msg.specs.declared.message.Message.{Message}
+use Rattle.rpc_machine.specs.rpc_msg.specs.declared.message.Message.TheVariants as message
+use Rattle.rpc_machine.specs.declared.command.Level.{Level}
+use Rattle.rpc_machine.specs.declared.command.Level.TheVariants.{Zero, One}
+use Rattle.rpc_machine.specs.declared.command.Effects.{Effects}
+use Rattle.rpc_machine.specs.declared.calls.WaitingCall.{WaitingCall}
+use Rattle.rpc_machine.specs.declared.calls.Caller.TheVariants as caller
+use Rattle.rpc_machine.specs.declared.entries.Role.{Role}
+use Rattle.rpc_machine.specs.declared.entries.Role.TheVariants as role
+use Rattle.rpc_machine.specs.declared.entries.Finishing.{Finishing}
+use Rattle.rpc_machine.specs.declared.entries.Finishing.TheVariants as finishing
+use Rattle.rpc_machine.specs.declared.entries.Question.{Question}
+use Rattle.rpc_machine.specs.declared.entries.AnswerEntry.{AnswerEntry}
+use Rattle.rpc_machine.specs.declared.entries.Embargo.{Embargo}
+use Rattle.rpc_machine.specs.State.{State}
+use Rattle.rpc_machine.specs.Nodes.{settle}
+use Rattle.rpc_machine.specs.Payloads.{caps_in}
+use Rattle.rpc_machine.specs.Lists.{update}
+use Rattle.rpc_machine.specs.Progress.{Progress, begin, with_state, numbers}
+use Rattle.rpc_machine.specs.Descriptors.{take_at, take_all, taken_of}
+use Rattle.rpc_machine.specs.Flags.{obey}
+use Rattle.rpc_machine.specs.Numbers.{question_in_use, unknown_question, unknown_answer, bad_payload}
+use Rattle.rpc_machine.specs.Faults.{target_node, gave, body_fault, flag_fault, target_fault, descriptors_fault, held_fault, is_foreign, plain_fault, unimplemented_fault, unless_foreign, return_fault, finish_fault, echoed_fault, fault_of}
+use Rattle.rpc_machine.specs.Advancing.{wire_target}
+use Rattle.rpc_machine.specs.Messages.{opened, received_request, bootstrap_value, value_of_results, waived, finished_map, unembargoed, ComesFor, ComesBack, TakesReturn, TakesEchoed, TakesFinish, Bounces, Lifts, TakesDisembargo, TakesPlain, TakesUnimplemented, TakesUnless, Takes}
+use Rattle.rpc_machine.specs.Steps.{Handles}
 use Rattle.laws_acts.specs.Moments.{Moment, at_rest, beginning, each_to}
 use Rattle.laws_acts.specs.MessageActs.{Back, returning, echoed, Brings, ByReturn, ByEchoedRoot, ByEchoedCall, answered, brought, Consumes}
 use Rattle.laws_acts.specs.MessageActs as act

@@ -3,18 +3,18 @@ use Rattle.std.proofs.Common.{◌≡◌, ℕ, ◌+◌, ◌≤◌, List, [], ◌�
 use Rattle.std.specs.FinMap as map
 use Rattle.finite_maps.specs.Tally.{Map}
 use Rattle.finite_maps.proofs.Gets.{get-insert_other}
-use Rattle.vat_machine.specs.rpc_msg.specs.declared.ids.RefId.{RefId}
-use Rattle.vat_machine.specs.declared.node.Node.{Node}
-use Rattle.vat_machine.specs.declared.calls.WaitingCall.{WaitingCall}
-use Rattle.vat_machine.specs.declared.entries.Reference.{Reference}
-use Rattle.vat_machine.specs.declared.entries.Embargo.{Embargo}
-use Rattle.vat_machine.specs.State.{State}
-use Rattle.vat_machine.specs.Lists.{how_many, updated, update}
-use Rattle.vat_machine.specs.Places.{places, named_by_calls, named_by_embargo}
-use Rattle.vat_machine.specs.Progress.{Progress, with_refs}
-use Rattle.vat_machine.specs.Commands.{counted}
-use Rattle.vat_machine.specs.Advancing.{headed}
-use Rattle.vat_machine.specs.Messages.{unembargoed}
+use Rattle.rpc_machine.specs.rpc_msg.specs.declared.ids.RefId.{RefId}
+use Rattle.rpc_machine.specs.declared.node.Node.{Node}
+use Rattle.rpc_machine.specs.declared.calls.WaitingCall.{WaitingCall}
+use Rattle.rpc_machine.specs.declared.entries.Reference.{Reference}
+use Rattle.rpc_machine.specs.declared.entries.Embargo.{Embargo}
+use Rattle.rpc_machine.specs.State.{State}
+use Rattle.rpc_machine.specs.Lists.{how_many, updated, update}
+use Rattle.rpc_machine.specs.Places.{places, named_by_calls, named_by_embargo}
+use Rattle.rpc_machine.specs.Progress.{Progress, with_refs}
+use Rattle.rpc_machine.specs.Commands.{counted}
+use Rattle.rpc_machine.specs.Advancing.{headed}
+use Rattle.rpc_machine.specs.Messages.{unembargoed}
 use Rattle.laws_acts.specs.Alike.{Alike}
 use Rattle.laws_acts.proofs.Parts.{how_many_append}
 use Rattle.laws_acts.proofs.Tables.{tables}

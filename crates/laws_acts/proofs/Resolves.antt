@@ -1,11 +1,11 @@
 -- What no place names has no export, so no Resolve is sent for it.
 use Rattle.std.proofs.Common.{◌≡◌, ℕ, suc, Bool, true, false, cond, List, [], ◌∷◌, refl, arith}
 use Rattle.std.specs.FinMap as map
-use Rattle.vat_machine.specs.declared.node.Node.{Node}
-use Rattle.vat_machine.specs.declared.entries.Export.{Export}
-use Rattle.vat_machine.specs.Lists.{how_many, from_each}
-use Rattle.vat_machine.specs.Places.{named_by_export}
-use Rattle.vat_machine.specs.Settling.{exports_where}
+use Rattle.rpc_machine.specs.declared.node.Node.{Node}
+use Rattle.rpc_machine.specs.declared.entries.Export.{Export}
+use Rattle.rpc_machine.specs.Lists.{how_many, from_each}
+use Rattle.rpc_machine.specs.Places.{named_by_export}
+use Rattle.rpc_machine.specs.Settling.{exports_where}
 use Rattle.laws_acts.specs.Laws.{NoResolves}
 use Rattle.laws_acts.proofs.Parts.{names_are}
 

@@ -1,16 +1,16 @@
 -- What waiting calls name stays named while they are taken out and routed.
 use Rattle.std.proofs.Common.{◌≡◌, ℕ, List, [], ◌∷◌, ◌++◌, Some, ap, arith}
 use Rattle.std.specs.FinMap as map
-use Rattle.vat_machine.specs.declared.node.Node.{Node}
-use Rattle.vat_machine.specs.declared.node.Node.TheVariants as node
-use Rattle.vat_machine.specs.declared.calls.WaitingCall.{WaitingCall}
-use Rattle.vat_machine.specs.declared.calls.HeldCall.{HeldCall}
-use Rattle.vat_machine.specs.declared.calls.Promise.TheVariants as promise
-use Rattle.vat_machine.specs.declared.entries.Embargo.{Embargo}
-use Rattle.vat_machine.specs.State.{State}
-use Rattle.vat_machine.specs.Lists.{how_many, update}
-use Rattle.vat_machine.specs.Messages.{unembargoed}
-use Rattle.vat_machine.specs.Places.{places, named_by_calls, named_by_held}
+use Rattle.rpc_machine.specs.declared.node.Node.{Node}
+use Rattle.rpc_machine.specs.declared.node.Node.TheVariants as node
+use Rattle.rpc_machine.specs.declared.calls.WaitingCall.{WaitingCall}
+use Rattle.rpc_machine.specs.declared.calls.HeldCall.{HeldCall}
+use Rattle.rpc_machine.specs.declared.calls.Promise.TheVariants as promise
+use Rattle.rpc_machine.specs.declared.entries.Embargo.{Embargo}
+use Rattle.rpc_machine.specs.State.{State}
+use Rattle.rpc_machine.specs.Lists.{how_many, update}
+use Rattle.rpc_machine.specs.Messages.{unembargoed}
+use Rattle.rpc_machine.specs.Places.{places, named_by_calls, named_by_held}
 use Rattle.laws_acts.specs.Alike.{Alike, places_beside}
 use Rattle.laws_acts.specs.Laws.{TakenCallsStayNamed}
 use Rattle.laws_acts.proofs.Parts.{how_many_append}

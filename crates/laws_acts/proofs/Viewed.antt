@@ -2,27 +2,27 @@
 use Rattle.std.proofs.Common.{◌≡◌, ◌≢◌, ◌⊎◌, inl, inr, ℕ, true, false, List, [], ◌∷◌, Option, None, Some, refl, sym, ap, subst, ◌∙◌}
 use Rattle.std.specs.FinMap as map
 use Rattle.finite_maps.specs.Tally.{Map}
-use Rattle.vat_machine.specs.rpc_msg.specs.declared.exception.Exception.{Exception}
-use Rattle.vat_machine.specs.rpc_msg.specs.declared.message.ResolvedTo.TheVariants as resolved
-use Rattle.vat_machine.specs.declared.node.Node.{Node}
-use Rattle.vat_machine.specs.declared.node.Node.TheVariants as node
-use Rattle.vat_machine.specs.declared.calls.WaitingCall.{WaitingCall}
-use Rattle.vat_machine.specs.declared.calls.Value.{Value}
-use Rattle.vat_machine.specs.declared.calls.Caller.{Caller}
-use Rattle.vat_machine.specs.declared.calls.Caller.TheVariants as caller
-use Rattle.vat_machine.specs.declared.calls.OwnCall.{OwnCall}
-use Rattle.vat_machine.specs.declared.calls.KeptOutcome.{KeptOutcome}
-use Rattle.vat_machine.specs.declared.command.Effects.{Effects}
-use Rattle.vat_machine.specs.declared.entries.Question.{Question}
-use Rattle.vat_machine.specs.declared.entries.AnswerEntry.{AnswerEntry}
-use Rattle.vat_machine.specs.declared.entries.Export.{Export}
-use Rattle.vat_machine.specs.declared.entries.Import.{Import}
-use Rattle.vat_machine.specs.State.{State}
-use Rattle.vat_machine.specs.Nodes.{settle}
-use Rattle.vat_machine.specs.Progress.{Progress, with_state}
-use Rattle.vat_machine.specs.Collecting.{IsLoosePromise, IsLooseValue, IsLooseOutcome, IsLooseImport, Goes, PromiseGoes, OutcomeGoes, ImportGoes, release, IsTight, Collects, Tight, Loose}
-use Rattle.vat_machine.specs.Settling.{known, Fits, TellsCall, SaysBack, Returns, TellsPeer, or_failed, resolve_message, Tells, ResolvesTo, ResolvesBy}
-use Rattle.vat_machine.specs.Sweeping.{IsNotSent, finished_by}
+use Rattle.rpc_machine.specs.rpc_msg.specs.declared.exception.Exception.{Exception}
+use Rattle.rpc_machine.specs.rpc_msg.specs.declared.message.ResolvedTo.TheVariants as resolved
+use Rattle.rpc_machine.specs.declared.node.Node.{Node}
+use Rattle.rpc_machine.specs.declared.node.Node.TheVariants as node
+use Rattle.rpc_machine.specs.declared.calls.WaitingCall.{WaitingCall}
+use Rattle.rpc_machine.specs.declared.calls.Value.{Value}
+use Rattle.rpc_machine.specs.declared.calls.Caller.{Caller}
+use Rattle.rpc_machine.specs.declared.calls.Caller.TheVariants as caller
+use Rattle.rpc_machine.specs.declared.calls.OwnCall.{OwnCall}
+use Rattle.rpc_machine.specs.declared.calls.KeptOutcome.{KeptOutcome}
+use Rattle.rpc_machine.specs.declared.command.Effects.{Effects}
+use Rattle.rpc_machine.specs.declared.entries.Question.{Question}
+use Rattle.rpc_machine.specs.declared.entries.AnswerEntry.{AnswerEntry}
+use Rattle.rpc_machine.specs.declared.entries.Export.{Export}
+use Rattle.rpc_machine.specs.declared.entries.Import.{Import}
+use Rattle.rpc_machine.specs.State.{State}
+use Rattle.rpc_machine.specs.Nodes.{settle}
+use Rattle.rpc_machine.specs.Progress.{Progress, with_state}
+use Rattle.rpc_machine.specs.Collecting.{IsLoosePromise, IsLooseValue, IsLooseOutcome, IsLooseImport, Goes, PromiseGoes, OutcomeGoes, ImportGoes, release, IsTight, Collects, Tight, Loose}
+use Rattle.rpc_machine.specs.Settling.{known, Fits, TellsCall, SaysBack, Returns, TellsPeer, or_failed, resolve_message, Tells, ResolvesTo, ResolvesBy}
+use Rattle.rpc_machine.specs.Sweeping.{IsNotSent, finished_by}
 use Rattle.laws_acts.specs.Moments.{Saying, Clearing, TheOutcome, Owing, Moment, at_rest, progress, onto, sending, held_to, is_collecting}
 use Rattle.laws_acts.specs.SmallActs.{delivery, kept_known, is_broken, IsEnd}
 use Rattle.laws_acts.specs.SmallActs as small

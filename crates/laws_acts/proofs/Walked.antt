@@ -1,30 +1,30 @@
 -- What a command or a message does first, in the words of `Acts`; with the acts that follow, each step is acts.
 use Rattle.std.proofs.Common.{◌≡◌, ◌⊎◌, inl, inr, true, false, None, Some, refl, sym, ap, subst, ◌∙◌}
 use Rattle.std.specs.FinMap as map
-use Rattle.vat_machine.specs.rpc_msg.specs.declared.message.DisembargoContext.TheVariants.{SenderLoopback, ReceiverLoopback}
-use Rattle.vat_machine.specs.rpc_msg.specs.declared.message.Return.{Return}
-use Rattle.vat_machine.specs.rpc_msg.specs.declared.message.PlainMessage.{PlainMessage}
-use Rattle.vat_machine.specs.rpc_msg.specs.declared.message.PlainMessage.TheVariants as plain
-use Rattle.vat_machine.specs.rpc_msg.specs.declared.message.Message.{Message}
-use Rattle.vat_machine.specs.rpc_msg.specs.declared.message.Message.TheVariants as message
-use Rattle.vat_machine.specs.declared.node.Node.TheVariants as node
-use Rattle.vat_machine.specs.declared.node.Reason.TheVariants.{BrokenPromise}
-use Rattle.vat_machine.specs.declared.command.Command.{Command}
-use Rattle.vat_machine.specs.declared.command.Granted.{Granted}
-use Rattle.vat_machine.specs.declared.command.Effects.{Effects}
-use Rattle.vat_machine.specs.declared.command.Level.{Level}
-use Rattle.vat_machine.specs.declared.command.Level.TheVariants.{One}
-use Rattle.vat_machine.specs.declared.calls.OwnCall.TheVariants as own
-use Rattle.vat_machine.specs.declared.entries.Finishing.{Finishing}
-use Rattle.vat_machine.specs.declared.entries.Finishing.TheVariants as finishing
-use Rattle.vat_machine.specs.declared.entries.Question.{Question}
-use Rattle.vat_machine.specs.State.{State}
-use Rattle.vat_machine.specs.Descriptors.{taken_of}
-use Rattle.vat_machine.specs.Faults.{gave, is_foreign, fault_of}
-use Rattle.vat_machine.specs.Progress.{Progress, begin, with_state}
-use Rattle.vat_machine.specs.Commands.{heads, request, counted, kept, settled_now}
-use Rattle.vat_machine.specs.Messages.{opened, finished_map, results_of, kept_returned, value_of_results}
-use Rattle.vat_machine.specs.Steps.{Does, Handles}
+use Rattle.rpc_machine.specs.rpc_msg.specs.declared.message.DisembargoContext.TheVariants.{SenderLoopback, ReceiverLoopback}
+use Rattle.rpc_machine.specs.rpc_msg.specs.declared.message.Return.{Return}
+use Rattle.rpc_machine.specs.rpc_msg.specs.declared.message.PlainMessage.{PlainMessage}
+use Rattle.rpc_machine.specs.rpc_msg.specs.declared.message.PlainMessage.TheVariants as plain
+use Rattle.rpc_machine.specs.rpc_msg.specs.declared.message.Message.{Message}
+use Rattle.rpc_machine.specs.rpc_msg.specs.declared.message.Message.TheVariants as message
+use Rattle.rpc_machine.specs.declared.node.Node.TheVariants as node
+use Rattle.rpc_machine.specs.declared.node.Reason.TheVariants.{BrokenPromise}
+use Rattle.rpc_machine.specs.declared.command.Command.{Command}
+use Rattle.rpc_machine.specs.declared.command.Granted.{Granted}
+use Rattle.rpc_machine.specs.declared.command.Effects.{Effects}
+use Rattle.rpc_machine.specs.declared.command.Level.{Level}
+use Rattle.rpc_machine.specs.declared.command.Level.TheVariants.{One}
+use Rattle.rpc_machine.specs.declared.calls.OwnCall.TheVariants as own
+use Rattle.rpc_machine.specs.declared.entries.Finishing.{Finishing}
+use Rattle.rpc_machine.specs.declared.entries.Finishing.TheVariants as finishing
+use Rattle.rpc_machine.specs.declared.entries.Question.{Question}
+use Rattle.rpc_machine.specs.State.{State}
+use Rattle.rpc_machine.specs.Descriptors.{taken_of}
+use Rattle.rpc_machine.specs.Faults.{gave, is_foreign, fault_of}
+use Rattle.rpc_machine.specs.Progress.{Progress, begin, with_state}
+use Rattle.rpc_machine.specs.Commands.{heads, request, counted, kept, settled_now}
+use Rattle.rpc_machine.specs.Messages.{opened, finished_map, results_of, kept_returned, value_of_results}
+use Rattle.rpc_machine.specs.Steps.{Does, Handles}
 use Rattle.laws_acts.specs.Moments.{Moment, beginning, progress}
 use Rattle.laws_acts.specs.FirstActs.{waiting_call, Starts}
 use Rattle.laws_acts.specs.FirstActs as first

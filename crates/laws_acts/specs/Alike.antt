@@ -1,13 +1,13 @@
 -- Places that name alike: how often a vat's places name each kind of node, whatever their order.
 use Rattle.std.specs.Prelude.{◌≡◌, ℕ, Bool, cond, nat_le, Option, None, Some, List, [], ◌∷◌, ◌++◌}
 use Rattle.finite_maps.specs.Tally.{Map}
-use Rattle.vat_machine.specs.declared.node.Node.{Node}
-use Rattle.vat_machine.specs.declared.calls.HeldCall.{HeldCall}
-use Rattle.vat_machine.specs.declared.entries.Import.{Import}
-use Rattle.vat_machine.specs.declared.entries.Export.{Export}
-use Rattle.vat_machine.specs.State.{State}
-use Rattle.vat_machine.specs.Lists.{how_many, of_map}
-use Rattle.vat_machine.specs.Places.{places, named_by_held, named_by_import}
+use Rattle.rpc_machine.specs.declared.node.Node.{Node}
+use Rattle.rpc_machine.specs.declared.calls.HeldCall.{HeldCall}
+use Rattle.rpc_machine.specs.declared.entries.Import.{Import}
+use Rattle.rpc_machine.specs.declared.entries.Export.{Export}
+use Rattle.rpc_machine.specs.State.{State}
+use Rattle.rpc_machine.specs.Lists.{how_many, of_map}
+use Rattle.rpc_machine.specs.Places.{places, named_by_held, named_by_import}
 
 -- Both name each kind of node as often. So where a state s becomes t, and these places come and those go, it is
 -- Alike (come ++ places s) (gone ++ places t).

@@ -2,35 +2,35 @@
 use Rattle.std.specs.Prelude.{◌≡◌, ◌⊎◌, ℕ, ◌+◌, ◌<◌, Bool, Option, None, Some, List, [], ◌∷◌, ◌++◌}
 use Rattle.std.specs.FinMap as map
 use Rattle.std.specs.List.{Contains}
-use Rattle.vat_machine.specs.rpc_msg.specs.declared.ids.Vat.{Vat}
-use Rattle.vat_machine.specs.rpc_msg.specs.declared.ids.ObjectId.{ObjectId}
+use Rattle.rpc_machine.specs.rpc_msg.specs.declared.ids.Vat.{Vat}
+use Rattle.rpc_machine.specs.rpc_msg.specs.declared.ids.ObjectId.{ObjectId}
 use Rattle.finite_maps.specs.Tally.{Map}
-use Rattle.vat_machine.specs.declared.node.Node.{Node}
-use Rattle.vat_machine.specs.declared.node.Node.TheVariants as node
-use Rattle.vat_machine.specs.declared.calls.WaitingCall.{WaitingCall}
-use Rattle.vat_machine.specs.declared.calls.HeldCall.{HeldCall}
-use Rattle.vat_machine.specs.declared.calls.Promise.{Promise}
-use Rattle.vat_machine.specs.declared.calls.Promise.TheVariants as promise
-use Rattle.vat_machine.specs.declared.calls.KeptOutcome.{KeptOutcome}
-use Rattle.vat_machine.specs.declared.calls.Caller.{Caller}
-use Rattle.vat_machine.specs.declared.calls.Value.{Value}
-use Rattle.vat_machine.specs.declared.command.Level.{Level}
-use Rattle.vat_machine.specs.declared.entries.Question.{Question}
-use Rattle.vat_machine.specs.declared.entries.AnswerEntry.{AnswerEntry}
-use Rattle.vat_machine.specs.declared.entries.Import.{Import}
-use Rattle.vat_machine.specs.declared.entries.Export.{Export}
-use Rattle.vat_machine.specs.declared.entries.Reference.{Reference}
-use Rattle.vat_machine.specs.declared.entries.Role.{Role}
-use Rattle.vat_machine.specs.declared.entries.Embargo.{Embargo}
-use Rattle.vat_machine.specs.State.{State, start}
-use Rattle.vat_machine.specs.Lists.{how_many, update}
-use Rattle.vat_machine.specs.Nodes.{is_promise, is_field, is_import, is_pipe}
-use Rattle.vat_machine.specs.Places.{places, names, named_by_calls, named_by_held, named_by_reference, named_by_embargo, named_by_promise, named_by_outcome, named_by_question, named_by_import, named_by_export, named_by_answer}
-use Rattle.vat_machine.specs.Settling.{known, exports_where}
-use Rattle.vat_machine.specs.Down.{fallen}
-use Rattle.vat_machine.specs.Collecting.{IsLoosePromise, IsLooseOutcome, IsLooseImport, IsTight, CallerIsDone}
-use Rattle.vat_machine.specs.Sweeping.{IsOver}
-use Rattle.vat_machine.specs.Messages.{unembargoed}
+use Rattle.rpc_machine.specs.declared.node.Node.{Node}
+use Rattle.rpc_machine.specs.declared.node.Node.TheVariants as node
+use Rattle.rpc_machine.specs.declared.calls.WaitingCall.{WaitingCall}
+use Rattle.rpc_machine.specs.declared.calls.HeldCall.{HeldCall}
+use Rattle.rpc_machine.specs.declared.calls.Promise.{Promise}
+use Rattle.rpc_machine.specs.declared.calls.Promise.TheVariants as promise
+use Rattle.rpc_machine.specs.declared.calls.KeptOutcome.{KeptOutcome}
+use Rattle.rpc_machine.specs.declared.calls.Caller.{Caller}
+use Rattle.rpc_machine.specs.declared.calls.Value.{Value}
+use Rattle.rpc_machine.specs.declared.command.Level.{Level}
+use Rattle.rpc_machine.specs.declared.entries.Question.{Question}
+use Rattle.rpc_machine.specs.declared.entries.AnswerEntry.{AnswerEntry}
+use Rattle.rpc_machine.specs.declared.entries.Import.{Import}
+use Rattle.rpc_machine.specs.declared.entries.Export.{Export}
+use Rattle.rpc_machine.specs.declared.entries.Reference.{Reference}
+use Rattle.rpc_machine.specs.declared.entries.Role.{Role}
+use Rattle.rpc_machine.specs.declared.entries.Embargo.{Embargo}
+use Rattle.rpc_machine.specs.State.{State, start}
+use Rattle.rpc_machine.specs.Lists.{how_many, update}
+use Rattle.rpc_machine.specs.Nodes.{is_promise, is_field, is_import, is_pipe}
+use Rattle.rpc_machine.specs.Places.{places, names, named_by_calls, named_by_held, named_by_reference, named_by_embargo, named_by_promise, named_by_outcome, named_by_question, named_by_import, named_by_export, named_by_answer}
+use Rattle.rpc_machine.specs.Settling.{known, exports_where}
+use Rattle.rpc_machine.specs.Down.{fallen}
+use Rattle.rpc_machine.specs.Collecting.{IsLoosePromise, IsLooseOutcome, IsLooseImport, IsTight, CallerIsDone}
+use Rattle.rpc_machine.specs.Sweeping.{IsOver}
+use Rattle.rpc_machine.specs.Messages.{unembargoed}
 use Rattle.laws_acts.specs.Alike.{Alike, part, places_beside}
 
 -- ---- Tables

@@ -42,6 +42,6 @@ pub mod Acts
 pub mod Sent
 pub mod Alike
 pub mod Laws
-pub use Rattle.vat_machine.specs.rpc_msg as rpc_msg
-pub use Rattle.vat_machine.specs.vat_journal as vat_journal
-pub use Rattle.vat_machine as vat_machine
+pub use Rattle.rpc_machine.specs.rpc_msg as rpc_msg
+pub use Rattle.rpc_machine.specs.rpc_journal as rpc_journal
+pub use Rattle.rpc_machine as rpc_machine

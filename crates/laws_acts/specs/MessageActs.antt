@@ -1,38 +1,38 @@
 -- The first act of a received message: what it does itself, exactly. What follows from it is done by the acts of `SmallActs`.
 use Rattle.std.specs.Prelude.{◌≡◌, ◌⊎◌, ℕ, Bool, true, false, cond, None, Some, List, [], ◌∷◌, ◌++◌}
 use Rattle.std.specs.FinMap as map
-use Rattle.vat_machine.specs.rpc_msg.specs.declared.ids.CallId.{CallId}
-use Rattle.vat_machine.specs.rpc_msg.specs.declared.ids.EmbargoId.{EmbargoId}
-use Rattle.vat_machine.specs.rpc_msg.specs.declared.ids.QuestionId.{QuestionId}
-use Rattle.vat_machine.specs.rpc_msg.specs.declared.parts.Descriptor.{Descriptor}
-use Rattle.vat_machine.specs.rpc_msg.specs.declared.parts.Target.{Target}
-use Rattle.vat_machine.specs.rpc_msg.specs.declared.message.Call.{Call}
-use Rattle.vat_machine.specs.rpc_msg.specs.declared.message.Return.{Return}
-use Rattle.vat_machine.specs.rpc_msg.specs.declared.message.Finish.{Finish}
-use Rattle.vat_machine.specs.rpc_msg.specs.declared.message.Resolve.{Resolve}
-use Rattle.vat_machine.specs.rpc_msg.specs.declared.message.Release.{Release}
-use Rattle.vat_machine.specs.rpc_msg.specs.declared.message.DisembargoContext.TheVariants.{SenderLoopback, ReceiverLoopback}
-use Rattle.vat_machine.specs.rpc_msg.specs.declared.message.PlainMessage.{PlainMessage}
-use Rattle.vat_machine.specs.rpc_msg.specs.declared.message.PlainMessage.TheVariants as plain
-use Rattle.vat_machine.specs.rpc_msg.specs.declared.message.Message.{Message}
-use Rattle.vat_machine.specs.rpc_msg.specs.declared.message.Message.TheVariants as message
-use Rattle.vat_machine.specs.rpc_msg.specs.Messages.{descriptors_of_body}
-use Rattle.vat_machine.specs.declared.calls.Caller.TheVariants as caller
-use Rattle.vat_machine.specs.declared.entries.Role.TheVariants as role
-use Rattle.vat_machine.specs.declared.entries.Finishing.TheVariants as finishing
-use Rattle.vat_machine.specs.declared.entries.Returned.{Returned}
-use Rattle.vat_machine.specs.declared.entries.Question.{Question}
-use Rattle.vat_machine.specs.declared.entries.AnswerEntry.{AnswerEntry}
-use Rattle.vat_machine.specs.declared.entries.Embargo.{Embargo}
-use Rattle.vat_machine.specs.State.{State}
-use Rattle.vat_machine.specs.Lists.{update}
-use Rattle.vat_machine.specs.Nodes.{settle}
-use Rattle.vat_machine.specs.Progress.{numbers}
-use Rattle.vat_machine.specs.Flags.{obey, lower_by}
-use Rattle.vat_machine.specs.Descriptors.{take_all, taken_of}
-use Rattle.vat_machine.specs.Faults.{target_node, gave, given_by, is_foreign}
-use Rattle.vat_machine.specs.Advancing.{wire_target}
-use Rattle.vat_machine.specs.Messages.{opened, received_request, bootstrap_value, results_of, value_of_results, waived, not_understood, finished_map, take_resolve, unembargoed}
+use Rattle.rpc_machine.specs.rpc_msg.specs.declared.ids.CallId.{CallId}
+use Rattle.rpc_machine.specs.rpc_msg.specs.declared.ids.EmbargoId.{EmbargoId}
+use Rattle.rpc_machine.specs.rpc_msg.specs.declared.ids.QuestionId.{QuestionId}
+use Rattle.rpc_machine.specs.rpc_msg.specs.declared.parts.Descriptor.{Descriptor}
+use Rattle.rpc_machine.specs.rpc_msg.specs.declared.parts.Target.{Target}
+use Rattle.rpc_machine.specs.rpc_msg.specs.declared.message.Call.{Call}
+use Rattle.rpc_machine.specs.rpc_msg.specs.declared.message.Return.{Return}
+use Rattle.rpc_machine.specs.rpc_msg.specs.declared.message.Finish.{Finish}
+use Rattle.rpc_machine.specs.rpc_msg.specs.declared.message.Resolve.{Resolve}
+use Rattle.rpc_machine.specs.rpc_msg.specs.declared.message.Release.{Release}
+use Rattle.rpc_machine.specs.rpc_msg.specs.declared.message.DisembargoContext.TheVariants.{SenderLoopback, ReceiverLoopback}
+use Rattle.rpc_machine.specs.rpc_msg.specs.declared.message.PlainMessage.{PlainMessage}
+use Rattle.rpc_machine.specs.rpc_msg.specs.declared.message.PlainMessage.TheVariants as plain
+use Rattle.rpc_machine.specs.rpc_msg.specs.declared.message.Message.{Message}
+use Rattle.rpc_machine.specs.rpc_msg.specs.declared.message.Message.TheVariants as message
+use Rattle.rpc_machine.specs.rpc_msg.specs.Messages.{descriptors_of_body}
+use Rattle.rpc_machine.specs.declared.calls.Caller.TheVariants as caller
+use Rattle.rpc_machine.specs.declared.entries.Role.TheVariants as role
+use Rattle.rpc_machine.specs.declared.entries.Finishing.TheVariants as finishing
+use Rattle.rpc_machine.specs.declared.entries.Returned.{Returned}
+use Rattle.rpc_machine.specs.declared.entries.Question.{Question}
+use Rattle.rpc_machine.specs.declared.entries.AnswerEntry.{AnswerEntry}
+use Rattle.rpc_machine.specs.declared.entries.Embargo.{Embargo}
+use Rattle.rpc_machine.specs.State.{State}
+use Rattle.rpc_machine.specs.Lists.{update}
+use Rattle.rpc_machine.specs.Nodes.{settle}
+use Rattle.rpc_machine.specs.Progress.{numbers}
+use Rattle.rpc_machine.specs.Flags.{obey, lower_by}
+use Rattle.rpc_machine.specs.Descriptors.{take_all, taken_of}
+use Rattle.rpc_machine.specs.Faults.{target_node, gave, given_by, is_foreign}
+use Rattle.rpc_machine.specs.Advancing.{wire_target}
+use Rattle.rpc_machine.specs.Messages.{opened, received_request, bootstrap_value, results_of, value_of_results, waived, not_understood, finished_map, take_resolve, unembargoed}
 use Rattle.laws_acts.specs.Moments.{Moment, in_state, sending, each_to}
 
 -- What a Return says; of a Bootstrap or a Call that came back, that it was not understood.

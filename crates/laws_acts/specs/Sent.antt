@@ -1,42 +1,42 @@
 -- What each act sends, with what true flags let go.
 use Rattle.std.specs.Prelude.{ℕ, List, [], ◌∷◌, ◌++◌, Option, None, Some}
 use Rattle.std.specs.FinMap as map
-use Rattle.vat_machine.specs.rpc_msg.specs.declared.ids.QuestionId.{QuestionId}
-use Rattle.vat_machine.specs.rpc_msg.specs.declared.parts.Descriptor.{Descriptor}
-use Rattle.vat_machine.specs.rpc_msg.specs.declared.parts.Target.{Target}
-use Rattle.vat_machine.specs.rpc_msg.specs.declared.exception.Exception.{Exception}
-use Rattle.vat_machine.specs.rpc_msg.specs.declared.message.ResolvedTo.{ResolvedTo}
-use Rattle.vat_machine.specs.rpc_msg.specs.declared.message.ResolvedTo.TheVariants as resolved
-use Rattle.vat_machine.specs.rpc_msg.specs.declared.message.DisembargoContext.TheVariants.{SenderLoopback, ReceiverLoopback}
-use Rattle.vat_machine.specs.rpc_msg.specs.declared.message.PlainMessage.{PlainMessage}
-use Rattle.vat_machine.specs.rpc_msg.specs.declared.message.PlainMessage.TheVariants as plain
-use Rattle.vat_machine.specs.rpc_msg.specs.declared.message.Message.{Message}
-use Rattle.vat_machine.specs.rpc_msg.specs.declared.message.Message.TheVariants as message
-use Rattle.vat_machine.specs.declared.node.Node.{Node}
-use Rattle.vat_machine.specs.declared.node.Node.TheVariants as node
-use Rattle.vat_machine.specs.declared.calls.Request.{Request}
-use Rattle.vat_machine.specs.declared.calls.Value.{Value}
-use Rattle.vat_machine.specs.declared.calls.Caller.{Caller}
-use Rattle.vat_machine.specs.declared.calls.Caller.TheVariants as caller
-use Rattle.vat_machine.specs.declared.command.Granted.{Granted}
-use Rattle.vat_machine.specs.declared.entries.Role.{Role}
-use Rattle.vat_machine.specs.declared.entries.Finishing.{Finishing}
-use Rattle.vat_machine.specs.declared.entries.Finishing.TheVariants as finishing
-use Rattle.vat_machine.specs.declared.entries.Question.{Question}
-use Rattle.vat_machine.specs.declared.entries.AnswerEntry.{AnswerEntry}
-use Rattle.vat_machine.specs.declared.entries.Reference.{Reference}
-use Rattle.vat_machine.specs.Nodes.{settle}
-use Rattle.vat_machine.specs.Progress.{Progress, export_id, numbers}
-use Rattle.vat_machine.specs.Flags.{flag_for}
-use Rattle.vat_machine.specs.Commands.{AsksBootstrap}
-use Rattle.vat_machine.specs.declared.entries.Role.TheVariants as role
-use Rattle.vat_machine.specs.Routing.{Asks}
-use Rattle.vat_machine.specs.Settling.{TellsPeer, Returns, Tells, or_failed, ResolvesBy}
-use Rattle.vat_machine.specs.Sweeping.{got_of}
-use Rattle.vat_machine.specs.Advancing.{Embargoes}
+use Rattle.rpc_machine.specs.rpc_msg.specs.declared.ids.QuestionId.{QuestionId}
+use Rattle.rpc_machine.specs.rpc_msg.specs.declared.parts.Descriptor.{Descriptor}
+use Rattle.rpc_machine.specs.rpc_msg.specs.declared.parts.Target.{Target}
+use Rattle.rpc_machine.specs.rpc_msg.specs.declared.exception.Exception.{Exception}
+use Rattle.rpc_machine.specs.rpc_msg.specs.declared.message.ResolvedTo.{ResolvedTo}
+use Rattle.rpc_machine.specs.rpc_msg.specs.declared.message.ResolvedTo.TheVariants as resolved
+use Rattle.rpc_machine.specs.rpc_msg.specs.declared.message.DisembargoContext.TheVariants.{SenderLoopback, ReceiverLoopback}
+use Rattle.rpc_machine.specs.rpc_msg.specs.declared.message.PlainMessage.{PlainMessage}
+use Rattle.rpc_machine.specs.rpc_msg.specs.declared.message.PlainMessage.TheVariants as plain
+use Rattle.rpc_machine.specs.rpc_msg.specs.declared.message.Message.{Message}
+use Rattle.rpc_machine.specs.rpc_msg.specs.declared.message.Message.TheVariants as message
+use Rattle.rpc_machine.specs.declared.node.Node.{Node}
+use Rattle.rpc_machine.specs.declared.node.Node.TheVariants as node
+use Rattle.rpc_machine.specs.declared.calls.Request.{Request}
+use Rattle.rpc_machine.specs.declared.calls.Value.{Value}
+use Rattle.rpc_machine.specs.declared.calls.Caller.{Caller}
+use Rattle.rpc_machine.specs.declared.calls.Caller.TheVariants as caller
+use Rattle.rpc_machine.specs.declared.command.Granted.{Granted}
+use Rattle.rpc_machine.specs.declared.entries.Role.{Role}
+use Rattle.rpc_machine.specs.declared.entries.Finishing.{Finishing}
+use Rattle.rpc_machine.specs.declared.entries.Finishing.TheVariants as finishing
+use Rattle.rpc_machine.specs.declared.entries.Question.{Question}
+use Rattle.rpc_machine.specs.declared.entries.AnswerEntry.{AnswerEntry}
+use Rattle.rpc_machine.specs.declared.entries.Reference.{Reference}
+use Rattle.rpc_machine.specs.Nodes.{settle}
+use Rattle.rpc_machine.specs.Progress.{Progress, export_id, numbers}
+use Rattle.rpc_machine.specs.Flags.{flag_for}
+use Rattle.rpc_machine.specs.Commands.{AsksBootstrap}
+use Rattle.rpc_machine.specs.declared.entries.Role.TheVariants as role
+use Rattle.rpc_machine.specs.Routing.{Asks}
+use Rattle.rpc_machine.specs.Settling.{TellsPeer, Returns, Tells, or_failed, ResolvesBy}
+use Rattle.rpc_machine.specs.Sweeping.{got_of}
+use Rattle.rpc_machine.specs.Advancing.{Embargoes}
 use Rattle.laws_acts.specs.Acts.{Act, Makes, Drops, AsksRoot, CallsOut, Keeps, Joins, Promises, Unsettles, Answers, Finishes, Heads, Turns, Delivers, Waits, Holds, Relays, Fails, Fixes, Settles, Reports, Resolves, NextArisen, Gone, Ends, Releases, Acts, NoMore, Then}
-use Rattle.vat_machine.specs.rpc_msg.specs.declared.message.DisembargoContext.{DisembargoContext}
-use Rattle.vat_machine.specs.rpc_msg.specs.declared.ids.EmbargoId.{EmbargoId}
+use Rattle.rpc_machine.specs.rpc_msg.specs.declared.message.DisembargoContext.{DisembargoContext}
+use Rattle.rpc_machine.specs.rpc_msg.specs.declared.ids.EmbargoId.{EmbargoId}
 use Rattle.laws_acts.specs.Acts.{Bounces, TurnsBy, Consumes}
 
 -- Export ids.

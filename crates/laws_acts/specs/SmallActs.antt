@@ -2,55 +2,55 @@
 -- what the moment is afterwards, field by field, so what it leaves as it is, is so by computation.
 use Rattle.std.specs.Prelude.{◌≡◌, ◌⊎◌, ℕ, ◌+◌, Bool, true, false, Option, None, Some, IsSome, List, [], ◌∷◌, ◌++◌}
 use Rattle.std.specs.FinMap as map
-use Rattle.vat_machine.specs.rpc_msg.specs.declared.ids.ObjectId.{ObjectId}
-use Rattle.vat_machine.specs.rpc_msg.specs.declared.ids.QuestionId.{QuestionId}
-use Rattle.vat_machine.specs.rpc_msg.specs.Op.{Op}
-use Rattle.vat_machine.specs.rpc_msg.specs.declared.parts.Descriptor.{Descriptor}
-use Rattle.vat_machine.specs.rpc_msg.specs.declared.parts.Target.{Target}
-use Rattle.vat_machine.specs.rpc_msg.specs.declared.message.Message.{Message}
-use Rattle.vat_machine.specs.rpc_msg.specs.declared.message.Message.TheVariants as message
-use Rattle.vat_machine.specs.rpc_msg.specs.declared.message.ReturnBody.{ReturnBody}
-use Rattle.vat_machine.specs.rpc_msg.specs.declared.message.ResolvedTo.TheVariants as resolved
-use Rattle.vat_machine.specs.rpc_msg.specs.declared.message.PlainMessage.TheVariants as plain
-use Rattle.vat_machine.specs.rpc_msg.specs.Messages.{given}
+use Rattle.rpc_machine.specs.rpc_msg.specs.declared.ids.ObjectId.{ObjectId}
+use Rattle.rpc_machine.specs.rpc_msg.specs.declared.ids.QuestionId.{QuestionId}
+use Rattle.rpc_machine.specs.rpc_msg.specs.Op.{Op}
+use Rattle.rpc_machine.specs.rpc_msg.specs.declared.parts.Descriptor.{Descriptor}
+use Rattle.rpc_machine.specs.rpc_msg.specs.declared.parts.Target.{Target}
+use Rattle.rpc_machine.specs.rpc_msg.specs.declared.message.Message.{Message}
+use Rattle.rpc_machine.specs.rpc_msg.specs.declared.message.Message.TheVariants as message
+use Rattle.rpc_machine.specs.rpc_msg.specs.declared.message.ReturnBody.{ReturnBody}
+use Rattle.rpc_machine.specs.rpc_msg.specs.declared.message.ResolvedTo.TheVariants as resolved
+use Rattle.rpc_machine.specs.rpc_msg.specs.declared.message.PlainMessage.TheVariants as plain
+use Rattle.rpc_machine.specs.rpc_msg.specs.Messages.{given}
 use Rattle.finite_maps.specs.Tally.{Map}
-use Rattle.vat_machine.specs.vat_journal.specs.declared.report.Delivery.{Delivery}
-use Rattle.vat_machine.specs.declared.node.Node.{Node}
-use Rattle.vat_machine.specs.declared.node.Node.TheVariants as node
-use Rattle.vat_machine.specs.declared.node.Reason.{Reason}
-use Rattle.vat_machine.specs.declared.calls.WaitingCall.{WaitingCall}
-use Rattle.vat_machine.specs.declared.calls.HeldCall.{HeldCall}
-use Rattle.vat_machine.specs.declared.calls.Promise.{Promise}
-use Rattle.vat_machine.specs.declared.calls.Promise.TheVariants as promise
-use Rattle.vat_machine.specs.declared.calls.Value.{Value}
-use Rattle.vat_machine.specs.declared.calls.Value.TheVariants as value
-use Rattle.vat_machine.specs.declared.calls.Caller.{Caller}
-use Rattle.vat_machine.specs.declared.calls.Caller.TheVariants as caller
-use Rattle.vat_machine.specs.declared.calls.KeptOutcome.{KeptOutcome}
-use Rattle.vat_machine.specs.declared.calls.OwnCall.{OwnCall}
-use Rattle.vat_machine.specs.declared.command.Command.{Command}
-use Rattle.vat_machine.specs.declared.command.Granted.{Granted}
-use Rattle.vat_machine.specs.declared.command.Effects.{Effects}
-use Rattle.vat_machine.specs.declared.entries.Role.{Role}
-use Rattle.vat_machine.specs.declared.entries.Role.TheVariants as role
-use Rattle.vat_machine.specs.declared.entries.Returned.{Returned}
-use Rattle.vat_machine.specs.declared.entries.Finishing.TheVariants as finishing
-use Rattle.vat_machine.specs.declared.entries.Question.{Question}
-use Rattle.vat_machine.specs.declared.entries.AnswerEntry.{AnswerEntry}
-use Rattle.vat_machine.specs.declared.entries.Export.{Export}
-use Rattle.vat_machine.specs.declared.entries.Import.{Import}
-use Rattle.vat_machine.specs.State.{State}
-use Rattle.vat_machine.specs.Nodes.{settle, is_promise, is_field, is_import}
-use Rattle.vat_machine.specs.Places.{names}
-use Rattle.vat_machine.specs.Progress.{with_refs, new_refs, numbers, outcome_of, caps_of, export_id}
-use Rattle.vat_machine.specs.Routing.{failed, reason_text}
-use Rattle.vat_machine.specs.Collecting.{CallerIsDone, IsTight}
-use Rattle.vat_machine.specs.Flags.{give_back, flag_for}
-use Rattle.vat_machine.specs.Settling.{Fits, returned_map, or_failed, resolve_message, exports_where}
-use Rattle.vat_machine.specs.Sweeping.{Withers, closed_map, got_of}
-use Rattle.vat_machine.specs.Advancing.{wire_target}
-use Rattle.vat_machine.specs.Steps.{Does, Handles, staying_up}
-use Rattle.vat_machine.specs.Faults.{fault_of}
+use Rattle.rpc_machine.specs.rpc_journal.specs.declared.report.Delivery.{Delivery}
+use Rattle.rpc_machine.specs.declared.node.Node.{Node}
+use Rattle.rpc_machine.specs.declared.node.Node.TheVariants as node
+use Rattle.rpc_machine.specs.declared.node.Reason.{Reason}
+use Rattle.rpc_machine.specs.declared.calls.WaitingCall.{WaitingCall}
+use Rattle.rpc_machine.specs.declared.calls.HeldCall.{HeldCall}
+use Rattle.rpc_machine.specs.declared.calls.Promise.{Promise}
+use Rattle.rpc_machine.specs.declared.calls.Promise.TheVariants as promise
+use Rattle.rpc_machine.specs.declared.calls.Value.{Value}
+use Rattle.rpc_machine.specs.declared.calls.Value.TheVariants as value
+use Rattle.rpc_machine.specs.declared.calls.Caller.{Caller}
+use Rattle.rpc_machine.specs.declared.calls.Caller.TheVariants as caller
+use Rattle.rpc_machine.specs.declared.calls.KeptOutcome.{KeptOutcome}
+use Rattle.rpc_machine.specs.declared.calls.OwnCall.{OwnCall}
+use Rattle.rpc_machine.specs.declared.command.Command.{Command}
+use Rattle.rpc_machine.specs.declared.command.Granted.{Granted}
+use Rattle.rpc_machine.specs.declared.command.Effects.{Effects}
+use Rattle.rpc_machine.specs.declared.entries.Role.{Role}
+use Rattle.rpc_machine.specs.declared.entries.Role.TheVariants as role
+use Rattle.rpc_machine.specs.declared.entries.Returned.{Returned}
+use Rattle.rpc_machine.specs.declared.entries.Finishing.TheVariants as finishing
+use Rattle.rpc_machine.specs.declared.entries.Question.{Question}
+use Rattle.rpc_machine.specs.declared.entries.AnswerEntry.{AnswerEntry}
+use Rattle.rpc_machine.specs.declared.entries.Export.{Export}
+use Rattle.rpc_machine.specs.declared.entries.Import.{Import}
+use Rattle.rpc_machine.specs.State.{State}
+use Rattle.rpc_machine.specs.Nodes.{settle, is_promise, is_field, is_import}
+use Rattle.rpc_machine.specs.Places.{names}
+use Rattle.rpc_machine.specs.Progress.{with_refs, new_refs, numbers, outcome_of, caps_of, export_id}
+use Rattle.rpc_machine.specs.Routing.{failed, reason_text}
+use Rattle.rpc_machine.specs.Collecting.{CallerIsDone, IsTight}
+use Rattle.rpc_machine.specs.Flags.{give_back, flag_for}
+use Rattle.rpc_machine.specs.Settling.{Fits, returned_map, or_failed, resolve_message, exports_where}
+use Rattle.rpc_machine.specs.Sweeping.{Withers, closed_map, got_of}
+use Rattle.rpc_machine.specs.Advancing.{wire_target}
+use Rattle.rpc_machine.specs.Steps.{Does, Handles, staying_up}
+use Rattle.rpc_machine.specs.Faults.{fault_of}
 use Rattle.laws_acts.specs.Moments.{Saying, Clearing, Settled, TheOutcome, Owing, Moment, at_rest, beginning, progress, in_state, sending, held_to, is_of, is_collecting, why_of, owing}
 use Rattle.laws_acts.specs.GoingOut.{GoesOut, GoOut, Says}
 use Rattle.laws_acts.specs.FirstActs.{asked, asking, Starts}

@@ -1,10 +1,10 @@
 -- No act changes which vat it is, its level or its bootstrap object.
 use Rattle.std.proofs.Common.{◌≡◌, refl}
 use Rattle.rpc_msg.specs.declared.message.Message.{Message}
-use Rattle.vat_machine.specs.declared.command.Command.{Command}
-use Rattle.vat_machine.specs.declared.command.Granted.{Granted}
-use Rattle.vat_machine.specs.State.{State}
-use Rattle.vat_machine.specs.Laws.{OfEachStep}
+use Rattle.rpc_machine.specs.declared.command.Command.{Command}
+use Rattle.rpc_machine.specs.declared.command.Granted.{Granted}
+use Rattle.rpc_machine.specs.State.{State}
+use Rattle.rpc_machine.specs.Laws.{OfEachStep}
 use Rattle.laws_acts.specs.Moments.{Moment, beginning}
 use Rattle.laws_acts.specs.FirstActs.{Starts}
 use Rattle.laws_acts.specs.FirstActs as first

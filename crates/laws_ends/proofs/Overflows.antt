@@ -1,11 +1,11 @@
 -- A vat that went down is one constant, but for its names.
 use Rattle.std.proofs.Common.{◌≡◌, ℕ, Option, Some, Ok, refl, sym, ap, subst, ◌∙◌}
-use Rattle.vat_machine.specs.declared.command.Granted.TheVariants as granted
-use Rattle.vat_machine.specs.declared.command.Effects.{Effects}
-use Rattle.vat_machine.specs.State.{State, start}
-use Rattle.vat_machine.specs.Down.{ShutsFrom, Falls, fallen}
-use Rattle.vat_machine.specs.Laws.{OfEachStep}
-use Rattle.vat_machine.specs.Steps.{Shuts}
+use Rattle.rpc_machine.specs.declared.command.Granted.TheVariants as granted
+use Rattle.rpc_machine.specs.declared.command.Effects.{Effects}
+use Rattle.rpc_machine.specs.State.{State, start}
+use Rattle.rpc_machine.specs.Down.{ShutsFrom, Falls, fallen}
+use Rattle.rpc_machine.specs.Laws.{OfEachStep}
+use Rattle.rpc_machine.specs.Steps.{Shuts}
 use Rattle.laws_ends.specs.Names.{KeepsNames}
 use Rattle.laws_ends.specs.Overflows.{OverflowIsShut}
 

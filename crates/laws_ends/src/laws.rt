@@ -1,6 +1,6 @@
 //! The functions run no code: what each ensures is the law.
 
-ghost use Rattle.vat_machine.specs.Laws.{OfEachStep};
+ghost use Rattle.rpc_machine.specs.Laws.{OfEachStep};
 ghost use Rattle.laws_ends.specs.Names.{KeepsNames};
 ghost use Rattle.laws_ends.specs.NewCores.{NewIsStart};
 ghost use Rattle.laws_ends.specs.Overflows.{OverflowIsShut};

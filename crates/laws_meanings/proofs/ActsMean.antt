@@ -6,36 +6,36 @@ use Rattle.finite_maps.proofs.Tested.{at_put, at_cut}
 use Rattle.rpc_msg.specs.declared.ids.Vat.{Vat}
 use Rattle.rpc_msg.specs.declared.ids.Stamp.{Stamp}
 use Rattle.rpc_msg.specs.Paths.{fields}
-use Rattle.vat_journal.specs.declared.report.Delivery.{Delivery}
-use Rattle.vat_journal.specs.declared.report.Ended.{Ended}
-use Rattle.vat_journal.specs.History as history
-use Rattle.vat_journal.specs.Sources.{Asking, OfCall}
-use Rattle.vat_journal.specs.Meaning.{History, Broken}
-use Rattle.vat_machine.specs.declared.node.Node.{Node}
-use Rattle.vat_machine.specs.declared.node.Node.TheVariants as node
-use Rattle.vat_machine.specs.declared.node.Reason.{Reason}
-use Rattle.vat_machine.specs.declared.calls.Caller.{Caller}
-use Rattle.vat_machine.specs.declared.calls.Caller.TheVariants as caller
-use Rattle.vat_machine.specs.declared.calls.HeldCall.{HeldCall}
-use Rattle.vat_machine.specs.declared.calls.KeptOutcome.{KeptOutcome}
-use Rattle.vat_machine.specs.declared.calls.Promise.{Promise}
-use Rattle.vat_machine.specs.declared.calls.Promise.TheVariants as promise
-use Rattle.vat_machine.specs.declared.calls.Value.{Value}
-use Rattle.vat_machine.specs.declared.calls.Value.TheVariants as value
-use Rattle.vat_machine.specs.declared.calls.WaitingCall.{WaitingCall}
-use Rattle.vat_machine.specs.declared.entries.Finishing.TheVariants as finishing
-use Rattle.vat_machine.specs.declared.entries.Import.{Import}
-use Rattle.vat_machine.specs.declared.entries.Question.{Question}
-use Rattle.vat_machine.specs.declared.entries.Reference.{Reference}
-use Rattle.vat_machine.specs.declared.entries.Returned.{Returned}
-use Rattle.vat_machine.specs.declared.entries.Role.TheVariants as role
-use Rattle.vat_machine.specs.declared.command.Effects.{Effects}
-use Rattle.vat_machine.specs.State.{State}
-use Rattle.vat_machine.specs.Flags.{flag_for, give_one, give_each, give_if, give_back}
-use Rattle.vat_machine.specs.Nodes.{settle}
-use Rattle.vat_machine.specs.Progress.{outcome_of, caps_of, new_refs, numbers}
-use Rattle.vat_machine.specs.Routing.{failed, reason_text}
-use Rattle.vat_machine.specs.Sweeping.{closed_map, got_of}
+use Rattle.rpc_journal.specs.declared.report.Delivery.{Delivery}
+use Rattle.rpc_journal.specs.declared.report.Ended.{Ended}
+use Rattle.rpc_journal.specs.History as history
+use Rattle.rpc_journal.specs.Sources.{Asking, OfCall}
+use Rattle.rpc_journal.specs.Meaning.{History, Broken}
+use Rattle.rpc_machine.specs.declared.node.Node.{Node}
+use Rattle.rpc_machine.specs.declared.node.Node.TheVariants as node
+use Rattle.rpc_machine.specs.declared.node.Reason.{Reason}
+use Rattle.rpc_machine.specs.declared.calls.Caller.{Caller}
+use Rattle.rpc_machine.specs.declared.calls.Caller.TheVariants as caller
+use Rattle.rpc_machine.specs.declared.calls.HeldCall.{HeldCall}
+use Rattle.rpc_machine.specs.declared.calls.KeptOutcome.{KeptOutcome}
+use Rattle.rpc_machine.specs.declared.calls.Promise.{Promise}
+use Rattle.rpc_machine.specs.declared.calls.Promise.TheVariants as promise
+use Rattle.rpc_machine.specs.declared.calls.Value.{Value}
+use Rattle.rpc_machine.specs.declared.calls.Value.TheVariants as value
+use Rattle.rpc_machine.specs.declared.calls.WaitingCall.{WaitingCall}
+use Rattle.rpc_machine.specs.declared.entries.Finishing.TheVariants as finishing
+use Rattle.rpc_machine.specs.declared.entries.Import.{Import}
+use Rattle.rpc_machine.specs.declared.entries.Question.{Question}
+use Rattle.rpc_machine.specs.declared.entries.Reference.{Reference}
+use Rattle.rpc_machine.specs.declared.entries.Returned.{Returned}
+use Rattle.rpc_machine.specs.declared.entries.Role.TheVariants as role
+use Rattle.rpc_machine.specs.declared.command.Effects.{Effects}
+use Rattle.rpc_machine.specs.State.{State}
+use Rattle.rpc_machine.specs.Flags.{flag_for, give_one, give_each, give_if, give_back}
+use Rattle.rpc_machine.specs.Nodes.{settle}
+use Rattle.rpc_machine.specs.Progress.{outcome_of, caps_of, new_refs, numbers}
+use Rattle.rpc_machine.specs.Routing.{failed, reason_text}
+use Rattle.rpc_machine.specs.Sweeping.{closed_map, got_of}
 use Rattle.laws_acts.specs.Moments.{Moment, held_to}
 use Rattle.laws_acts.specs.FirstActs.{asked}
 use Rattle.laws_acts.specs.SmallActs.{Act, IsStill, kept_known, delivery, Acts, NoMore, Then}

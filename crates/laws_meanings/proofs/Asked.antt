@@ -5,19 +5,19 @@ use Rattle.rpc_msg.specs.declared.ids.Vat.{Vat}
 use Rattle.rpc_msg.specs.declared.ids.Vat.TheVariants.{A, B}
 use Rattle.rpc_msg.specs.declared.ids.ObjectId.{ObjectId}
 use Rattle.rpc_msg.specs.declared.message.Message.{Message}
-use Rattle.vat_journal.specs.History.{same_vat}
-use Rattle.vat_journal.specs.declared.entry.JournalEntry.{JournalEntry}
-use Rattle.vat_journal.specs.declared.entry.JournalEntry.TheVariants as entry
-use Rattle.vat_machine.specs.declared.command.Command.{Command}
-use Rattle.vat_machine.specs.declared.command.Granted.{Granted}
-use Rattle.vat_machine.specs.declared.command.Granted.TheVariants as granted
-use Rattle.vat_machine.specs.declared.command.Effects.{Effects}
-use Rattle.vat_machine.specs.State.{State}
-use Rattle.vat_machine.specs.Faults.{fault_of}
-use Rattle.vat_machine.specs.Steps.{Does, Handles}
-use Rattle.vat_machine.specs.World.{core, put_inbox, after}
-use Rattle.vat_machine.specs.Journal.{effect_entries, granted_entries}
-use Rattle.vat_machine.specs.Claims.{history}
+use Rattle.rpc_journal.specs.History.{same_vat}
+use Rattle.rpc_journal.specs.declared.entry.JournalEntry.{JournalEntry}
+use Rattle.rpc_journal.specs.declared.entry.JournalEntry.TheVariants as entry
+use Rattle.rpc_machine.specs.declared.command.Command.{Command}
+use Rattle.rpc_machine.specs.declared.command.Granted.{Granted}
+use Rattle.rpc_machine.specs.declared.command.Granted.TheVariants as granted
+use Rattle.rpc_machine.specs.declared.command.Effects.{Effects}
+use Rattle.rpc_machine.specs.State.{State}
+use Rattle.rpc_machine.specs.Faults.{fault_of}
+use Rattle.rpc_machine.specs.Steps.{Does, Handles}
+use Rattle.rpc_machine.specs.World.{core, put_inbox, after}
+use Rattle.rpc_machine.specs.Journal.{effect_entries, granted_entries}
+use Rattle.rpc_machine.specs.Claims.{history}
 use Rattle.laws_acts.specs.Moments.{Moment, beginning}
 use Rattle.laws_acts.specs.FirstActs.{Starts}
 use Rattle.laws_acts.specs.FirstActs as first
@@ -30,10 +30,10 @@ use Rattle.laws_runs.specs.Scenes as scenes
 use Rattle.laws_runs.specs.Scenes.{Scene, IsScene, begins}
 use Rattle.laws_runs.proofs.Reading as reading
 use Rattle.std.proofs.Common.{map, Some, None, Option, ◌⊎◌, inl, inr, refl, ap, sym, subst, ◌∙◌, cond, true, false, Bool, nat_eq, ◌&&◌, ◌+◌, ◌<◌, ◌≤◌, arith}
-use Rattle.vat_journal.specs.declared.report.Ended.{Ended}
-use Rattle.vat_journal.specs.Sources.{Asking, OfBootstrap, asking, asking_one}
-use Rattle.vat_journal.specs.History.{or_rest, if_so}
-use Rattle.vat_machine.specs.Journal.{went_down}
+use Rattle.rpc_journal.specs.declared.report.Ended.{Ended}
+use Rattle.rpc_journal.specs.Sources.{Asking, OfBootstrap, asking, asking_one}
+use Rattle.rpc_journal.specs.History.{or_rest, if_so}
+use Rattle.rpc_machine.specs.Journal.{went_down}
 use Rattle.std.proofs.Common.{append_assoc}
 use Rattle.laws_runs.proofs.Reading.{still_first}
 use Rattle.laws_meanings.specs.AskedCalls.{IfAsked, EndsWereAsked}

@@ -2,13 +2,13 @@
 use Rattle.std.proofs.Common.{◌≡◌, ◌⊎◌, inl, inr, ℕ, Option, sym, subst}
 use Rattle.rpc_msg.specs.declared.ids.Vat.{Vat}
 use Rattle.rpc_msg.specs.declared.message.Message.{Message}
-use Rattle.vat_journal.specs.Meaning.{History}
-use Rattle.vat_machine.specs.declared.command.Command.{Command}
-use Rattle.vat_machine.specs.declared.command.Granted.{Granted}
-use Rattle.vat_machine.specs.State.{State}
-use Rattle.vat_machine.specs.Progress.{quiet}
-use Rattle.vat_machine.specs.World.{core}
-use Rattle.vat_machine.specs.Claims.{history}
+use Rattle.rpc_journal.specs.Meaning.{History}
+use Rattle.rpc_machine.specs.declared.command.Command.{Command}
+use Rattle.rpc_machine.specs.declared.command.Granted.{Granted}
+use Rattle.rpc_machine.specs.State.{State}
+use Rattle.rpc_machine.specs.Progress.{quiet}
+use Rattle.rpc_machine.specs.World.{core}
+use Rattle.rpc_machine.specs.Claims.{history}
 use Rattle.laws_acts.specs.Moments.{Moment, beginning}
 use Rattle.laws_acts.specs.FirstActs.{Starts}
 use Rattle.laws_acts.specs.MessageActs.{Consumes}

@@ -7,17 +7,17 @@ use Rattle.rpc_msg.specs.declared.ids.Vat.{Vat}
 use Rattle.rpc_msg.specs.declared.ids.RefId.{RefId}
 use Rattle.rpc_msg.specs.declared.ids.Stamp.{Stamp}
 use Rattle.rpc_msg.specs.declared.message.Message.{Message}
-use Rattle.vat_journal.specs.declared.report.Delivery.{Delivery}
-use Rattle.vat_journal.specs.declared.report.Ended.{Ended}
-use Rattle.vat_journal.specs.declared.entry.JournalEntry.{JournalEntry}
-use Rattle.vat_journal.specs.declared.entry.JournalEntry.TheVariants as entry
-use Rattle.vat_journal.specs.History.{Ref, same_vat, or_rest, if_so, refs_at}
-use Rattle.vat_journal.specs.Sources.{Source, source_of_origin, place_from, sent_with, ended_with, at_vat, source_one, source}
-use Rattle.vat_machine.specs.declared.node.Node.{Node}
-use Rattle.vat_machine.specs.declared.command.Effects.{Effects}
-use Rattle.vat_machine.specs.Progress.{new_refs}
-use Rattle.vat_machine.specs.Journal.{went_down, effect_entries}
-use Rattle.vat_machine.specs.Claims.{AreNew}
+use Rattle.rpc_journal.specs.declared.report.Delivery.{Delivery}
+use Rattle.rpc_journal.specs.declared.report.Ended.{Ended}
+use Rattle.rpc_journal.specs.declared.entry.JournalEntry.{JournalEntry}
+use Rattle.rpc_journal.specs.declared.entry.JournalEntry.TheVariants as entry
+use Rattle.rpc_journal.specs.History.{Ref, same_vat, or_rest, if_so, refs_at}
+use Rattle.rpc_journal.specs.Sources.{Source, source_of_origin, place_from, sent_with, ended_with, at_vat, source_one, source}
+use Rattle.rpc_machine.specs.declared.node.Node.{Node}
+use Rattle.rpc_machine.specs.declared.command.Effects.{Effects}
+use Rattle.rpc_machine.specs.Progress.{new_refs}
+use Rattle.rpc_machine.specs.Journal.{went_down, effect_entries}
+use Rattle.rpc_machine.specs.Claims.{AreNew}
 
 -- ---- How often
 

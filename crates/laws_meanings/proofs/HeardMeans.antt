@@ -23,42 +23,42 @@ use Rattle.rpc_msg.specs.Vats.{other_vat}
 use Rattle.rpc_msg.specs.Op.{Op}
 use Rattle.rpc_msg.specs.CapAt.{CapAt}
 use Rattle.rpc_msg.specs.CapAt.TheVariants.{Cap, Null, NotCap}
-use Rattle.vat_journal.specs.History as history
-use Rattle.vat_journal.specs.Sources.{Asking, OfBootstrap, OfCall}
-use Rattle.vat_journal.specs.Meaning.{History, Broken}
-use Rattle.vat_machine.specs.Payloads.{cap_at}
-use Rattle.vat_machine.specs.Lists.{updated}
-use Rattle.vat_machine.specs.declared.command.Level.{Level}
-use Rattle.vat_machine.specs.declared.command.Level.TheVariants.{Zero, One}
-use Rattle.vat_machine.specs.declared.node.Node.{Node}
-use Rattle.vat_machine.specs.declared.node.Node.TheVariants as node
-use Rattle.vat_machine.specs.declared.node.Reason.TheVariants.{NotACapability}
-use Rattle.vat_machine.specs.declared.calls.Caller.TheVariants as caller
-use Rattle.vat_machine.specs.declared.calls.KeptOutcome.{KeptOutcome}
-use Rattle.vat_machine.specs.declared.calls.OwnCall.{OwnCall}
-use Rattle.vat_machine.specs.declared.calls.OwnCall.TheVariants as own
-use Rattle.vat_machine.specs.declared.calls.Value.{Value}
-use Rattle.vat_machine.specs.declared.entries.AnswerEntry.{AnswerEntry}
-use Rattle.vat_machine.specs.declared.entries.Export.{Export}
-use Rattle.vat_machine.specs.declared.entries.Finishing.{Finishing}
-use Rattle.vat_machine.specs.declared.entries.Finishing.TheVariants as finishing
-use Rattle.vat_machine.specs.declared.entries.Import.{Import}
-use Rattle.vat_machine.specs.declared.entries.Question.{Question}
-use Rattle.vat_machine.specs.declared.entries.Reference.{Reference}
-use Rattle.vat_machine.specs.declared.entries.Resolution.{Resolution}
-use Rattle.vat_machine.specs.declared.entries.Resolution.TheVariants as resolution
-use Rattle.vat_machine.specs.declared.entries.Returned.{Returned}
-use Rattle.vat_machine.specs.declared.entries.Role.{Role}
-use Rattle.vat_machine.specs.declared.entries.Role.TheVariants as role
-use Rattle.vat_machine.specs.declared.entries.SenderKind.{SenderKind}
-use Rattle.vat_machine.specs.State.{State}
-use Rattle.vat_machine.specs.Nodes.{node_of_cap}
-use Rattle.vat_machine.specs.Places.{nodes, named_by_export}
-use Rattle.vat_machine.specs.Progress.{quiet}
-use Rattle.vat_machine.specs.Advancing.{known_by, known_at, known_cap, known_by_return}
-use Rattle.vat_machine.specs.Descriptors.{export_node, answer_node, read_at, read, read_all, read_beside, received, take_one, take_each, take_at, take_all}
-use Rattle.vat_machine.specs.Faults.{target_node, is_foreign}
-use Rattle.vat_machine.specs.Messages.{bootstrap_value, results_of, value_of_results, set_resolution, resolve_import, take_resolve, unembargoed}
+use Rattle.rpc_journal.specs.History as history
+use Rattle.rpc_journal.specs.Sources.{Asking, OfBootstrap, OfCall}
+use Rattle.rpc_journal.specs.Meaning.{History, Broken}
+use Rattle.rpc_machine.specs.Payloads.{cap_at}
+use Rattle.rpc_machine.specs.Lists.{updated}
+use Rattle.rpc_machine.specs.declared.command.Level.{Level}
+use Rattle.rpc_machine.specs.declared.command.Level.TheVariants.{Zero, One}
+use Rattle.rpc_machine.specs.declared.node.Node.{Node}
+use Rattle.rpc_machine.specs.declared.node.Node.TheVariants as node
+use Rattle.rpc_machine.specs.declared.node.Reason.TheVariants.{NotACapability}
+use Rattle.rpc_machine.specs.declared.calls.Caller.TheVariants as caller
+use Rattle.rpc_machine.specs.declared.calls.KeptOutcome.{KeptOutcome}
+use Rattle.rpc_machine.specs.declared.calls.OwnCall.{OwnCall}
+use Rattle.rpc_machine.specs.declared.calls.OwnCall.TheVariants as own
+use Rattle.rpc_machine.specs.declared.calls.Value.{Value}
+use Rattle.rpc_machine.specs.declared.entries.AnswerEntry.{AnswerEntry}
+use Rattle.rpc_machine.specs.declared.entries.Export.{Export}
+use Rattle.rpc_machine.specs.declared.entries.Finishing.{Finishing}
+use Rattle.rpc_machine.specs.declared.entries.Finishing.TheVariants as finishing
+use Rattle.rpc_machine.specs.declared.entries.Import.{Import}
+use Rattle.rpc_machine.specs.declared.entries.Question.{Question}
+use Rattle.rpc_machine.specs.declared.entries.Reference.{Reference}
+use Rattle.rpc_machine.specs.declared.entries.Resolution.{Resolution}
+use Rattle.rpc_machine.specs.declared.entries.Resolution.TheVariants as resolution
+use Rattle.rpc_machine.specs.declared.entries.Returned.{Returned}
+use Rattle.rpc_machine.specs.declared.entries.Role.{Role}
+use Rattle.rpc_machine.specs.declared.entries.Role.TheVariants as role
+use Rattle.rpc_machine.specs.declared.entries.SenderKind.{SenderKind}
+use Rattle.rpc_machine.specs.State.{State}
+use Rattle.rpc_machine.specs.Nodes.{node_of_cap}
+use Rattle.rpc_machine.specs.Places.{nodes, named_by_export}
+use Rattle.rpc_machine.specs.Progress.{quiet}
+use Rattle.rpc_machine.specs.Advancing.{known_by, known_at, known_cap, known_by_return}
+use Rattle.rpc_machine.specs.Descriptors.{export_node, answer_node, read_at, read, read_all, read_beside, received, take_one, take_each, take_at, take_all}
+use Rattle.rpc_machine.specs.Faults.{target_node, is_foreign}
+use Rattle.rpc_machine.specs.Messages.{bootstrap_value, results_of, value_of_results, set_resolution, resolve_import, take_resolve, unembargoed}
 use Rattle.laws_acts.specs.Moments.{Moment, beginning}
 use Rattle.laws_acts.specs.MessageActs.{Back, Brings, ByReturn, ByEchoedRoot, ByEchoedCall, returning, answered, Consumes}
 use Rattle.laws_acts.specs.MessageActs as heard

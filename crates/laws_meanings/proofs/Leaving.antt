@@ -1,10 +1,10 @@
 -- What ends is a Bootstrap's, or a call's: so what is left to show is how calls end.
 use Rattle.std.proofs.Common.{Option, sym, subst}
-use Rattle.vat_journal.specs.declared.entry.JournalEntry.{JournalEntry}
-use Rattle.vat_journal.specs.declared.entry.JournalEntry.TheVariants as entry
-use Rattle.vat_journal.specs.Sources.{Asking, OfBootstrap, OfCall}
-use Rattle.vat_journal.specs.Meaning.{History}
-use Rattle.vat_machine.specs.Claims.{EndsAsked, history}
+use Rattle.rpc_journal.specs.declared.entry.JournalEntry.{JournalEntry}
+use Rattle.rpc_journal.specs.declared.entry.JournalEntry.TheVariants as entry
+use Rattle.rpc_journal.specs.Sources.{Asking, OfBootstrap, OfCall}
+use Rattle.rpc_journal.specs.Meaning.{History}
+use Rattle.rpc_machine.specs.Claims.{EndsAsked, history}
 use Rattle.laws_meanings.specs.AskedCalls.{IfAsked, EndsWereAsked}
 use Rattle.laws_meanings.specs.Bootstraps.{IfRoot, BootstrapsEnd}
 use Rattle.laws_meanings.specs.WhatIsLeft.{IfAnswered, AnswersAreLeft, IfCallAnswered, CallsAreLeft}

@@ -1,8 +1,8 @@
 -- The parts of what is promised of a delivery, and of an end, put together.
-use Rattle.vat_journal.specs.declared.entry.JournalEntry.{JournalEntry}
-use Rattle.vat_journal.specs.declared.entry.JournalEntry.TheVariants as entry
-use Rattle.vat_journal.specs.Meaning.{History}
-use Rattle.vat_machine.specs.Claims.{IfDelivers, IfEnds}
+use Rattle.rpc_journal.specs.declared.entry.JournalEntry.{JournalEntry}
+use Rattle.rpc_journal.specs.declared.entry.JournalEntry.TheVariants as entry
+use Rattle.rpc_journal.specs.Meaning.{History}
+use Rattle.rpc_machine.specs.Claims.{IfDelivers, IfEnds}
 use Rattle.laws_meanings.specs.AsMade.{IfMade, DeliveriesAreAsMade}
 use Rattle.laws_meanings.specs.NewReferences.{IfGives, GivenAreNew}
 use Rattle.laws_meanings.specs.FirstEnds.{IfFirst, EndsAreFirst}

@@ -10,17 +10,17 @@ use Rattle.rpc_msg.specs.CapAt.{CapAt}
 use Rattle.rpc_msg.specs.CapAt.TheVariants.{Cap, Null, NotCap}
 use Rattle.rpc_msg.specs.Payloads.{tree_of}
 use Rattle.rpc_msg.specs.Op.TheVariants as op
-use Rattle.wire_trees.specs.Trees.{Tree}
+use Rattle.capn_trees.specs.Trees.{Tree}
 use Rattle.rpc_msg.specs.Walking.{capability_at, field, walk, found_at}
 use Rattle.std.specs.Option.{option_and_then}
-use Rattle.vat_journal.specs.declared.report.Outcome.{Outcome}
-use Rattle.vat_journal.specs.declared.report.Outcome.TheVariants as outcome
-use Rattle.vat_journal.specs.declared.entry.JournalEntry.{JournalEntry}
-use Rattle.vat_journal.specs.declared.entry.JournalEntry.TheVariants as entry
-use Rattle.vat_journal.specs.History.{Ref, Reply, refs_at, caller, or_rest, answer_of}
-use Rattle.vat_journal.specs.Sources.{Asking, OfBootstrap, OfCall, Source, OwnObject, OwnPromise, CloneOf, SentWith, EndedWith, FieldOf, Fate, FixedTo, WasRejected, fate}
-use Rattle.vat_journal.specs.Meaning.{History, Meaning, ObjectAt, Broken, bootstrap_meaning, root_field, by_fate, by_ref, by_made, by_reply, by_end, by_cap, by_outcome, if_broken, by_replied, by_answer, by_asking, by_source, within}
-use Rattle.vat_machine.specs.Claims.{IsToOne, IsInTime, IfDelivers, Upto, history}
+use Rattle.rpc_journal.specs.declared.report.Outcome.{Outcome}
+use Rattle.rpc_journal.specs.declared.report.Outcome.TheVariants as outcome
+use Rattle.rpc_journal.specs.declared.entry.JournalEntry.{JournalEntry}
+use Rattle.rpc_journal.specs.declared.entry.JournalEntry.TheVariants as entry
+use Rattle.rpc_journal.specs.History.{Ref, Reply, refs_at, caller, or_rest, answer_of}
+use Rattle.rpc_journal.specs.Sources.{Asking, OfBootstrap, OfCall, Source, OwnObject, OwnPromise, CloneOf, SentWith, EndedWith, FieldOf, Fate, FixedTo, WasRejected, fate}
+use Rattle.rpc_journal.specs.Meaning.{History, Meaning, ObjectAt, Broken, bootstrap_meaning, root_field, by_fate, by_ref, by_made, by_reply, by_end, by_cap, by_outcome, if_broken, by_replied, by_answer, by_asking, by_source, within}
+use Rattle.rpc_machine.specs.Claims.{IsToOne, IsInTime, IfDelivers, Upto, history}
 use Rattle.laws_runs.specs.Meanings.{with_more}
 use Rattle.laws_runs.proofs.Extends.{Extends, extends, extends_itself}
 use Rattle.laws_runs.proofs.Grows.{same_bootstrap}

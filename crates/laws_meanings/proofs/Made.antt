@@ -10,23 +10,23 @@ use Rattle.rpc_msg.specs.declared.message.Message.{Message}
 use Rattle.rpc_msg.specs.declared.message.Message.TheVariants as message
 use Rattle.rpc_msg.specs.declared.message.PlainMessage.{PlainMessage}
 use Rattle.rpc_msg.specs.declared.message.PlainMessage.TheVariants as plain
-use Rattle.vat_journal.specs.declared.report.Delivery.{Delivery}
-use Rattle.vat_journal.specs.declared.entry.JournalEntry.{JournalEntry}
-use Rattle.vat_journal.specs.History.{made_one}
-use Rattle.vat_machine.specs.declared.node.Node.{Node}
-use Rattle.vat_machine.specs.declared.calls.HeldCall.{HeldCall}
-use Rattle.vat_machine.specs.declared.calls.KeptOutcome.{KeptOutcome}
-use Rattle.vat_machine.specs.declared.calls.Promise.{Promise}
-use Rattle.vat_machine.specs.declared.calls.Promise.TheVariants as promise
-use Rattle.vat_machine.specs.declared.calls.WaitingCall.{WaitingCall}
-use Rattle.vat_machine.specs.declared.calls.Caller.{Caller}
-use Rattle.vat_machine.specs.declared.calls.Value.{Value}
-use Rattle.vat_machine.specs.declared.calls.Value.TheVariants as value
-use Rattle.vat_machine.specs.declared.entries.Embargo.{Embargo}
-use Rattle.vat_machine.specs.State.{State}
-use Rattle.vat_machine.specs.Progress.{new_refs}
-use Rattle.vat_machine.specs.Settling.{Untangles, PutsIn}
-use Rattle.vat_machine.specs.Settling as settling
+use Rattle.rpc_journal.specs.declared.report.Delivery.{Delivery}
+use Rattle.rpc_journal.specs.declared.entry.JournalEntry.{JournalEntry}
+use Rattle.rpc_journal.specs.History.{made_one}
+use Rattle.rpc_machine.specs.declared.node.Node.{Node}
+use Rattle.rpc_machine.specs.declared.calls.HeldCall.{HeldCall}
+use Rattle.rpc_machine.specs.declared.calls.KeptOutcome.{KeptOutcome}
+use Rattle.rpc_machine.specs.declared.calls.Promise.{Promise}
+use Rattle.rpc_machine.specs.declared.calls.Promise.TheVariants as promise
+use Rattle.rpc_machine.specs.declared.calls.WaitingCall.{WaitingCall}
+use Rattle.rpc_machine.specs.declared.calls.Caller.{Caller}
+use Rattle.rpc_machine.specs.declared.calls.Value.{Value}
+use Rattle.rpc_machine.specs.declared.calls.Value.TheVariants as value
+use Rattle.rpc_machine.specs.declared.entries.Embargo.{Embargo}
+use Rattle.rpc_machine.specs.State.{State}
+use Rattle.rpc_machine.specs.Progress.{new_refs}
+use Rattle.rpc_machine.specs.Settling.{Untangles, PutsIn}
+use Rattle.rpc_machine.specs.Settling as settling
 use Rattle.laws_acts.specs.Moments.{Clearing, Moment, each_to, held_to}
 use Rattle.laws_acts.specs.SmallActs.{release_messages}
 use Rattle.laws_runs.proofs.Reading.{still_first}

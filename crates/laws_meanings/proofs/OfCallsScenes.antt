@@ -10,25 +10,25 @@ use Rattle.rpc_msg.specs.declared.message.Message.{Message}
 use Rattle.rpc_msg.specs.declared.message.Message.TheVariants as message
 use Rattle.rpc_msg.specs.declared.message.PlainMessage.TheVariants as plain
 use Rattle.rpc_msg.specs.Vats.{other_vat}
-use Rattle.vat_journal.specs.declared.report.Outcome.{Outcome}
-use Rattle.vat_journal.specs.declared.entry.JournalEntry.{JournalEntry}
-use Rattle.vat_journal.specs.declared.entry.JournalEntry.TheVariants as entry
-use Rattle.vat_journal.specs.History.{or_rest, if_so}
-use Rattle.vat_journal.specs.Sources.{Asking, OfBootstrap, OfCall, asking}
-use Rattle.vat_machine.specs.declared.node.Reason.{Reason}
-use Rattle.vat_machine.specs.declared.command.CallCommand.{CallCommand}
-use Rattle.vat_machine.specs.declared.command.Command.{Command}
-use Rattle.vat_machine.specs.declared.command.Command.TheVariants as command
-use Rattle.vat_machine.specs.declared.command.Granted.{Granted}
-use Rattle.vat_machine.specs.declared.command.Granted.TheVariants as granted
-use Rattle.vat_machine.specs.declared.command.Effects.{Effects}
-use Rattle.vat_machine.specs.declared.command.Level.TheVariants.{One}
-use Rattle.vat_machine.specs.declared.entries.Reference.{Reference}
-use Rattle.vat_machine.specs.State.{State, start}
-use Rattle.vat_machine.specs.Commands.{request}
-use Rattle.vat_machine.specs.Steps.{IsDone, IsHandled}
-use Rattle.vat_machine.specs.World.{World, core, inbox, put_inbox, after}
-use Rattle.vat_machine.specs.Journal.{index_in, effect_entries, granted_entries}
+use Rattle.rpc_journal.specs.declared.report.Outcome.{Outcome}
+use Rattle.rpc_journal.specs.declared.entry.JournalEntry.{JournalEntry}
+use Rattle.rpc_journal.specs.declared.entry.JournalEntry.TheVariants as entry
+use Rattle.rpc_journal.specs.History.{or_rest, if_so}
+use Rattle.rpc_journal.specs.Sources.{Asking, OfBootstrap, OfCall, asking}
+use Rattle.rpc_machine.specs.declared.node.Reason.{Reason}
+use Rattle.rpc_machine.specs.declared.command.CallCommand.{CallCommand}
+use Rattle.rpc_machine.specs.declared.command.Command.{Command}
+use Rattle.rpc_machine.specs.declared.command.Command.TheVariants as command
+use Rattle.rpc_machine.specs.declared.command.Granted.{Granted}
+use Rattle.rpc_machine.specs.declared.command.Granted.TheVariants as granted
+use Rattle.rpc_machine.specs.declared.command.Effects.{Effects}
+use Rattle.rpc_machine.specs.declared.command.Level.TheVariants.{One}
+use Rattle.rpc_machine.specs.declared.entries.Reference.{Reference}
+use Rattle.rpc_machine.specs.State.{State, start}
+use Rattle.rpc_machine.specs.Commands.{request}
+use Rattle.rpc_machine.specs.Steps.{IsDone, IsHandled}
+use Rattle.rpc_machine.specs.World.{World, core, inbox, put_inbox, after}
+use Rattle.rpc_machine.specs.Journal.{index_in, effect_entries, granted_entries}
 use Rattle.laws_steps.specs.NodesThere as reaching
 use Rattle.laws_steps.specs.NodesThere.{IsReached}
 use Rattle.laws_steps.proofs.Reached.{go_on}
@@ -58,7 +58,7 @@ use Rattle.laws_meanings.proofs.WhoseFirst as walk
 use Rattle.finite_maps.proofs.Tested.{itself}
 use Rattle.rpc_msg.specs.declared.ids.QuestionId.{QuestionId}
 use Rattle.rpc_msg.specs.declared.message.Call.{Call}
-use Rattle.vat_machine.specs.declared.entries.AnswerEntry.{AnswerEntry}
+use Rattle.rpc_machine.specs.declared.entries.AnswerEntry.{AnswerEntry}
 use Rattle.laws_nodes.specs.Sources.{waits_for}
 use Rattle.laws_acts.specs.Sent.{Ids}
 use Rattle.laws_runs.specs.Questions.{Asker, Answerer, Ret, Row}

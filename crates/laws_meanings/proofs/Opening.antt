@@ -8,19 +8,19 @@ use Rattle.rpc_msg.specs.declared.ids.CallId.{CallId}
 use Rattle.rpc_msg.specs.declared.message.Message.{Message}
 use Rattle.rpc_msg.specs.declared.message.Message.TheVariants as message
 use Rattle.rpc_msg.specs.declared.message.PlainMessage.TheVariants as plain
-use Rattle.vat_machine.specs.Commands.{request}
-use Rattle.vat_machine.specs.declared.command.CallCommand.{CallCommand}
-use Rattle.vat_machine.specs.declared.command.Command.{Command}
-use Rattle.vat_machine.specs.declared.command.Command.TheVariants as command
-use Rattle.vat_machine.specs.declared.command.Granted.{Granted}
-use Rattle.vat_machine.specs.declared.command.Effects.{Effects}
-use Rattle.vat_machine.specs.declared.entries.Role.TheVariants as role
-use Rattle.vat_machine.specs.declared.entries.Question.{Question}
-use Rattle.vat_machine.specs.declared.entries.Returned.{Returned}
-use Rattle.vat_machine.specs.State.{State}
-use Rattle.vat_machine.specs.Sweeping.{closed_map}
-use Rattle.vat_machine.specs.Faults.{fault_of}
-use Rattle.vat_machine.specs.Steps.{Does, Handles}
+use Rattle.rpc_machine.specs.Commands.{request}
+use Rattle.rpc_machine.specs.declared.command.CallCommand.{CallCommand}
+use Rattle.rpc_machine.specs.declared.command.Command.{Command}
+use Rattle.rpc_machine.specs.declared.command.Command.TheVariants as command
+use Rattle.rpc_machine.specs.declared.command.Granted.{Granted}
+use Rattle.rpc_machine.specs.declared.command.Effects.{Effects}
+use Rattle.rpc_machine.specs.declared.entries.Role.TheVariants as role
+use Rattle.rpc_machine.specs.declared.entries.Question.{Question}
+use Rattle.rpc_machine.specs.declared.entries.Returned.{Returned}
+use Rattle.rpc_machine.specs.State.{State}
+use Rattle.rpc_machine.specs.Sweeping.{closed_map}
+use Rattle.rpc_machine.specs.Faults.{fault_of}
+use Rattle.rpc_machine.specs.Steps.{Does, Handles}
 use Rattle.laws_acts.specs.Moments.{Moment, beginning}
 use Rattle.laws_acts.specs.FirstActs.{Starts}
 use Rattle.laws_acts.specs.FirstActs as first

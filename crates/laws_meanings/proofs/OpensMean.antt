@@ -4,24 +4,24 @@ use Rattle.std.specs.FinMap as map
 use Rattle.finite_maps.proofs.Tested.{at_put, get_put, equal}
 use Rattle.rpc_msg.specs.declared.ids.Vat.{Vat}
 use Rattle.rpc_msg.specs.declared.ids.RefId.{RefId}
-use Rattle.vat_journal.specs.History.{refs_at}
-use Rattle.vat_journal.specs.Sources.{Asking, OfBootstrap, OfCall}
-use Rattle.vat_journal.specs.Meaning.{History}
-use Rattle.vat_machine.specs.declared.node.Node.{Node}
-use Rattle.vat_machine.specs.declared.node.Node.TheVariants as node
-use Rattle.vat_machine.specs.declared.calls.OwnCall.{OwnCall}
-use Rattle.vat_machine.specs.declared.calls.OwnCall.TheVariants as own
-use Rattle.vat_machine.specs.declared.calls.Promise.TheVariants as promise
-use Rattle.vat_machine.specs.declared.calls.WaitingCall.{WaitingCall}
-use Rattle.vat_machine.specs.declared.command.Command.{Command}
-use Rattle.vat_machine.specs.declared.command.Command.TheVariants as command
-use Rattle.vat_machine.specs.declared.command.Granted.{Granted}
-use Rattle.vat_machine.specs.declared.entries.Question.{Question}
-use Rattle.vat_machine.specs.declared.entries.Reference.{Reference}
-use Rattle.vat_machine.specs.declared.entries.Role.TheVariants as role
-use Rattle.vat_machine.specs.State.{State}
-use Rattle.vat_machine.specs.Commands.{heads}
-use Rattle.vat_machine.specs.Progress.{quiet}
+use Rattle.rpc_journal.specs.History.{refs_at}
+use Rattle.rpc_journal.specs.Sources.{Asking, OfBootstrap, OfCall}
+use Rattle.rpc_journal.specs.Meaning.{History}
+use Rattle.rpc_machine.specs.declared.node.Node.{Node}
+use Rattle.rpc_machine.specs.declared.node.Node.TheVariants as node
+use Rattle.rpc_machine.specs.declared.calls.OwnCall.{OwnCall}
+use Rattle.rpc_machine.specs.declared.calls.OwnCall.TheVariants as own
+use Rattle.rpc_machine.specs.declared.calls.Promise.TheVariants as promise
+use Rattle.rpc_machine.specs.declared.calls.WaitingCall.{WaitingCall}
+use Rattle.rpc_machine.specs.declared.command.Command.{Command}
+use Rattle.rpc_machine.specs.declared.command.Command.TheVariants as command
+use Rattle.rpc_machine.specs.declared.command.Granted.{Granted}
+use Rattle.rpc_machine.specs.declared.entries.Question.{Question}
+use Rattle.rpc_machine.specs.declared.entries.Reference.{Reference}
+use Rattle.rpc_machine.specs.declared.entries.Role.TheVariants as role
+use Rattle.rpc_machine.specs.State.{State}
+use Rattle.rpc_machine.specs.Commands.{heads}
+use Rattle.rpc_machine.specs.Progress.{quiet}
 use Rattle.laws_acts.specs.Moments.{Moment, beginning}
 use Rattle.laws_acts.specs.FirstActs.{Starts}
 use Rattle.laws_acts.specs.FirstActs as first
@@ -33,13 +33,13 @@ use Rattle.laws_meanings.specs.NodeLabels.{Labels, field_label, LeadsTo, label, 
 use Rattle.laws_meanings.proofs.Labelled.{new_ref}
 use Rattle.laws_meanings.proofs.ActsMean.{acts_mean}
 use Rattle.finite_maps.specs.Tally.{Map}
-use Rattle.vat_machine.specs.declared.calls.Promise.{Promise}
+use Rattle.rpc_machine.specs.declared.calls.Promise.{Promise}
 use Rattle.finite_maps.proofs.Tested.{itself}
-use Rattle.vat_journal.specs.Sources.{OwnPromise}
-use Rattle.vat_machine.specs.declared.calls.Caller.TheVariants as caller
-use Rattle.vat_machine.specs.declared.calls.KeptOutcome.{KeptOutcome}
-use Rattle.vat_machine.specs.declared.command.CallCommand.{CallCommand}
-use Rattle.vat_machine.specs.Commands.{request}
+use Rattle.rpc_journal.specs.Sources.{OwnPromise}
+use Rattle.rpc_machine.specs.declared.calls.Caller.TheVariants as caller
+use Rattle.rpc_machine.specs.declared.calls.KeptOutcome.{KeptOutcome}
+use Rattle.rpc_machine.specs.declared.command.CallCommand.{CallCommand}
+use Rattle.rpc_machine.specs.Commands.{request}
 use Rattle.laws_steps.specs.NodesThere.{Stands, IsWhole}
 use Rattle.laws_steps.specs.Callers.{HasSource, IsFor, IsAskedFor}
 use Rattle.laws_nodes.specs.Sources.{HasOneSource, sources, waits_for}

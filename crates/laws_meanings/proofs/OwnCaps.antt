@@ -2,30 +2,30 @@
 use Rattle.std.proofs.Common.{◌≡◌, ℕ, zero, suc, ◌+◌, ◌<◌, Bool, true, false, nat_lt, ◌==◌, List, [], ◌∷◌, take, drop, length, Option, None, Some, Result, Ok, Err, refl, ap, subst, arith}
 use Rattle.std.specs.Prelude.{if◌then◌else◌}
 use Rattle.std.proofs.lemmas.Bool.Decides.{nat_tests}
-use Rattle.wire_trees.specs.declared.faults.PayloadFault.{PayloadFault}
-use Rattle.wire_trees.specs.declared.faults.PayloadFault.TheVariants.{OutOfBounds, CapIndex, BadOther, BadFar}
+use Rattle.capn_trees.specs.declared.faults.PayloadFault.{PayloadFault}
+use Rattle.capn_trees.specs.declared.faults.PayloadFault.TheVariants.{OutOfBounds, CapIndex, BadOther, BadFar}
 use Rattle.rpc_msg.specs.Op.{Op}
 use Rattle.rpc_msg.specs.Op.TheVariants as op
 use Rattle.rpc_msg.specs.CapAt.TheVariants.{Cap}
-use Rattle.wire_reading.specs.declared.pointer.Pointer.{Pointer}
-use Rattle.wire_reading.specs.declared.pointer.Pointer.TheVariants as pointer
-use Rattle.wire_reading.specs.declared.referent.Content.{Content}
-use Rattle.wire_reading.specs.declared.referent.Referent.{Referent}
-use Rattle.wire_reading.specs.declared.referent.Referent.TheVariants as referent
-use Rattle.wire_reading.specs.declared.layout.Layout.{Layout}
-use Rattle.wire_reading.specs.declared.layout.Layout.TheVariants as layout
-use Rattle.wire_reading.specs.Pointers.{decoded}
-use Rattle.wire_trees.specs.Widths.{bits_of}
-use Rattle.wire_reading.specs.Segments.{segment_of, word_at, size_of}
-use Rattle.wire_reading.specs.Following.{◌>>=◌, visit, pad_words, single_pad, pad_tag, double_pad, pad_at, far, capability, leads, followed, target}
-use Rattle.wire_reading.specs.Layouts.{laid, weight}
-use Rattle.wire_reading.specs.Framing.{framing}
-use Rattle.wire_trees.specs.Trees as tree
-use Rattle.wire_trees.specs.Trees.{Tree, Trees, Structs, Elements, pointer_at}
-use Rattle.wire_reading.specs.Reading.{Reading, elements, pointers_at, structs_at, content_of, shallow, deep, reading, root_of, message_of}
-use Rattle.wire_trees.specs.Limits.{most_levels}
+use Rattle.capn_reading.specs.declared.pointer.Pointer.{Pointer}
+use Rattle.capn_reading.specs.declared.pointer.Pointer.TheVariants as pointer
+use Rattle.capn_reading.specs.declared.referent.Content.{Content}
+use Rattle.capn_reading.specs.declared.referent.Referent.{Referent}
+use Rattle.capn_reading.specs.declared.referent.Referent.TheVariants as referent
+use Rattle.capn_reading.specs.declared.layout.Layout.{Layout}
+use Rattle.capn_reading.specs.declared.layout.Layout.TheVariants as layout
+use Rattle.capn_reading.specs.Pointers.{decoded}
+use Rattle.capn_trees.specs.Widths.{bits_of}
+use Rattle.capn_reading.specs.Segments.{segment_of, word_at, size_of}
+use Rattle.capn_reading.specs.Following.{◌>>=◌, visit, pad_words, single_pad, pad_tag, double_pad, pad_at, far, capability, leads, followed, target}
+use Rattle.capn_reading.specs.Layouts.{laid, weight}
+use Rattle.capn_reading.specs.Framing.{framing}
+use Rattle.capn_trees.specs.Trees as tree
+use Rattle.capn_trees.specs.Trees.{Tree, Trees, Structs, Elements, pointer_at}
+use Rattle.capn_reading.specs.Reading.{Reading, elements, pointers_at, structs_at, content_of, shallow, deep, reading, root_of, message_of}
+use Rattle.capn_trees.specs.Limits.{most_levels}
 use Rattle.rpc_msg.specs.Walking.{capability_at}
-use Rattle.wire_reading.specs.Reading.{tree_read}
+use Rattle.capn_reading.specs.Reading.{tree_read}
 use Rattle.laws_meanings.specs.WrittenCommands.{NamesItsCaps}
 
 then_ok : {X Y : Type 0} (r : Result X PayloadFault) (f : X → Result Y PayloadFault) (y : Y) → (r >>= f) ≡ Ok y → (x : X) × (r ≡ Ok x) × (f x ≡ Ok y)

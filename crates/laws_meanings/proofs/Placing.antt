@@ -9,31 +9,31 @@ use Rattle.rpc_msg.specs.declared.ids.Stamp.{Stamp}
 use Rattle.rpc_msg.specs.declared.ids.ObjectId.{ObjectId}
 use Rattle.rpc_msg.specs.declared.message.Message.{Message}
 use Rattle.rpc_msg.specs.declared.message.Message.TheVariants as message
-use Rattle.vat_journal.specs.History as callers
-use Rattle.vat_journal.specs.History.{same_stamp}
-use Rattle.vat_journal.specs.declared.entry.JournalEntry.{JournalEntry}
-use Rattle.vat_journal.specs.declared.entry.JournalEntry.TheVariants as entry
-use Rattle.vat_machine.specs.declared.node.Node.TheVariants as node
-use Rattle.vat_machine.specs.declared.node.Reason.TheVariants.{BrokenPromise}
-use Rattle.vat_machine.specs.declared.calls.WaitingCall.{WaitingCall}
-use Rattle.vat_machine.specs.declared.calls.Promise.TheVariants as promise
-use Rattle.vat_machine.specs.declared.calls.KeptOutcome.{KeptOutcome}
-use Rattle.vat_machine.specs.declared.calls.Caller.TheVariants as caller
-use Rattle.vat_machine.specs.declared.entries.Embargo.{Embargo}
-use Rattle.vat_machine.specs.declared.command.CallCommand.{CallCommand}
-use Rattle.vat_machine.specs.declared.command.Command.{Command}
-use Rattle.vat_machine.specs.declared.command.Command.TheVariants as command
-use Rattle.vat_machine.specs.declared.command.Granted.{Granted}
-use Rattle.vat_machine.specs.declared.command.Granted.TheVariants as granted
-use Rattle.vat_machine.specs.declared.command.Effects.{Effects}
-use Rattle.vat_machine.specs.declared.entries.Reference.{Reference}
-use Rattle.vat_machine.specs.State.{State}
-use Rattle.vat_machine.specs.Commands.{request}
-use Rattle.vat_machine.specs.Faults.{fault_of}
-use Rattle.vat_machine.specs.Steps.{Does, Handles}
-use Rattle.vat_machine.specs.World.{core, inbox, put_inbox, after}
-use Rattle.vat_machine.specs.Journal.{effect_entries, granted_entries, journal}
-use Rattle.vat_machine.specs.Claims.{history}
+use Rattle.rpc_journal.specs.History as callers
+use Rattle.rpc_journal.specs.History.{same_stamp}
+use Rattle.rpc_journal.specs.declared.entry.JournalEntry.{JournalEntry}
+use Rattle.rpc_journal.specs.declared.entry.JournalEntry.TheVariants as entry
+use Rattle.rpc_machine.specs.declared.node.Node.TheVariants as node
+use Rattle.rpc_machine.specs.declared.node.Reason.TheVariants.{BrokenPromise}
+use Rattle.rpc_machine.specs.declared.calls.WaitingCall.{WaitingCall}
+use Rattle.rpc_machine.specs.declared.calls.Promise.TheVariants as promise
+use Rattle.rpc_machine.specs.declared.calls.KeptOutcome.{KeptOutcome}
+use Rattle.rpc_machine.specs.declared.calls.Caller.TheVariants as caller
+use Rattle.rpc_machine.specs.declared.entries.Embargo.{Embargo}
+use Rattle.rpc_machine.specs.declared.command.CallCommand.{CallCommand}
+use Rattle.rpc_machine.specs.declared.command.Command.{Command}
+use Rattle.rpc_machine.specs.declared.command.Command.TheVariants as command
+use Rattle.rpc_machine.specs.declared.command.Granted.{Granted}
+use Rattle.rpc_machine.specs.declared.command.Granted.TheVariants as granted
+use Rattle.rpc_machine.specs.declared.command.Effects.{Effects}
+use Rattle.rpc_machine.specs.declared.entries.Reference.{Reference}
+use Rattle.rpc_machine.specs.State.{State}
+use Rattle.rpc_machine.specs.Commands.{request}
+use Rattle.rpc_machine.specs.Faults.{fault_of}
+use Rattle.rpc_machine.specs.Steps.{Does, Handles}
+use Rattle.rpc_machine.specs.World.{core, inbox, put_inbox, after}
+use Rattle.rpc_machine.specs.Journal.{effect_entries, granted_entries, journal}
+use Rattle.rpc_machine.specs.Claims.{history}
 use Rattle.laws_acts.specs.Moments.{Moment, beginning, held_to}
 use Rattle.laws_acts.specs.FirstActs.{Starts, waiting_call, asking}
 use Rattle.laws_acts.specs.FirstActs as first
@@ -43,10 +43,10 @@ use Rattle.laws_acts.specs.SmallActs.{Act, IsStill, kept_known, delivery}
 use Rattle.laws_acts.specs.SmallActs as act
 use Rattle.laws_acts.proofs.EachStep.{done, handled, at_end}
 use Rattle.rpc_msg.specs.declared.message.ResolvedTo.TheVariants as resolved
-use Rattle.vat_machine.specs.Progress.{numbers}
-use Rattle.vat_machine.specs.Flags.{flag_for}
-use Rattle.vat_machine.specs.Settling.{or_failed, resolve_message}
-use Rattle.vat_machine.specs.Sweeping.{got_of}
+use Rattle.rpc_machine.specs.Progress.{numbers}
+use Rattle.rpc_machine.specs.Flags.{flag_for}
+use Rattle.rpc_machine.specs.Settling.{or_failed, resolve_message}
+use Rattle.rpc_machine.specs.Sweeping.{got_of}
 use Rattle.rpc_msg.specs.declared.message.PlainMessage.TheVariants as plain
 use Rattle.laws_runs.specs.Scenes as scenes
 use Rattle.laws_runs.specs.Scenes.{Scene, IsScene, begins}

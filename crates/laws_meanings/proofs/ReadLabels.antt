@@ -9,20 +9,20 @@ use Rattle.rpc_msg.specs.declared.parts.Target.TheVariants.{ImportedCap, Promise
 use Rattle.rpc_msg.specs.declared.message.PlainMessage.TheVariants as plain
 use Rattle.rpc_msg.specs.declared.message.ResolvedTo.{ResolvedTo}
 use Rattle.rpc_msg.specs.declared.message.ResolvedTo.TheVariants as resolved
-use Rattle.vat_machine.specs.declared.entries.Import.{Import}
+use Rattle.rpc_machine.specs.declared.entries.Import.{Import}
 use Rattle.rpc_msg.specs.Op.{Op}
-use Rattle.vat_journal.specs.History.{or_rest, if_so, caller}
-use Rattle.vat_journal.specs.Meaning.{History}
-use Rattle.vat_machine.specs.declared.node.Node.{Node}
-use Rattle.vat_machine.specs.Payloads.{caps_in}
-use Rattle.vat_machine.specs.Numbers.{question_in_use, bad_payload, resolved_twice, not_a_promise}
-use Rattle.vat_machine.specs.declared.command.Level.{Level}
-use Rattle.vat_machine.specs.declared.entries.AnswerEntry.{AnswerEntry}
-use Rattle.vat_machine.specs.declared.entries.Export.{Export}
-use Rattle.vat_machine.specs.State.{State}
-use Rattle.vat_machine.specs.Places.{named_by_export}
-use Rattle.vat_machine.specs.Descriptors.{export_node, answer_node, read_one, read_at, read, read_all}
-use Rattle.vat_machine.specs.Faults.{target_node, target_fault, descriptor_fault, each_fault, faults_at, descriptors_fault, held_fault, plain_fault, resolve_fault, is_resolved, is_hosted, is_foreign, unless_foreign}
+use Rattle.rpc_journal.specs.History.{or_rest, if_so, caller}
+use Rattle.rpc_journal.specs.Meaning.{History}
+use Rattle.rpc_machine.specs.declared.node.Node.{Node}
+use Rattle.rpc_machine.specs.Payloads.{caps_in}
+use Rattle.rpc_machine.specs.Numbers.{question_in_use, bad_payload, resolved_twice, not_a_promise}
+use Rattle.rpc_machine.specs.declared.command.Level.{Level}
+use Rattle.rpc_machine.specs.declared.entries.AnswerEntry.{AnswerEntry}
+use Rattle.rpc_machine.specs.declared.entries.Export.{Export}
+use Rattle.rpc_machine.specs.State.{State}
+use Rattle.rpc_machine.specs.Places.{named_by_export}
+use Rattle.rpc_machine.specs.Descriptors.{export_node, answer_node, read_one, read_at, read, read_all}
+use Rattle.rpc_machine.specs.Faults.{target_node, target_fault, descriptor_fault, each_fault, faults_at, descriptors_fault, held_fault, plain_fault, resolve_fault, is_resolved, is_hosted, is_foreign, unless_foreign}
 use Rattle.laws_acts.proofs.Checks.{first, rest}
 use Rattle.laws_steps.specs.NodesThere.{IsWhole}
 use Rattle.laws_steps.proofs.Among.{named, in_exports}

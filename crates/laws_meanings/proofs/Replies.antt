@@ -5,12 +5,12 @@ use Rattle.rpc_msg.specs.declared.ids.Vat.{Vat}
 use Rattle.rpc_msg.specs.declared.ids.RefId.{RefId}
 use Rattle.rpc_msg.specs.declared.ids.TaskId.{TaskId}
 use Rattle.rpc_msg.specs.declared.ids.Stamp.{Stamp}
-use Rattle.vat_journal.specs.declared.report.Delivery.{Delivery}
-use Rattle.vat_journal.specs.declared.report.Outcome.{Outcome}
-use Rattle.vat_journal.specs.declared.entry.JournalEntry.{JournalEntry}
-use Rattle.vat_journal.specs.declared.entry.JournalEntry.TheVariants as entry
-use Rattle.vat_journal.specs.History.{DeliveredAt, Reply, same_vat, same_stamp, or_rest, if_so, first_that, delivery_one, reply_one, reply_to, answer_of, refs_at}
-use Rattle.vat_journal.specs.Sources.{Asking, OfBootstrap, OfCall}
+use Rattle.rpc_journal.specs.declared.report.Delivery.{Delivery}
+use Rattle.rpc_journal.specs.declared.report.Outcome.{Outcome}
+use Rattle.rpc_journal.specs.declared.entry.JournalEntry.{JournalEntry}
+use Rattle.rpc_journal.specs.declared.entry.JournalEntry.TheVariants as entry
+use Rattle.rpc_journal.specs.History.{DeliveredAt, Reply, same_vat, same_stamp, or_rest, if_so, first_that, delivery_one, reply_one, reply_to, answer_of, refs_at}
+use Rattle.rpc_journal.specs.Sources.{Asking, OfBootstrap, OfCall}
 use Rattle.laws_runs.proofs.Reading as reading
 use Rattle.laws_runs.proofs.Reading.{still_first}
 use Rattle.laws_meanings.specs.OnePlace.{counted, deliveries_of}

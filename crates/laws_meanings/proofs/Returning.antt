@@ -14,15 +14,15 @@ use Rattle.rpc_msg.specs.declared.message.PlainMessage.TheVariants as plain
 use Rattle.rpc_msg.specs.declared.message.Finish.{Finish}
 use Rattle.rpc_msg.specs.Messages.{given, descriptors_of_body}
 use Rattle.rpc_msg.specs.Vats.{other_vat}
-use Rattle.vat_machine.specs.declared.entries.AnswerEntry.{AnswerEntry}
-use Rattle.vat_machine.specs.declared.entries.Question.{Question}
-use Rattle.vat_machine.specs.declared.entries.Returned.{Returned}
-use Rattle.vat_machine.specs.declared.entries.Finishing.{Finishing}
-use Rattle.vat_machine.specs.declared.entries.Finishing.TheVariants as finishing
-use Rattle.vat_machine.specs.State.{State}
-use Rattle.vat_machine.specs.Progress.{numbers}
-use Rattle.vat_machine.specs.Sweeping.{IsNotSent}
-use Rattle.vat_machine.specs.World.{World, core, inbox}
+use Rattle.rpc_machine.specs.declared.entries.AnswerEntry.{AnswerEntry}
+use Rattle.rpc_machine.specs.declared.entries.Question.{Question}
+use Rattle.rpc_machine.specs.declared.entries.Returned.{Returned}
+use Rattle.rpc_machine.specs.declared.entries.Finishing.{Finishing}
+use Rattle.rpc_machine.specs.declared.entries.Finishing.TheVariants as finishing
+use Rattle.rpc_machine.specs.State.{State}
+use Rattle.rpc_machine.specs.Progress.{numbers}
+use Rattle.rpc_machine.specs.Sweeping.{IsNotSent}
+use Rattle.rpc_machine.specs.World.{World, core, inbox}
 use Rattle.laws_acts.specs.Sent.{Ids, Noted, messages}
 use Rattle.laws_runs.specs.Questions as session
 use Rattle.laws_runs.specs.Questions.{Asker, Answerer, Out, Ret, Row}

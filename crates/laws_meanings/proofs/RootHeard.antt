@@ -7,21 +7,21 @@ use Rattle.rpc_msg.specs.Vats.{other_vat}
 use Rattle.rpc_msg.specs.Paths.{fields}
 use Rattle.rpc_msg.specs.Op.{Op}
 use Rattle.rpc_msg.specs.Op.TheVariants as op
-use Rattle.wire_trees.specs.Trees.{Tree, capability}
+use Rattle.capn_trees.specs.Trees.{Tree, capability}
 use Rattle.rpc_msg.specs.Payloads.{tree_of}
 use Rattle.rpc_msg.specs.Walking.{capability_at}
-use Rattle.wire_reading.specs.Reading.{message_of, root_of, reading, deep}
-use Rattle.wire_reading.specs.Following.{leads}
-use Rattle.wire_reading.specs.Framing.{framing, segment_count, sizes}
-use Rattle.wire_reading.specs.Segments.{little_numbers, segments_in}
-use Rattle.vat_journal.specs.Sources.{OfBootstrap}
-use Rattle.vat_journal.specs.Meaning.{History, Meaning, ObjectAt, Broken, root, object_or_broken, bootstrap_meaning, root_field}
-use Rattle.vat_machine.specs.Claims.{object_number}
-use Rattle.vat_machine.specs.Payloads.{bootstrap_payload}
-use Rattle.vat_machine.specs.declared.node.Node.{Node}
-use Rattle.vat_machine.specs.declared.node.Node.TheVariants as node
-use Rattle.vat_machine.specs.Nodes.{node_of_cap}
-use Rattle.vat_machine.specs.Messages.{bootstrap_value}
+use Rattle.capn_reading.specs.Reading.{message_of, root_of, reading, deep}
+use Rattle.capn_reading.specs.Following.{leads}
+use Rattle.capn_reading.specs.Framing.{framing, segment_count, sizes}
+use Rattle.capn_reading.specs.Segments.{little_numbers, segments_in}
+use Rattle.rpc_journal.specs.Sources.{OfBootstrap}
+use Rattle.rpc_journal.specs.Meaning.{History, Meaning, ObjectAt, Broken, root, object_or_broken, bootstrap_meaning, root_field}
+use Rattle.rpc_machine.specs.Claims.{object_number}
+use Rattle.rpc_machine.specs.Payloads.{bootstrap_payload}
+use Rattle.rpc_machine.specs.declared.node.Node.{Node}
+use Rattle.rpc_machine.specs.declared.node.Node.TheVariants as node
+use Rattle.rpc_machine.specs.Nodes.{node_of_cap}
+use Rattle.rpc_machine.specs.Messages.{bootstrap_value}
 use Rattle.laws_meanings.specs.NodeMeanings.{Meant, Itself, ByEnd, Leads, There}
 use Rattle.laws_meanings.specs.NodeLabels.{Labels, Means, ValueMeans}
 use Rattle.laws_meanings.specs.MessageMeanings.{BootstrapsAreHeard}

@@ -13,26 +13,26 @@ use Rattle.rpc_msg.specs.declared.message.PlainMessage.{PlainMessage}
 use Rattle.rpc_msg.specs.declared.message.PlainMessage.TheVariants as plain
 use Rattle.rpc_msg.specs.declared.message.Return.{Return}
 use Rattle.rpc_msg.specs.Vats.{other_vat}
-use Rattle.vat_journal.specs.declared.entry.JournalEntry.{JournalEntry}
-use Rattle.vat_journal.specs.declared.entry.JournalEntry.TheVariants as entry
-use Rattle.vat_journal.specs.Sources.{OfBootstrap, OfCall, asking, asking_one}
+use Rattle.rpc_journal.specs.declared.entry.JournalEntry.{JournalEntry}
+use Rattle.rpc_journal.specs.declared.entry.JournalEntry.TheVariants as entry
+use Rattle.rpc_journal.specs.Sources.{OfBootstrap, OfCall, asking, asking_one}
 use Rattle.laws_runs.proofs.Reading.{still_first}
 use Rattle.rpc_msg.specs.declared.ids.ExportId.{ExportId}
 use Rattle.rpc_msg.specs.Messages.{given, descriptors_of_body}
-use Rattle.vat_journal.specs.Meaning.{root}
-use Rattle.vat_machine.specs.declared.command.Command.TheVariants as command
-use Rattle.vat_machine.specs.declared.command.CallCommand.{CallCommand}
-use Rattle.vat_machine.specs.declared.command.Granted.TheVariants as granted
-use Rattle.vat_machine.specs.declared.command.Effects.{Effects}
-use Rattle.vat_machine.specs.declared.command.Level.TheVariants.{One}
-use Rattle.vat_machine.specs.declared.entries.AnswerEntry.{AnswerEntry}
-use Rattle.vat_machine.specs.declared.entries.Question.{Question}
-use Rattle.vat_machine.specs.State.{State, start}
-use Rattle.vat_machine.specs.Messages.{results_of, value_of_results}
-use Rattle.vat_machine.specs.Progress.{numbers}
-use Rattle.vat_machine.specs.World.{core, inbox, put_inbox, after}
-use Rattle.vat_machine.specs.Journal.{effect_entries, granted_entries}
-use Rattle.vat_machine.specs.Claims.{history, object_number}
+use Rattle.rpc_journal.specs.Meaning.{root}
+use Rattle.rpc_machine.specs.declared.command.Command.TheVariants as command
+use Rattle.rpc_machine.specs.declared.command.CallCommand.{CallCommand}
+use Rattle.rpc_machine.specs.declared.command.Granted.TheVariants as granted
+use Rattle.rpc_machine.specs.declared.command.Effects.{Effects}
+use Rattle.rpc_machine.specs.declared.command.Level.TheVariants.{One}
+use Rattle.rpc_machine.specs.declared.entries.AnswerEntry.{AnswerEntry}
+use Rattle.rpc_machine.specs.declared.entries.Question.{Question}
+use Rattle.rpc_machine.specs.State.{State, start}
+use Rattle.rpc_machine.specs.Messages.{results_of, value_of_results}
+use Rattle.rpc_machine.specs.Progress.{numbers}
+use Rattle.rpc_machine.specs.World.{core, inbox, put_inbox, after}
+use Rattle.rpc_machine.specs.Journal.{effect_entries, granted_entries}
+use Rattle.rpc_machine.specs.Claims.{history, object_number}
 use Rattle.laws_steps.specs.Callers.{AnswersWith}
 use Rattle.laws_acts.specs.FirstActs as first
 use Rattle.laws_acts.specs.Sent.{Ids, Noted, messages}

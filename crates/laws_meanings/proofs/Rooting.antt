@@ -14,27 +14,27 @@ use Rattle.rpc_msg.specs.declared.message.PlainMessage.TheVariants as plain
 use Rattle.rpc_msg.specs.declared.parts.Descriptor.{Descriptor}
 use Rattle.rpc_msg.specs.declared.message.ReturnBody.{ReturnBody}
 use Rattle.rpc_msg.specs.Payloads.{Contents as Payload}
-use Rattle.vat_machine.specs.declared.node.Node.{Node}
-use Rattle.vat_machine.specs.declared.calls.HeldCall.{HeldCall}
-use Rattle.vat_machine.specs.declared.calls.Caller.{Caller}
-use Rattle.vat_machine.specs.declared.calls.Caller.TheVariants as caller
-use Rattle.vat_machine.specs.declared.calls.KeptOutcome.{KeptOutcome}
-use Rattle.vat_machine.specs.declared.calls.Value.{Value}
-use Rattle.vat_machine.specs.declared.calls.Value.TheVariants as value
-use Rattle.vat_machine.specs.declared.command.Command.{Command}
-use Rattle.vat_machine.specs.declared.command.Granted.{Granted}
-use Rattle.vat_machine.specs.declared.command.Effects.{Effects}
-use Rattle.vat_machine.specs.declared.entries.AnswerEntry.{AnswerEntry}
-use Rattle.vat_machine.specs.declared.entries.Export.{Export}
-use Rattle.vat_machine.specs.State.{State}
-use Rattle.vat_machine.specs.Places.{nodes}
-use Rattle.vat_machine.specs.Descriptors.{read_beside}
-use Rattle.vat_machine.specs.Progress.{outcome_of, caps_of}
-use Rattle.vat_machine.specs.Messages.{bootstrap_value, results_of, value_of_results}
-use Rattle.vat_machine.specs.Settling.{Fits, PutsIn, Untangles, returned_map}
-use Rattle.vat_machine.specs.Faults.{fault_of}
-use Rattle.vat_machine.specs.Steps.{Does, Handles}
-use Rattle.vat_machine.specs.Claims.{object_number}
+use Rattle.rpc_machine.specs.declared.node.Node.{Node}
+use Rattle.rpc_machine.specs.declared.calls.HeldCall.{HeldCall}
+use Rattle.rpc_machine.specs.declared.calls.Caller.{Caller}
+use Rattle.rpc_machine.specs.declared.calls.Caller.TheVariants as caller
+use Rattle.rpc_machine.specs.declared.calls.KeptOutcome.{KeptOutcome}
+use Rattle.rpc_machine.specs.declared.calls.Value.{Value}
+use Rattle.rpc_machine.specs.declared.calls.Value.TheVariants as value
+use Rattle.rpc_machine.specs.declared.command.Command.{Command}
+use Rattle.rpc_machine.specs.declared.command.Granted.{Granted}
+use Rattle.rpc_machine.specs.declared.command.Effects.{Effects}
+use Rattle.rpc_machine.specs.declared.entries.AnswerEntry.{AnswerEntry}
+use Rattle.rpc_machine.specs.declared.entries.Export.{Export}
+use Rattle.rpc_machine.specs.State.{State}
+use Rattle.rpc_machine.specs.Places.{nodes}
+use Rattle.rpc_machine.specs.Descriptors.{read_beside}
+use Rattle.rpc_machine.specs.Progress.{outcome_of, caps_of}
+use Rattle.rpc_machine.specs.Messages.{bootstrap_value, results_of, value_of_results}
+use Rattle.rpc_machine.specs.Settling.{Fits, PutsIn, Untangles, returned_map}
+use Rattle.rpc_machine.specs.Faults.{fault_of}
+use Rattle.rpc_machine.specs.Steps.{Does, Handles}
+use Rattle.rpc_machine.specs.Claims.{object_number}
 use Rattle.laws_steps.specs.Callers.{IsOpenFor, peer}
 use Rattle.laws_acts.specs.GoingOut.{Says}
 use Rattle.laws_acts.specs.Moments.{Moment, Saying, beginning}

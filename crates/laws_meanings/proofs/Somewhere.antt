@@ -5,17 +5,17 @@ use Rattle.rpc_msg.specs.declared.ids.Vat.TheVariants.{A, B}
 use Rattle.rpc_msg.specs.declared.ids.Stamp.{Stamp}
 use Rattle.rpc_msg.specs.declared.ids.ObjectId.{ObjectId}
 use Rattle.rpc_msg.specs.declared.message.Message.{Message}
-use Rattle.vat_journal.specs.declared.entry.MadeCall.{MadeCall}
-use Rattle.vat_journal.specs.declared.entry.JournalEntry.{JournalEntry}
-use Rattle.vat_journal.specs.declared.entry.JournalEntry.TheVariants as entry
-use Rattle.vat_journal.specs.History.{same_stamp, stamp_of, caller, or_rest, if_so, made_with}
-use Rattle.vat_journal.specs.Meaning.{History, Broken}
-use Rattle.vat_machine.specs.declared.command.Effects.{Effects}
-use Rattle.vat_machine.specs.declared.command.Granted.TheVariants as granted
-use Rattle.vat_machine.specs.State.{State}
-use Rattle.vat_machine.specs.World.{core, inbox, put_inbox, after}
-use Rattle.vat_machine.specs.Journal.{went_down, effect_entries, granted_entries}
-use Rattle.vat_machine.specs.Claims.{history}
+use Rattle.rpc_journal.specs.declared.entry.MadeCall.{MadeCall}
+use Rattle.rpc_journal.specs.declared.entry.JournalEntry.{JournalEntry}
+use Rattle.rpc_journal.specs.declared.entry.JournalEntry.TheVariants as entry
+use Rattle.rpc_journal.specs.History.{same_stamp, stamp_of, caller, or_rest, if_so, made_with}
+use Rattle.rpc_journal.specs.Meaning.{History, Broken}
+use Rattle.rpc_machine.specs.declared.command.Effects.{Effects}
+use Rattle.rpc_machine.specs.declared.command.Granted.TheVariants as granted
+use Rattle.rpc_machine.specs.State.{State}
+use Rattle.rpc_machine.specs.World.{core, inbox, put_inbox, after}
+use Rattle.rpc_machine.specs.Journal.{went_down, effect_entries, granted_entries}
+use Rattle.rpc_machine.specs.Claims.{history}
 use Rattle.laws_acts.specs.Moments.{Moment}
 use Rattle.laws_runs.specs.Scenes as scenes
 use Rattle.laws_runs.specs.Scenes.{Scene, IsScene, begins}

@@ -5,20 +5,20 @@ use Rattle.rpc_msg.specs.declared.ids.Vat.{Vat}
 use Rattle.rpc_msg.specs.declared.ids.CallId.{CallId}
 use Rattle.rpc_msg.specs.declared.ids.Stamp.{Stamp}
 use Rattle.rpc_msg.specs.declared.ids.ObjectId.{ObjectId}
-use Rattle.vat_journal.specs.declared.entry.MadeCall.{MadeCall}
-use Rattle.vat_journal.specs.declared.entry.JournalEntry.{JournalEntry}
-use Rattle.vat_journal.specs.declared.entry.JournalEntry.TheVariants as entry
-use Rattle.vat_journal.specs.History.{same_vat, same_stamp, caller, stamp_of, or_rest, in_front, if_so, made, made_one, made_with}
-use Rattle.vat_machine.specs.declared.command.CallCommand.{CallCommand}
-use Rattle.vat_machine.specs.declared.command.Granted.TheVariants as granted
-use Rattle.vat_machine.specs.Journal.{index_in, made_entries}
-use Rattle.vat_machine.specs.Claims.{IsNumbered, AreNumbered}
+use Rattle.rpc_journal.specs.declared.entry.MadeCall.{MadeCall}
+use Rattle.rpc_journal.specs.declared.entry.JournalEntry.{JournalEntry}
+use Rattle.rpc_journal.specs.declared.entry.JournalEntry.TheVariants as entry
+use Rattle.rpc_journal.specs.History.{same_vat, same_stamp, caller, stamp_of, or_rest, in_front, if_so, made, made_one, made_with}
+use Rattle.rpc_machine.specs.declared.command.CallCommand.{CallCommand}
+use Rattle.rpc_machine.specs.declared.command.Granted.TheVariants as granted
+use Rattle.rpc_machine.specs.Journal.{index_in, made_entries}
+use Rattle.rpc_machine.specs.Claims.{IsNumbered, AreNumbered}
 use Rattle.laws_runs.specs.Scenes.{Scene, IsScene}
 use Rattle.laws_runs.proofs.Reading as reading
 use Rattle.laws_runs.proofs.ToldAlike.{same_made}
 use Rattle.laws_runs.proofs.Numbered.{numbered}
 use Rattle.laws_runs.proofs.Running.{scenes_show_runs}
-use Rattle.vat_machine.specs.Journal.{journal}
+use Rattle.rpc_machine.specs.Journal.{journal}
 use Rattle.laws_meanings.specs.AsMade.{WasMade}
 use Rattle.laws_meanings.proofs.Entries.{nothing_before}
 

@@ -2,13 +2,13 @@
 use Rattle.std.proofs.Common.{◌≡◌, inl, inr, suc, Option, None, List, [], ◌∷◌, length, refl, sym, subst}
 use Rattle.rpc_msg.specs.declared.ids.RefId.{RefId}
 use Rattle.rpc_msg.specs.declared.ids.Stamp.{Stamp}
-use Rattle.vat_journal.specs.declared.report.Outcome.{Outcome}
-use Rattle.vat_journal.specs.declared.entry.JournalEntry.{JournalEntry}
-use Rattle.vat_journal.specs.declared.entry.JournalEntry.TheVariants as entry
-use Rattle.vat_journal.specs.History.{Reply, caller, answer_of}
-use Rattle.vat_journal.specs.Sources.{OfCall}
-use Rattle.vat_journal.specs.Meaning.{History, Broken, StandsFor}
-use Rattle.vat_machine.specs.Claims.{EndsCall, history}
+use Rattle.rpc_journal.specs.declared.report.Outcome.{Outcome}
+use Rattle.rpc_journal.specs.declared.entry.JournalEntry.{JournalEntry}
+use Rattle.rpc_journal.specs.declared.entry.JournalEntry.TheVariants as entry
+use Rattle.rpc_journal.specs.History.{Reply, caller, answer_of}
+use Rattle.rpc_journal.specs.Sources.{OfCall}
+use Rattle.rpc_journal.specs.Meaning.{History, Broken, StandsFor}
+use Rattle.rpc_machine.specs.Claims.{EndsCall, history}
 use Rattle.laws_meanings.specs.AnsweredEnds.{AnsweredOrBroken, IfCallEnds, CallsEndAsAnswered}
 use Rattle.laws_meanings.specs.WhatIsLeft.{IfCallAnswered, CallsAreLeft, IfBroken, BrokenCallsAreLeft}
 

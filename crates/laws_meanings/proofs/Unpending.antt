@@ -6,22 +6,22 @@ use Rattle.rpc_msg.specs.declared.ids.Stamp.{Stamp}
 use Rattle.rpc_msg.specs.declared.message.Message.{Message}
 use Rattle.rpc_msg.specs.declared.message.Message.TheVariants as message
 use Rattle.rpc_msg.specs.declared.message.PlainMessage.TheVariants as plain
-use Rattle.vat_journal.specs.declared.entry.JournalEntry.{JournalEntry}
-use Rattle.vat_journal.specs.declared.entry.JournalEntry.TheVariants as entry
-use Rattle.vat_journal.specs.History.{Ref, same_ref, same_stamp, caller, stamp_of, in_front, if_so, stamps, deliveries, delivered, made}
-use Rattle.vat_journal.specs.Meaning.{History, ObjectAt, Broken}
-use Rattle.vat_machine.specs.declared.calls.HeldCall.{HeldCall}
-use Rattle.vat_machine.specs.declared.calls.WaitingCall.{WaitingCall}
-use Rattle.vat_machine.specs.declared.calls.Promise.{Promise}
-use Rattle.vat_machine.specs.declared.calls.Promise.TheVariants as promise
-use Rattle.vat_machine.specs.State.{State}
-use Rattle.vat_machine.specs.Lists.{from_each, of_map}
-use Rattle.vat_machine.specs.Queries.{stamps_of_calls, stamps_of_held, stamps_at_promise, stamps_at_outcome, stamps_under, is_through}
-use Rattle.vat_machine.specs.Queries as queries
-use Rattle.vat_machine.specs.Pending.{in_messages, open_calls, through, pending}
-use Rattle.vat_machine.specs.Pending as unread
-use Rattle.vat_machine.specs.World.{World}
-use Rattle.vat_machine.specs.Claims.{history}
+use Rattle.rpc_journal.specs.declared.entry.JournalEntry.{JournalEntry}
+use Rattle.rpc_journal.specs.declared.entry.JournalEntry.TheVariants as entry
+use Rattle.rpc_journal.specs.History.{Ref, same_ref, same_stamp, caller, stamp_of, in_front, if_so, stamps, deliveries, delivered, made}
+use Rattle.rpc_journal.specs.Meaning.{History, ObjectAt, Broken}
+use Rattle.rpc_machine.specs.declared.calls.HeldCall.{HeldCall}
+use Rattle.rpc_machine.specs.declared.calls.WaitingCall.{WaitingCall}
+use Rattle.rpc_machine.specs.declared.calls.Promise.{Promise}
+use Rattle.rpc_machine.specs.declared.calls.Promise.TheVariants as promise
+use Rattle.rpc_machine.specs.State.{State}
+use Rattle.rpc_machine.specs.Lists.{from_each, of_map}
+use Rattle.rpc_machine.specs.Queries.{stamps_of_calls, stamps_of_held, stamps_at_promise, stamps_at_outcome, stamps_under, is_through}
+use Rattle.rpc_machine.specs.Queries as queries
+use Rattle.rpc_machine.specs.Pending.{in_messages, open_calls, through, pending}
+use Rattle.rpc_machine.specs.Pending as unread
+use Rattle.rpc_machine.specs.World.{World}
+use Rattle.rpc_machine.specs.Claims.{history}
 use Rattle.laws_runs.specs.Meanings.{MeaningsAreOne}
 use Rattle.laws_runs.specs.Scenes.{Scene}
 use Rattle.laws_runs.proofs.Reading.{same_ref_is}

@@ -10,28 +10,28 @@ use Rattle.rpc_msg.specs.declared.ids.Stamp.{Stamp}
 use Rattle.rpc_msg.specs.declared.ids.TaskId.{TaskId}
 use Rattle.rpc_msg.specs.declared.ids.ObjectId.{ObjectId}
 use Rattle.rpc_msg.specs.Payloads.{Contents as Payload}
-use Rattle.vat_journal.specs.declared.report.Outcome.TheVariants as outcome
-use Rattle.vat_journal.specs.declared.entry.Origin.{Origin}
-use Rattle.vat_journal.specs.declared.entry.Origin.TheVariants as origin
-use Rattle.vat_journal.specs.declared.entry.MadeCall.{MadeCall}
-use Rattle.vat_journal.specs.declared.entry.JournalEntry.{JournalEntry}
-use Rattle.vat_journal.specs.declared.entry.JournalEntry.TheVariants as entry
-use Rattle.vat_journal.specs.History.{same_vat, or_rest, if_so, stamp_of, made_one, made_with}
-use Rattle.vat_journal.specs.Sources.{OfBootstrap, OfCall, asking, source_of_origin, source_one, source, Fate, FixedTo, WasRejected, fate_one, fate}
-use Rattle.vat_machine.specs.declared.entries.Reference.{Reference}
-use Rattle.vat_machine.specs.declared.command.CallCommand.{CallCommand}
-use Rattle.vat_machine.specs.declared.command.Command.{Command}
-use Rattle.vat_machine.specs.declared.command.Command.TheVariants as command
-use Rattle.vat_machine.specs.declared.command.Granted.{Granted}
-use Rattle.vat_machine.specs.declared.command.Granted.TheVariants as granted
-use Rattle.vat_machine.specs.declared.command.Refusal.TheVariants as refusal
-use Rattle.vat_machine.specs.State.{State}
-use Rattle.vat_machine.specs.Commands.{request}
-use Rattle.vat_machine.specs.Lists.{is_empty}
-use Rattle.vat_machine.specs.Refusals.{is_known_ref, while_down, wrong_level, wrong_caps, unknown_ref, unknown_task, without_room, refused}
-use Rattle.vat_machine.specs.World.{core}
-use Rattle.vat_machine.specs.Journal.{index_in, granted_entries}
-use Rattle.vat_machine.specs.Claims.{AreNumbered, history}
+use Rattle.rpc_journal.specs.declared.report.Outcome.TheVariants as outcome
+use Rattle.rpc_journal.specs.declared.entry.Origin.{Origin}
+use Rattle.rpc_journal.specs.declared.entry.Origin.TheVariants as origin
+use Rattle.rpc_journal.specs.declared.entry.MadeCall.{MadeCall}
+use Rattle.rpc_journal.specs.declared.entry.JournalEntry.{JournalEntry}
+use Rattle.rpc_journal.specs.declared.entry.JournalEntry.TheVariants as entry
+use Rattle.rpc_journal.specs.History.{same_vat, or_rest, if_so, stamp_of, made_one, made_with}
+use Rattle.rpc_journal.specs.Sources.{OfBootstrap, OfCall, asking, source_of_origin, source_one, source, Fate, FixedTo, WasRejected, fate_one, fate}
+use Rattle.rpc_machine.specs.declared.entries.Reference.{Reference}
+use Rattle.rpc_machine.specs.declared.command.CallCommand.{CallCommand}
+use Rattle.rpc_machine.specs.declared.command.Command.{Command}
+use Rattle.rpc_machine.specs.declared.command.Command.TheVariants as command
+use Rattle.rpc_machine.specs.declared.command.Granted.{Granted}
+use Rattle.rpc_machine.specs.declared.command.Granted.TheVariants as granted
+use Rattle.rpc_machine.specs.declared.command.Refusal.TheVariants as refusal
+use Rattle.rpc_machine.specs.State.{State}
+use Rattle.rpc_machine.specs.Commands.{request}
+use Rattle.rpc_machine.specs.Lists.{is_empty}
+use Rattle.rpc_machine.specs.Refusals.{is_known_ref, while_down, wrong_level, wrong_caps, unknown_ref, unknown_task, without_room, refused}
+use Rattle.rpc_machine.specs.World.{core}
+use Rattle.rpc_machine.specs.Journal.{index_in, granted_entries}
+use Rattle.rpc_machine.specs.Claims.{AreNumbered, history}
 use Rattle.laws_acts.specs.Moments.{Moment, beginning}
 use Rattle.laws_acts.specs.FirstActs.{Starts}
 use Rattle.laws_acts.specs.FirstActs as first

@@ -8,20 +8,20 @@ use Rattle.rpc_msg.specs.declared.ids.Vat.{Vat}
 use Rattle.rpc_msg.specs.declared.ids.RefId.{RefId}
 use Rattle.rpc_msg.specs.declared.ids.Stamp.{Stamp}
 use Rattle.rpc_msg.specs.declared.ids.ObjectId.{ObjectId}
-use Rattle.vat_journal.specs.declared.report.Delivery.{Delivery}
-use Rattle.vat_journal.specs.declared.report.Ended.{Ended}
-use Rattle.vat_journal.specs.declared.entry.JournalEntry.{JournalEntry}
-use Rattle.vat_journal.specs.declared.entry.JournalEntry.TheVariants as entry
-use Rattle.vat_journal.specs.History.{Ref, Reply, same_vat, or_rest, first_that, refs_at, answer_of}
-use Rattle.vat_journal.specs.History as names
-use Rattle.vat_journal.specs.Sources.{Asking, OfBootstrap, OfCall, asking, Source, SentWith, EndedWith, place_from, sent_with, ended_with, at_vat, source_one, source}
-use Rattle.vat_journal.specs.Meaning.{Broken}
-use Rattle.vat_machine.specs.declared.entries.Reference.{Reference}
-use Rattle.vat_machine.specs.declared.command.Effects.{Effects}
-use Rattle.vat_machine.specs.State.{State}
-use Rattle.vat_machine.specs.Progress.{quiet}
-use Rattle.vat_machine.specs.Journal.{went_down, effect_entries}
-use Rattle.vat_machine.specs.Claims.{AreNew, history}
+use Rattle.rpc_journal.specs.declared.report.Delivery.{Delivery}
+use Rattle.rpc_journal.specs.declared.report.Ended.{Ended}
+use Rattle.rpc_journal.specs.declared.entry.JournalEntry.{JournalEntry}
+use Rattle.rpc_journal.specs.declared.entry.JournalEntry.TheVariants as entry
+use Rattle.rpc_journal.specs.History.{Ref, Reply, same_vat, or_rest, first_that, refs_at, answer_of}
+use Rattle.rpc_journal.specs.History as names
+use Rattle.rpc_journal.specs.Sources.{Asking, OfBootstrap, OfCall, asking, Source, SentWith, EndedWith, place_from, sent_with, ended_with, at_vat, source_one, source}
+use Rattle.rpc_journal.specs.Meaning.{Broken}
+use Rattle.rpc_machine.specs.declared.entries.Reference.{Reference}
+use Rattle.rpc_machine.specs.declared.command.Effects.{Effects}
+use Rattle.rpc_machine.specs.State.{State}
+use Rattle.rpc_machine.specs.Progress.{quiet}
+use Rattle.rpc_machine.specs.Journal.{went_down, effect_entries}
+use Rattle.rpc_machine.specs.Claims.{AreNew, history}
 use Rattle.laws_runs.proofs.Extends.{extends}
 use Rattle.laws_runs.proofs.Reading as reading
 use Rattle.laws_meanings.specs.Identities.{DeliveredIn}

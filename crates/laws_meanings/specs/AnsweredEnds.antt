@@ -2,16 +2,16 @@
 use Rattle.std.specs.Prelude.{◌≡◌, ◌⊎◌, ℕ, Option, None, Some, List, length}
 use Rattle.rpc_msg.specs.declared.ids.Stamp.{Stamp}
 use Rattle.rpc_msg.specs.declared.ids.ObjectId.{ObjectId}
-use Rattle.vat_journal.specs.declared.report.Outcome.{Outcome}
-use Rattle.vat_journal.specs.declared.report.Outcome.TheVariants as outcome
-use Rattle.vat_journal.specs.declared.entry.JournalEntry.{JournalEntry}
-use Rattle.vat_journal.specs.declared.entry.JournalEntry.TheVariants as entry
-use Rattle.vat_journal.specs.History.{Reply, answer_of}
-use Rattle.vat_journal.specs.Sources.{Asking, OfBootstrap, OfCall, asking}
-use Rattle.vat_journal.specs.Meaning.{History}
-use Rattle.vat_machine.specs.declared.node.Reason.{Reason}
-use Rattle.vat_machine.specs.Routing.{failed, reason_text}
-use Rattle.vat_machine.specs.Claims.{Upto, history}
+use Rattle.rpc_journal.specs.declared.report.Outcome.{Outcome}
+use Rattle.rpc_journal.specs.declared.report.Outcome.TheVariants as outcome
+use Rattle.rpc_journal.specs.declared.entry.JournalEntry.{JournalEntry}
+use Rattle.rpc_journal.specs.declared.entry.JournalEntry.TheVariants as entry
+use Rattle.rpc_journal.specs.History.{Reply, answer_of}
+use Rattle.rpc_journal.specs.Sources.{Asking, OfBootstrap, OfCall, asking}
+use Rattle.rpc_journal.specs.Meaning.{History}
+use Rattle.rpc_machine.specs.declared.node.Reason.{Reason}
+use Rattle.rpc_machine.specs.Routing.{failed, reason_text}
+use Rattle.rpc_machine.specs.Claims.{Upto, history}
 use Rattle.laws_runs.specs.Scenes.{Scene, IsScene}
 
 -- It is what was answered to the call's task, with as many capabilities.

@@ -1,11 +1,11 @@
 -- What ends was asked: a call or a Bootstrap with that number is in the history up to it.
 use Rattle.std.specs.Prelude.{◌≡◌, Option, Some}
 use Rattle.rpc_msg.specs.declared.ids.ObjectId.{ObjectId}
-use Rattle.vat_journal.specs.declared.entry.JournalEntry.{JournalEntry}
-use Rattle.vat_journal.specs.declared.entry.JournalEntry.TheVariants as entry
-use Rattle.vat_journal.specs.Sources.{Asking, asking}
-use Rattle.vat_journal.specs.Meaning.{History}
-use Rattle.vat_machine.specs.Claims.{Upto, history}
+use Rattle.rpc_journal.specs.declared.entry.JournalEntry.{JournalEntry}
+use Rattle.rpc_journal.specs.declared.entry.JournalEntry.TheVariants as entry
+use Rattle.rpc_journal.specs.Sources.{Asking, asking}
+use Rattle.rpc_journal.specs.Meaning.{History}
+use Rattle.rpc_machine.specs.Claims.{Upto, history}
 use Rattle.laws_runs.specs.Scenes.{Scene, IsScene}
 
 abbrev pub IfAsked : History → JournalEntry → Type 0

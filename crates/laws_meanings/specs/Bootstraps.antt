@@ -10,26 +10,26 @@ use Rattle.rpc_msg.specs.declared.message.Message.TheVariants as message
 use Rattle.rpc_msg.specs.declared.message.PlainMessage.TheVariants as plain
 use Rattle.rpc_msg.specs.declared.message.Return.{Return}
 use Rattle.rpc_msg.specs.Vats.{other_vat}
-use Rattle.vat_journal.specs.declared.report.Outcome.TheVariants as outcome
-use Rattle.vat_journal.specs.declared.entry.JournalEntry.{JournalEntry}
-use Rattle.vat_journal.specs.declared.entry.JournalEntry.TheVariants as entry
-use Rattle.vat_journal.specs.Sources.{Asking, OfBootstrap, OfCall, asking}
-use Rattle.vat_journal.specs.Meaning.{History, root}
-use Rattle.vat_machine.specs.declared.calls.Caller.{Caller}
-use Rattle.vat_machine.specs.declared.calls.Caller.TheVariants as caller
-use Rattle.vat_machine.specs.declared.calls.KeptOutcome.{KeptOutcome}
-use Rattle.vat_machine.specs.declared.calls.Value.{Value}
-use Rattle.vat_machine.specs.declared.entries.Role.{Role}
-use Rattle.vat_machine.specs.declared.entries.Role.TheVariants as role
-use Rattle.vat_machine.specs.declared.entries.Question.{Question}
-use Rattle.vat_machine.specs.State.{State}
-use Rattle.vat_machine.specs.Payloads.{bootstrap_payload}
-use Rattle.vat_machine.specs.Progress.{outcome_of, caps_of}
-use Rattle.vat_machine.specs.Routing.{failed}
-use Rattle.vat_machine.specs.Messages.{results_of, value_of_results}
-use Rattle.vat_machine.specs.Sweeping.{IsNotSent}
-use Rattle.vat_machine.specs.World.{core, inbox}
-use Rattle.vat_machine.specs.Claims.{Upto, EndsRoot, history}
+use Rattle.rpc_journal.specs.declared.report.Outcome.TheVariants as outcome
+use Rattle.rpc_journal.specs.declared.entry.JournalEntry.{JournalEntry}
+use Rattle.rpc_journal.specs.declared.entry.JournalEntry.TheVariants as entry
+use Rattle.rpc_journal.specs.Sources.{Asking, OfBootstrap, OfCall, asking}
+use Rattle.rpc_journal.specs.Meaning.{History, root}
+use Rattle.rpc_machine.specs.declared.calls.Caller.{Caller}
+use Rattle.rpc_machine.specs.declared.calls.Caller.TheVariants as caller
+use Rattle.rpc_machine.specs.declared.calls.KeptOutcome.{KeptOutcome}
+use Rattle.rpc_machine.specs.declared.calls.Value.{Value}
+use Rattle.rpc_machine.specs.declared.entries.Role.{Role}
+use Rattle.rpc_machine.specs.declared.entries.Role.TheVariants as role
+use Rattle.rpc_machine.specs.declared.entries.Question.{Question}
+use Rattle.rpc_machine.specs.State.{State}
+use Rattle.rpc_machine.specs.Payloads.{bootstrap_payload}
+use Rattle.rpc_machine.specs.Progress.{outcome_of, caps_of}
+use Rattle.rpc_machine.specs.Routing.{failed}
+use Rattle.rpc_machine.specs.Messages.{results_of, value_of_results}
+use Rattle.rpc_machine.specs.Sweeping.{IsNotSent}
+use Rattle.rpc_machine.specs.World.{core, inbox}
+use Rattle.rpc_machine.specs.Claims.{Upto, EndsRoot, history}
 use Rattle.laws_runs.specs.Scenes.{Scene, IsScene}
 
 -- ---- What a number was asked for

@@ -7,24 +7,24 @@ use Rattle.rpc_msg.specs.declared.ids.Stamp.{Stamp}
 use Rattle.rpc_msg.specs.Op.{Op}
 use Rattle.rpc_msg.specs.CapAt.TheVariants.{Cap}
 use Rattle.rpc_msg.specs.Payloads.{Contents as Payload}
-use Rattle.vat_journal.specs.declared.report.Outcome.TheVariants as outcome
-use Rattle.vat_journal.specs.declared.entry.MadeCall.{MadeCall}
-use Rattle.vat_journal.specs.History.{refs_at, answer_of, made_with}
-use Rattle.vat_journal.specs.Sources.{OfBootstrap, OfCall, asking, OwnObject, OwnPromise, CloneOf, FieldOf, source, FixedTo, WasRejected, fate}
-use Rattle.vat_journal.specs.Meaning.{History}
-use Rattle.vat_machine.specs.Payloads.{cap_at}
-use Rattle.vat_machine.specs.declared.command.Command.{Command}
-use Rattle.vat_machine.specs.declared.command.Command.TheVariants as command
-use Rattle.vat_machine.specs.declared.command.Granted.{Granted}
-use Rattle.vat_machine.specs.declared.command.Effects.{Effects}
-use Rattle.vat_machine.specs.declared.calls.KeptOutcome.{KeptOutcome}
-use Rattle.vat_machine.specs.declared.calls.Promise.{Promise}
-use Rattle.vat_machine.specs.declared.entries.Question.{Question}
-use Rattle.vat_machine.specs.declared.entries.Reference.{Reference}
-use Rattle.vat_machine.specs.State.{State}
-use Rattle.vat_machine.specs.Commands.{request}
-use Rattle.vat_machine.specs.Progress.{quiet}
-use Rattle.vat_machine.specs.Steps.{Does}
+use Rattle.rpc_journal.specs.declared.report.Outcome.TheVariants as outcome
+use Rattle.rpc_journal.specs.declared.entry.MadeCall.{MadeCall}
+use Rattle.rpc_journal.specs.History.{refs_at, answer_of, made_with}
+use Rattle.rpc_journal.specs.Sources.{OfBootstrap, OfCall, asking, OwnObject, OwnPromise, CloneOf, FieldOf, source, FixedTo, WasRejected, fate}
+use Rattle.rpc_journal.specs.Meaning.{History}
+use Rattle.rpc_machine.specs.Payloads.{cap_at}
+use Rattle.rpc_machine.specs.declared.command.Command.{Command}
+use Rattle.rpc_machine.specs.declared.command.Command.TheVariants as command
+use Rattle.rpc_machine.specs.declared.command.Granted.{Granted}
+use Rattle.rpc_machine.specs.declared.command.Effects.{Effects}
+use Rattle.rpc_machine.specs.declared.calls.KeptOutcome.{KeptOutcome}
+use Rattle.rpc_machine.specs.declared.calls.Promise.{Promise}
+use Rattle.rpc_machine.specs.declared.entries.Question.{Question}
+use Rattle.rpc_machine.specs.declared.entries.Reference.{Reference}
+use Rattle.rpc_machine.specs.State.{State}
+use Rattle.rpc_machine.specs.Commands.{request}
+use Rattle.rpc_machine.specs.Progress.{quiet}
+use Rattle.rpc_machine.specs.Steps.{Does}
 use Rattle.laws_acts.specs.Moments.{Moment, beginning}
 use Rattle.laws_acts.specs.FirstActs.{Starts}
 use Rattle.laws_steps.specs.NodesThere.{IsWhole}

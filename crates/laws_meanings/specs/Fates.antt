@@ -3,8 +3,8 @@ use Rattle.std.specs.Prelude.{◌≡◌, ℕ, false, Option, None, Some}
 use Rattle.std.specs.FinMap as map
 use Rattle.rpc_msg.specs.declared.ids.Vat.{Vat}
 use Rattle.rpc_msg.specs.declared.ids.ObjectId.{ObjectId}
-use Rattle.vat_journal.specs.Sources.{fate}
-use Rattle.vat_machine.specs.World.{core}
+use Rattle.rpc_journal.specs.Sources.{fate}
+use Rattle.rpc_machine.specs.World.{core}
 use Rattle.laws_runs.specs.Scenes.{Scene, IsScene, is_over}
 
 abbrev pub PromisesAreOpen : Type 0

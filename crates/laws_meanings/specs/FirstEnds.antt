@@ -2,10 +2,10 @@
 use Rattle.std.specs.Prelude.{◌≡◌, false, Option}
 use Rattle.std.specs.List.{list_any}
 use Rattle.rpc_msg.specs.declared.ids.ObjectId.{ObjectId}
-use Rattle.vat_journal.specs.declared.entry.JournalEntry.{JournalEntry}
-use Rattle.vat_journal.specs.declared.entry.JournalEntry.TheVariants as entry
-use Rattle.vat_journal.specs.Meaning.{History}
-use Rattle.vat_machine.specs.Claims.{is_end_of, Upto, history}
+use Rattle.rpc_journal.specs.declared.entry.JournalEntry.{JournalEntry}
+use Rattle.rpc_journal.specs.declared.entry.JournalEntry.TheVariants as entry
+use Rattle.rpc_journal.specs.Meaning.{History}
+use Rattle.rpc_machine.specs.Claims.{is_end_of, Upto, history}
 use Rattle.laws_runs.specs.Scenes.{Scene, IsScene}
 
 abbrev pub IfFirst : History → JournalEntry → Type 0

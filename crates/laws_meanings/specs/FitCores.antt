@@ -2,8 +2,8 @@
 use Rattle.std.specs.Prelude.{◌≡◌, Option}
 use Rattle.rpc_msg.specs.declared.ids.Vat.{Vat}
 use Rattle.rpc_msg.specs.declared.ids.ObjectId.{ObjectId}
-use Rattle.vat_machine.specs.State.{State}
-use Rattle.vat_machine.specs.World.{core}
+use Rattle.rpc_machine.specs.State.{State}
+use Rattle.rpc_machine.specs.World.{core}
 use Rattle.laws_steps.specs.NodesThere.{IsWhole}
 use Rattle.laws_nodes.specs.Embargoes.{ArePaired}
 use Rattle.laws_nodes.specs.Questions.{QuestionsEnd}

@@ -3,13 +3,13 @@
 use Rattle.std.specs.Prelude.{◌≡◌, Option, List, ◌∷◌, ◌++◌}
 use Rattle.rpc_msg.specs.declared.ids.Vat.{Vat}
 use Rattle.rpc_msg.specs.declared.ids.ObjectId.{ObjectId}
-use Rattle.vat_journal.specs.declared.entry.JournalEntry.{JournalEntry}
-use Rattle.vat_journal.specs.Meaning.{History}
-use Rattle.vat_machine.specs.declared.command.Effects.{Effects}
-use Rattle.vat_machine.specs.State.{State}
-use Rattle.vat_machine.specs.Progress.{quiet}
-use Rattle.vat_machine.specs.Journal.{effect_entries}
-use Rattle.vat_machine.specs.Claims.{history}
+use Rattle.rpc_journal.specs.declared.entry.JournalEntry.{JournalEntry}
+use Rattle.rpc_journal.specs.Meaning.{History}
+use Rattle.rpc_machine.specs.declared.command.Effects.{Effects}
+use Rattle.rpc_machine.specs.State.{State}
+use Rattle.rpc_machine.specs.Progress.{quiet}
+use Rattle.rpc_machine.specs.Journal.{effect_entries}
+use Rattle.rpc_machine.specs.Claims.{history}
 use Rattle.laws_acts.specs.Moments.{Moment}
 use Rattle.laws_runs.specs.Meanings.{with_more}
 use Rattle.laws_runs.specs.Scenes.{Scene, IsScene}

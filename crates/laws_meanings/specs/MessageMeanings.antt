@@ -19,26 +19,26 @@ use Rattle.rpc_msg.specs.declared.parts.Target.TheVariants.{ImportedCap, Promise
 use Rattle.rpc_msg.specs.Op.{Op}
 use Rattle.rpc_msg.specs.Paths.{fields}
 use Rattle.rpc_msg.specs.Vats.{other_vat}
-use Rattle.vat_journal.specs.History.{caller}
-use Rattle.vat_journal.specs.Sources.{Asking, OfBootstrap, OfCall, SentWith}
-use Rattle.vat_journal.specs.Meaning.{History, Broken, root}
-use Rattle.vat_machine.specs.declared.calls.KeptOutcome.{KeptOutcome}
-use Rattle.vat_machine.specs.declared.calls.Promise.{Promise}
-use Rattle.vat_machine.specs.declared.calls.Value.{Value}
-use Rattle.vat_machine.specs.declared.command.Effects.{Effects}
-use Rattle.vat_machine.specs.declared.command.Level.TheVariants.{One}
-use Rattle.vat_machine.specs.declared.entries.AnswerEntry.{AnswerEntry}
-use Rattle.vat_machine.specs.declared.entries.Finishing.{Finishing}
-use Rattle.vat_machine.specs.declared.entries.Finishing.TheVariants as finishing
-use Rattle.vat_machine.specs.declared.entries.Import.{Import}
-use Rattle.vat_machine.specs.declared.entries.Question.{Question}
-use Rattle.vat_machine.specs.State.{State}
-use Rattle.vat_machine.specs.Claims.{object_number}
-use Rattle.vat_machine.specs.Descriptors.{read, read_all, export_node}
-use Rattle.vat_machine.specs.Faults.{fault_of, target_node, target_fault, descriptors_fault}
-use Rattle.vat_machine.specs.Messages.{bootstrap_value, results_of, value_of_results}
-use Rattle.vat_machine.specs.Progress.{quiet}
-use Rattle.vat_machine.specs.Steps.{Handles}
+use Rattle.rpc_journal.specs.History.{caller}
+use Rattle.rpc_journal.specs.Sources.{Asking, OfBootstrap, OfCall, SentWith}
+use Rattle.rpc_journal.specs.Meaning.{History, Broken, root}
+use Rattle.rpc_machine.specs.declared.calls.KeptOutcome.{KeptOutcome}
+use Rattle.rpc_machine.specs.declared.calls.Promise.{Promise}
+use Rattle.rpc_machine.specs.declared.calls.Value.{Value}
+use Rattle.rpc_machine.specs.declared.command.Effects.{Effects}
+use Rattle.rpc_machine.specs.declared.command.Level.TheVariants.{One}
+use Rattle.rpc_machine.specs.declared.entries.AnswerEntry.{AnswerEntry}
+use Rattle.rpc_machine.specs.declared.entries.Finishing.{Finishing}
+use Rattle.rpc_machine.specs.declared.entries.Finishing.TheVariants as finishing
+use Rattle.rpc_machine.specs.declared.entries.Import.{Import}
+use Rattle.rpc_machine.specs.declared.entries.Question.{Question}
+use Rattle.rpc_machine.specs.State.{State}
+use Rattle.rpc_machine.specs.Claims.{object_number}
+use Rattle.rpc_machine.specs.Descriptors.{read, read_all, export_node}
+use Rattle.rpc_machine.specs.Faults.{fault_of, target_node, target_fault, descriptors_fault}
+use Rattle.rpc_machine.specs.Messages.{bootstrap_value, results_of, value_of_results}
+use Rattle.rpc_machine.specs.Progress.{quiet}
+use Rattle.rpc_machine.specs.Steps.{Handles}
 use Rattle.laws_acts.specs.Moments.{Moment, beginning}
 use Rattle.laws_acts.specs.MessageActs.{Consumes}
 use Rattle.laws_acts.specs.SmallActs.{Act}

@@ -1,11 +1,11 @@
 -- The references that a delivery or an end gives are new: they come from nowhere before, and each is given once.
 use Rattle.std.specs.Prelude.{Option}
 use Rattle.rpc_msg.specs.declared.ids.ObjectId.{ObjectId}
-use Rattle.vat_journal.specs.declared.entry.JournalEntry.{JournalEntry}
-use Rattle.vat_journal.specs.declared.entry.JournalEntry.TheVariants as entry
-use Rattle.vat_journal.specs.History.{refs_at}
-use Rattle.vat_journal.specs.Meaning.{History}
-use Rattle.vat_machine.specs.Claims.{AreNew, Upto, history}
+use Rattle.rpc_journal.specs.declared.entry.JournalEntry.{JournalEntry}
+use Rattle.rpc_journal.specs.declared.entry.JournalEntry.TheVariants as entry
+use Rattle.rpc_journal.specs.History.{refs_at}
+use Rattle.rpc_journal.specs.Meaning.{History}
+use Rattle.rpc_machine.specs.Claims.{AreNew, Upto, history}
 use Rattle.laws_runs.specs.Scenes.{Scene, IsScene}
 
 abbrev pub IfGives : History → JournalEntry → Type 0

@@ -10,15 +10,15 @@ use Rattle.rpc_msg.specs.CapAt.{CapAt}
 use Rattle.rpc_msg.specs.CapAt.TheVariants.{Cap, Null, NotCap}
 use Rattle.rpc_msg.specs.Payloads.{tree_of}
 use Rattle.rpc_msg.specs.Walking.{capability_at}
-use Rattle.vat_journal.specs.declared.report.Outcome.{Outcome}
-use Rattle.vat_journal.specs.declared.report.Outcome.TheVariants as outcome
-use Rattle.vat_journal.specs.declared.entry.MadeCall.{MadeCall}
-use Rattle.vat_journal.specs.declared.entry.JournalEntry.{JournalEntry}
-use Rattle.vat_journal.specs.declared.entry.JournalEntry.TheVariants as entry
-use Rattle.vat_journal.specs.History.{Ref, Reply, refs_at, caller, made_with, answer_of}
-use Rattle.vat_journal.specs.Sources.{Asking, OfBootstrap, OfCall, asking, Source, OwnObject, OwnPromise, CloneOf, SentWith, EndedWith, FieldOf, source, Fate, FixedTo, WasRejected, fate}
-use Rattle.vat_journal.specs.Meaning.{History, Meaning, ObjectAt, Broken, StandsFor, bootstrap_meaning, root_field}
-use Rattle.vat_machine.specs.Claims.{IsToOne, Upto, IsInTime, EndsAreSo, history}
+use Rattle.rpc_journal.specs.declared.report.Outcome.{Outcome}
+use Rattle.rpc_journal.specs.declared.report.Outcome.TheVariants as outcome
+use Rattle.rpc_journal.specs.declared.entry.MadeCall.{MadeCall}
+use Rattle.rpc_journal.specs.declared.entry.JournalEntry.{JournalEntry}
+use Rattle.rpc_journal.specs.declared.entry.JournalEntry.TheVariants as entry
+use Rattle.rpc_journal.specs.History.{Ref, Reply, refs_at, caller, made_with, answer_of}
+use Rattle.rpc_journal.specs.Sources.{Asking, OfBootstrap, OfCall, asking, Source, OwnObject, OwnPromise, CloneOf, SentWith, EndedWith, FieldOf, source, Fate, FixedTo, WasRejected, fate}
+use Rattle.rpc_journal.specs.Meaning.{History, Meaning, ObjectAt, Broken, StandsFor, bootstrap_meaning, root_field}
+use Rattle.rpc_machine.specs.Claims.{IsToOne, Upto, IsInTime, EndsAreSo, history}
 use Rattle.laws_runs.specs.Meanings.{with_more}
 use Rattle.laws_runs.specs.Scenes.{Scene, IsScene}
 

@@ -4,16 +4,16 @@ use Rattle.std.specs.Prelude.{◌≡◌, ◌⊎◌, ℕ, ◌+◌, ◌≤◌, fal
 use Rattle.rpc_msg.specs.declared.ids.Vat.{Vat}
 use Rattle.rpc_msg.specs.declared.ids.ObjectId.{ObjectId}
 use Rattle.rpc_msg.specs.declared.ids.Stamp.{Stamp}
-use Rattle.vat_journal.specs.declared.report.Delivery.{Delivery}
-use Rattle.vat_journal.specs.declared.entry.MadeCall.{MadeCall}
-use Rattle.vat_journal.specs.declared.entry.JournalEntry.{JournalEntry}
-use Rattle.vat_journal.specs.History.{Ref, same_stamp, caller, made, made_with, delivered}
-use Rattle.vat_journal.specs.Meaning.{History, ObjectAt, Broken, StandsFor}
-use Rattle.vat_machine.specs.declared.node.Node.{Node}
-use Rattle.vat_machine.specs.declared.calls.WaitingCall.{WaitingCall}
-use Rattle.vat_machine.specs.Claims.{IsToOne, history}
-use Rattle.vat_machine.specs.Pending.{pending}
-use Rattle.vat_machine.specs.World.{core}
+use Rattle.rpc_journal.specs.declared.report.Delivery.{Delivery}
+use Rattle.rpc_journal.specs.declared.entry.MadeCall.{MadeCall}
+use Rattle.rpc_journal.specs.declared.entry.JournalEntry.{JournalEntry}
+use Rattle.rpc_journal.specs.History.{Ref, same_stamp, caller, made, made_with, delivered}
+use Rattle.rpc_journal.specs.Meaning.{History, ObjectAt, Broken, StandsFor}
+use Rattle.rpc_machine.specs.declared.node.Node.{Node}
+use Rattle.rpc_machine.specs.declared.calls.WaitingCall.{WaitingCall}
+use Rattle.rpc_machine.specs.Claims.{IsToOne, history}
+use Rattle.rpc_machine.specs.Pending.{pending}
+use Rattle.rpc_machine.specs.World.{core}
 use Rattle.laws_acts.specs.Moments.{Moment, beginning}
 use Rattle.laws_acts.specs.FirstActs.{Starts}
 use Rattle.laws_acts.specs.MessageActs.{Consumes}

@@ -13,17 +13,17 @@ use Rattle.rpc_msg.specs.declared.parts.Descriptor.{Descriptor}
 use Rattle.rpc_msg.specs.Op.{Op}
 use Rattle.rpc_msg.specs.CapAt.{CapAt}
 use Rattle.rpc_msg.specs.CapAt.TheVariants.{Cap, Null, NotCap}
-use Rattle.vat_journal.specs.History.{caller}
-use Rattle.vat_journal.specs.Sources.{Asking, SentWith}
-use Rattle.vat_journal.specs.Meaning.{History, Broken, root}
-use Rattle.vat_machine.specs.declared.command.Level.TheVariants.{One}
-use Rattle.vat_machine.specs.declared.entries.Import.{Import}
-use Rattle.vat_machine.specs.declared.entries.Question.{Question}
-use Rattle.vat_machine.specs.State.{State}
-use Rattle.vat_machine.specs.Claims.{object_number}
-use Rattle.vat_machine.specs.Faults.{fault_of}
-use Rattle.vat_machine.specs.Payloads.{cap_at}
-use Rattle.vat_machine.specs.Sweeping.{IsNotSent}
+use Rattle.rpc_journal.specs.History.{caller}
+use Rattle.rpc_journal.specs.Sources.{Asking, SentWith}
+use Rattle.rpc_journal.specs.Meaning.{History, Broken, root}
+use Rattle.rpc_machine.specs.declared.command.Level.TheVariants.{One}
+use Rattle.rpc_machine.specs.declared.entries.Import.{Import}
+use Rattle.rpc_machine.specs.declared.entries.Question.{Question}
+use Rattle.rpc_machine.specs.State.{State}
+use Rattle.rpc_machine.specs.Claims.{object_number}
+use Rattle.rpc_machine.specs.Faults.{fault_of}
+use Rattle.rpc_machine.specs.Payloads.{cap_at}
+use Rattle.rpc_machine.specs.Sweeping.{IsNotSent}
 use Rattle.laws_steps.specs.NodesThere.{IsWhole}
 use Rattle.laws_meanings.specs.NodeMeanings.{Meant, Itself, OfRef, BySource, field_meant, ByEnd, Leads}
 use Rattle.laws_meanings.specs.NodeLabels.{IsAnsweredOrBroken, Labels, LeadsTo, asked_label}

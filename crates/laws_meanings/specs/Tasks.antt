@@ -3,11 +3,11 @@ use Rattle.std.specs.Prelude.{◌≡◌, ℕ, ◌+◌, ◌≤◌, false, ◌&&�
 use Rattle.std.specs.FinMap as map
 use Rattle.rpc_msg.specs.declared.ids.Vat.{Vat}
 use Rattle.rpc_msg.specs.declared.ids.ObjectId.{ObjectId}
-use Rattle.vat_journal.specs.declared.entry.JournalEntry.{JournalEntry}
-use Rattle.vat_journal.specs.declared.entry.JournalEntry.TheVariants as entry
-use Rattle.vat_journal.specs.History.{same_vat}
-use Rattle.vat_machine.specs.World.{core}
-use Rattle.vat_machine.specs.Claims.{EveryRun}
+use Rattle.rpc_journal.specs.declared.entry.JournalEntry.{JournalEntry}
+use Rattle.rpc_journal.specs.declared.entry.JournalEntry.TheVariants as entry
+use Rattle.rpc_journal.specs.History.{same_vat}
+use Rattle.rpc_machine.specs.World.{core}
+use Rattle.rpc_machine.specs.Claims.{EveryRun}
 use Rattle.laws_runs.specs.Scenes.{Scene, IsScene, is_over}
 use Rattle.laws_meanings.specs.OnePlace.{counted}
 

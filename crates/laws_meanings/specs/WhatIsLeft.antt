@@ -1,14 +1,14 @@
 -- What is promised of deliveries and ends in scenes, but for what references stand for and how calls were answered.
 use Rattle.std.specs.Prelude.{◌≡◌, Option, None, Some}
 use Rattle.rpc_msg.specs.declared.ids.ObjectId.{ObjectId}
-use Rattle.vat_journal.specs.declared.entry.JournalEntry.{JournalEntry}
-use Rattle.vat_journal.specs.declared.entry.JournalEntry.TheVariants as entry
-use Rattle.vat_journal.specs.History.{caller}
+use Rattle.rpc_journal.specs.declared.entry.JournalEntry.{JournalEntry}
+use Rattle.rpc_journal.specs.declared.entry.JournalEntry.TheVariants as entry
+use Rattle.rpc_journal.specs.History.{caller}
 use Rattle.rpc_msg.specs.declared.ids.Stamp.{Stamp}
-use Rattle.vat_journal.specs.Sources.{OfCall, asking}
-use Rattle.vat_journal.specs.Meaning.{History, Broken, StandsFor}
-use Rattle.vat_journal.specs.History.{answer_of}
-use Rattle.vat_machine.specs.Claims.{IsTo, EndsCall, EndsAsked, Upto, IsInTime, EndsAreSo, history}
+use Rattle.rpc_journal.specs.Sources.{OfCall, asking}
+use Rattle.rpc_journal.specs.Meaning.{History, Broken, StandsFor}
+use Rattle.rpc_journal.specs.History.{answer_of}
+use Rattle.rpc_machine.specs.Claims.{IsTo, EndsCall, EndsAsked, Upto, IsInTime, EndsAreSo, history}
 use Rattle.laws_runs.specs.Scenes.{Scene, IsScene}
 
 -- A delivery is to the object that its call's reference stands for.

@@ -5,17 +5,17 @@ use Rattle.rpc_msg.specs.declared.ids.ObjectId.{ObjectId}
 use Rattle.rpc_msg.specs.Op.{Op}
 use Rattle.rpc_msg.specs.CapAt.TheVariants.{Cap}
 use Rattle.rpc_msg.specs.Payloads.{Contents as Payload}
-use Rattle.vat_machine.specs.Payloads.{cap_at, caps_in}
-use Rattle.vat_machine.specs.declared.command.Command.{Command}
-use Rattle.vat_machine.specs.declared.command.Command.TheVariants as command
-use Rattle.vat_machine.specs.declared.command.Granted.{Granted}
-use Rattle.vat_machine.specs.declared.command.Effects.{Effects}
-use Rattle.vat_machine.specs.State.{State}
-use Rattle.vat_machine.specs.Refusals.{refused}
-use Rattle.vat_machine.specs.Steps.{Does}
-use Rattle.vat_machine.specs.World.{core}
-use Rattle.vat_machine.specs.Journal.{granted_entries}
-use Rattle.vat_machine.specs.Claims.{history}
+use Rattle.rpc_machine.specs.Payloads.{cap_at, caps_in}
+use Rattle.rpc_machine.specs.declared.command.Command.{Command}
+use Rattle.rpc_machine.specs.declared.command.Command.TheVariants as command
+use Rattle.rpc_machine.specs.declared.command.Granted.{Granted}
+use Rattle.rpc_machine.specs.declared.command.Effects.{Effects}
+use Rattle.rpc_machine.specs.State.{State}
+use Rattle.rpc_machine.specs.Refusals.{refused}
+use Rattle.rpc_machine.specs.Steps.{Does}
+use Rattle.rpc_machine.specs.World.{core}
+use Rattle.rpc_machine.specs.Journal.{granted_entries}
+use Rattle.rpc_machine.specs.Claims.{history}
 use Rattle.laws_runs.specs.Scenes.{Scene, IsScene, is_over}
 use Rattle.laws_meanings.specs.CommandMeanings.{IsWritten, IsWrittenOpen}
 

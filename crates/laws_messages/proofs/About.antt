@@ -11,20 +11,20 @@ use Rattle.rpc_msg.specs.declared.message.DisembargoContext.TheVariants.{Receive
 use Rattle.rpc_msg.specs.declared.message.PlainMessage.TheVariants as plain
 use Rattle.rpc_msg.specs.declared.message.Message.{Message}
 use Rattle.rpc_msg.specs.declared.message.Message.TheVariants as message
-use Rattle.vat_journal.specs.History.{if_so}
-use Rattle.vat_machine.specs.declared.command.Command.{Command}
-use Rattle.vat_machine.specs.declared.command.Granted.{Granted}
-use Rattle.vat_machine.specs.declared.command.Effects.{Effects}
-use Rattle.vat_machine.specs.declared.command.Level.{Level}
-use Rattle.vat_machine.specs.declared.command.Level.TheVariants.{One}
-use Rattle.vat_machine.specs.declared.entries.Embargo.{Embargo}
-use Rattle.vat_machine.specs.State.{State, start}
-use Rattle.vat_machine.specs.Lists.{how_many}
-use Rattle.vat_machine.specs.Numbers.{unknown_embargo}
-use Rattle.vat_machine.specs.Refusals.{refused}
-use Rattle.vat_machine.specs.Faults.{fault_of, is_foreign, plain_fault, unless_foreign}
-use Rattle.vat_machine.specs.Steps.{Does, Handles}
-use Rattle.vat_machine.specs.World.{World, core, inbox}
+use Rattle.rpc_journal.specs.History.{if_so}
+use Rattle.rpc_machine.specs.declared.command.Command.{Command}
+use Rattle.rpc_machine.specs.declared.command.Granted.{Granted}
+use Rattle.rpc_machine.specs.declared.command.Effects.{Effects}
+use Rattle.rpc_machine.specs.declared.command.Level.{Level}
+use Rattle.rpc_machine.specs.declared.command.Level.TheVariants.{One}
+use Rattle.rpc_machine.specs.declared.entries.Embargo.{Embargo}
+use Rattle.rpc_machine.specs.State.{State, start}
+use Rattle.rpc_machine.specs.Lists.{how_many}
+use Rattle.rpc_machine.specs.Numbers.{unknown_embargo}
+use Rattle.rpc_machine.specs.Refusals.{refused}
+use Rattle.rpc_machine.specs.Faults.{fault_of, is_foreign, plain_fault, unless_foreign}
+use Rattle.rpc_machine.specs.Steps.{Does, Handles}
+use Rattle.rpc_machine.specs.World.{World, core, inbox}
 use Rattle.laws_acts.specs.Sent.{Noted, messages}
 use Rattle.laws_nodes.specs.Ones.{one_if}
 use Rattle.laws_nodes.specs.Embargoes.{here, out, back, goes_out, comes_back, Loopbacks}

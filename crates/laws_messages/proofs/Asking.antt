@@ -8,30 +8,30 @@ use Rattle.rpc_msg.specs.declared.parts.Target.{Target}
 use Rattle.rpc_msg.specs.declared.parts.Target.TheVariants.{ImportedCap, PromisedAnswer}
 use Rattle.rpc_msg.specs.declared.exception.Exception.{Exception}
 use Rattle.rpc_msg.specs.Messages.{descriptors_of_body, descriptors_of_resolved, descriptors_of_plain}
-use Rattle.vat_machine.specs.declared.node.Node.{Node}
-use Rattle.vat_machine.specs.declared.calls.Request.{Request}
-use Rattle.vat_machine.specs.declared.calls.Value.{Value}
-use Rattle.vat_machine.specs.declared.calls.Caller.{Caller}
-use Rattle.vat_machine.specs.declared.calls.Caller.TheVariants as caller
-use Rattle.vat_machine.specs.declared.calls.OwnCall.TheVariants as own
-use Rattle.vat_machine.specs.declared.command.Granted.{Granted}
-use Rattle.vat_machine.specs.declared.entries.Role.{Role}
-use Rattle.vat_machine.specs.declared.entries.Role.TheVariants as role
-use Rattle.vat_machine.specs.declared.entries.Finishing.{Finishing}
-use Rattle.vat_machine.specs.declared.entries.Finishing.TheVariants as finishing
-use Rattle.vat_machine.specs.declared.entries.Question.{Question}
-use Rattle.vat_machine.specs.declared.entries.AnswerEntry.{AnswerEntry}
-use Rattle.vat_machine.specs.declared.entries.Reference.{Reference}
-use Rattle.vat_machine.specs.State.{State}
-use Rattle.vat_machine.specs.Nodes.{settle}
-use Rattle.vat_machine.specs.Progress.{Progress, with_state, caps_of, numbers}
-use Rattle.vat_machine.specs.Commands.{counted}
-use Rattle.vat_machine.specs.Routing.{Asks}
-use Rattle.vat_machine.specs.Settling.{known, TellsPeer, Tells, ResolvesBy}
-use Rattle.vat_machine.specs.Advancing.{Embargoes}
+use Rattle.rpc_machine.specs.declared.node.Node.{Node}
+use Rattle.rpc_machine.specs.declared.calls.Request.{Request}
+use Rattle.rpc_machine.specs.declared.calls.Value.{Value}
+use Rattle.rpc_machine.specs.declared.calls.Caller.{Caller}
+use Rattle.rpc_machine.specs.declared.calls.Caller.TheVariants as caller
+use Rattle.rpc_machine.specs.declared.calls.OwnCall.TheVariants as own
+use Rattle.rpc_machine.specs.declared.command.Granted.{Granted}
+use Rattle.rpc_machine.specs.declared.entries.Role.{Role}
+use Rattle.rpc_machine.specs.declared.entries.Role.TheVariants as role
+use Rattle.rpc_machine.specs.declared.entries.Finishing.{Finishing}
+use Rattle.rpc_machine.specs.declared.entries.Finishing.TheVariants as finishing
+use Rattle.rpc_machine.specs.declared.entries.Question.{Question}
+use Rattle.rpc_machine.specs.declared.entries.AnswerEntry.{AnswerEntry}
+use Rattle.rpc_machine.specs.declared.entries.Reference.{Reference}
+use Rattle.rpc_machine.specs.State.{State}
+use Rattle.rpc_machine.specs.Nodes.{settle}
+use Rattle.rpc_machine.specs.Progress.{Progress, with_state, caps_of, numbers}
+use Rattle.rpc_machine.specs.Commands.{counted}
+use Rattle.rpc_machine.specs.Routing.{Asks}
+use Rattle.rpc_machine.specs.Settling.{known, TellsPeer, Tells, ResolvesBy}
+use Rattle.rpc_machine.specs.Advancing.{Embargoes}
 use Rattle.laws_steps.specs.NodesThere.{Stands}
 use Rattle.laws_steps.specs.Callers.{IsAskedFor}
-use Rattle.vat_machine.specs.Sweeping.{IsNotSent}
+use Rattle.rpc_machine.specs.Sweeping.{IsNotSent}
 use Rattle.laws_acts.specs.Acts.{Act, Makes, Drops, AsksRoot, CallsOut, Keeps, Joins, Promises, Unsettles, Answers, Finishes, Heads, Turns, Delivers, Waits, Holds, Relays, Fails, Fixes, Settles, Reports, Resolves, NextArisen, Gone, Ends, Releases, Acts, NoMore, Then}
 use Rattle.laws_acts.specs.Sent.{Ids, Noted, resolved_to, asks_sent, turn_sent, resolve_sent, end_sent, peer_sent, told_sent, releases_sent, sent_by, all_sent}
 use Rattle.laws_runs.specs.Views.{only, IsReady, IsUsual}

@@ -7,17 +7,17 @@ use Rattle.rpc_msg.specs.declared.parts.Descriptor.TheVariants as descriptor
 use Rattle.rpc_msg.specs.declared.exception.Exception.{Exception}
 use Rattle.rpc_msg.specs.declared.message.ReturnBody.{ReturnBody}
 use Rattle.rpc_msg.specs.Messages.{descriptors_of_body, descriptors_of_resolved}
-use Rattle.vat_machine.specs.declared.calls.Value.{Value}
-use Rattle.vat_machine.specs.declared.calls.Value.TheVariants as value
-use Rattle.vat_machine.specs.declared.node.Node.{Node}
-use Rattle.vat_machine.specs.declared.node.Node.TheVariants as node
-use Rattle.vat_machine.specs.declared.entries.Export.{Export}
-use Rattle.vat_machine.specs.State.{State}
-use Rattle.vat_machine.specs.Nodes.{settle}
-use Rattle.vat_machine.specs.Progress.{Progress, caps_of}
-use Rattle.vat_machine.specs.Settling.{ResolvesBy, ResolvesTo, SaysBack}
+use Rattle.rpc_machine.specs.declared.calls.Value.{Value}
+use Rattle.rpc_machine.specs.declared.calls.Value.TheVariants as value
+use Rattle.rpc_machine.specs.declared.node.Node.{Node}
+use Rattle.rpc_machine.specs.declared.node.Node.TheVariants as node
+use Rattle.rpc_machine.specs.declared.entries.Export.{Export}
+use Rattle.rpc_machine.specs.State.{State}
+use Rattle.rpc_machine.specs.Nodes.{settle}
+use Rattle.rpc_machine.specs.Progress.{Progress, caps_of}
+use Rattle.rpc_machine.specs.Settling.{ResolvesBy, ResolvesTo, SaysBack}
 use Rattle.laws_acts.specs.Sent.{resolved_to}
-use Rattle.vat_machine.specs.Descriptors.{ExportedAs, Described, DescribesAll}
+use Rattle.rpc_machine.specs.Descriptors.{ExportedAs, Described, DescribesAll}
 use Rattle.laws_steps.specs.NodesThere.{Stands}
 use Rattle.laws_messages.specs.Mentions.{AllStand, IsNamed, AreNamed}
 

@@ -3,12 +3,12 @@ use Rattle.std.proofs.Common.{◌≡◌, ℕ, not, is_some, IsSome, List, [], �
 use Rattle.std.specs.FinMap as map
 use Rattle.rpc_msg.specs.declared.parts.Descriptor.{Descriptor}
 use Rattle.rpc_msg.specs.declared.parts.Descriptor.TheVariants as descriptor
-use Rattle.vat_journal.specs.History.{if_so, or_rest}
-use Rattle.vat_machine.specs.declared.command.Level.{Level}
-use Rattle.vat_machine.specs.declared.command.Level.TheVariants.{One}
-use Rattle.vat_machine.specs.State.{State}
-use Rattle.vat_machine.specs.Numbers.{unknown_export, unknown_answer, kind_mismatch}
-use Rattle.vat_machine.specs.Faults.{each_fault, faults_at, descriptors_fault}
+use Rattle.rpc_journal.specs.History.{if_so, or_rest}
+use Rattle.rpc_machine.specs.declared.command.Level.{Level}
+use Rattle.rpc_machine.specs.declared.command.Level.TheVariants.{One}
+use Rattle.rpc_machine.specs.State.{State}
+use Rattle.rpc_machine.specs.Numbers.{unknown_export, unknown_answer, kind_mismatch}
+use Rattle.rpc_machine.specs.Faults.{each_fault, faults_at, descriptors_fault}
 use Rattle.laws_messages.specs.Found as exports
 use Rattle.laws_messages.specs.Named as answers
 use Rattle.laws_messages.specs.Oldest.{NoneClashes}

@@ -2,10 +2,10 @@
 -- or by the other vat's Abort.
 use Rattle.std.proofs.Common.{List, [], Option, sym, subst, ◌∙◌}
 use Rattle.rpc_msg.specs.declared.ids.ObjectId.{ObjectId}
-use Rattle.vat_journal.specs.declared.entry.JournalEntry.{JournalEntry}
-use Rattle.vat_machine.specs.World.{new_world, shut_number}
-use Rattle.vat_machine.specs.Journal.{journal}
-use Rattle.vat_machine.specs.Claims.{EveryRun, FallsAreKnown, history}
+use Rattle.rpc_journal.specs.declared.entry.JournalEntry.{JournalEntry}
+use Rattle.rpc_machine.specs.World.{new_world, shut_number}
+use Rattle.rpc_machine.specs.Journal.{journal}
+use Rattle.rpc_machine.specs.Claims.{EveryRun, FallsAreKnown, history}
 use Rattle.laws_runs.specs.Scenes.{Scene, IsScene}
 use Rattle.laws_runs.specs.SoundScenes.{OldestAreTaken}
 use Rattle.laws_runs.proofs.FallEntries.{Fine, upto_falls}

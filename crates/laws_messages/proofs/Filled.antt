@@ -12,30 +12,30 @@ use Rattle.rpc_msg.specs.declared.parts.Descriptor.{Descriptor}
 use Rattle.rpc_msg.specs.declared.message.ReturnBody.{ReturnBody}
 use Rattle.rpc_msg.specs.declared.message.ReturnBody.TheVariants as body
 use Rattle.rpc_msg.specs.declared.message.Message.{Message}
-use Rattle.vat_machine.specs.declared.node.Node.{Node}
-use Rattle.vat_machine.specs.declared.command.Command.TheVariants as command
-use Rattle.vat_machine.specs.declared.command.CallCommand.{CallCommand}
-use Rattle.vat_machine.specs.declared.command.Refusal.TheVariants as refusal
-use Rattle.vat_machine.specs.declared.calls.Caller.{Caller}
-use Rattle.vat_machine.specs.declared.calls.HeldCall.{HeldCall}
-use Rattle.vat_machine.specs.declared.calls.KeptOutcome.{KeptOutcome}
-use Rattle.vat_machine.specs.declared.calls.Promise.{Promise}
-use Rattle.vat_machine.specs.declared.calls.Promise.TheVariants as promise
-use Rattle.vat_machine.specs.declared.calls.Value.{Value}
-use Rattle.vat_machine.specs.declared.calls.Value.TheVariants as value
-use Rattle.vat_machine.specs.declared.calls.WaitingCall.{WaitingCall}
-use Rattle.vat_machine.specs.declared.entries.Embargo.{Embargo}
-use Rattle.vat_machine.specs.declared.entries.Export.{Export}
-use Rattle.vat_machine.specs.State.{State}
-use Rattle.vat_machine.specs.Payloads.{caps_in}
-use Rattle.vat_machine.specs.Places.{nodes}
-use Rattle.vat_machine.specs.Descriptors.{read_all, read_beside}
-use Rattle.vat_machine.specs.Commands.{heads}
-use Rattle.vat_machine.specs.Messages.{bootstrap_value, results_of, value_of_results}
-use Rattle.vat_machine.specs.Refusals.{while_down, wrong_level, unknown_ref, unknown_task, wrong_caps, without_room, refused}
-use Rattle.vat_machine.specs.Lists.{is_empty}
-use Rattle.vat_machine.specs.Settling.{Untangles, PutsIn}
-use Rattle.vat_machine.specs.Settling as settling
+use Rattle.rpc_machine.specs.declared.node.Node.{Node}
+use Rattle.rpc_machine.specs.declared.command.Command.TheVariants as command
+use Rattle.rpc_machine.specs.declared.command.CallCommand.{CallCommand}
+use Rattle.rpc_machine.specs.declared.command.Refusal.TheVariants as refusal
+use Rattle.rpc_machine.specs.declared.calls.Caller.{Caller}
+use Rattle.rpc_machine.specs.declared.calls.HeldCall.{HeldCall}
+use Rattle.rpc_machine.specs.declared.calls.KeptOutcome.{KeptOutcome}
+use Rattle.rpc_machine.specs.declared.calls.Promise.{Promise}
+use Rattle.rpc_machine.specs.declared.calls.Promise.TheVariants as promise
+use Rattle.rpc_machine.specs.declared.calls.Value.{Value}
+use Rattle.rpc_machine.specs.declared.calls.Value.TheVariants as value
+use Rattle.rpc_machine.specs.declared.calls.WaitingCall.{WaitingCall}
+use Rattle.rpc_machine.specs.declared.entries.Embargo.{Embargo}
+use Rattle.rpc_machine.specs.declared.entries.Export.{Export}
+use Rattle.rpc_machine.specs.State.{State}
+use Rattle.rpc_machine.specs.Payloads.{caps_in}
+use Rattle.rpc_machine.specs.Places.{nodes}
+use Rattle.rpc_machine.specs.Descriptors.{read_all, read_beside}
+use Rattle.rpc_machine.specs.Commands.{heads}
+use Rattle.rpc_machine.specs.Messages.{bootstrap_value, results_of, value_of_results}
+use Rattle.rpc_machine.specs.Refusals.{while_down, wrong_level, unknown_ref, unknown_task, wrong_caps, without_room, refused}
+use Rattle.rpc_machine.specs.Lists.{is_empty}
+use Rattle.rpc_machine.specs.Settling.{Untangles, PutsIn}
+use Rattle.rpc_machine.specs.Settling as settling
 use Rattle.laws_acts.specs.Moments.{Saying, Clearing, Moment, each_to, held_to}
 use Rattle.laws_acts.specs.GoingOut.{GoOut, Says}
 use Rattle.laws_acts.proofs.Checks.{first, rest, not_so}

@@ -18,22 +18,22 @@ use Rattle.rpc_msg.specs.declared.message.PlainMessage.TheVariants as plain
 use Rattle.rpc_msg.specs.declared.message.Message.{Message}
 use Rattle.rpc_msg.specs.declared.message.Message.TheVariants as message
 use Rattle.rpc_msg.specs.Messages.{given, descriptors_of_plain, descriptors_of_body, descriptors_of_resolved}
-use Rattle.vat_machine.specs.declared.command.Command.{Command}
-use Rattle.vat_machine.specs.declared.command.Granted.{Granted}
-use Rattle.vat_machine.specs.declared.command.Effects.{Effects}
-use Rattle.vat_machine.specs.declared.command.Level.{Level}
-use Rattle.vat_machine.specs.declared.command.Level.TheVariants.{One}
-use Rattle.vat_machine.specs.declared.entries.Export.{Export}
-use Rattle.vat_machine.specs.State.{State, start}
-use Rattle.vat_machine.specs.Lists.{how_many}
-use Rattle.vat_machine.specs.Limits.{export_count}
-use Rattle.vat_machine.specs.Laws.{given_out, SendsRaiseCounts}
-use Rattle.vat_machine.specs.Descriptors.{giving}
-use Rattle.vat_machine.specs.Refusals.{refused}
-use Rattle.vat_machine.specs.Faults.{is_foreign, fault_of}
-use Rattle.vat_machine.specs.Progress.{Progress, begin, with_state}
-use Rattle.vat_machine.specs.Steps.{Does, Handles}
-use Rattle.vat_machine.specs.World.{World, core, inbox}
+use Rattle.rpc_machine.specs.declared.command.Command.{Command}
+use Rattle.rpc_machine.specs.declared.command.Granted.{Granted}
+use Rattle.rpc_machine.specs.declared.command.Effects.{Effects}
+use Rattle.rpc_machine.specs.declared.command.Level.{Level}
+use Rattle.rpc_machine.specs.declared.command.Level.TheVariants.{One}
+use Rattle.rpc_machine.specs.declared.entries.Export.{Export}
+use Rattle.rpc_machine.specs.State.{State, start}
+use Rattle.rpc_machine.specs.Lists.{how_many}
+use Rattle.rpc_machine.specs.Limits.{export_count}
+use Rattle.rpc_machine.specs.Laws.{given_out, SendsRaiseCounts}
+use Rattle.rpc_machine.specs.Descriptors.{giving}
+use Rattle.rpc_machine.specs.Refusals.{refused}
+use Rattle.rpc_machine.specs.Faults.{is_foreign, fault_of}
+use Rattle.rpc_machine.specs.Progress.{Progress, begin, with_state}
+use Rattle.rpc_machine.specs.Steps.{Does, Handles}
+use Rattle.rpc_machine.specs.World.{World, core, inbox}
 use Rattle.laws_steps.proofs.Swept.{Whole}
 use Rattle.laws_steps.proofs.NamedMessages as named
 use Rattle.laws_steps.proofs.Reached.{empty_whole}

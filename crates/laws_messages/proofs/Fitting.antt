@@ -5,12 +5,12 @@ use Rattle.finite_maps.specs.Tally.{Map}
 use Rattle.finite_maps.proofs.Tested.{equal, get_put}
 use Rattle.rpc_msg.specs.declared.parts.Descriptor.{Descriptor}
 use Rattle.rpc_msg.specs.declared.parts.Descriptor.TheVariants as descriptor
-use Rattle.vat_machine.specs.declared.node.Node.{Node}
-use Rattle.vat_machine.specs.declared.node.Node.TheVariants as node
-use Rattle.vat_machine.specs.declared.entries.Export.{Export}
-use Rattle.vat_machine.specs.State.{State}
-use Rattle.vat_machine.specs.Nodes.{link, settle, is_object}
-use Rattle.vat_machine.specs.Limits.{export_count}
+use Rattle.rpc_machine.specs.declared.node.Node.{Node}
+use Rattle.rpc_machine.specs.declared.node.Node.TheVariants as node
+use Rattle.rpc_machine.specs.declared.entries.Export.{Export}
+use Rattle.rpc_machine.specs.State.{State}
+use Rattle.rpc_machine.specs.Nodes.{link, settle, is_object}
+use Rattle.rpc_machine.specs.Limits.{export_count}
 use Rattle.laws_acts.specs.GoingOut.{is_own, said, GoesOut, Again, AsNew, AsOther, GoOut}
 use Rattle.laws_nodes.specs.Settling.{AllStop, SameLinks}
 use Rattle.laws_nodes.proofs.Stopping.{ends}

@@ -13,34 +13,34 @@ use Rattle.rpc_msg.specs.declared.message.DisembargoContext.TheVariants.{SenderL
 use Rattle.rpc_msg.specs.declared.message.PlainMessage.{PlainMessage}
 use Rattle.rpc_msg.specs.declared.message.PlainMessage.TheVariants as plain
 use Rattle.rpc_msg.specs.Messages.{descriptors_of_body, descriptors_of_resolved, descriptors_of_plain}
-use Rattle.vat_machine.specs.declared.node.Node.{Node}
-use Rattle.vat_machine.specs.declared.node.Node.TheVariants as node
-use Rattle.vat_machine.specs.declared.calls.Request.{Request}
-use Rattle.vat_machine.specs.declared.calls.Value.{Value}
-use Rattle.vat_machine.specs.declared.calls.Value.TheVariants as value
-use Rattle.vat_machine.specs.declared.calls.Caller.{Caller}
-use Rattle.vat_machine.specs.declared.calls.Caller.TheVariants as caller
-use Rattle.vat_machine.specs.declared.entries.Role.{Role}
-use Rattle.vat_machine.specs.declared.entries.Finishing.{Finishing}
-use Rattle.vat_machine.specs.declared.entries.Finishing.TheVariants as finishing
-use Rattle.vat_machine.specs.declared.entries.Question.{Question}
-use Rattle.vat_machine.specs.declared.entries.AnswerEntry.{AnswerEntry}
-use Rattle.vat_machine.specs.declared.entries.Export.{Export}
-use Rattle.vat_machine.specs.State.{State}
-use Rattle.vat_machine.specs.Nodes.{settle}
-use Rattle.vat_machine.specs.Progress.{Progress, with_state, numbers}
-use Rattle.vat_machine.specs.Descriptors.{ExportedAs, Described, DescribesAll, take_all}
-use Rattle.vat_machine.specs.Flags.{give_back, lowered, lower_by, lower_each, obey}
-use Rattle.vat_machine.specs.Faults.{gave}
-use Rattle.vat_machine.specs.Routing.{Asks}
-use Rattle.vat_machine.specs.Collecting.{Goes, PromiseGoes, OutcomeGoes, ImportGoes, Collects, Tight, Loose}
+use Rattle.rpc_machine.specs.declared.node.Node.{Node}
+use Rattle.rpc_machine.specs.declared.node.Node.TheVariants as node
+use Rattle.rpc_machine.specs.declared.calls.Request.{Request}
+use Rattle.rpc_machine.specs.declared.calls.Value.{Value}
+use Rattle.rpc_machine.specs.declared.calls.Value.TheVariants as value
+use Rattle.rpc_machine.specs.declared.calls.Caller.{Caller}
+use Rattle.rpc_machine.specs.declared.calls.Caller.TheVariants as caller
+use Rattle.rpc_machine.specs.declared.entries.Role.{Role}
+use Rattle.rpc_machine.specs.declared.entries.Finishing.{Finishing}
+use Rattle.rpc_machine.specs.declared.entries.Finishing.TheVariants as finishing
+use Rattle.rpc_machine.specs.declared.entries.Question.{Question}
+use Rattle.rpc_machine.specs.declared.entries.AnswerEntry.{AnswerEntry}
+use Rattle.rpc_machine.specs.declared.entries.Export.{Export}
+use Rattle.rpc_machine.specs.State.{State}
+use Rattle.rpc_machine.specs.Nodes.{settle}
+use Rattle.rpc_machine.specs.Progress.{Progress, with_state, numbers}
+use Rattle.rpc_machine.specs.Descriptors.{ExportedAs, Described, DescribesAll, take_all}
+use Rattle.rpc_machine.specs.Flags.{give_back, lowered, lower_by, lower_each, obey}
+use Rattle.rpc_machine.specs.Faults.{gave}
+use Rattle.rpc_machine.specs.Routing.{Asks}
+use Rattle.rpc_machine.specs.Collecting.{Goes, PromiseGoes, OutcomeGoes, ImportGoes, Collects, Tight, Loose}
 use Rattle.laws_acts.proofs.Alone.{back_alone, all_alone, resolve_alone}
 use Rattle.laws_runs.proofs.Same.{fits, tells_call}
 use Rattle.laws_runs.proofs.EachAct.{OfActs, by_act}
 use Rattle.laws_runs.proofs.Paid.{release_state}
-use Rattle.vat_machine.specs.declared.calls.KeptOutcome.{KeptOutcome}
-use Rattle.vat_machine.specs.Settling.{known, Fits, SaysBack, TellsPeer, Tells, ResolvesTo, ResolvesBy}
-use Rattle.vat_machine.specs.Sweeping.{got_of, finished_by, releases}
+use Rattle.rpc_machine.specs.declared.calls.KeptOutcome.{KeptOutcome}
+use Rattle.rpc_machine.specs.Settling.{known, Fits, SaysBack, TellsPeer, Tells, ResolvesTo, ResolvesBy}
+use Rattle.rpc_machine.specs.Sweeping.{got_of, finished_by, releases}
 use Rattle.finite_maps.proofs.Tested.{equal, get_put, get_cut}
 use Rattle.laws_acts.specs.Acts.{came, ComesTo, TurnsBy, Consumes, Acts, NoMore, Then}
 use Rattle.laws_acts.specs.Sent.{Noted, resolved_to, asks_sent, resolve_sent, end_sent, peer_sent, told_sent, releases_sent, sent_by, all_sent, turned_sent, sent_at_once}

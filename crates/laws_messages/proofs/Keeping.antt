@@ -7,25 +7,25 @@ use Rattle.finite_maps.specs.Tally.{Map}
 use Rattle.finite_maps.proofs.Tested.{equal, get_put, get_cut}
 use Rattle.rpc_msg.specs.declared.ids.QuestionId.{QuestionId}
 use Rattle.rpc_msg.specs.declared.parts.Target.{Target}
-use Rattle.vat_machine.specs.Routing.{Asks}
-use Rattle.vat_machine.specs.declared.entries.Role.{Role}
-use Rattle.vat_machine.specs.declared.calls.Request.{Request}
-use Rattle.vat_machine.specs.declared.calls.Value.{Value}
-use Rattle.vat_machine.specs.declared.calls.Caller.{Caller}
-use Rattle.vat_machine.specs.declared.calls.Caller.TheVariants as caller
-use Rattle.vat_machine.specs.declared.calls.KeptOutcome.{KeptOutcome}
-use Rattle.vat_machine.specs.declared.entries.AnswerEntry.{AnswerEntry}
-use Rattle.vat_machine.specs.declared.entries.Question.{Question}
-use Rattle.vat_machine.specs.declared.entries.Finishing.{Finishing}
-use Rattle.vat_machine.specs.declared.entries.Finishing.TheVariants as finishing
-use Rattle.vat_machine.specs.declared.entries.Import.{Import}
-use Rattle.vat_machine.specs.State.{State}
-use Rattle.vat_machine.specs.Limits.{import_count}
-use Rattle.vat_machine.specs.Progress.{Progress, with_state, numbers}
-use Rattle.vat_machine.specs.Collecting.{Goes, PromiseGoes, OutcomeGoes, ImportGoes, Collects, Tight, Loose}
-use Rattle.vat_machine.specs.Flags.{flag_for, give_one, give_each, give_if, give_back}
-use Rattle.vat_machine.specs.Settling.{known, Fits, TellsPeer, Tells}
-use Rattle.vat_machine.specs.Sweeping.{got_of, finished_by}
+use Rattle.rpc_machine.specs.Routing.{Asks}
+use Rattle.rpc_machine.specs.declared.entries.Role.{Role}
+use Rattle.rpc_machine.specs.declared.calls.Request.{Request}
+use Rattle.rpc_machine.specs.declared.calls.Value.{Value}
+use Rattle.rpc_machine.specs.declared.calls.Caller.{Caller}
+use Rattle.rpc_machine.specs.declared.calls.Caller.TheVariants as caller
+use Rattle.rpc_machine.specs.declared.calls.KeptOutcome.{KeptOutcome}
+use Rattle.rpc_machine.specs.declared.entries.AnswerEntry.{AnswerEntry}
+use Rattle.rpc_machine.specs.declared.entries.Question.{Question}
+use Rattle.rpc_machine.specs.declared.entries.Finishing.{Finishing}
+use Rattle.rpc_machine.specs.declared.entries.Finishing.TheVariants as finishing
+use Rattle.rpc_machine.specs.declared.entries.Import.{Import}
+use Rattle.rpc_machine.specs.State.{State}
+use Rattle.rpc_machine.specs.Limits.{import_count}
+use Rattle.rpc_machine.specs.Progress.{Progress, with_state, numbers}
+use Rattle.rpc_machine.specs.Collecting.{Goes, PromiseGoes, OutcomeGoes, ImportGoes, Collects, Tight, Loose}
+use Rattle.rpc_machine.specs.Flags.{flag_for, give_one, give_each, give_if, give_back}
+use Rattle.rpc_machine.specs.Settling.{known, Fits, TellsPeer, Tells}
+use Rattle.rpc_machine.specs.Sweeping.{got_of, finished_by}
 use Rattle.laws_acts.specs.Acts.{Acts, NoMore, Then}
 use Rattle.laws_acts.specs.Sent.{all_sent}
 use Rattle.laws_runs.specs.Exports as export

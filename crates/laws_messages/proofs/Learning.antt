@@ -10,18 +10,18 @@ use Rattle.rpc_msg.specs.declared.message.ResolvedTo.TheVariants as resolved
 use Rattle.rpc_msg.specs.declared.message.PlainMessage.{PlainMessage}
 use Rattle.rpc_msg.specs.declared.message.PlainMessage.TheVariants as plain
 use Rattle.rpc_msg.specs.Messages.{descriptors_of_plain, descriptors_of_body, descriptors_of_resolved}
-use Rattle.vat_machine.specs.declared.command.Level.{Level}
-use Rattle.vat_machine.specs.declared.command.Level.TheVariants.{One}
-use Rattle.vat_machine.specs.declared.entries.SenderKind.{SenderKind}
-use Rattle.vat_machine.specs.declared.entries.SenderKind.TheVariants as kind
-use Rattle.vat_machine.specs.declared.entries.Resolution.{Resolution}
-use Rattle.vat_machine.specs.declared.entries.Import.{Import}
-use Rattle.vat_machine.specs.State.{State}
-use Rattle.vat_machine.specs.Lists.{update, updated}
-use Rattle.vat_machine.specs.Descriptors.{received, import_one, take_each, take_at, take_all}
-use Rattle.vat_machine.specs.Messages.{set_resolution, resolve_import, take_resolve}
-use Rattle.vat_machine.specs.Faults.{gave}
-use Rattle.vat_machine.specs.Progress.{Progress, numbers}
+use Rattle.rpc_machine.specs.declared.command.Level.{Level}
+use Rattle.rpc_machine.specs.declared.command.Level.TheVariants.{One}
+use Rattle.rpc_machine.specs.declared.entries.SenderKind.{SenderKind}
+use Rattle.rpc_machine.specs.declared.entries.SenderKind.TheVariants as kind
+use Rattle.rpc_machine.specs.declared.entries.Resolution.{Resolution}
+use Rattle.rpc_machine.specs.declared.entries.Import.{Import}
+use Rattle.rpc_machine.specs.State.{State}
+use Rattle.rpc_machine.specs.Lists.{update, updated}
+use Rattle.rpc_machine.specs.Descriptors.{received, import_one, take_each, take_at, take_all}
+use Rattle.rpc_machine.specs.Messages.{set_resolution, resolve_import, take_resolve}
+use Rattle.rpc_machine.specs.Faults.{gave}
+use Rattle.rpc_machine.specs.Progress.{Progress, numbers}
 use Rattle.laws_acts.specs.Acts.{Consumes}
 use Rattle.laws_runs.specs.Exports as export
 use Rattle.laws_runs.specs.Exports.{Kind, Said, Exporter, Out, Seen, seen, seen_by, Learns, LearnsAll, Fits}

@@ -17,18 +17,18 @@ use Rattle.rpc_msg.specs.declared.message.PlainMessage.{PlainMessage}
 use Rattle.rpc_msg.specs.declared.message.PlainMessage.TheVariants as plain
 use Rattle.rpc_msg.specs.declared.message.Message.TheVariants as message
 use Rattle.rpc_msg.specs.Messages.{descriptors_of_body, descriptors_of_resolved, descriptors_of_plain}
-use Rattle.vat_journal.specs.History.{if_so, or_rest}
-use Rattle.vat_machine.specs.declared.command.Level.{Level}
-use Rattle.vat_machine.specs.declared.command.Level.TheVariants.{One}
-use Rattle.vat_machine.specs.declared.entries.AnswerEntry.{AnswerEntry}
-use Rattle.vat_machine.specs.declared.entries.Question.{Question}
-use Rattle.vat_machine.specs.State.{State}
-use Rattle.vat_machine.specs.Payloads.{caps_in}
-use Rattle.vat_machine.specs.Lists.{earliest}
-use Rattle.vat_machine.specs.Nodes.{settle, is_wire}
-use Rattle.vat_machine.specs.Progress.{numbers}
-use Rattle.vat_machine.specs.Numbers.{question_in_use, unknown_question, unknown_export, unknown_answer, bad_payload, not_a_promise, resolved_twice, disembargo_not_loopback}
-use Rattle.vat_machine.specs.Faults.{target_fault, target_node, descriptors_fault, flag_fault, body_fault, return_fault, is_resolved, resolve_fault, disembargo_fault, held_fault, plain_fault, is_foreign, unless_foreign, fault_of}
+use Rattle.rpc_journal.specs.History.{if_so, or_rest}
+use Rattle.rpc_machine.specs.declared.command.Level.{Level}
+use Rattle.rpc_machine.specs.declared.command.Level.TheVariants.{One}
+use Rattle.rpc_machine.specs.declared.entries.AnswerEntry.{AnswerEntry}
+use Rattle.rpc_machine.specs.declared.entries.Question.{Question}
+use Rattle.rpc_machine.specs.State.{State}
+use Rattle.rpc_machine.specs.Payloads.{caps_in}
+use Rattle.rpc_machine.specs.Lists.{earliest}
+use Rattle.rpc_machine.specs.Nodes.{settle, is_wire}
+use Rattle.rpc_machine.specs.Progress.{numbers}
+use Rattle.rpc_machine.specs.Numbers.{question_in_use, unknown_question, unknown_export, unknown_answer, bad_payload, not_a_promise, resolved_twice, disembargo_not_loopback}
+use Rattle.rpc_machine.specs.Faults.{target_fault, target_node, descriptors_fault, flag_fault, body_fault, return_fault, is_resolved, resolve_fault, disembargo_fault, held_fault, plain_fault, is_foreign, unless_foreign, fault_of}
 use Rattle.laws_runs.specs.Agreed.{IsMet}
 use Rattle.laws_messages.specs.Found as exports
 use Rattle.laws_messages.specs.Found.{FindsExports}

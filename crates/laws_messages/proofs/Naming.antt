@@ -3,22 +3,22 @@ use Rattle.std.proofs.Common.{◌≡◌, inl, inr, ℕ, List, [], ◌∷◌, Opt
 use Rattle.std.specs.FinMap as map
 use Rattle.rpc_msg.specs.declared.parts.Target.TheVariants.{ImportedCap, PromisedAnswer}
 use Rattle.rpc_msg.specs.declared.exception.Exception.{Exception}
-use Rattle.vat_machine.specs.declared.node.Node.{Node}
-use Rattle.vat_machine.specs.declared.node.Node.TheVariants as node
-use Rattle.vat_machine.specs.declared.calls.WaitingCall.{WaitingCall}
-use Rattle.vat_machine.specs.declared.calls.HeldCall.{HeldCall}
-use Rattle.vat_machine.specs.declared.calls.Promise.{Promise}
-use Rattle.vat_machine.specs.declared.calls.Promise.TheVariants as promise
-use Rattle.vat_machine.specs.declared.calls.KeptOutcome.{KeptOutcome}
-use Rattle.vat_machine.specs.declared.calls.Value.{Value}
-use Rattle.vat_machine.specs.State.{State}
-use Rattle.vat_machine.specs.Nodes.{settle}
-use Rattle.vat_machine.specs.Progress.{Progress, with_state, caps_of}
-use Rattle.vat_machine.specs.Routing.{WaitsForPromise, WaitsForField, RoutedTo, Routes, RoutesAll, RoutesHeld}
-use Rattle.vat_machine.specs.Settling.{known, ResolvesEach, SendsResolves, SettlesOpen, SettlesFrom, SettlesOutcome, FixesFrom, FixesPromise, Drains, NoneLeft, OneMore}
+use Rattle.rpc_machine.specs.declared.node.Node.{Node}
+use Rattle.rpc_machine.specs.declared.node.Node.TheVariants as node
+use Rattle.rpc_machine.specs.declared.calls.WaitingCall.{WaitingCall}
+use Rattle.rpc_machine.specs.declared.calls.HeldCall.{HeldCall}
+use Rattle.rpc_machine.specs.declared.calls.Promise.{Promise}
+use Rattle.rpc_machine.specs.declared.calls.Promise.TheVariants as promise
+use Rattle.rpc_machine.specs.declared.calls.KeptOutcome.{KeptOutcome}
+use Rattle.rpc_machine.specs.declared.calls.Value.{Value}
+use Rattle.rpc_machine.specs.State.{State}
+use Rattle.rpc_machine.specs.Nodes.{settle}
+use Rattle.rpc_machine.specs.Progress.{Progress, with_state, caps_of}
+use Rattle.rpc_machine.specs.Routing.{WaitsForPromise, WaitsForField, RoutedTo, Routes, RoutesAll, RoutesHeld}
+use Rattle.rpc_machine.specs.Settling.{known, ResolvesEach, SendsResolves, SettlesOpen, SettlesFrom, SettlesOutcome, FixesFrom, FixesPromise, Drains, NoneLeft, OneMore}
 use Rattle.laws_steps.proofs.Exceptions.{AllExceptions, first_arises}
 use Rattle.laws_steps.proofs.NamedNodes.{Present, Asked, AllIn, all_left, all_right, HereIn, Fine, settle_here}
-use Rattle.vat_machine.specs.Places.{named_by_export, named_by_held, named_by_calls}
+use Rattle.rpc_machine.specs.Places.{named_by_export, named_by_held, named_by_calls}
 use Rattle.laws_steps.proofs.NamedPieces.{EachHere, each_here, where_here, all_of_map, all_grow, fix, parts, routes as routed_on, routes_all as all_routed_on, routes_held as held_routed_on, resolved_to as resolved_on}
 use Rattle.laws_steps.proofs.NamedSteps.{settles as settled_on}
 use Rattle.laws_steps.proofs.NamedMessages.{no_caps, first_value}

@@ -1,5 +1,5 @@
 -- A step is acts of which each says what is there.
-use Rattle.vat_machine.specs.declared.calls.Caller.TheVariants as caller
+use Rattle.rpc_machine.specs.declared.calls.Caller.TheVariants as caller
 use Rattle.std.specs.FinMap as map
 use Rattle.finite_maps.specs.Tally.{Map}
 use Rattle.rpc_msg.specs.declared.ids.EmbargoId.{EmbargoId}
@@ -9,61 +9,61 @@ use Rattle.rpc_msg.specs.declared.parts.Descriptor.TheVariants as descriptor
 use Rattle.rpc_msg.specs.declared.parts.Target.{Target}
 use Rattle.rpc_msg.specs.declared.parts.Target.TheVariants.{ImportedCap, PromisedAnswer}
 use Rattle.rpc_msg.specs.declared.exception.Exception.{Exception}
-use Rattle.vat_machine.specs.declared.node.Node.{Node}
-use Rattle.vat_machine.specs.declared.node.Node.TheVariants as node
-use Rattle.vat_machine.specs.declared.calls.Request.{Request}
-use Rattle.vat_machine.specs.declared.calls.OwnCall.{OwnCall}
-use Rattle.vat_machine.specs.declared.calls.Value.{Value}
-use Rattle.vat_machine.specs.declared.calls.Value.TheVariants as value
-use Rattle.vat_machine.specs.declared.command.CallCommand.{CallCommand}
-use Rattle.vat_machine.specs.declared.command.Command.{Command}
-use Rattle.vat_machine.specs.declared.command.Command.TheVariants as command
-use Rattle.vat_machine.specs.declared.command.Granted.{Granted}
-use Rattle.vat_machine.specs.declared.command.Effects.{Effects}
-use Rattle.vat_machine.specs.declared.entries.Role.TheVariants as role
-use Rattle.vat_machine.specs.declared.entries.AnswerEntry.{AnswerEntry}
-use Rattle.vat_machine.specs.declared.entries.Question.{Question}
-use Rattle.vat_machine.specs.declared.entries.Reference.{Reference}
-use Rattle.vat_machine.specs.declared.entries.Embargo.{Embargo}
-use Rattle.vat_machine.specs.State.{State}
-use Rattle.vat_machine.specs.Nodes.{settle}
-use Rattle.vat_machine.specs.Progress.{Progress, begin, with_state, caps_of, numbers}
-use Rattle.vat_machine.specs.Collecting.{Collects, Tight, Loose}
-use Rattle.vat_machine.specs.Settling.{TellsCall, FixesPromise}
-use Rattle.vat_machine.specs.Commands.{CallsDirect, heads, counted, kept, request, field_node, NewRef, ClonesRef, DropsRef, CallsHere, CallsBy, WaitsForEmbargo, CallsThrough, MakesCall, NamesField, ResolvesPromise, RejectsPromise, AnswersTask, FinishesCall, settled_now}
-use Rattle.vat_machine.specs.Commands as commands
-use Rattle.vat_machine.specs.Sweeping.{finished_by, FinishesEach, Sweeps}
-use Rattle.vat_machine.specs.Advancing.{known_of_wire, Known, NothingYet, IsBroken, Leads, wire_target, AdvancesBy, AdvancesTo, AdvancesFrom, Advances}
-use Rattle.vat_machine.specs.Steps as steps
-use Rattle.vat_machine.specs.Steps.{Does, Handles}
+use Rattle.rpc_machine.specs.declared.node.Node.{Node}
+use Rattle.rpc_machine.specs.declared.node.Node.TheVariants as node
+use Rattle.rpc_machine.specs.declared.calls.Request.{Request}
+use Rattle.rpc_machine.specs.declared.calls.OwnCall.{OwnCall}
+use Rattle.rpc_machine.specs.declared.calls.Value.{Value}
+use Rattle.rpc_machine.specs.declared.calls.Value.TheVariants as value
+use Rattle.rpc_machine.specs.declared.command.CallCommand.{CallCommand}
+use Rattle.rpc_machine.specs.declared.command.Command.{Command}
+use Rattle.rpc_machine.specs.declared.command.Command.TheVariants as command
+use Rattle.rpc_machine.specs.declared.command.Granted.{Granted}
+use Rattle.rpc_machine.specs.declared.command.Effects.{Effects}
+use Rattle.rpc_machine.specs.declared.entries.Role.TheVariants as role
+use Rattle.rpc_machine.specs.declared.entries.AnswerEntry.{AnswerEntry}
+use Rattle.rpc_machine.specs.declared.entries.Question.{Question}
+use Rattle.rpc_machine.specs.declared.entries.Reference.{Reference}
+use Rattle.rpc_machine.specs.declared.entries.Embargo.{Embargo}
+use Rattle.rpc_machine.specs.State.{State}
+use Rattle.rpc_machine.specs.Nodes.{settle}
+use Rattle.rpc_machine.specs.Progress.{Progress, begin, with_state, caps_of, numbers}
+use Rattle.rpc_machine.specs.Collecting.{Collects, Tight, Loose}
+use Rattle.rpc_machine.specs.Settling.{TellsCall, FixesPromise}
+use Rattle.rpc_machine.specs.Commands.{CallsDirect, heads, counted, kept, request, field_node, NewRef, ClonesRef, DropsRef, CallsHere, CallsBy, WaitsForEmbargo, CallsThrough, MakesCall, NamesField, ResolvesPromise, RejectsPromise, AnswersTask, FinishesCall, settled_now}
+use Rattle.rpc_machine.specs.Commands as commands
+use Rattle.rpc_machine.specs.Sweeping.{finished_by, FinishesEach, Sweeps}
+use Rattle.rpc_machine.specs.Advancing.{known_of_wire, Known, NothingYet, IsBroken, Leads, wire_target, AdvancesBy, AdvancesTo, AdvancesFrom, Advances}
+use Rattle.rpc_machine.specs.Steps as steps
+use Rattle.rpc_machine.specs.Steps.{Does, Handles}
 use Rattle.rpc_msg.specs.declared.message.DisembargoContext.{DisembargoContext}
 use Rattle.rpc_msg.specs.declared.message.DisembargoContext.TheVariants.{SenderLoopback, ReceiverLoopback}
 use Rattle.rpc_msg.specs.declared.message.Return.{Return}
 use Rattle.rpc_msg.specs.declared.message.PlainMessage.{PlainMessage}
 use Rattle.rpc_msg.specs.declared.message.PlainMessage.TheVariants as plain
 use Rattle.rpc_msg.specs.declared.message.Message.TheVariants as message
-use Rattle.vat_machine.specs.declared.entries.Role.{Role}
-use Rattle.vat_machine.specs.declared.entries.Finishing.{Finishing}
-use Rattle.vat_machine.specs.declared.entries.Finishing.TheVariants as finishing
-use Rattle.vat_machine.specs.Descriptors.{take_all, taken_of}
-use Rattle.vat_machine.specs.declared.command.Level.TheVariants.{One}
-use Rattle.vat_journal.specs.History.{if_so}
-use Rattle.vat_machine.specs.Faults.{body_fault, flag_fault, gave, target_node, unless_foreign, plain_fault, return_fault, finish_fault, fault_of}
-use Rattle.vat_machine.specs.Messages.{opened, received_request, bootstrap_value, kept_returned, value_of_results, results_of, unembargoed, ComesFor, ComesBack, TakesReturn, TakesFinish, Bounces, Lifts as LiftsOne, TakesDisembargo, TakesPlain, TakesUnless}
+use Rattle.rpc_machine.specs.declared.entries.Role.{Role}
+use Rattle.rpc_machine.specs.declared.entries.Finishing.{Finishing}
+use Rattle.rpc_machine.specs.declared.entries.Finishing.TheVariants as finishing
+use Rattle.rpc_machine.specs.Descriptors.{take_all, taken_of}
+use Rattle.rpc_machine.specs.declared.command.Level.TheVariants.{One}
+use Rattle.rpc_journal.specs.History.{if_so}
+use Rattle.rpc_machine.specs.Faults.{body_fault, flag_fault, gave, target_node, unless_foreign, plain_fault, return_fault, finish_fault, fault_of}
+use Rattle.rpc_machine.specs.Messages.{opened, received_request, bootstrap_value, kept_returned, value_of_results, results_of, unembargoed, ComesFor, ComesBack, TakesReturn, TakesFinish, Bounces, Lifts as LiftsOne, TakesDisembargo, TakesPlain, TakesUnless}
 use Rattle.rpc_msg.specs.declared.message.Finish.{Finish}
 use Rattle.std.specs.FinMap.Entries as entries
 use Rattle.std.specs.Ordering.{nat_cmp}
 use Rattle.std.proofs.Common.{◌≡◌, inl, inr, ◌⊎◌, ℕ, Bool, is_some, T, List, [], ◌∷◌, Option, None, Some, refl, sym, ap, subst, ◌∙◌}
 use Rattle.laws_steps.proofs.Taken.{present}
 use Rattle.laws_steps.specs.Callers.{peer, HasOutcome}
-use Rattle.vat_machine.specs.declared.entries.Export.{Export}
-use Rattle.vat_machine.specs.Descriptors.{export_node, answer_node}
-use Rattle.vat_machine.specs.Messages.{TakesBootstrap, TakesCall}
+use Rattle.rpc_machine.specs.declared.entries.Export.{Export}
+use Rattle.rpc_machine.specs.Descriptors.{export_node, answer_node}
+use Rattle.rpc_machine.specs.Messages.{TakesBootstrap, TakesCall}
 use Rattle.rpc_msg.specs.declared.ids.QuestionId.{QuestionId}
 use Rattle.rpc_msg.specs.declared.ids.ObjectId.{ObjectId}
 use Rattle.rpc_msg.specs.declared.message.Call.{Call}
-use Rattle.vat_machine.specs.Settling.{TellsCall}
-use Rattle.vat_machine.specs.Lists.{update}
+use Rattle.rpc_machine.specs.Settling.{TellsCall}
+use Rattle.rpc_machine.specs.Lists.{update}
 use Rattle.finite_maps.proofs.Sorted.{first_entry, sorted_tail}
 use Rattle.laws_steps.proofs.Exceptions.{AllExceptions, act_arises}
 use Rattle.laws_steps.proofs.NamedNodes.{Asked, AllIn, all_none, all_one, each_at, HereIn, Fine, settle_here, grows_outcome}
@@ -73,8 +73,8 @@ use Rattle.laws_steps.proofs.NamedMessages.{Begun, lift, opens_call, opens_answe
 use Rattle.laws_steps.proofs.Reached.{reached, stands}
 use Rattle.laws_steps.proofs.Swept.{Whole}
 use Rattle.laws_steps.specs.NodesThere.{IsReached, Stands}
-use Rattle.vat_machine.specs.Places.{named_by_reference, named_by_export}
-use Rattle.vat_machine.specs.Numbers.{question_in_use, unknown_question, unknown_answer}
+use Rattle.rpc_machine.specs.Places.{named_by_reference, named_by_export}
+use Rattle.rpc_machine.specs.Numbers.{question_in_use, unknown_question, unknown_answer}
 use Rattle.laws_acts.proofs.Checks.{first as first_check, not_so, none_there}
 use Rattle.laws_acts.proofs.Ends.{Rest, withers_from, col_end, after_rest}
 use Rattle.laws_acts.proofs.Received.{brought_so, call_checks}

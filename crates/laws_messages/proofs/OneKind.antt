@@ -19,32 +19,32 @@ use Rattle.rpc_msg.specs.declared.message.PlainMessage.TheVariants as plain
 use Rattle.rpc_msg.specs.declared.message.Message.{Message}
 use Rattle.rpc_msg.specs.declared.message.Message.TheVariants as message
 use Rattle.rpc_msg.specs.Messages.{given, descriptors_of_plain, descriptors_of_body, descriptors_of_resolved}
-use Rattle.vat_machine.specs.declared.node.Node.{Node}
-use Rattle.vat_machine.specs.declared.command.Command.{Command}
-use Rattle.vat_machine.specs.declared.command.Granted.{Granted}
-use Rattle.vat_machine.specs.declared.command.Effects.{Effects}
-use Rattle.vat_machine.specs.declared.command.Level.{Level}
-use Rattle.vat_machine.specs.declared.command.Level.TheVariants.{Zero, One}
-use Rattle.vat_machine.specs.declared.entries.SenderKind.{SenderKind}
-use Rattle.vat_machine.specs.declared.entries.SenderKind.TheVariants as kind
-use Rattle.vat_machine.specs.declared.entries.Resolution.{Resolution}
-use Rattle.vat_machine.specs.declared.entries.Finishing.{Finishing}
-use Rattle.vat_machine.specs.declared.entries.Finishing.TheVariants as finishing
-use Rattle.vat_machine.specs.declared.entries.Question.{Question}
-use Rattle.vat_machine.specs.declared.entries.Import.{Import}
-use Rattle.vat_machine.specs.declared.entries.Export.{Export}
-use Rattle.vat_machine.specs.State.{State, start}
-use Rattle.vat_machine.specs.Lists.{how_many, update, updated}
-use Rattle.vat_machine.specs.Limits.{import_count, export_count}
-use Rattle.vat_machine.specs.Laws.{given_out, SendsRaiseCounts}
-use Rattle.vat_machine.specs.Descriptors.{giving, received, import_one, take_each, take_at, take_all}
-use Rattle.vat_machine.specs.Flags.{obey}
-use Rattle.vat_machine.specs.Refusals.{refused}
-use Rattle.vat_machine.specs.Faults.{gave, is_foreign, fault_of}
-use Rattle.vat_machine.specs.Messages.{set_resolution, resolve_import, take_resolve}
-use Rattle.vat_machine.specs.Progress.{Progress, begin, numbers}
-use Rattle.vat_machine.specs.Steps.{Does, Handles}
-use Rattle.vat_machine.specs.World.{World, new_world}
+use Rattle.rpc_machine.specs.declared.node.Node.{Node}
+use Rattle.rpc_machine.specs.declared.command.Command.{Command}
+use Rattle.rpc_machine.specs.declared.command.Granted.{Granted}
+use Rattle.rpc_machine.specs.declared.command.Effects.{Effects}
+use Rattle.rpc_machine.specs.declared.command.Level.{Level}
+use Rattle.rpc_machine.specs.declared.command.Level.TheVariants.{Zero, One}
+use Rattle.rpc_machine.specs.declared.entries.SenderKind.{SenderKind}
+use Rattle.rpc_machine.specs.declared.entries.SenderKind.TheVariants as kind
+use Rattle.rpc_machine.specs.declared.entries.Resolution.{Resolution}
+use Rattle.rpc_machine.specs.declared.entries.Finishing.{Finishing}
+use Rattle.rpc_machine.specs.declared.entries.Finishing.TheVariants as finishing
+use Rattle.rpc_machine.specs.declared.entries.Question.{Question}
+use Rattle.rpc_machine.specs.declared.entries.Import.{Import}
+use Rattle.rpc_machine.specs.declared.entries.Export.{Export}
+use Rattle.rpc_machine.specs.State.{State, start}
+use Rattle.rpc_machine.specs.Lists.{how_many, update, updated}
+use Rattle.rpc_machine.specs.Limits.{import_count, export_count}
+use Rattle.rpc_machine.specs.Laws.{given_out, SendsRaiseCounts}
+use Rattle.rpc_machine.specs.Descriptors.{giving, received, import_one, take_each, take_at, take_all}
+use Rattle.rpc_machine.specs.Flags.{obey}
+use Rattle.rpc_machine.specs.Refusals.{refused}
+use Rattle.rpc_machine.specs.Faults.{gave, is_foreign, fault_of}
+use Rattle.rpc_machine.specs.Messages.{set_resolution, resolve_import, take_resolve}
+use Rattle.rpc_machine.specs.Progress.{Progress, begin, numbers}
+use Rattle.rpc_machine.specs.Steps.{Does, Handles}
+use Rattle.rpc_machine.specs.World.{World, new_world}
 use Rattle.laws_acts.specs.Acts.{came, ComesTo, TurnsBy, Consumes}
 use Rattle.laws_acts.specs.Sent.{Noted, messages, all_sent, sent_at_once}
 use Rattle.laws_acts.proofs.Alone.{obey_alone}

@@ -12,12 +12,12 @@ use Rattle.rpc_msg.specs.declared.message.PlainMessage.{PlainMessage}
 use Rattle.rpc_msg.specs.declared.message.Message.{Message}
 use Rattle.rpc_msg.specs.declared.message.Message.TheVariants as message
 use Rattle.rpc_msg.specs.Messages.{descriptors_of_plain, descriptors_of_body}
-use Rattle.vat_machine.specs.declared.node.Node.{Node}
-use Rattle.vat_machine.specs.declared.node.Node.TheVariants as node
-use Rattle.vat_machine.specs.declared.entries.Export.{Export}
-use Rattle.vat_machine.specs.State.{State}
-use Rattle.vat_machine.specs.Nodes.{link, is_object, is_field}
-use Rattle.vat_machine.specs.Settling.{exports_where}
+use Rattle.rpc_machine.specs.declared.node.Node.{Node}
+use Rattle.rpc_machine.specs.declared.node.Node.TheVariants as node
+use Rattle.rpc_machine.specs.declared.entries.Export.{Export}
+use Rattle.rpc_machine.specs.State.{State}
+use Rattle.rpc_machine.specs.Nodes.{link, is_object, is_field}
+use Rattle.rpc_machine.specs.Settling.{exports_where}
 use Rattle.laws_acts.specs.Moments.{Saying, Clearing, Settled, Owing, Moment, is_of, owing, is_collecting}
 use Rattle.laws_acts.specs.GoingOut.{GoesOut, Again, AsNew, AsOther}
 use Rattle.laws_runs.specs.Exports as export

@@ -8,20 +8,20 @@ use Rattle.finite_maps.proofs.Tested.{itself, at_put, at_cut, get_put, get_cut, 
 use Rattle.rpc_msg.specs.declared.ids.ExportId.{ExportId}
 use Rattle.rpc_msg.specs.declared.ids.QuestionId.{QuestionId}
 use Rattle.rpc_msg.specs.declared.message.Message.{Message}
-use Rattle.vat_machine.specs.declared.command.Command.{Command}
-use Rattle.vat_machine.specs.declared.command.Granted.{Granted}
-use Rattle.vat_machine.specs.declared.command.Effects.{Effects}
-use Rattle.vat_machine.specs.declared.calls.Caller.{Caller}
-use Rattle.vat_machine.specs.declared.calls.Caller.TheVariants as caller
-use Rattle.vat_machine.specs.declared.calls.HeldCall.{HeldCall}
-use Rattle.vat_machine.specs.declared.calls.KeptOutcome.{KeptOutcome}
-use Rattle.vat_machine.specs.declared.calls.Value.{Value}
-use Rattle.vat_machine.specs.declared.entries.AnswerEntry.{AnswerEntry}
-use Rattle.vat_machine.specs.State.{State, start}
-use Rattle.vat_machine.specs.Settling.{returned_map}
-use Rattle.vat_machine.specs.Collecting.{CallerIsDone, AnswerIsOther}
-use Rattle.vat_machine.specs.Messages.{finished_map}
-use Rattle.vat_machine.specs.Down.{fallen}
+use Rattle.rpc_machine.specs.declared.command.Command.{Command}
+use Rattle.rpc_machine.specs.declared.command.Granted.{Granted}
+use Rattle.rpc_machine.specs.declared.command.Effects.{Effects}
+use Rattle.rpc_machine.specs.declared.calls.Caller.{Caller}
+use Rattle.rpc_machine.specs.declared.calls.Caller.TheVariants as caller
+use Rattle.rpc_machine.specs.declared.calls.HeldCall.{HeldCall}
+use Rattle.rpc_machine.specs.declared.calls.KeptOutcome.{KeptOutcome}
+use Rattle.rpc_machine.specs.declared.calls.Value.{Value}
+use Rattle.rpc_machine.specs.declared.entries.AnswerEntry.{AnswerEntry}
+use Rattle.rpc_machine.specs.State.{State, start}
+use Rattle.rpc_machine.specs.Settling.{returned_map}
+use Rattle.rpc_machine.specs.Collecting.{CallerIsDone, AnswerIsOther}
+use Rattle.rpc_machine.specs.Messages.{finished_map}
+use Rattle.rpc_machine.specs.Down.{fallen}
 use Rattle.laws_steps.specs.Callers.{IsFor, peer, HasOutcome, IsOpenFor, AnswersWith, CallersAreServed}
 use Rattle.laws_steps.specs.NodesThere.{IsReached, NodesAreThere}
 use Rattle.laws_steps.proofs.Kept.{in_each}

@@ -7,11 +7,11 @@ use Rattle.rpc_msg.specs.declared.exception.Exception.{Exception}
 use Rattle.rpc_msg.specs.declared.message.PlainMessage.TheVariants as plain
 use Rattle.rpc_msg.specs.declared.message.Message.{Message}
 use Rattle.rpc_msg.specs.declared.message.Message.TheVariants as message
-use Rattle.vat_journal.specs.declared.entry.JournalEntry.{JournalEntry}
-use Rattle.vat_machine.specs.State.{State}
-use Rattle.vat_machine.specs.World.{World, core, inbox}
-use Rattle.vat_machine.specs.Journal.{journal}
-use Rattle.vat_machine.specs.Claims.{EveryRun}
+use Rattle.rpc_journal.specs.declared.entry.JournalEntry.{JournalEntry}
+use Rattle.rpc_machine.specs.State.{State}
+use Rattle.rpc_machine.specs.World.{World, core, inbox}
+use Rattle.rpc_machine.specs.Journal.{journal}
+use Rattle.rpc_machine.specs.Claims.{EveryRun}
 use Rattle.laws_runs.specs.Scenes.{Scene, IsScene, IsLast, AtVat, Shows}
 use Rattle.laws_runs.specs.Shown.{EveryRunIsShown}
 use Rattle.laws_messages.specs.Left.{IsLastWord}

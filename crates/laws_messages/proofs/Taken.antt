@@ -8,13 +8,13 @@ use Rattle.rpc_msg.specs.declared.message.PlainMessage.{PlainMessage}
 use Rattle.rpc_msg.specs.declared.message.PlainMessage.TheVariants as plain
 use Rattle.rpc_msg.specs.declared.message.Message.{Message}
 use Rattle.rpc_msg.specs.declared.message.Message.TheVariants as message
-use Rattle.vat_journal.specs.History.{if_so}
-use Rattle.vat_machine.specs.State.{State}
-use Rattle.vat_machine.specs.Nodes.{settle, is_wire}
-use Rattle.vat_machine.specs.Numbers.{disembargo_not_loopback, held_past_limit}
-use Rattle.vat_machine.specs.Faults.{target_node, fault_of}
+use Rattle.rpc_journal.specs.History.{if_so}
+use Rattle.rpc_machine.specs.State.{State}
+use Rattle.rpc_machine.specs.Nodes.{settle, is_wire}
+use Rattle.rpc_machine.specs.Numbers.{disembargo_not_loopback, held_past_limit}
+use Rattle.rpc_machine.specs.Faults.{target_node, fault_of}
 use Rattle.laws_runs.specs.Views.{IsUseful}
-use Rattle.vat_machine.specs.World.{World, core, inbox}
+use Rattle.rpc_machine.specs.World.{World, core, inbox}
 use Rattle.laws_runs.specs.Scenes.{Scene}
 use Rattle.laws_runs.specs.SoundScenes.{MayFault, OldestAreTaken}
 use Rattle.laws_messages.specs.Left.{turning_fault, left_of, IsLeft, OldestAreLeft, IsLastWord, IsLeftAt}

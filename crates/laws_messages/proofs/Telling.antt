@@ -8,22 +8,22 @@ use Rattle.rpc_msg.specs.declared.message.ResolvedTo.TheVariants as resolved
 use Rattle.rpc_msg.specs.declared.message.PlainMessage.TheVariants as plain
 use Rattle.rpc_msg.specs.declared.message.Message.TheVariants as wire
 use Rattle.rpc_msg.specs.Messages.{descriptors_of_body}
-use Rattle.vat_machine.specs.declared.node.Node.{Node}
-use Rattle.vat_machine.specs.declared.calls.Promise.{Promise}
-use Rattle.vat_machine.specs.declared.calls.Promise.TheVariants as promise
-use Rattle.vat_machine.specs.declared.calls.Value.{Value}
-use Rattle.vat_machine.specs.declared.calls.Value.TheVariants as value
-use Rattle.vat_machine.specs.declared.calls.KeptOutcome.{KeptOutcome}
-use Rattle.vat_machine.specs.declared.calls.Caller.{Caller}
-use Rattle.vat_machine.specs.declared.calls.HeldCall.{HeldCall}
-use Rattle.vat_machine.specs.declared.entries.Export.{Export}
-use Rattle.vat_machine.specs.State.{State}
-use Rattle.vat_machine.specs.Nodes.{promise_link, value_of, field_link, link, settle, is_promise, is_field}
-use Rattle.vat_machine.specs.Places.{places, names, named_by_export}
-use Rattle.vat_machine.specs.Settling.{Fits, known, resolve_message, or_failed, exports_where}
-use Rattle.vat_machine.specs.Flags.{flag_for}
-use Rattle.vat_machine.specs.Progress.{numbers}
-use Rattle.vat_machine.specs.Sweeping.{got_of}
+use Rattle.rpc_machine.specs.declared.node.Node.{Node}
+use Rattle.rpc_machine.specs.declared.calls.Promise.{Promise}
+use Rattle.rpc_machine.specs.declared.calls.Promise.TheVariants as promise
+use Rattle.rpc_machine.specs.declared.calls.Value.{Value}
+use Rattle.rpc_machine.specs.declared.calls.Value.TheVariants as value
+use Rattle.rpc_machine.specs.declared.calls.KeptOutcome.{KeptOutcome}
+use Rattle.rpc_machine.specs.declared.calls.Caller.{Caller}
+use Rattle.rpc_machine.specs.declared.calls.HeldCall.{HeldCall}
+use Rattle.rpc_machine.specs.declared.entries.Export.{Export}
+use Rattle.rpc_machine.specs.State.{State}
+use Rattle.rpc_machine.specs.Nodes.{promise_link, value_of, field_link, link, settle, is_promise, is_field}
+use Rattle.rpc_machine.specs.Places.{places, names, named_by_export}
+use Rattle.rpc_machine.specs.Settling.{Fits, known, resolve_message, or_failed, exports_where}
+use Rattle.rpc_machine.specs.Flags.{flag_for}
+use Rattle.rpc_machine.specs.Progress.{numbers}
+use Rattle.rpc_machine.specs.Sweeping.{got_of}
 use Rattle.laws_steps.proofs.Among.{named, none_among, in_exports}
 use Rattle.laws_acts.specs.Moments.{Saying, Clearing, Settled, TheOutcome, Owing, Moment, is_of, why_of, owing}
 use Rattle.laws_acts.specs.GoingOut.{Says}

@@ -3,25 +3,25 @@ use Rattle.std.proofs.Common.{◌≡◌, inl, inr, ℕ, ◌+◌, true, false, Li
 use Rattle.std.specs.FinMap as map
 use Rattle.finite_maps.specs.Tally.{Map}
 use Rattle.rpc_msg.specs.declared.message.Message.{Message}
-use Rattle.vat_machine.specs.declared.command.Command.{Command}
-use Rattle.vat_machine.specs.declared.command.Granted.{Granted}
-use Rattle.vat_machine.specs.declared.command.Effects.{Effects}
-use Rattle.vat_machine.specs.declared.node.Node.{Node}
-use Rattle.vat_machine.specs.declared.node.Node.TheVariants as node
-use Rattle.vat_machine.specs.declared.node.Reason.TheVariants.{BrokenPromise}
-use Rattle.vat_machine.specs.declared.calls.Promise.TheVariants as promise
-use Rattle.vat_machine.specs.declared.calls.Caller.TheVariants as caller
-use Rattle.vat_machine.specs.declared.calls.KeptOutcome.{KeptOutcome}
-use Rattle.vat_machine.specs.declared.entries.Export.{Export}
-use Rattle.vat_machine.specs.State.{State}
-use Rattle.vat_machine.specs.Nodes.{promise_link, value_of}
-use Rattle.vat_machine.specs.Limits.{export_count}
-use Rattle.vat_machine.specs.Progress.{numbers}
-use Rattle.vat_machine.specs.Commands.{heads}
-use Rattle.vat_machine.specs.Faults.{gave, fault_of}
-use Rattle.vat_machine.specs.Faults.{given_by}
-use Rattle.vat_machine.specs.Refusals.{refused}
-use Rattle.vat_machine.specs.Steps.{Does, Handles}
+use Rattle.rpc_machine.specs.declared.command.Command.{Command}
+use Rattle.rpc_machine.specs.declared.command.Granted.{Granted}
+use Rattle.rpc_machine.specs.declared.command.Effects.{Effects}
+use Rattle.rpc_machine.specs.declared.node.Node.{Node}
+use Rattle.rpc_machine.specs.declared.node.Node.TheVariants as node
+use Rattle.rpc_machine.specs.declared.node.Reason.TheVariants.{BrokenPromise}
+use Rattle.rpc_machine.specs.declared.calls.Promise.TheVariants as promise
+use Rattle.rpc_machine.specs.declared.calls.Caller.TheVariants as caller
+use Rattle.rpc_machine.specs.declared.calls.KeptOutcome.{KeptOutcome}
+use Rattle.rpc_machine.specs.declared.entries.Export.{Export}
+use Rattle.rpc_machine.specs.State.{State}
+use Rattle.rpc_machine.specs.Nodes.{promise_link, value_of}
+use Rattle.rpc_machine.specs.Limits.{export_count}
+use Rattle.rpc_machine.specs.Progress.{numbers}
+use Rattle.rpc_machine.specs.Commands.{heads}
+use Rattle.rpc_machine.specs.Faults.{gave, fault_of}
+use Rattle.rpc_machine.specs.Faults.{given_by}
+use Rattle.rpc_machine.specs.Refusals.{refused}
+use Rattle.rpc_machine.specs.Steps.{Does, Handles}
 use Rattle.laws_acts.specs.Moments.{ThePromise, Moment, beginning}
 use Rattle.laws_acts.specs.FirstActs.{Starts}
 use Rattle.laws_acts.specs.FirstActs as first

@@ -1,19 +1,19 @@
 -- The whole session of an export, from what is known of its counts, its kind and its Resolve.
 use Rattle.std.proofs.Common.{◌≡◌, ℕ, ◌+◌, Bool, true, List, [], ◌∷◌, Option, None, Some, refl, sym, ap, subst, ◌∙◌}
 use Rattle.std.specs.FinMap as map
-use Rattle.vat_machine.specs.declared.node.Node.{Node}
-use Rattle.vat_machine.specs.declared.node.Node.TheVariants as node
-use Rattle.vat_machine.specs.declared.entries.SenderKind.{SenderKind}
-use Rattle.vat_machine.specs.declared.entries.SenderKind.TheVariants as kind
-use Rattle.vat_machine.specs.declared.entries.Resolution.{Resolution}
-use Rattle.vat_machine.specs.declared.entries.Import.{Import}
-use Rattle.vat_machine.specs.declared.entries.Export.{Export}
-use Rattle.vat_machine.specs.State.{State}
-use Rattle.vat_machine.specs.Nodes.{link, is_object}
-use Rattle.vat_machine.specs.Limits.{import_count}
-use Rattle.vat_machine.specs.Laws.{given_out, SendsRaiseCounts}
-use Rattle.vat_machine.specs.Descriptors.{giving}
-use Rattle.vat_machine.specs.World.{World, new_world}
+use Rattle.rpc_machine.specs.declared.node.Node.{Node}
+use Rattle.rpc_machine.specs.declared.node.Node.TheVariants as node
+use Rattle.rpc_machine.specs.declared.entries.SenderKind.{SenderKind}
+use Rattle.rpc_machine.specs.declared.entries.SenderKind.TheVariants as kind
+use Rattle.rpc_machine.specs.declared.entries.Resolution.{Resolution}
+use Rattle.rpc_machine.specs.declared.entries.Import.{Import}
+use Rattle.rpc_machine.specs.declared.entries.Export.{Export}
+use Rattle.rpc_machine.specs.State.{State}
+use Rattle.rpc_machine.specs.Nodes.{link, is_object}
+use Rattle.rpc_machine.specs.Limits.{import_count}
+use Rattle.rpc_machine.specs.Laws.{given_out, SendsRaiseCounts}
+use Rattle.rpc_machine.specs.Descriptors.{giving}
+use Rattle.rpc_machine.specs.World.{World, new_world}
 use Rattle.rpc_msg.specs.declared.ids.ObjectId.{ObjectId}
 use Rattle.laws_acts.specs.Sent.{Noted, messages}
 use Rattle.laws_runs.specs.Exports as export

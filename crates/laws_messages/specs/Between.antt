@@ -1,7 +1,7 @@
 -- Between two vats the session of each export stands (docs/protocol.md, "Sessions of ids").
 use Rattle.std.specs.Prelude.{ℕ, List}
 use Rattle.std.specs.FinMap as map
-use Rattle.vat_machine.specs.State.{State}
+use Rattle.rpc_machine.specs.State.{State}
 use Rattle.laws_acts.specs.Sent.{Noted}
 use Rattle.laws_runs.specs.Exports.{Stands}
 use Rattle.laws_runs.specs.Between.{InSteadyWorlds, HoldsIn}

@@ -3,10 +3,10 @@ use Rattle.std.specs.Prelude.{ℕ, Bool, true, false, Option, None, Some, List, 
 use Rattle.rpc_msg.specs.declared.message.Message.{Message}
 use Rattle.rpc_msg.specs.declared.message.Message.TheVariants as message
 use Rattle.rpc_msg.specs.Messages.{descriptors_of_plain}
-use Rattle.vat_machine.specs.declared.node.Node.{Node}
-use Rattle.vat_machine.specs.declared.entries.Export.{Export}
-use Rattle.vat_machine.specs.State.{State}
-use Rattle.vat_machine.specs.Nodes.{link, is_object}
+use Rattle.rpc_machine.specs.declared.node.Node.{Node}
+use Rattle.rpc_machine.specs.declared.entries.Export.{Export}
+use Rattle.rpc_machine.specs.State.{State}
+use Rattle.rpc_machine.specs.Nodes.{link, is_object}
 use Rattle.laws_runs.specs.Exports as export
 use Rattle.laws_runs.specs.Exports.{Stage, Exporter, Out}
 use Rattle.laws_messages.specs.Views.{gives_in, resolves_in}

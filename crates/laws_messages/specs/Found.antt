@@ -12,8 +12,8 @@ use Rattle.rpc_msg.specs.declared.message.PlainMessage.TheVariants as plain
 use Rattle.rpc_msg.specs.declared.message.Message.{Message}
 use Rattle.rpc_msg.specs.declared.message.Message.TheVariants as message
 use Rattle.rpc_msg.specs.Messages.{descriptors_of_body, descriptors_of_resolved}
-use Rattle.vat_machine.specs.State.{State}
-use Rattle.vat_machine.specs.World.{World, new_world, core, inbox}
+use Rattle.rpc_machine.specs.State.{State}
+use Rattle.rpc_machine.specs.World.{World, new_world, core, inbox}
 use Rattle.laws_runs.specs.Between.{Steady}
 use Rattle.laws_runs.specs.SceneSessions.{InScenes}
 

@@ -1,8 +1,8 @@
 -- What a vat does by itself with the imports that it holds.
 use Rattle.std.specs.Prelude.{◌≡◌, ℕ, Option, None, Some, List, [], ◌∷◌}
 use Rattle.std.specs.FinMap as map
-use Rattle.vat_machine.specs.declared.entries.Import.{Import}
-use Rattle.vat_machine.specs.Progress.{Progress}
+use Rattle.rpc_machine.specs.declared.entries.Import.{Import}
+use Rattle.rpc_machine.specs.Progress.{Progress}
 use Rattle.laws_acts.specs.Acts.{Acts}
 use Rattle.laws_acts.specs.Sent.{all_sent}
 use Rattle.laws_runs.specs.Exports.{Importer, Back, Answers}

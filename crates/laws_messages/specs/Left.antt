@@ -11,13 +11,13 @@ use Rattle.rpc_msg.specs.declared.message.PlainMessage.{PlainMessage}
 use Rattle.rpc_msg.specs.declared.message.PlainMessage.TheVariants as plain
 use Rattle.rpc_msg.specs.declared.message.Message.{Message}
 use Rattle.rpc_msg.specs.declared.message.Message.TheVariants as message
-use Rattle.vat_journal.specs.History.{if_so}
-use Rattle.vat_machine.specs.State.{State}
-use Rattle.vat_machine.specs.Nodes.{settle, is_wire}
-use Rattle.vat_machine.specs.Numbers.{disembargo_not_loopback}
-use Rattle.vat_machine.specs.Faults.{target_node, held_fault, fault_of}
-use Rattle.vat_machine.specs.World.{World, core, inbox}
-use Rattle.vat_machine.specs.Claims.{EveryRun}
+use Rattle.rpc_journal.specs.History.{if_so}
+use Rattle.rpc_machine.specs.State.{State}
+use Rattle.rpc_machine.specs.Nodes.{settle, is_wire}
+use Rattle.rpc_machine.specs.Numbers.{disembargo_not_loopback}
+use Rattle.rpc_machine.specs.Faults.{target_node, held_fault, fault_of}
+use Rattle.rpc_machine.specs.World.{World, core, inbox}
+use Rattle.rpc_machine.specs.Claims.{EveryRun}
 use Rattle.laws_runs.specs.Views.{IsUseful}
 use Rattle.laws_runs.specs.SceneSessions.{InScenes}
 

@@ -10,9 +10,9 @@ use Rattle.rpc_msg.specs.declared.message.DisembargoContext.TheVariants.{Receive
 use Rattle.rpc_msg.specs.declared.message.PlainMessage.TheVariants as plain
 use Rattle.rpc_msg.specs.declared.message.Message.{Message}
 use Rattle.rpc_msg.specs.declared.message.Message.TheVariants as message
-use Rattle.vat_machine.specs.State.{State}
-use Rattle.vat_machine.specs.Faults.{fault_of}
-use Rattle.vat_machine.specs.World.{World, core, inbox}
+use Rattle.rpc_machine.specs.State.{State}
+use Rattle.rpc_machine.specs.Faults.{fault_of}
+use Rattle.rpc_machine.specs.World.{World, core, inbox}
 use Rattle.laws_acts.specs.Sent.{Noted, messages}
 use Rattle.laws_nodes.specs.Embargoes.{here, out, back}
 use Rattle.laws_runs.specs.Worlds.{Stand}

@@ -11,8 +11,8 @@ use Rattle.rpc_msg.specs.declared.message.PlainMessage.TheVariants as plain
 use Rattle.rpc_msg.specs.declared.message.Message.{Message}
 use Rattle.rpc_msg.specs.declared.message.Message.TheVariants as message
 use Rattle.rpc_msg.specs.Messages.{descriptors_of_plain}
-use Rattle.vat_machine.specs.State.{State}
-use Rattle.vat_machine.specs.World.{World, core, inbox}
+use Rattle.rpc_machine.specs.State.{State}
+use Rattle.rpc_machine.specs.World.{World, core, inbox}
 use Rattle.laws_acts.specs.Sent.{Ids, Noted}
 use Rattle.laws_runs.specs.Questions.{Out}
 use Rattle.laws_runs.specs.Names as mark

@@ -1,9 +1,9 @@
 -- Between two vats an export is of one kind (docs/protocol.md, "Sessions of ids").
 use Rattle.std.specs.Prelude.{◌≡◌, ℕ, Option, None, Some, List, [], ◌∷◌}
 use Rattle.std.specs.FinMap as map
-use Rattle.vat_machine.specs.declared.entries.Import.{Import}
-use Rattle.vat_machine.specs.declared.entries.Export.{Export}
-use Rattle.vat_machine.specs.State.{State}
+use Rattle.rpc_machine.specs.declared.entries.Import.{Import}
+use Rattle.rpc_machine.specs.declared.entries.Export.{Export}
+use Rattle.rpc_machine.specs.State.{State}
 use Rattle.laws_acts.specs.Sent.{Noted}
 use Rattle.laws_runs.specs.Exports as export
 use Rattle.laws_runs.specs.Exports.{Kind, Out}

@@ -11,10 +11,10 @@ use Rattle.rpc_msg.specs.declared.message.PlainMessage.TheVariants as plain
 use Rattle.rpc_msg.specs.declared.message.Message.{Message}
 use Rattle.rpc_msg.specs.declared.message.Message.TheVariants as message
 use Rattle.rpc_msg.specs.Messages.{descriptors_of_plain}
-use Rattle.vat_machine.specs.declared.entries.SenderKind.TheVariants as kind
-use Rattle.vat_machine.specs.State.{State}
-use Rattle.vat_machine.specs.Faults.{kind_clashes, is_hosted, is_resolved}
-use Rattle.vat_machine.specs.World.{World, new_world, core, inbox}
+use Rattle.rpc_machine.specs.declared.entries.SenderKind.TheVariants as kind
+use Rattle.rpc_machine.specs.State.{State}
+use Rattle.rpc_machine.specs.Faults.{kind_clashes, is_hosted, is_resolved}
+use Rattle.rpc_machine.specs.World.{World, new_world, core, inbox}
 use Rattle.laws_runs.specs.Between.{Steady}
 use Rattle.laws_runs.specs.SceneSessions.{InScenes}
 

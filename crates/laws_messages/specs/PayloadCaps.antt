@@ -7,8 +7,8 @@ use Rattle.rpc_msg.specs.declared.message.PlainMessage.{PlainMessage}
 use Rattle.rpc_msg.specs.declared.message.PlainMessage.TheVariants as plain
 use Rattle.rpc_msg.specs.declared.message.Message.{Message}
 use Rattle.rpc_msg.specs.declared.message.Message.TheVariants as message
-use Rattle.vat_machine.specs.Payloads.{caps_in}
-use Rattle.vat_machine.specs.World.{inbox}
+use Rattle.rpc_machine.specs.Payloads.{caps_in}
+use Rattle.rpc_machine.specs.World.{inbox}
 use Rattle.laws_runs.specs.SceneSessions.{InScenes}
 
 abbrev pub BodyFits : ReturnBody → Type 0

@@ -1,9 +1,9 @@
 -- An answer and its outcome (rpc.capnp, Return; docs/protocol.md, "What a vat holds").
 use Rattle.std.specs.Prelude.{◌≡◌, ◌↔◌, ℕ, Option, None, Some}
 use Rattle.std.specs.FinMap as map
-use Rattle.vat_machine.specs.declared.calls.KeptOutcome.{KeptOutcome}
-use Rattle.vat_machine.specs.declared.entries.AnswerEntry.{AnswerEntry}
-use Rattle.vat_machine.specs.State.{State}
+use Rattle.rpc_machine.specs.declared.calls.KeptOutcome.{KeptOutcome}
+use Rattle.rpc_machine.specs.declared.entries.AnswerEntry.{AnswerEntry}
+use Rattle.rpc_machine.specs.State.{State}
 use Rattle.laws_steps.specs.Callers.{peer}
 use Rattle.laws_steps.specs.NodesThere.{IsReached}
 

@@ -1,8 +1,8 @@
 -- What is left to show of scenes for all that is promised of runs (docs/protocol.md, "Scenes").
 use Rattle.std.specs.Prelude.{◌≡◌, false, Option}
 use Rattle.rpc_msg.specs.declared.ids.ObjectId.{ObjectId}
-use Rattle.vat_journal.specs.Meaning.{History}
-use Rattle.vat_machine.specs.Claims.{IsInOrder, IsInFull, IsInTime, EndsAreSo, EveryRunIsSound, history}
+use Rattle.rpc_journal.specs.Meaning.{History}
+use Rattle.rpc_machine.specs.Claims.{IsInOrder, IsInFull, IsInTime, EndsAreSo, EveryRunIsSound, history}
 use Rattle.laws_runs.specs.Scenes.{Scene, IsScene}
 use Rattle.laws_messages.specs.Taken.{Premises}
 

@@ -15,10 +15,10 @@ use Rattle.rpc_msg.specs.declared.message.PlainMessage.{PlainMessage}
 use Rattle.rpc_msg.specs.declared.message.PlainMessage.TheVariants as plain
 use Rattle.rpc_msg.specs.declared.message.Message.{Message}
 use Rattle.rpc_msg.specs.declared.message.Message.TheVariants as message
-use Rattle.vat_machine.specs.Nodes.{settle, is_wire}
-use Rattle.vat_machine.specs.Faults.{target_node, fault_of}
-use Rattle.vat_machine.specs.World.{World, core, inbox}
-use Rattle.vat_machine.specs.Claims.{EveryRun, FallsAreKnown}
+use Rattle.rpc_machine.specs.Nodes.{settle, is_wire}
+use Rattle.rpc_machine.specs.Faults.{target_node, fault_of}
+use Rattle.rpc_machine.specs.World.{World, core, inbox}
+use Rattle.rpc_machine.specs.Claims.{EveryRun, FallsAreKnown}
 use Rattle.laws_runs.specs.Scenes.{Scene, IsScene}
 use Rattle.laws_runs.specs.SceneSessions.{InScenes}
 use Rattle.laws_runs.specs.SoundScenes.{MayFault, OldestAreTaken}

@@ -7,7 +7,7 @@ ghost use Rattle.laws_messages.specs.OfAKind.{ExportsAreOfOneKind};
 ghost use Rattle.laws_messages.specs.Mentions.{DescriptorsStand, MentionsStand};
 
 use laws_runs::counts_agree_in_scenes;
-use vat_machine::sends_raise_counts;
+use rpc_machine::sends_raise_counts;
 
 /// An export is given as what its node is, hosted or promised, each time that it is given; and while it is there it keeps
 /// its node.

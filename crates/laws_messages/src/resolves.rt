@@ -5,7 +5,7 @@ ghost use Rattle.laws_messages.specs.Oldest.{ExportsResolveOnce};
 ghost use Rattle.laws_messages.specs.Steps.{SettledExportsAreTold};
 
 use laws_runs::counts_agree_in_scenes;
-use vat_machine::sends_raise_counts;
+use rpc_machine::sends_raise_counts;
 
 /// A vat gives an object, a promise or a field as an export only while that leads nowhere else; and in the step in which
 /// the node of an export comes to lead on, one Resolve of it is sent, and never another one.

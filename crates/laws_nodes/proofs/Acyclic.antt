@@ -5,22 +5,22 @@ use Rattle.std.specs.FinMap as map
 use Rattle.finite_maps.specs.Tally.{Map}
 use Rattle.finite_maps.proofs.Gets.{get-insert_same}
 use Rattle.rpc_msg.specs.declared.message.Message.{Message}
-use Rattle.vat_machine.specs.declared.command.Command.{Command}
-use Rattle.vat_machine.specs.declared.command.Granted.{Granted}
-use Rattle.vat_machine.specs.declared.command.Effects.{Effects}
-use Rattle.vat_machine.specs.declared.node.Node.{Node}
-use Rattle.vat_machine.specs.declared.node.Node.TheVariants as node
-use Rattle.vat_machine.specs.declared.node.Reason.{Reason}
-use Rattle.vat_machine.specs.declared.node.Reason.TheVariants.{BrokenPromise}
-use Rattle.vat_machine.specs.declared.calls.WaitingCall.{WaitingCall}
-use Rattle.vat_machine.specs.declared.calls.Promise.{Promise}
-use Rattle.vat_machine.specs.declared.calls.Promise.TheVariants as promise
-use Rattle.vat_machine.specs.declared.calls.KeptOutcome.{KeptOutcome}
-use Rattle.vat_machine.specs.State.{State, start}
-use Rattle.vat_machine.specs.Nodes.{promise_link, value_of, field_link, link, settle, is_promise}
-use Rattle.vat_machine.specs.Down.{fallen}
-use Rattle.vat_machine.specs.Settling.{known}
-use Rattle.vat_machine.specs.Refusals.{refused}
+use Rattle.rpc_machine.specs.declared.command.Command.{Command}
+use Rattle.rpc_machine.specs.declared.command.Granted.{Granted}
+use Rattle.rpc_machine.specs.declared.command.Effects.{Effects}
+use Rattle.rpc_machine.specs.declared.node.Node.{Node}
+use Rattle.rpc_machine.specs.declared.node.Node.TheVariants as node
+use Rattle.rpc_machine.specs.declared.node.Reason.{Reason}
+use Rattle.rpc_machine.specs.declared.node.Reason.TheVariants.{BrokenPromise}
+use Rattle.rpc_machine.specs.declared.calls.WaitingCall.{WaitingCall}
+use Rattle.rpc_machine.specs.declared.calls.Promise.{Promise}
+use Rattle.rpc_machine.specs.declared.calls.Promise.TheVariants as promise
+use Rattle.rpc_machine.specs.declared.calls.KeptOutcome.{KeptOutcome}
+use Rattle.rpc_machine.specs.State.{State, start}
+use Rattle.rpc_machine.specs.Nodes.{promise_link, value_of, field_link, link, settle, is_promise}
+use Rattle.rpc_machine.specs.Down.{fallen}
+use Rattle.rpc_machine.specs.Settling.{known}
+use Rattle.rpc_machine.specs.Refusals.{refused}
 use Rattle.laws_steps.specs.NodesThere.{IsReached}
 use Rattle.laws_steps.proofs.Kept.{in_each}
 use Rattle.laws_acts.specs.Moments.{Clearing, Moment, beginning}
@@ -32,7 +32,7 @@ use Rattle.laws_acts.specs.SmallActs.{Act, kept_known}
 use Rattle.laws_acts.specs.SmallActs as act
 use Rattle.laws_acts.proofs.Checks.{no_circle}
 use Rattle.laws_acts.proofs.EachStep.{kept, IsLaw, of_each_step}
-use Rattle.vat_machine.proofs.Settles.{settles_here}
+use Rattle.rpc_machine.proofs.Settles.{settles_here}
 use Rattle.laws_nodes.specs.Settling.{AllStop, StopsWithin}
 use Rattle.laws_nodes.proofs.Stopping.{fixed_stops}
 use Rattle.finite_maps.proofs.Tested.{get_other, at_put}

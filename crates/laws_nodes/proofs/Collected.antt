@@ -5,25 +5,25 @@ use Rattle.finite_maps.specs.Tally.{Map}
 use Rattle.rpc_msg.specs.Op.{Op}
 use Rattle.rpc_msg.specs.CapAt.{CapAt}
 use Rattle.rpc_msg.specs.CapAt.TheVariants.{Cap, Null, NotCap}
-use Rattle.vat_machine.specs.Payloads.{cap_at}
-use Rattle.vat_machine.specs.declared.node.Node.{Node}
-use Rattle.vat_machine.specs.declared.node.Node.TheVariants as node
-use Rattle.vat_machine.specs.declared.node.Reason.{Reason}
-use Rattle.vat_machine.specs.declared.calls.Promise.{Promise}
-use Rattle.vat_machine.specs.declared.calls.Promise.TheVariants as promise
-use Rattle.vat_machine.specs.declared.calls.Value.{Value}
-use Rattle.vat_machine.specs.declared.calls.Value.TheVariants as value
-use Rattle.vat_machine.specs.declared.calls.KeptOutcome.{KeptOutcome}
-use Rattle.vat_machine.specs.State.{State}
-use Rattle.vat_machine.specs.Laws.{Stops}
-use Rattle.vat_machine.specs.Nodes.{node_of_cap, field_of, promise_link, value_of, field_link, link, settle, is_promise, is_field}
-use Rattle.vat_machine.specs.Places.{named_by_promise, named_by_value, named_by_held, named_by_outcome, places, names}
-use Rattle.vat_machine.specs.Progress.{Progress}
-use Rattle.vat_machine.specs.Collecting.{IsLoosePromise, IsLooseValue, IsLooseOutcome, Goes, PromiseGoes, OutcomeGoes, ImportGoes, Collects, Tight, Loose}
+use Rattle.rpc_machine.specs.Payloads.{cap_at}
+use Rattle.rpc_machine.specs.declared.node.Node.{Node}
+use Rattle.rpc_machine.specs.declared.node.Node.TheVariants as node
+use Rattle.rpc_machine.specs.declared.node.Reason.{Reason}
+use Rattle.rpc_machine.specs.declared.calls.Promise.{Promise}
+use Rattle.rpc_machine.specs.declared.calls.Promise.TheVariants as promise
+use Rattle.rpc_machine.specs.declared.calls.Value.{Value}
+use Rattle.rpc_machine.specs.declared.calls.Value.TheVariants as value
+use Rattle.rpc_machine.specs.declared.calls.KeptOutcome.{KeptOutcome}
+use Rattle.rpc_machine.specs.State.{State}
+use Rattle.rpc_machine.specs.Laws.{Stops}
+use Rattle.rpc_machine.specs.Nodes.{node_of_cap, field_of, promise_link, value_of, field_link, link, settle, is_promise, is_field}
+use Rattle.rpc_machine.specs.Places.{named_by_promise, named_by_value, named_by_held, named_by_outcome, places, names}
+use Rattle.rpc_machine.specs.Progress.{Progress}
+use Rattle.rpc_machine.specs.Collecting.{IsLoosePromise, IsLooseValue, IsLooseOutcome, Goes, PromiseGoes, OutcomeGoes, ImportGoes, Collects, Tight, Loose}
 use Rattle.laws_steps.specs.Settled.{IsAmong}
 use Rattle.laws_steps.proofs.Among.{among_left, named, none_among, in_promises, in_outcomes}
 use Rattle.laws_steps.proofs.Below.{goes_below, collects_below, places_below}
-use Rattle.vat_machine.proofs.Settles.{settles_here}
+use Rattle.rpc_machine.proofs.Settles.{settles_here}
 use Rattle.laws_nodes.specs.Settling.{AllStop}
 use Rattle.laws_nodes.proofs.Stopping.{on, redirect}
 use Rattle.finite_maps.proofs.Tested.{get_left, at_cut}

@@ -7,23 +7,23 @@ use Rattle.finite_maps.specs.Tally.{Map}
 use Rattle.finite_maps.proofs.Gets.{get-insert_same, get-insert_other, get-remove_other}
 use Rattle.rpc_msg.specs.declared.parts.Descriptor.{Descriptor}
 use Rattle.rpc_msg.specs.declared.message.Message.{Message}
-use Rattle.vat_machine.specs.declared.command.Command.{Command}
-use Rattle.vat_machine.specs.declared.command.Granted.{Granted}
-use Rattle.vat_machine.specs.declared.command.Effects.{Effects}
-use Rattle.vat_machine.specs.declared.calls.OwnCall.{OwnCall}
-use Rattle.vat_machine.specs.declared.calls.OwnCall.TheVariants as own
-use Rattle.vat_machine.specs.declared.entries.Role.{Role}
-use Rattle.vat_machine.specs.declared.entries.Role.TheVariants as role
-use Rattle.vat_machine.specs.declared.entries.Returned.{Returned}
-use Rattle.vat_machine.specs.declared.entries.Finishing.{Finishing}
-use Rattle.vat_machine.specs.declared.entries.Finishing.TheVariants as finishing
-use Rattle.vat_machine.specs.declared.entries.Question.{Question}
-use Rattle.vat_machine.specs.State.{State, start}
-use Rattle.vat_machine.specs.Progress.{Progress, with_state}
-use Rattle.vat_machine.specs.Sweeping.{IsOver, IsNotSent, IsToFinish, closed_map, closed, Withers, Over, Thing, Asked}
-use Rattle.vat_machine.specs.Messages.{waived}
-use Rattle.vat_machine.specs.Collecting.{Goes, PromiseGoes as LoosePromise, OutcomeGoes as LooseOutcome, ImportGoes as LooseImport}
-use Rattle.vat_machine.specs.Down.{fallen}
+use Rattle.rpc_machine.specs.declared.command.Command.{Command}
+use Rattle.rpc_machine.specs.declared.command.Granted.{Granted}
+use Rattle.rpc_machine.specs.declared.command.Effects.{Effects}
+use Rattle.rpc_machine.specs.declared.calls.OwnCall.{OwnCall}
+use Rattle.rpc_machine.specs.declared.calls.OwnCall.TheVariants as own
+use Rattle.rpc_machine.specs.declared.entries.Role.{Role}
+use Rattle.rpc_machine.specs.declared.entries.Role.TheVariants as role
+use Rattle.rpc_machine.specs.declared.entries.Returned.{Returned}
+use Rattle.rpc_machine.specs.declared.entries.Finishing.{Finishing}
+use Rattle.rpc_machine.specs.declared.entries.Finishing.TheVariants as finishing
+use Rattle.rpc_machine.specs.declared.entries.Question.{Question}
+use Rattle.rpc_machine.specs.State.{State, start}
+use Rattle.rpc_machine.specs.Progress.{Progress, with_state}
+use Rattle.rpc_machine.specs.Sweeping.{IsOver, IsNotSent, IsToFinish, closed_map, closed, Withers, Over, Thing, Asked}
+use Rattle.rpc_machine.specs.Messages.{waived}
+use Rattle.rpc_machine.specs.Collecting.{Goes, PromiseGoes as LoosePromise, OutcomeGoes as LooseOutcome, ImportGoes as LooseImport}
+use Rattle.rpc_machine.specs.Down.{fallen}
 use Rattle.laws_steps.specs.NodesThere.{IsReached}
 use Rattle.laws_steps.proofs.Kept.{in_each}
 use Rattle.laws_acts.specs.Moments.{Moment, beginning, progress}

@@ -6,20 +6,20 @@ use Rattle.rpc_msg.specs.Op.{Op}
 use Rattle.rpc_msg.specs.CapAt.{CapAt}
 use Rattle.rpc_msg.specs.CapAt.TheVariants.{Cap, Null, NotCap}
 use Rattle.rpc_msg.specs.Payloads.{Contents as Payload}
-use Rattle.vat_machine.specs.Payloads.{cap_at}
-use Rattle.vat_machine.specs.declared.node.Node.{Node}
-use Rattle.vat_machine.specs.declared.node.Node.TheVariants as node
-use Rattle.vat_machine.specs.declared.node.Reason.{Reason}
-use Rattle.vat_machine.specs.declared.node.Reason.TheVariants.{NotACapability}
-use Rattle.vat_machine.specs.declared.calls.HeldCall.{HeldCall}
-use Rattle.vat_machine.specs.declared.calls.Promise.TheVariants as promise
-use Rattle.vat_machine.specs.declared.calls.Value.{Value}
-use Rattle.vat_machine.specs.declared.calls.Value.TheVariants as value
-use Rattle.vat_machine.specs.declared.calls.Caller.{Caller}
-use Rattle.vat_machine.specs.State.{State}
-use Rattle.vat_machine.specs.Laws.{Stops}
-use Rattle.vat_machine.specs.Nodes.{node_of_cap, field_of, promise_link, value_of, field_link, link, follow, settle, is_field}
-use Rattle.vat_machine.specs.Settling.{known, TurnsBack, absent, PutsIn, Untangles, Fits}
+use Rattle.rpc_machine.specs.Payloads.{cap_at}
+use Rattle.rpc_machine.specs.declared.node.Node.{Node}
+use Rattle.rpc_machine.specs.declared.node.Node.TheVariants as node
+use Rattle.rpc_machine.specs.declared.node.Reason.{Reason}
+use Rattle.rpc_machine.specs.declared.node.Reason.TheVariants.{NotACapability}
+use Rattle.rpc_machine.specs.declared.calls.HeldCall.{HeldCall}
+use Rattle.rpc_machine.specs.declared.calls.Promise.TheVariants as promise
+use Rattle.rpc_machine.specs.declared.calls.Value.{Value}
+use Rattle.rpc_machine.specs.declared.calls.Value.TheVariants as value
+use Rattle.rpc_machine.specs.declared.calls.Caller.{Caller}
+use Rattle.rpc_machine.specs.State.{State}
+use Rattle.rpc_machine.specs.Laws.{Stops}
+use Rattle.rpc_machine.specs.Nodes.{node_of_cap, field_of, promise_link, value_of, field_link, link, follow, settle, is_field}
+use Rattle.rpc_machine.specs.Settling.{known, TurnsBack, absent, PutsIn, Untangles, Fits}
 use Rattle.laws_nodes.specs.Settling.{AllStop, SameLinks, StaysUnknown}
 use Rattle.laws_nodes.proofs.Stopping.{ends, on, redirect, avoids, grown, unmoved, opens}
 use Rattle.finite_maps.proofs.Tested.{equal, apart, get_other}

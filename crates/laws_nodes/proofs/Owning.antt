@@ -8,21 +8,21 @@ use Rattle.finite_maps.proofs.Gets.{get-insert_same, get-insert_other}
 use Rattle.finite_maps.proofs.Tested.{at_put, at_cut}
 use Rattle.rpc_msg.specs.declared.parts.Descriptor.{Descriptor}
 use Rattle.rpc_msg.specs.declared.message.Message.{Message}
-use Rattle.vat_machine.specs.declared.command.Command.{Command}
-use Rattle.vat_machine.specs.declared.command.Granted.{Granted}
-use Rattle.vat_machine.specs.declared.calls.Caller.{Caller}
-use Rattle.vat_machine.specs.declared.calls.Caller.TheVariants as caller
-use Rattle.vat_machine.specs.declared.calls.KeptOutcome.{KeptOutcome}
-use Rattle.vat_machine.specs.declared.calls.OwnCall.{OwnCall}
-use Rattle.vat_machine.specs.declared.calls.OwnCall.TheVariants as own
-use Rattle.vat_machine.specs.declared.entries.Role.{Role}
-use Rattle.vat_machine.specs.declared.entries.Role.TheVariants as role
-use Rattle.vat_machine.specs.declared.entries.Returned.{Returned}
-use Rattle.vat_machine.specs.declared.entries.Finishing.TheVariants as finishing
-use Rattle.vat_machine.specs.declared.entries.Question.{Question}
-use Rattle.vat_machine.specs.State.{State, start}
-use Rattle.vat_machine.specs.Sweeping.{closed_map}
-use Rattle.vat_machine.specs.Down.{fallen}
+use Rattle.rpc_machine.specs.declared.command.Command.{Command}
+use Rattle.rpc_machine.specs.declared.command.Granted.{Granted}
+use Rattle.rpc_machine.specs.declared.calls.Caller.{Caller}
+use Rattle.rpc_machine.specs.declared.calls.Caller.TheVariants as caller
+use Rattle.rpc_machine.specs.declared.calls.KeptOutcome.{KeptOutcome}
+use Rattle.rpc_machine.specs.declared.calls.OwnCall.{OwnCall}
+use Rattle.rpc_machine.specs.declared.calls.OwnCall.TheVariants as own
+use Rattle.rpc_machine.specs.declared.entries.Role.{Role}
+use Rattle.rpc_machine.specs.declared.entries.Role.TheVariants as role
+use Rattle.rpc_machine.specs.declared.entries.Returned.{Returned}
+use Rattle.rpc_machine.specs.declared.entries.Finishing.TheVariants as finishing
+use Rattle.rpc_machine.specs.declared.entries.Question.{Question}
+use Rattle.rpc_machine.specs.State.{State, start}
+use Rattle.rpc_machine.specs.Sweeping.{closed_map}
+use Rattle.rpc_machine.specs.Down.{fallen}
 use Rattle.laws_steps.specs.NodesThere.{IsReached}
 use Rattle.laws_steps.proofs.Kept.{in_each}
 use Rattle.laws_acts.specs.Moments.{Clearing, Moment, beginning}
@@ -33,7 +33,7 @@ use Rattle.laws_acts.specs.MessageActs as message
 use Rattle.laws_acts.specs.SmallActs.{Act}
 use Rattle.laws_acts.specs.SmallActs as act
 use Rattle.laws_acts.proofs.EachStep.{IsLaw, of_each_step}
-use Rattle.vat_machine.specs.OwnCalls.{IsOutcomeFor, IsQuestionFor, HasItsOwnAlone, CallsHaveTheirOwn}
+use Rattle.rpc_machine.specs.OwnCalls.{IsOutcomeFor, IsQuestionFor, HasItsOwnAlone, CallsHaveTheirOwn}
 
 -- ---- What is of a call is its own
 

@@ -5,17 +5,17 @@ use Rattle.std.specs.FinMap as map
 use Rattle.finite_maps.specs.Tally.{Map}
 use Rattle.rpc_msg.specs.declared.ids.EmbargoId.{EmbargoId}
 use Rattle.rpc_msg.specs.declared.message.Message.{Message}
-use Rattle.vat_machine.specs.declared.node.Node.{Node}
-use Rattle.vat_machine.specs.declared.command.Command.{Command}
-use Rattle.vat_machine.specs.declared.command.Granted.{Granted}
-use Rattle.vat_machine.specs.declared.command.Effects.{Effects}
-use Rattle.vat_machine.specs.declared.entries.Reference.{Reference}
-use Rattle.vat_machine.specs.declared.entries.Embargo.{Embargo}
-use Rattle.vat_machine.specs.State.{State, start}
-use Rattle.vat_machine.specs.Lists.{updated}
-use Rattle.vat_machine.specs.Progress.{with_refs, caps_of}
-use Rattle.vat_machine.specs.Messages.{unembargoed}
-use Rattle.vat_machine.specs.Down.{fallen}
+use Rattle.rpc_machine.specs.declared.node.Node.{Node}
+use Rattle.rpc_machine.specs.declared.command.Command.{Command}
+use Rattle.rpc_machine.specs.declared.command.Granted.{Granted}
+use Rattle.rpc_machine.specs.declared.command.Effects.{Effects}
+use Rattle.rpc_machine.specs.declared.entries.Reference.{Reference}
+use Rattle.rpc_machine.specs.declared.entries.Embargo.{Embargo}
+use Rattle.rpc_machine.specs.State.{State, start}
+use Rattle.rpc_machine.specs.Lists.{updated}
+use Rattle.rpc_machine.specs.Progress.{with_refs, caps_of}
+use Rattle.rpc_machine.specs.Messages.{unembargoed}
+use Rattle.rpc_machine.specs.Down.{fallen}
 use Rattle.laws_steps.specs.NodesThere.{IsReached}
 use Rattle.laws_steps.proofs.Kept.{in_each}
 use Rattle.laws_acts.specs.Moments.{Moment, beginning}

@@ -2,15 +2,15 @@
 use Rattle.std.proofs.Common.{◌≡◌, ◌⊎◌, inl, inr, ℕ, zero, suc, ◌≤◌, Bool, true, false, cond, List, Option, None, Some, unwrap_or, refl, sym, ap, subst, ◌∙◌, arith}
 use Rattle.std.specs.FinMap as map
 use Rattle.finite_maps.proofs.Gets.{get-insert_same}
-use Rattle.vat_machine.specs.declared.node.Node.{Node}
-use Rattle.vat_machine.specs.declared.node.Node.TheVariants as node
-use Rattle.vat_machine.specs.declared.calls.WaitingCall.{WaitingCall}
-use Rattle.vat_machine.specs.declared.calls.Promise.TheVariants as promise
-use Rattle.vat_machine.specs.declared.calls.KeptOutcome.{KeptOutcome}
-use Rattle.vat_machine.specs.State.{State}
-use Rattle.vat_machine.specs.Laws.{Stops}
-use Rattle.vat_machine.specs.Nodes.{promise_link, value_of, field_link, link, follow, settle, is_promise}
-use Rattle.vat_machine.proofs.Settles.{settles_here, settle_stops, settle_link}
+use Rattle.rpc_machine.specs.declared.node.Node.{Node}
+use Rattle.rpc_machine.specs.declared.node.Node.TheVariants as node
+use Rattle.rpc_machine.specs.declared.calls.WaitingCall.{WaitingCall}
+use Rattle.rpc_machine.specs.declared.calls.Promise.TheVariants as promise
+use Rattle.rpc_machine.specs.declared.calls.KeptOutcome.{KeptOutcome}
+use Rattle.rpc_machine.specs.State.{State}
+use Rattle.rpc_machine.specs.Laws.{Stops}
+use Rattle.rpc_machine.specs.Nodes.{promise_link, value_of, field_link, link, follow, settle, is_promise}
+use Rattle.rpc_machine.proofs.Settles.{settles_here, settle_stops, settle_link}
 use Rattle.laws_nodes.specs.Settling.{AllStop, SameLinks, StaysOpen, fixed}
 use Rattle.finite_maps.proofs.Tested.{equal, get_other, at_put}
 

@@ -1,26 +1,26 @@
 -- What a command needs follows from what is so in the middle of a step.
 use Rattle.std.specs.FinMap as map
 use Rattle.std.proofs.Common.{◌≡◌, ℕ, false, List, [], ◌∷◌, ◌++◌, Option, None, Some, refl, ap, ◌∙◌}
-use Rattle.vat_machine.specs.declared.command.Command.{Command}
-use Rattle.vat_machine.specs.declared.command.Command.TheVariants as command
-use Rattle.vat_machine.specs.declared.command.Granted.{Granted}
-use Rattle.vat_machine.specs.declared.command.Level.TheVariants.{One}
-use Rattle.vat_machine.specs.declared.entries.Reference.{Reference}
+use Rattle.rpc_machine.specs.declared.command.Command.{Command}
+use Rattle.rpc_machine.specs.declared.command.Command.TheVariants as command
+use Rattle.rpc_machine.specs.declared.command.Granted.{Granted}
+use Rattle.rpc_machine.specs.declared.command.Level.TheVariants.{One}
+use Rattle.rpc_machine.specs.declared.entries.Reference.{Reference}
 use Rattle.rpc_msg.specs.declared.exception.Exception.{Exception}
 use Rattle.rpc_msg.specs.declared.ids.PromiseId.{PromiseId}
 use Rattle.rpc_msg.specs.declared.ids.RefId.{RefId}
-use Rattle.vat_machine.specs.declared.node.Node.{Node}
-use Rattle.vat_machine.specs.declared.node.Node.TheVariants as node
-use Rattle.vat_machine.specs.declared.node.Reason.TheVariants.{BrokenPromise}
-use Rattle.vat_machine.specs.Nodes.{is_promise, settle}
-use Rattle.vat_machine.specs.Refusals.{refused}
-use Rattle.vat_machine.specs.Settling.{FixesPromise}
-use Rattle.vat_machine.specs.Advancing.{Advances}
-use Rattle.vat_machine.specs.Commands.{Acts, AnswersTask, RejectsPromise, ResolvesPromise, answered, head_of, heads, settled_now}
-use Rattle.vat_machine.specs.Progress.{Progress, caps_of}
-use Rattle.vat_machine.specs.State.{State}
-use Rattle.vat_machine.specs.declared.calls.Value.{Value}
-use Rattle.vat_machine.specs.declared.calls.Value.TheVariants as value
+use Rattle.rpc_machine.specs.declared.node.Node.{Node}
+use Rattle.rpc_machine.specs.declared.node.Node.TheVariants as node
+use Rattle.rpc_machine.specs.declared.node.Reason.TheVariants.{BrokenPromise}
+use Rattle.rpc_machine.specs.Nodes.{is_promise, settle}
+use Rattle.rpc_machine.specs.Refusals.{refused}
+use Rattle.rpc_machine.specs.Settling.{FixesPromise}
+use Rattle.rpc_machine.specs.Advancing.{Advances}
+use Rattle.rpc_machine.specs.Commands.{Acts, AnswersTask, RejectsPromise, ResolvesPromise, answered, head_of, heads, settled_now}
+use Rattle.rpc_machine.specs.Progress.{Progress, caps_of}
+use Rattle.rpc_machine.specs.State.{State}
+use Rattle.rpc_machine.specs.declared.calls.Value.{Value}
+use Rattle.rpc_machine.specs.declared.calls.Value.TheVariants as value
 use Rattle.laws_routes.specs.SayingLaws.{MayAdvanceFrom}
 use Rattle.laws_routes.specs.StepLaws.{MayAct, MayAnswer, MayCallFrom, MayReject, MayResolve}
 use Rattle.laws_routes.specs.Ties.{Around}

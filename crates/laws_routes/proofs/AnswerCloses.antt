@@ -18,19 +18,19 @@ use Rattle.rpc_msg.specs.declared.message.Message.TheVariants as message
 use Rattle.rpc_msg.specs.Messages.{given}
 use Rattle.rpc_msg.specs.Paths.{fields}
 use Rattle.rpc_msg.specs.Vats.{other_vat}
-use Rattle.vat_journal.specs.History.{caller, in_front}
-use Rattle.vat_machine.specs.declared.calls.Value.{Value}
-use Rattle.vat_machine.specs.declared.entries.AnswerEntry.{AnswerEntry}
-use Rattle.vat_machine.specs.declared.entries.Question.{Question}
-use Rattle.vat_machine.specs.State.{State}
-use Rattle.vat_machine.specs.Progress.{Progress, with_state, numbers}
-use Rattle.vat_machine.specs.Faults.{gave}
-use Rattle.vat_machine.specs.Flags.{flag_for, give_if, obey}
-use Rattle.vat_machine.specs.Messages.{TakesFinish, finished_map}
-use Rattle.vat_machine.specs.Settling.{Returns, returned, returned_map}
-use Rattle.call_order.specs.Machine.{Call, Disembargo}
-use Rattle.call_order.specs.Machine as routing
-use Rattle.call_order.specs.Moves.{Done}
+use Rattle.rpc_journal.specs.History.{caller, in_front}
+use Rattle.rpc_machine.specs.declared.calls.Value.{Value}
+use Rattle.rpc_machine.specs.declared.entries.AnswerEntry.{AnswerEntry}
+use Rattle.rpc_machine.specs.declared.entries.Question.{Question}
+use Rattle.rpc_machine.specs.State.{State}
+use Rattle.rpc_machine.specs.Progress.{Progress, with_state, numbers}
+use Rattle.rpc_machine.specs.Faults.{gave}
+use Rattle.rpc_machine.specs.Flags.{flag_for, give_if, obey}
+use Rattle.rpc_machine.specs.Messages.{TakesFinish, finished_map}
+use Rattle.rpc_machine.specs.Settling.{Returns, returned, returned_map}
+use Rattle.laws_order.specs.Machine.{Call, Disembargo}
+use Rattle.laws_order.specs.Machine as routing
+use Rattle.laws_order.specs.Moves.{Done}
 use Rattle.laws_routes.specs.Points.{AField, routes}
 use Rattle.laws_routes.specs.Ghosts.{Ghost}
 use Rattle.laws_routes.specs.Views.{Reader, IsSession, disembargo_shape, embargo_ref, past, past_one, reader, session_of, sessions_at, shape, shapes, target_point}
@@ -49,7 +49,7 @@ use Rattle.laws_routes.specs.KnownLaws.{has_past}
 use Rattle.laws_routes.proofs.SayingsCarried.{said_as_closed}
 use Rattle.rpc_msg.specs.declared.message.ReturnBody.{ReturnBody}
 use Rattle.rpc_msg.specs.declared.message.ReturnBody.TheVariants as body
-use Rattle.vat_machine.specs.Settling.{SaysBack}
+use Rattle.rpc_machine.specs.Settling.{SaysBack}
 
 -- ---- A link, read by other sessions of the question q at which nothing is aimed
 

@@ -5,16 +5,16 @@ use Rattle.finite_maps.proofs.Tested.{equal, get_left}
 use Rattle.rpc_msg.specs.declared.ids.QuestionId.{QuestionId}
 use Rattle.rpc_msg.specs.declared.parts.Descriptor.{Descriptor}
 use Rattle.rpc_msg.specs.declared.message.ReturnBody.{ReturnBody}
-use Rattle.vat_machine.specs.declared.calls.Caller.TheVariants as who
-use Rattle.vat_machine.specs.declared.calls.KeptOutcome.{KeptOutcome}
-use Rattle.vat_machine.specs.declared.calls.Value.{Value}
-use Rattle.vat_machine.specs.declared.calls.Value.TheVariants as value
-use Rattle.vat_machine.specs.declared.entries.AnswerEntry.{AnswerEntry}
-use Rattle.vat_machine.specs.State.{State}
-use Rattle.vat_machine.specs.Progress.{Progress, with_state, numbers}
-use Rattle.vat_machine.specs.Flags.{flag_for, give_if}
-use Rattle.vat_machine.specs.Collecting.{AnswerIsOther, CallerIsDone, IsLooseOutcome, IsLooseValue, Goes, PromiseGoes, OutcomeGoes, ImportGoes, Collects, Tight, Loose}
-use Rattle.vat_machine.specs.Settling.{SaysBack, Returns, TellsPeer}
+use Rattle.rpc_machine.specs.declared.calls.Caller.TheVariants as who
+use Rattle.rpc_machine.specs.declared.calls.KeptOutcome.{KeptOutcome}
+use Rattle.rpc_machine.specs.declared.calls.Value.{Value}
+use Rattle.rpc_machine.specs.declared.calls.Value.TheVariants as value
+use Rattle.rpc_machine.specs.declared.entries.AnswerEntry.{AnswerEntry}
+use Rattle.rpc_machine.specs.State.{State}
+use Rattle.rpc_machine.specs.Progress.{Progress, with_state, numbers}
+use Rattle.rpc_machine.specs.Flags.{flag_for, give_if}
+use Rattle.rpc_machine.specs.Collecting.{AnswerIsOther, CallerIsDone, IsLooseOutcome, IsLooseValue, Goes, PromiseGoes, OutcomeGoes, ImportGoes, Collects, Tight, Loose}
+use Rattle.rpc_machine.specs.Settling.{SaysBack, Returns, TellsPeer}
 use Rattle.laws_routes.specs.Premises.{IsAnswerOf}
 use Rattle.laws_routes.proofs.ExportsGrown.{described_all}
 

@@ -9,23 +9,23 @@ use Rattle.rpc_msg.specs.declared.message.PlainMessage.TheVariants as plain
 use Rattle.rpc_msg.specs.declared.message.Message as rpc
 use Rattle.rpc_msg.specs.declared.message.Message.TheVariants as message
 use Rattle.rpc_msg.specs.Paths.{fields}
-use Rattle.vat_journal.specs.History.{caller}
-use Rattle.vat_machine.specs.declared.calls.WaitingCall.{WaitingCall}
-use Rattle.vat_machine.specs.declared.node.Node.{Node}
-use Rattle.vat_machine.specs.declared.entries.AnswerEntry.{AnswerEntry}
-use Rattle.vat_machine.specs.declared.entries.Export.{Export}
-use Rattle.vat_machine.specs.State.{State}
-use Rattle.vat_machine.specs.Nodes.{is_field, is_wire, settle}
-use Rattle.vat_machine.specs.Progress.{Progress, with_state}
-use Rattle.vat_machine.specs.Descriptors.{answer_node, export_node, take_all, taken_of}
-use Rattle.vat_machine.specs.Faults.{target_node}
-use Rattle.vat_machine.specs.Messages.{TakesCall, opened, received_request}
-use Rattle.vat_machine.specs.Routing.{Routes}
-use Rattle.call_order.specs.Machine.{Message, Call}
-use Rattle.call_order.specs.Machine as routing
-use Rattle.call_order.specs.Invariant.{InvariantWith}
-use Rattle.call_order.specs.Moves.{Moves}
-use Rattle.call_order.proofs.Moves.{moves_keep}
+use Rattle.rpc_journal.specs.History.{caller}
+use Rattle.rpc_machine.specs.declared.calls.WaitingCall.{WaitingCall}
+use Rattle.rpc_machine.specs.declared.node.Node.{Node}
+use Rattle.rpc_machine.specs.declared.entries.AnswerEntry.{AnswerEntry}
+use Rattle.rpc_machine.specs.declared.entries.Export.{Export}
+use Rattle.rpc_machine.specs.State.{State}
+use Rattle.rpc_machine.specs.Nodes.{is_field, is_wire, settle}
+use Rattle.rpc_machine.specs.Progress.{Progress, with_state}
+use Rattle.rpc_machine.specs.Descriptors.{answer_node, export_node, take_all, taken_of}
+use Rattle.rpc_machine.specs.Faults.{target_node}
+use Rattle.rpc_machine.specs.Messages.{TakesCall, opened, received_request}
+use Rattle.rpc_machine.specs.Routing.{Routes}
+use Rattle.laws_order.specs.Machine.{Message, Call}
+use Rattle.laws_order.specs.Machine as routing
+use Rattle.laws_order.specs.Invariant.{InvariantWith}
+use Rattle.laws_order.specs.Moves.{Moves}
+use Rattle.laws_order.proofs.Moves.{moves_keep}
 use Rattle.laws_routes.specs.Points.{Point, AField, routes}
 use Rattle.laws_routes.specs.Ghosts.{Ghost, point, keeping}
 use Rattle.laws_routes.specs.Sides.{EndsAs, Side}

@@ -4,19 +4,19 @@ use Rattle.std.proofs.Common.{◌≡◌, ◌⊎◌, ℕ, ◌+◌, true, false, L
 use Rattle.rpc_msg.specs.declared.ids.Vat.{Vat}
 use Rattle.rpc_msg.specs.declared.ids.ObjectId.{ObjectId}
 use Rattle.rpc_msg.specs.Vats.{other_vat}
-use Rattle.vat_journal.specs.declared.report.Delivery.{Delivery}
-use Rattle.vat_journal.specs.History.{Ref, DeliveredAt, caller}
-use Rattle.vat_machine.specs.declared.calls.WaitingCall.{WaitingCall}
-use Rattle.vat_machine.specs.declared.entries.Reference.{Reference}
-use Rattle.vat_machine.specs.declared.entries.Embargo.{Embargo}
-use Rattle.vat_machine.specs.State.{State}
-use Rattle.vat_machine.specs.Progress.{Progress, with_refs, new_refs, tell_delivery}
-use Rattle.vat_machine.specs.Routing.{deliver}
-use Rattle.call_order.specs.Machine.{Message, Call, changed, choose, put_ref}
-use Rattle.call_order.specs.Machine as routing
-use Rattle.call_order.specs.Routing as route
-use Rattle.call_order.specs.Moves.{Next, Routes}
-use Rattle.call_order.proofs.Choices.{by_choice}
+use Rattle.rpc_journal.specs.declared.report.Delivery.{Delivery}
+use Rattle.rpc_journal.specs.History.{Ref, DeliveredAt, caller}
+use Rattle.rpc_machine.specs.declared.calls.WaitingCall.{WaitingCall}
+use Rattle.rpc_machine.specs.declared.entries.Reference.{Reference}
+use Rattle.rpc_machine.specs.declared.entries.Embargo.{Embargo}
+use Rattle.rpc_machine.specs.State.{State}
+use Rattle.rpc_machine.specs.Progress.{Progress, with_refs, new_refs, tell_delivery}
+use Rattle.rpc_machine.specs.Routing.{deliver}
+use Rattle.laws_order.specs.Machine.{Message, Call, changed, choose, put_ref}
+use Rattle.laws_order.specs.Machine as routing
+use Rattle.laws_order.specs.Routing as route
+use Rattle.laws_order.specs.Moves.{Next, Routes}
+use Rattle.laws_order.proofs.Choices.{by_choice}
 use Rattle.laws_routes.specs.Points.{Point, AnObject, routes}
 use Rattle.laws_routes.specs.Ghosts.{Ghost, ref_at}
 use Rattle.laws_routes.specs.Sides.{Side, IsRef, IsEmbargo, HasEmbargo, IsEmbargoOf}

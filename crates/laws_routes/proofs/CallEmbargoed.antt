@@ -12,21 +12,21 @@ use Rattle.rpc_msg.specs.declared.message.PlainMessage.TheVariants as plain
 use Rattle.rpc_msg.specs.declared.message.Message.{Message}
 use Rattle.rpc_msg.specs.declared.message.Message.TheVariants as message
 use Rattle.rpc_msg.specs.Vats.{other_vat}
-use Rattle.vat_journal.specs.History.{Ref, DeliveredAt, caller, in_front}
-use Rattle.vat_machine.specs.declared.calls.Caller.TheVariants as caller_of
-use Rattle.vat_machine.specs.declared.calls.OwnCall.TheVariants as own_call
-use Rattle.vat_machine.specs.declared.calls.Request.{Request}
-use Rattle.vat_machine.specs.declared.calls.WaitingCall.{WaitingCall}
-use Rattle.vat_machine.specs.declared.entries.Reference.{Reference}
-use Rattle.vat_machine.specs.declared.entries.Embargo.{Embargo}
-use Rattle.vat_machine.specs.State.{State}
-use Rattle.vat_machine.specs.Progress.{Progress, with_state}
-use Rattle.vat_machine.specs.Commands.{counted, kept, with_outcome, WaitsForEmbargo}
-use Rattle.call_order.specs.Machine.{Call, Disembargo, Echo, Embargo as Kept, changed, choose, put_ref}
-use Rattle.call_order.specs.Machine as routing
-use Rattle.call_order.specs.Events.{Make, happens, make, one_more}
-use Rattle.call_order.specs.Moves.{Done, Next, Happens}
-use Rattle.call_order.proofs.Choices.{by_choice, changed_here, changed_other}
+use Rattle.rpc_journal.specs.History.{Ref, DeliveredAt, caller, in_front}
+use Rattle.rpc_machine.specs.declared.calls.Caller.TheVariants as caller_of
+use Rattle.rpc_machine.specs.declared.calls.OwnCall.TheVariants as own_call
+use Rattle.rpc_machine.specs.declared.calls.Request.{Request}
+use Rattle.rpc_machine.specs.declared.calls.WaitingCall.{WaitingCall}
+use Rattle.rpc_machine.specs.declared.entries.Reference.{Reference}
+use Rattle.rpc_machine.specs.declared.entries.Embargo.{Embargo}
+use Rattle.rpc_machine.specs.State.{State}
+use Rattle.rpc_machine.specs.Progress.{Progress, with_state}
+use Rattle.rpc_machine.specs.Commands.{counted, kept, with_outcome, WaitsForEmbargo}
+use Rattle.laws_order.specs.Machine.{Call, Disembargo, Echo, Embargo as Kept, changed, choose, put_ref}
+use Rattle.laws_order.specs.Machine as routing
+use Rattle.laws_order.specs.Events.{Make, happens, make, one_more}
+use Rattle.laws_order.specs.Moves.{Done, Next, Happens}
+use Rattle.laws_order.proofs.Choices.{by_choice, changed_here, changed_other}
 use Rattle.laws_routes.specs.Points.{routes}
 use Rattle.laws_routes.specs.Ghosts.{Ghost, ref_at, keeping}
 use Rattle.laws_routes.specs.Sides.{Side, AreCalls, HasHead, IsRef, IsEmbargo, HasEmbargo, IsEmbargoOf}

@@ -11,29 +11,29 @@ use Rattle.rpc_msg.specs.declared.message.Message.TheVariants as message
 use Rattle.rpc_msg.specs.declared.message.Message as rpc
 use Rattle.rpc_msg.specs.Messages.{given}
 use Rattle.rpc_msg.specs.Vats.{other_vat}
-use Rattle.vat_journal.specs.History.{caller}
-use Rattle.vat_machine.specs.declared.node.Node.{Node}
-use Rattle.vat_machine.specs.declared.node.Node.TheVariants as node
-use Rattle.vat_machine.specs.declared.calls.Request.{Request}
-use Rattle.vat_machine.specs.declared.calls.KeptOutcome.{KeptOutcome}
-use Rattle.vat_machine.specs.declared.calls.Promise.{Promise}
-use Rattle.vat_machine.specs.declared.entries.Role.{Role}
-use Rattle.vat_machine.specs.declared.entries.Finishing.TheVariants as finishing
-use Rattle.vat_machine.specs.declared.entries.Reference.{Reference}
-use Rattle.vat_machine.specs.declared.entries.Embargo.{Embargo}
-use Rattle.vat_machine.specs.declared.entries.Export.{Export}
-use Rattle.vat_machine.specs.declared.entries.Import.{Import}
-use Rattle.vat_machine.specs.declared.entries.Question.{Question}
-use Rattle.vat_machine.specs.State.{State}
-use Rattle.vat_machine.specs.Nodes.{link, is_wire, is_pipe}
-use Rattle.vat_machine.specs.Progress.{Progress, export_ids}
-use Rattle.vat_machine.specs.Descriptors.{export_node}
-use Rattle.vat_machine.specs.Routing.{Asks}
+use Rattle.rpc_journal.specs.History.{caller}
+use Rattle.rpc_machine.specs.declared.node.Node.{Node}
+use Rattle.rpc_machine.specs.declared.node.Node.TheVariants as node
+use Rattle.rpc_machine.specs.declared.calls.Request.{Request}
+use Rattle.rpc_machine.specs.declared.calls.KeptOutcome.{KeptOutcome}
+use Rattle.rpc_machine.specs.declared.calls.Promise.{Promise}
+use Rattle.rpc_machine.specs.declared.entries.Role.{Role}
+use Rattle.rpc_machine.specs.declared.entries.Finishing.TheVariants as finishing
+use Rattle.rpc_machine.specs.declared.entries.Reference.{Reference}
+use Rattle.rpc_machine.specs.declared.entries.Embargo.{Embargo}
+use Rattle.rpc_machine.specs.declared.entries.Export.{Export}
+use Rattle.rpc_machine.specs.declared.entries.Import.{Import}
+use Rattle.rpc_machine.specs.declared.entries.Question.{Question}
+use Rattle.rpc_machine.specs.State.{State}
+use Rattle.rpc_machine.specs.Nodes.{link, is_wire, is_pipe}
+use Rattle.rpc_machine.specs.Progress.{Progress, export_ids}
+use Rattle.rpc_machine.specs.Descriptors.{export_node}
+use Rattle.rpc_machine.specs.Routing.{Asks}
 use Rattle.laws_steps.specs.Settled.{IsThere}
-use Rattle.call_order.specs.Machine.{Kind, Message, Net, Call, changed, same_vat}
-use Rattle.call_order.specs.Machine as routing
-use Rattle.call_order.specs.Routing as route
-use Rattle.call_order.proofs.Choices.{changed_here, changed_other}
+use Rattle.laws_order.specs.Machine.{Kind, Message, Net, Call, changed, same_vat}
+use Rattle.laws_order.specs.Machine as routing
+use Rattle.laws_order.specs.Routing as route
+use Rattle.laws_order.proofs.Choices.{changed_here, changed_other}
 use Rattle.laws_routes.specs.Points.{Point, vat_of, end, routes}
 use Rattle.laws_routes.specs.Ghosts.{Ghost, point, far, with_at, ref_at, asked}
 use Rattle.laws_routes.specs.Sides.{Side, IsLinked, HasHead, IsRef, HasEmbargo, Ids}

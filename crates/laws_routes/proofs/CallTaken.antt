@@ -9,20 +9,20 @@ use Rattle.rpc_msg.specs.declared.message.PlainMessage.TheVariants as plain
 use Rattle.rpc_msg.specs.declared.message.Message as rpc
 use Rattle.rpc_msg.specs.declared.message.Message.TheVariants as message
 use Rattle.rpc_msg.specs.Vats.{other_vat}
-use Rattle.vat_journal.specs.History.{caller}
-use Rattle.vat_machine.specs.declared.calls.Caller.TheVariants as caller_of
-use Rattle.vat_machine.specs.declared.entries.AnswerEntry.{AnswerEntry}
-use Rattle.vat_machine.specs.declared.entries.Export.{Export}
-use Rattle.vat_machine.specs.declared.entries.Import.{Import}
-use Rattle.vat_machine.specs.State.{State}
-use Rattle.vat_machine.specs.Nodes.{is_field}
-use Rattle.vat_machine.specs.Progress.{Progress, with_state, export_ids}
-use Rattle.vat_machine.specs.Messages.{opened}
-use Rattle.vat_machine.specs.Descriptors.{export_node}
-use Rattle.call_order.specs.Machine.{Message, Content, Call, changed, same_vat}
-use Rattle.call_order.specs.Machine as routing
-use Rattle.call_order.specs.Moves.{Moves, Done, Next, Comes, with_link}
-use Rattle.call_order.proofs.Choices.{changed_here, changed_other}
+use Rattle.rpc_journal.specs.History.{caller}
+use Rattle.rpc_machine.specs.declared.calls.Caller.TheVariants as caller_of
+use Rattle.rpc_machine.specs.declared.entries.AnswerEntry.{AnswerEntry}
+use Rattle.rpc_machine.specs.declared.entries.Export.{Export}
+use Rattle.rpc_machine.specs.declared.entries.Import.{Import}
+use Rattle.rpc_machine.specs.State.{State}
+use Rattle.rpc_machine.specs.Nodes.{is_field}
+use Rattle.rpc_machine.specs.Progress.{Progress, with_state, export_ids}
+use Rattle.rpc_machine.specs.Messages.{opened}
+use Rattle.rpc_machine.specs.Descriptors.{export_node}
+use Rattle.laws_order.specs.Machine.{Message, Content, Call, changed, same_vat}
+use Rattle.laws_order.specs.Machine as routing
+use Rattle.laws_order.specs.Moves.{Moves, Done, Next, Comes, with_link}
+use Rattle.laws_order.proofs.Choices.{changed_here, changed_other}
 use Rattle.laws_routes.specs.Points.{Point, end, routes}
 use Rattle.laws_routes.specs.Ghosts.{Ghost, point, with_at, keeping}
 use Rattle.laws_routes.specs.Views.{Shape, IsImportOf, IsSession, past, reader, session_of, sessions_at, shapes, shapes_of, target_of, target_point}

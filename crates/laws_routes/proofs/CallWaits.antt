@@ -7,22 +7,22 @@ use Rattle.finite_maps.proofs.Gets.{get-insert_same}
 use Rattle.finite_maps.proofs.Tested.{apart, at_put}
 use Rattle.rpc_msg.specs.declared.ids.Vat.{Vat}
 use Rattle.rpc_msg.specs.Vats.{other_vat}
-use Rattle.vat_journal.specs.History.{caller}
-use Rattle.vat_machine.specs.declared.node.Node.TheVariants as node
-use Rattle.vat_machine.specs.declared.calls.WaitingCall.{WaitingCall}
-use Rattle.vat_machine.specs.declared.calls.HeldCall.{HeldCall}
-use Rattle.vat_machine.specs.declared.calls.KeptOutcome.{KeptOutcome}
-use Rattle.vat_machine.specs.declared.calls.Promise.{Promise}
-use Rattle.vat_machine.specs.declared.calls.Promise.TheVariants as promise
-use Rattle.vat_machine.specs.State.{State}
-use Rattle.vat_machine.specs.Nodes.{promise_link, field_link, value_of}
-use Rattle.vat_machine.specs.Progress.{Progress}
-use Rattle.vat_machine.specs.Routing.{WaitsForPromise, WaitsForField}
-use Rattle.call_order.specs.Machine.{Kind, Message, Net, Call, changed, choose}
-use Rattle.call_order.specs.Machine as routing
-use Rattle.call_order.specs.Routing as route
-use Rattle.call_order.specs.Moves.{Done, Next, Routes}
-use Rattle.call_order.proofs.Choices.{by_choice, changed_here, changed_other}
+use Rattle.rpc_journal.specs.History.{caller}
+use Rattle.rpc_machine.specs.declared.node.Node.TheVariants as node
+use Rattle.rpc_machine.specs.declared.calls.WaitingCall.{WaitingCall}
+use Rattle.rpc_machine.specs.declared.calls.HeldCall.{HeldCall}
+use Rattle.rpc_machine.specs.declared.calls.KeptOutcome.{KeptOutcome}
+use Rattle.rpc_machine.specs.declared.calls.Promise.{Promise}
+use Rattle.rpc_machine.specs.declared.calls.Promise.TheVariants as promise
+use Rattle.rpc_machine.specs.State.{State}
+use Rattle.rpc_machine.specs.Nodes.{promise_link, field_link, value_of}
+use Rattle.rpc_machine.specs.Progress.{Progress}
+use Rattle.rpc_machine.specs.Routing.{WaitsForPromise, WaitsForField}
+use Rattle.laws_order.specs.Machine.{Kind, Message, Net, Call, changed, choose}
+use Rattle.laws_order.specs.Machine as routing
+use Rattle.laws_order.specs.Routing as route
+use Rattle.laws_order.specs.Moves.{Done, Next, Routes}
+use Rattle.laws_order.proofs.Choices.{by_choice, changed_here, changed_other}
 use Rattle.laws_routes.specs.Points.{Point, APromise, AField, Group, OfPromise, OfOutcome, routes}
 use Rattle.laws_routes.specs.Ghosts.{Ghost}
 use Rattle.laws_routes.specs.Sides.{Side, Stops, IsLinked, Queue, AllWait, AllHeld, WaitsAt, PromiseWaits, HeldFor, OutcomeHolds, IsOpenPromise, IsOpenOutcome, Lists, Ids}

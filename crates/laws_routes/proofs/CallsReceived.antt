@@ -15,22 +15,22 @@ use Rattle.rpc_msg.specs.declared.parts.Descriptor.TheVariants as descriptor
 use Rattle.rpc_msg.specs.declared.parts.Target.{Target}
 use Rattle.rpc_msg.specs.declared.parts.Target.TheVariants.{ImportedCap, PromisedAnswer}
 use Rattle.rpc_msg.specs.Messages.{descriptors_of_resolved, given}
-use Rattle.vat_journal.specs.History.{if_so, or_rest}
-use Rattle.vat_machine.specs.declared.command.Level.{Level}
-use Rattle.vat_machine.specs.declared.command.Level.TheVariants.{One}
-use Rattle.vat_machine.specs.declared.entries.Import.{Import}
-use Rattle.vat_machine.specs.declared.entries.Resolution.{Resolution}
-use Rattle.vat_machine.specs.declared.entries.Resolution.TheVariants as resolution
-use Rattle.vat_machine.specs.declared.node.Node.{Node}
-use Rattle.vat_machine.specs.State.{State}
-use Rattle.vat_machine.specs.Advancing.{IsBroken, Leads, known_by, known_by_resolve, resolution_of}
-use Rattle.vat_machine.specs.Descriptors.{read, read_all, take_all, taken_of}
-use Rattle.vat_machine.specs.Faults.{descriptor_fault, descriptors_fault, each_fault, faults_at, plain_fault, resolve_fault, target_node}
-use Rattle.vat_machine.specs.Lists.{updated}
-use Rattle.vat_machine.specs.Messages.{TakesCall, opened, received_request, resolve_import, set_resolution, take_resolve}
-use Rattle.vat_machine.specs.Nodes.{settle}
-use Rattle.vat_machine.specs.Progress.{Progress, with_state}
-use Rattle.vat_machine.specs.Routing.{Routes}
+use Rattle.rpc_journal.specs.History.{if_so, or_rest}
+use Rattle.rpc_machine.specs.declared.command.Level.{Level}
+use Rattle.rpc_machine.specs.declared.command.Level.TheVariants.{One}
+use Rattle.rpc_machine.specs.declared.entries.Import.{Import}
+use Rattle.rpc_machine.specs.declared.entries.Resolution.{Resolution}
+use Rattle.rpc_machine.specs.declared.entries.Resolution.TheVariants as resolution
+use Rattle.rpc_machine.specs.declared.node.Node.{Node}
+use Rattle.rpc_machine.specs.State.{State}
+use Rattle.rpc_machine.specs.Advancing.{IsBroken, Leads, known_by, known_by_resolve, resolution_of}
+use Rattle.rpc_machine.specs.Descriptors.{read, read_all, take_all, taken_of}
+use Rattle.rpc_machine.specs.Faults.{descriptor_fault, descriptors_fault, each_fault, faults_at, plain_fault, resolve_fault, target_node}
+use Rattle.rpc_machine.specs.Lists.{updated}
+use Rattle.rpc_machine.specs.Messages.{TakesCall, opened, received_request, resolve_import, set_resolution, take_resolve}
+use Rattle.rpc_machine.specs.Nodes.{settle}
+use Rattle.rpc_machine.specs.Progress.{Progress, with_state}
+use Rattle.rpc_machine.specs.Routing.{Routes}
 use Rattle.laws_steps.proofs.NamedMessages.{free_answer}
 use Rattle.laws_routes.specs.Laws.{with_back}
 use Rattle.laws_routes.specs.Named.{EachMet}

@@ -1,20 +1,20 @@
 -- The calls of a list are routed.
 use Rattle.std.proofs.Common.{◌≡◌, ℕ, true, false, List, [], ◌∷◌, refl, sym, ap, subst, ◌∙◌}
 use Rattle.rpc_msg.specs.declared.ids.Vat.{Vat}
-use Rattle.vat_journal.specs.History.{caller}
-use Rattle.vat_machine.specs.declared.node.Node.{Node}
-use Rattle.vat_machine.specs.declared.node.Node.TheVariants as node
-use Rattle.vat_machine.specs.declared.calls.WaitingCall.{WaitingCall}
-use Rattle.vat_machine.specs.Nodes.{settle, is_wire}
-use Rattle.vat_machine.specs.Progress.{Progress}
-use Rattle.vat_machine.specs.Routing.{RoutesAll}
-use Rattle.vat_machine.specs.Laws.{SettlesWhereItLeads}
-use Rattle.vat_machine.proofs.Settles.{settle_stops, settle_link}
-use Rattle.call_order.specs.Machine.{Message, Net, Call}
-use Rattle.call_order.specs.Machine as routing
-use Rattle.call_order.specs.Invariant.{InvariantWith}
-use Rattle.call_order.specs.Moves.{Done}
-use Rattle.call_order.proofs.Moves.{moves_keep}
+use Rattle.rpc_journal.specs.History.{caller}
+use Rattle.rpc_machine.specs.declared.node.Node.{Node}
+use Rattle.rpc_machine.specs.declared.node.Node.TheVariants as node
+use Rattle.rpc_machine.specs.declared.calls.WaitingCall.{WaitingCall}
+use Rattle.rpc_machine.specs.Nodes.{settle, is_wire}
+use Rattle.rpc_machine.specs.Progress.{Progress}
+use Rattle.rpc_machine.specs.Routing.{RoutesAll}
+use Rattle.rpc_machine.specs.Laws.{SettlesWhereItLeads}
+use Rattle.rpc_machine.proofs.Settles.{settle_stops, settle_link}
+use Rattle.laws_order.specs.Machine.{Message, Net, Call}
+use Rattle.laws_order.specs.Machine as routing
+use Rattle.laws_order.specs.Invariant.{InvariantWith}
+use Rattle.laws_order.specs.Moves.{Done}
+use Rattle.laws_order.proofs.Moves.{moves_keep}
 use Rattle.laws_routes.specs.Points.{Point, routes}
 use Rattle.laws_routes.specs.Ghosts.{Ghost, point}
 use Rattle.laws_routes.specs.Sides.{EndsAs}

@@ -4,15 +4,15 @@ use Rattle.std.proofs.Common.{◌≡◌, ℕ, ◌+◌, ◌++◌, false, Option, 
 use Rattle.finite_maps.proofs.Gets.{get-insert_same}
 use Rattle.rpc_msg.specs.declared.parts.Descriptor.{Descriptor}
 use Rattle.rpc_msg.specs.Vats.{other_vat}
-use Rattle.vat_machine.specs.declared.node.Node.{Node}
-use Rattle.vat_machine.specs.declared.node.Node.TheVariants as node
-use Rattle.vat_machine.specs.declared.entries.Export.{Export}
-use Rattle.vat_machine.specs.State.{State}
-use Rattle.vat_machine.specs.Nodes.{is_wire}
-use Rattle.vat_machine.specs.Progress.{Progress}
-use Rattle.vat_machine.specs.Descriptors.{ExportedAs, Described, export_node}
-use Rattle.call_order.specs.Machine.{Net}
-use Rattle.call_order.specs.Machine as routing
+use Rattle.rpc_machine.specs.declared.node.Node.{Node}
+use Rattle.rpc_machine.specs.declared.node.Node.TheVariants as node
+use Rattle.rpc_machine.specs.declared.entries.Export.{Export}
+use Rattle.rpc_machine.specs.State.{State}
+use Rattle.rpc_machine.specs.Nodes.{is_wire}
+use Rattle.rpc_machine.specs.Progress.{Progress}
+use Rattle.rpc_machine.specs.Descriptors.{ExportedAs, Described, export_node}
+use Rattle.laws_order.specs.Machine.{Net}
+use Rattle.laws_order.specs.Machine as routing
 use Rattle.laws_routes.specs.Points.{Point, AField, vat_of, routes}
 use Rattle.laws_routes.specs.Ghosts.{point}
 use Rattle.laws_routes.specs.Sides.{EndsAs, IsLinked}

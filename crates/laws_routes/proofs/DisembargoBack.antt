@@ -9,14 +9,14 @@ use Rattle.rpc_msg.specs.declared.message.PlainMessage.TheVariants as plain
 use Rattle.rpc_msg.specs.declared.message.Message as rpc
 use Rattle.rpc_msg.specs.declared.message.Message.TheVariants as message
 use Rattle.rpc_msg.specs.Vats.{other_vat}
-use Rattle.vat_machine.specs.State.{State}
-use Rattle.vat_machine.specs.Progress.{Progress, send}
-use Rattle.call_order.specs.Machine.{Message, Content, Call, Disembargo, Echo, Kind, Net, changed, same_vat}
-use Rattle.call_order.specs.Machine as routing
-use Rattle.call_order.specs.Routing as route
-use Rattle.call_order.specs.Events.{Receive, happens, echo_back, receive, receive_as}
-use Rattle.call_order.specs.Moves.{Done, Next, Happens}
-use Rattle.call_order.proofs.Choices.{changed_here, changed_other}
+use Rattle.rpc_machine.specs.State.{State}
+use Rattle.rpc_machine.specs.Progress.{Progress, send}
+use Rattle.laws_order.specs.Machine.{Message, Content, Call, Disembargo, Echo, Kind, Net, changed, same_vat}
+use Rattle.laws_order.specs.Machine as routing
+use Rattle.laws_order.specs.Routing as route
+use Rattle.laws_order.specs.Events.{Receive, happens, echo_back, receive, receive_as}
+use Rattle.laws_order.specs.Moves.{Done, Next, Happens}
+use Rattle.laws_order.proofs.Choices.{changed_here, changed_other}
 use Rattle.laws_routes.specs.Points.{Point, vat_of, end, routes}
 use Rattle.laws_routes.specs.Ghosts.{Ghost}
 use Rattle.laws_routes.specs.Sides.{Side, Unborn}

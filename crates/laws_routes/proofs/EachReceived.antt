@@ -5,10 +5,10 @@ use Rattle.rpc_msg.specs.declared.message.Message.{Message}
 use Rattle.rpc_msg.specs.declared.message.Message.TheVariants as message
 use Rattle.rpc_msg.specs.declared.message.PlainMessage.{PlainMessage}
 use Rattle.rpc_msg.specs.declared.message.PlainMessage.TheVariants as plain
-use Rattle.vat_machine.specs.declared.command.Level.TheVariants.{One}
-use Rattle.vat_machine.specs.Faults.{plain_fault, resolve_fault}
-use Rattle.vat_machine.specs.Messages.{TakesPlain}
-use Rattle.vat_machine.specs.Progress.{Progress}
+use Rattle.rpc_machine.specs.declared.command.Level.TheVariants.{One}
+use Rattle.rpc_machine.specs.Faults.{plain_fault, resolve_fault}
+use Rattle.rpc_machine.specs.Messages.{TakesPlain}
+use Rattle.rpc_machine.specs.Progress.{Progress}
 use Rattle.laws_steps.proofs.NamedMessages.{free_answer}
 use Rattle.laws_routes.specs.Laws.{with_back}
 use Rattle.laws_routes.specs.StepLaws.{MayTakePlain}

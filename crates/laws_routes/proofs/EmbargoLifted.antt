@@ -12,23 +12,23 @@ use Rattle.rpc_msg.specs.declared.message.PlainMessage.TheVariants as plain
 use Rattle.rpc_msg.specs.declared.message.Message as rpc
 use Rattle.rpc_msg.specs.declared.message.Message.TheVariants as message
 use Rattle.rpc_msg.specs.Vats.{other_vat}
-use Rattle.vat_journal.specs.History.{Ref, DeliveredAt}
-use Rattle.vat_machine.specs.declared.calls.WaitingCall.{WaitingCall}
-use Rattle.vat_machine.specs.declared.entries.Reference.{Reference}
-use Rattle.vat_machine.specs.declared.entries.Embargo.{Embargo}
-use Rattle.vat_machine.specs.State.{State}
-use Rattle.vat_machine.specs.Lists.{update, updated}
-use Rattle.vat_machine.specs.Messages.{unembargoed}
-use Rattle.vat_machine.specs.Nodes.{is_wire}
-use Rattle.vat_machine.specs.Progress.{Progress}
-use Rattle.vat_machine.specs.Routing.{RoutesAll}
-use Rattle.call_order.specs.Machine.{Message, Content, Call, Echo, changed, put_ref, same_vat}
-use Rattle.call_order.specs.Machine as routing
-use Rattle.call_order.specs.Routing.{calls_to}
-use Rattle.call_order.specs.Invariant.{InvariantWith}
-use Rattle.call_order.specs.Moves.{Moves, Done, Next, Lifts, with_link}
-use Rattle.call_order.proofs.Moves.{moves_keep}
-use Rattle.call_order.proofs.Choices.{by_choice, changed_here, changed_other}
+use Rattle.rpc_journal.specs.History.{Ref, DeliveredAt}
+use Rattle.rpc_machine.specs.declared.calls.WaitingCall.{WaitingCall}
+use Rattle.rpc_machine.specs.declared.entries.Reference.{Reference}
+use Rattle.rpc_machine.specs.declared.entries.Embargo.{Embargo}
+use Rattle.rpc_machine.specs.State.{State}
+use Rattle.rpc_machine.specs.Lists.{update, updated}
+use Rattle.rpc_machine.specs.Messages.{unembargoed}
+use Rattle.rpc_machine.specs.Nodes.{is_wire}
+use Rattle.rpc_machine.specs.Progress.{Progress}
+use Rattle.rpc_machine.specs.Routing.{RoutesAll}
+use Rattle.laws_order.specs.Machine.{Message, Content, Call, Echo, changed, put_ref, same_vat}
+use Rattle.laws_order.specs.Machine as routing
+use Rattle.laws_order.specs.Routing.{calls_to}
+use Rattle.laws_order.specs.Invariant.{InvariantWith}
+use Rattle.laws_order.specs.Moves.{Moves, Done, Next, Lifts, with_link}
+use Rattle.laws_order.proofs.Moves.{moves_keep}
+use Rattle.laws_order.proofs.Choices.{by_choice, changed_here, changed_other}
 use Rattle.laws_routes.specs.Points.{Point, end, routes}
 use Rattle.laws_routes.specs.Ghosts.{Ghost, point, ref_at}
 use Rattle.laws_routes.specs.Sides.{Side, IsRef, IsEmbargo, HasEmbargo, IsEmbargoOf, AreCalls}

@@ -16,34 +16,34 @@ use Rattle.rpc_msg.specs.declared.message.ReturnBody.{ReturnBody}
 use Rattle.rpc_msg.specs.declared.message.ReturnBody.TheVariants as body
 use Rattle.rpc_msg.specs.declared.parts.Descriptor.{Descriptor}
 use Rattle.rpc_msg.specs.declared.parts.Descriptor.TheVariants as descriptor
-use Rattle.vat_machine.specs.declared.command.Command.{Command}
-use Rattle.vat_machine.specs.declared.command.Effects.{Effects}
-use Rattle.vat_machine.specs.declared.command.Granted.{Granted}
-use Rattle.vat_machine.specs.declared.command.Level.{Level}
-use Rattle.vat_machine.specs.declared.command.Level.TheVariants.{One, Zero}
-use Rattle.vat_machine.specs.declared.entries.AnswerEntry.{AnswerEntry}
-use Rattle.vat_machine.specs.declared.entries.Embargo.{Embargo}
-use Rattle.vat_machine.specs.declared.entries.Export.{Export}
-use Rattle.vat_machine.specs.declared.entries.Import.{Import}
-use Rattle.vat_machine.specs.declared.entries.Question.{Question}
-use Rattle.vat_machine.specs.declared.entries.Reference.{Reference}
-use Rattle.vat_machine.specs.declared.entries.Resolution.{Resolution}
-use Rattle.vat_machine.specs.declared.entries.Resolution.TheVariants as resolution
-use Rattle.vat_machine.specs.declared.entries.Returned.{Returned}
-use Rattle.vat_machine.specs.declared.node.Node.{Node}
-use Rattle.vat_machine.specs.declared.node.Node.TheVariants as node
-use Rattle.vat_machine.specs.State.{State, start}
-use Rattle.vat_machine.specs.Advancing.{Known, Leads, known_at, known_by, known_by_resolve, known_by_return, known_cap, known_of_wire, resolution_of, returned_of}
-use Rattle.vat_machine.specs.Descriptors.{answer_node, export_node, read, read_at, read_beside, take_all, take_at}
-use Rattle.vat_machine.specs.Faults.{fault_of}
-use Rattle.vat_machine.specs.Flags.{flag_for, give_back, give_each, give_if, give_one}
-use Rattle.vat_machine.specs.Lists.{updated}
-use Rattle.vat_machine.specs.Messages.{resolve_import, results_of, set_resolution, take_resolve, unembargoed}
-use Rattle.vat_machine.specs.Nodes.{is_wire, settle}
-use Rattle.vat_machine.specs.Payloads.{cap_at}
-use Rattle.vat_machine.specs.Progress.{caps_of, numbers, with_refs}
-use Rattle.vat_machine.specs.Steps.{Does, Handles}
-use Rattle.vat_machine.specs.Sweeping.{closed_map, got_of}
+use Rattle.rpc_machine.specs.declared.command.Command.{Command}
+use Rattle.rpc_machine.specs.declared.command.Effects.{Effects}
+use Rattle.rpc_machine.specs.declared.command.Granted.{Granted}
+use Rattle.rpc_machine.specs.declared.command.Level.{Level}
+use Rattle.rpc_machine.specs.declared.command.Level.TheVariants.{One, Zero}
+use Rattle.rpc_machine.specs.declared.entries.AnswerEntry.{AnswerEntry}
+use Rattle.rpc_machine.specs.declared.entries.Embargo.{Embargo}
+use Rattle.rpc_machine.specs.declared.entries.Export.{Export}
+use Rattle.rpc_machine.specs.declared.entries.Import.{Import}
+use Rattle.rpc_machine.specs.declared.entries.Question.{Question}
+use Rattle.rpc_machine.specs.declared.entries.Reference.{Reference}
+use Rattle.rpc_machine.specs.declared.entries.Resolution.{Resolution}
+use Rattle.rpc_machine.specs.declared.entries.Resolution.TheVariants as resolution
+use Rattle.rpc_machine.specs.declared.entries.Returned.{Returned}
+use Rattle.rpc_machine.specs.declared.node.Node.{Node}
+use Rattle.rpc_machine.specs.declared.node.Node.TheVariants as node
+use Rattle.rpc_machine.specs.State.{State, start}
+use Rattle.rpc_machine.specs.Advancing.{Known, Leads, known_at, known_by, known_by_resolve, known_by_return, known_cap, known_of_wire, resolution_of, returned_of}
+use Rattle.rpc_machine.specs.Descriptors.{answer_node, export_node, read, read_at, read_beside, take_all, take_at}
+use Rattle.rpc_machine.specs.Faults.{fault_of}
+use Rattle.rpc_machine.specs.Flags.{flag_for, give_back, give_each, give_if, give_one}
+use Rattle.rpc_machine.specs.Lists.{updated}
+use Rattle.rpc_machine.specs.Messages.{resolve_import, results_of, set_resolution, take_resolve, unembargoed}
+use Rattle.rpc_machine.specs.Nodes.{is_wire, settle}
+use Rattle.rpc_machine.specs.Payloads.{cap_at}
+use Rattle.rpc_machine.specs.Progress.{caps_of, numbers, with_refs}
+use Rattle.rpc_machine.specs.Steps.{Does, Handles}
+use Rattle.rpc_machine.specs.Sweeping.{closed_map, got_of}
 use Rattle.laws_acts.specs.FirstActs.{Starts, is_receiver}
 use Rattle.laws_acts.specs.FirstActs as first
 use Rattle.laws_acts.specs.MessageActs.{Back, Brings, ByEchoedCall, ByEchoedRoot, ByReturn, Consumes}

@@ -5,19 +5,19 @@ use Rattle.rpc_msg.specs.Op.{Op}
 use Rattle.finite_maps.proofs.Gets.{get-insert_same}
 use Rattle.finite_maps.proofs.Tested.{apart, get_other}
 use Rattle.rpc_msg.specs.declared.ids.Vat.{Vat}
-use Rattle.vat_machine.specs.declared.node.Node.{Node}
-use Rattle.vat_machine.specs.declared.node.Node.TheVariants as node
-use Rattle.vat_machine.specs.declared.calls.KeptOutcome.{KeptOutcome}
-use Rattle.vat_machine.specs.declared.calls.Value.{Value}
-use Rattle.vat_machine.specs.State.{State}
-use Rattle.vat_machine.specs.Nodes.{link, settle, is_wire, field_link, field_of, value_of}
-use Rattle.vat_machine.specs.Laws as machine
-use Rattle.vat_machine.specs.Settling.{known}
+use Rattle.rpc_machine.specs.declared.node.Node.{Node}
+use Rattle.rpc_machine.specs.declared.node.Node.TheVariants as node
+use Rattle.rpc_machine.specs.declared.calls.KeptOutcome.{KeptOutcome}
+use Rattle.rpc_machine.specs.declared.calls.Value.{Value}
+use Rattle.rpc_machine.specs.State.{State}
+use Rattle.rpc_machine.specs.Nodes.{link, settle, is_wire, field_link, field_of, value_of}
+use Rattle.rpc_machine.specs.Laws as machine
+use Rattle.rpc_machine.specs.Settling.{known}
 use Rattle.laws_steps.specs.Settled.{IsThere}
-use Rattle.call_order.specs.Machine.{Kind, Net}
-use Rattle.call_order.specs.Machine as routing
-use Rattle.call_order.specs.Events.{Fate, Merges, place_of, kind_of, new_stop, new_kind, settled}
-use Rattle.call_order.proofs.Choices.{by_choice}
+use Rattle.laws_order.specs.Machine.{Kind, Net}
+use Rattle.laws_order.specs.Machine as routing
+use Rattle.laws_order.specs.Events.{Fate, Merges, place_of, kind_of, new_stop, new_kind, settled}
+use Rattle.laws_order.proofs.Choices.{by_choice}
 use Rattle.laws_routes.specs.Points.{Point, AnObject, APromise, AField, Group, OfOutcome, group_of, routes}
 use Rattle.laws_routes.specs.Ghosts.{Ghost, point, far}
 use Rattle.laws_routes.specs.Sides.{Side, Stops, IsFinal, IsLinked, LinkedTo, SameEnd, EndsAs, own_kind}

@@ -17,36 +17,36 @@ use Rattle.rpc_msg.specs.declared.parts.Descriptor.TheVariants as descriptor
 use Rattle.rpc_msg.specs.declared.parts.Target.{Target}
 use Rattle.rpc_msg.specs.declared.parts.Target.TheVariants.{ImportedCap, PromisedAnswer}
 use Rattle.rpc_msg.specs.Paths.{fields}
-use Rattle.vat_machine.specs.declared.calls.Caller.TheVariants as caller_of
-use Rattle.vat_machine.specs.declared.calls.KeptOutcome.{KeptOutcome}
-use Rattle.vat_machine.specs.declared.calls.OwnCall.{OwnCall}
-use Rattle.vat_machine.specs.declared.calls.OwnCall.TheVariants as own_call
-use Rattle.vat_machine.specs.declared.calls.Promise.{Promise}
-use Rattle.vat_machine.specs.declared.calls.Promise.TheVariants as promise
-use Rattle.vat_machine.specs.declared.calls.Request.{Request}
-use Rattle.vat_machine.specs.declared.calls.WaitingCall.{WaitingCall}
-use Rattle.vat_machine.specs.declared.command.CallCommand.{CallCommand}
-use Rattle.vat_machine.specs.declared.command.Command.{Command}
-use Rattle.vat_machine.specs.declared.command.Command.TheVariants as command
-use Rattle.vat_machine.specs.declared.command.Granted.{Granted}
-use Rattle.vat_machine.specs.declared.entries.Embargo.{Embargo}
-use Rattle.vat_machine.specs.declared.entries.Finishing.TheVariants as finishing
-use Rattle.vat_machine.specs.declared.entries.Question.{Question}
-use Rattle.vat_machine.specs.declared.entries.Reference.{Reference}
-use Rattle.vat_machine.specs.declared.entries.Role.TheVariants as role
-use Rattle.vat_machine.specs.declared.node.Node.{Node}
-use Rattle.vat_machine.specs.declared.node.Node.TheVariants as node
-use Rattle.vat_machine.specs.State.{State}
-use Rattle.vat_machine.specs.Nodes.{promise_link, settle}
-use Rattle.vat_machine.specs.Advancing.{Advances, AdvancesBy, AdvancesFrom, AdvancesTo, Embargoes, IsBroken, Known, Leads, NothingYet, headed, known_by_return, known_of_wire, returned_of, wire_target}
-use Rattle.vat_machine.specs.Commands.{Acts, AsksBootstrap, CallsBy, CallsDirect, CallsHere, CallsThrough, ClonesRef, DropsRef, FinishesCall, MakesCall, MakesPromise, NamesField, WaitsForEmbargo, counted, head_of, heads, kept, request}
-use Rattle.vat_machine.specs.Progress.{Progress, with_refs, with_state}
+use Rattle.rpc_machine.specs.declared.calls.Caller.TheVariants as caller_of
+use Rattle.rpc_machine.specs.declared.calls.KeptOutcome.{KeptOutcome}
+use Rattle.rpc_machine.specs.declared.calls.OwnCall.{OwnCall}
+use Rattle.rpc_machine.specs.declared.calls.OwnCall.TheVariants as own_call
+use Rattle.rpc_machine.specs.declared.calls.Promise.{Promise}
+use Rattle.rpc_machine.specs.declared.calls.Promise.TheVariants as promise
+use Rattle.rpc_machine.specs.declared.calls.Request.{Request}
+use Rattle.rpc_machine.specs.declared.calls.WaitingCall.{WaitingCall}
+use Rattle.rpc_machine.specs.declared.command.CallCommand.{CallCommand}
+use Rattle.rpc_machine.specs.declared.command.Command.{Command}
+use Rattle.rpc_machine.specs.declared.command.Command.TheVariants as command
+use Rattle.rpc_machine.specs.declared.command.Granted.{Granted}
+use Rattle.rpc_machine.specs.declared.entries.Embargo.{Embargo}
+use Rattle.rpc_machine.specs.declared.entries.Finishing.TheVariants as finishing
+use Rattle.rpc_machine.specs.declared.entries.Question.{Question}
+use Rattle.rpc_machine.specs.declared.entries.Reference.{Reference}
+use Rattle.rpc_machine.specs.declared.entries.Role.TheVariants as role
+use Rattle.rpc_machine.specs.declared.node.Node.{Node}
+use Rattle.rpc_machine.specs.declared.node.Node.TheVariants as node
+use Rattle.rpc_machine.specs.State.{State}
+use Rattle.rpc_machine.specs.Nodes.{promise_link, settle}
+use Rattle.rpc_machine.specs.Advancing.{Advances, AdvancesBy, AdvancesFrom, AdvancesTo, Embargoes, IsBroken, Known, Leads, NothingYet, headed, known_by_return, known_of_wire, returned_of, wire_target}
+use Rattle.rpc_machine.specs.Commands.{Acts, AsksBootstrap, CallsBy, CallsDirect, CallsHere, CallsThrough, ClonesRef, DropsRef, FinishesCall, MakesCall, MakesPromise, NamesField, WaitsForEmbargo, counted, head_of, heads, kept, request}
+use Rattle.rpc_machine.specs.Progress.{Progress, with_refs, with_state}
 use Rattle.laws_steps.specs.Callers.{HasSource, IsAskedFor, IsFor}
 use Rattle.laws_routes.specs.MakingLaws.{EmbargoIsThere}
 use Rattle.laws_routes.specs.Named.{EachReturn}
 use Rattle.laws_routes.specs.Premises.{EachOpen, IsUnfinished}
 use Rattle.laws_routes.specs.Sayings.{has_of}
-use Rattle.call_order.specs.Machine as routing
+use Rattle.laws_order.specs.Machine as routing
 use Rattle.laws_routes.specs.Points.{routes}
 use Rattle.laws_routes.specs.Ghosts.{ref_at}
 use Rattle.laws_routes.specs.Sides.{HasEmbargo, IsEmbargo, IsEmbargoOf, IsRef}

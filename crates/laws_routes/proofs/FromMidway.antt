@@ -3,20 +3,20 @@ use Rattle.std.specs.FinMap as map
 use Rattle.std.proofs.Common.{◌≡◌, ℕ, zero, suc, Bool, nat_eq, true, false, List, ◌++◌, Option, None, Some, IsSome, refl, sym, subst}
 use Rattle.finite_maps.proofs.Tested.{equal}
 use Rattle.rpc_msg.specs.declared.message.Message.{Message}
-use Rattle.vat_machine.specs.declared.command.Level.TheVariants.{One}
-use Rattle.vat_machine.specs.declared.calls.KeptOutcome.{KeptOutcome}
-use Rattle.vat_machine.specs.declared.calls.Promise.{Promise}
-use Rattle.vat_machine.specs.declared.entries.Embargo.{Embargo}
-use Rattle.vat_machine.specs.declared.entries.Export.{Export}
-use Rattle.vat_machine.specs.declared.entries.Import.{Import}
-use Rattle.vat_machine.specs.declared.entries.Question.{Question}
-use Rattle.vat_machine.specs.declared.entries.Reference.{Reference}
-use Rattle.vat_machine.specs.declared.node.Node.{Node}
-use Rattle.vat_machine.specs.declared.node.Node.TheVariants as node
-use Rattle.vat_machine.specs.State.{State}
-use Rattle.vat_machine.specs.Nodes.{link, settle, is_field, is_import, is_pipe, is_promise, is_wire}
-use Rattle.vat_machine.specs.Progress.{Progress}
-use Rattle.vat_machine.specs.Laws as machine
+use Rattle.rpc_machine.specs.declared.command.Level.TheVariants.{One}
+use Rattle.rpc_machine.specs.declared.calls.KeptOutcome.{KeptOutcome}
+use Rattle.rpc_machine.specs.declared.calls.Promise.{Promise}
+use Rattle.rpc_machine.specs.declared.entries.Embargo.{Embargo}
+use Rattle.rpc_machine.specs.declared.entries.Export.{Export}
+use Rattle.rpc_machine.specs.declared.entries.Import.{Import}
+use Rattle.rpc_machine.specs.declared.entries.Question.{Question}
+use Rattle.rpc_machine.specs.declared.entries.Reference.{Reference}
+use Rattle.rpc_machine.specs.declared.node.Node.{Node}
+use Rattle.rpc_machine.specs.declared.node.Node.TheVariants as node
+use Rattle.rpc_machine.specs.State.{State}
+use Rattle.rpc_machine.specs.Nodes.{link, settle, is_field, is_import, is_pipe, is_promise, is_wire}
+use Rattle.rpc_machine.specs.Progress.{Progress}
+use Rattle.rpc_machine.specs.Laws as machine
 use Rattle.laws_routes.specs.Named.{NoneLeads}
 use Rattle.laws_routes.specs.Premises.{EachMayOpen, IsLastLoop, IsUnfinished, LinksRest, MayAsk, MayGoTo, MayKeep, MayRoute, MayTake, Unnamed}
 use Rattle.laws_routes.specs.SayingLaws.{MayAdvance, MaySay, MaySend}

@@ -4,18 +4,18 @@ use Rattle.finite_maps.specs.Tally.{Map}
 use Rattle.rpc_msg.specs.declared.ids.Vat.{Vat}
 use Rattle.rpc_msg.specs.declared.parts.Descriptor.{Descriptor}
 use Rattle.rpc_msg.specs.declared.parts.Descriptor.TheVariants as descriptor
-use Rattle.vat_machine.specs.declared.node.Node.{Node}
-use Rattle.vat_machine.specs.declared.calls.WaitingCall.{WaitingCall}
-use Rattle.vat_machine.specs.declared.calls.HeldCall.{HeldCall}
-use Rattle.vat_machine.specs.declared.calls.KeptOutcome.{KeptOutcome}
-use Rattle.vat_machine.specs.declared.calls.Promise.{Promise}
-use Rattle.vat_machine.specs.declared.calls.Promise.TheVariants as promise
-use Rattle.vat_machine.specs.declared.calls.Value.{Value}
-use Rattle.vat_machine.specs.Advancing.{Known, NothingYet, IsBroken, Leads}
-use Rattle.call_order.specs.Machine.{Kind, Net, choose}
-use Rattle.call_order.specs.Machine as routing
-use Rattle.call_order.specs.Events.{Fate, place_of, kind_of, new_stop, new_kind, settled}
-use Rattle.call_order.proofs.Choices.{by_choice}
+use Rattle.rpc_machine.specs.declared.node.Node.{Node}
+use Rattle.rpc_machine.specs.declared.calls.WaitingCall.{WaitingCall}
+use Rattle.rpc_machine.specs.declared.calls.HeldCall.{HeldCall}
+use Rattle.rpc_machine.specs.declared.calls.KeptOutcome.{KeptOutcome}
+use Rattle.rpc_machine.specs.declared.calls.Promise.{Promise}
+use Rattle.rpc_machine.specs.declared.calls.Promise.TheVariants as promise
+use Rattle.rpc_machine.specs.declared.calls.Value.{Value}
+use Rattle.rpc_machine.specs.Advancing.{Known, NothingYet, IsBroken, Leads}
+use Rattle.laws_order.specs.Machine.{Kind, Net, choose}
+use Rattle.laws_order.specs.Machine as routing
+use Rattle.laws_order.specs.Events.{Fate, place_of, kind_of, new_stop, new_kind, settled}
+use Rattle.laws_order.proofs.Choices.{by_choice}
 use Rattle.laws_routes.specs.Points.{Point, APromise, AField, Group, OfPromise, OfOutcome, group_of, routes}
 use Rattle.laws_routes.specs.Ghosts.{Ghost, point, far}
 use Rattle.laws_routes.specs.Sides.{IsFinal, SameEnd, IsLinked, LinkedTo, Queue, AllWait, AllHeld, PromiseWaits, HeldFor, OutcomeHolds, Ids}

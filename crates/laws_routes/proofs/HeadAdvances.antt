@@ -10,23 +10,23 @@ use Rattle.rpc_msg.specs.declared.parts.Descriptor.TheVariants as descriptor
 use Rattle.rpc_msg.specs.declared.parts.Target.{Target}
 use Rattle.rpc_msg.specs.declared.parts.Target.TheVariants.{ImportedCap, PromisedAnswer}
 use Rattle.rpc_msg.specs.Vats.{other_vat}
-use Rattle.vat_journal.specs.History.{Ref, DeliveredAt}
-use Rattle.vat_machine.specs.declared.node.Node.{Node}
-use Rattle.vat_machine.specs.declared.node.Node.TheVariants as node
-use Rattle.vat_machine.specs.declared.node.Reason.{Reason}
-use Rattle.vat_machine.specs.declared.command.Granted.{Granted}
-use Rattle.vat_machine.specs.declared.entries.Reference.{Reference}
-use Rattle.vat_machine.specs.declared.entries.Embargo.{Embargo}
-use Rattle.vat_machine.specs.State.{State}
-use Rattle.vat_machine.specs.Nodes.{link, settle, is_wire}
-use Rattle.vat_machine.specs.Progress.{Progress}
-use Rattle.vat_machine.specs.Advancing.{Known, NothingYet, IsBroken, Leads, known_of_wire, wire_target, headed, Embargoes, AdvancesBy, AdvancesTo, AdvancesFrom, Advances}
-use Rattle.call_order.specs.Machine.{Net, changed, put_ref}
-use Rattle.call_order.specs.Machine as routing
-use Rattle.call_order.specs.Routes.{IsExit, Path, beyond}
-use Rattle.call_order.specs.Events.{Break}
-use Rattle.call_order.specs.Moves.{Done, Next, Happens}
-use Rattle.call_order.proofs.Choices.{changed_here, changed_other}
+use Rattle.rpc_journal.specs.History.{Ref, DeliveredAt}
+use Rattle.rpc_machine.specs.declared.node.Node.{Node}
+use Rattle.rpc_machine.specs.declared.node.Node.TheVariants as node
+use Rattle.rpc_machine.specs.declared.node.Reason.{Reason}
+use Rattle.rpc_machine.specs.declared.command.Granted.{Granted}
+use Rattle.rpc_machine.specs.declared.entries.Reference.{Reference}
+use Rattle.rpc_machine.specs.declared.entries.Embargo.{Embargo}
+use Rattle.rpc_machine.specs.State.{State}
+use Rattle.rpc_machine.specs.Nodes.{link, settle, is_wire}
+use Rattle.rpc_machine.specs.Progress.{Progress}
+use Rattle.rpc_machine.specs.Advancing.{Known, NothingYet, IsBroken, Leads, known_of_wire, wire_target, headed, Embargoes, AdvancesBy, AdvancesTo, AdvancesFrom, Advances}
+use Rattle.laws_order.specs.Machine.{Net, changed, put_ref}
+use Rattle.laws_order.specs.Machine as routing
+use Rattle.laws_order.specs.Routes.{IsExit, Path, beyond}
+use Rattle.laws_order.specs.Events.{Break}
+use Rattle.laws_order.specs.Moves.{Done, Next, Happens}
+use Rattle.laws_order.proofs.Choices.{changed_here, changed_other}
 use Rattle.laws_routes.specs.Points.{Point, vat_of, routes}
 use Rattle.laws_routes.specs.Ghosts.{Ghost, point, ref_at}
 use Rattle.laws_routes.specs.Sides.{Side, EndsAs, HasHead, IsRef, IsEmbargo, HasEmbargo, IsEmbargoOf}

@@ -6,18 +6,18 @@ use Rattle.finite_maps.proofs.Gets.{get-insert_same}
 use Rattle.finite_maps.proofs.Tested.{apart, equal, get_other}
 use Rattle.rpc_msg.specs.declared.ids.Vat.{Vat}
 use Rattle.rpc_msg.specs.Vats.{other_vat}
-use Rattle.vat_journal.specs.History.{Ref, DeliveredAt}
-use Rattle.vat_machine.specs.declared.node.Node.{Node}
-use Rattle.vat_machine.specs.declared.entries.Reference.{Reference}
-use Rattle.vat_machine.specs.declared.entries.Embargo.{Embargo}
-use Rattle.vat_machine.specs.State.{State}
-use Rattle.vat_machine.specs.Progress.{Progress}
-use Rattle.vat_machine.specs.Advancing.{headed}
-use Rattle.call_order.specs.Machine.{changed, choose, put_ref}
-use Rattle.call_order.specs.Machine as routing
-use Rattle.call_order.specs.Events.{happens, Rename, Shorten}
-use Rattle.call_order.specs.Moves.{Moves, Done, Next, Happens}
-use Rattle.call_order.proofs.Choices.{changed_here, changed_other}
+use Rattle.rpc_journal.specs.History.{Ref, DeliveredAt}
+use Rattle.rpc_machine.specs.declared.node.Node.{Node}
+use Rattle.rpc_machine.specs.declared.entries.Reference.{Reference}
+use Rattle.rpc_machine.specs.declared.entries.Embargo.{Embargo}
+use Rattle.rpc_machine.specs.State.{State}
+use Rattle.rpc_machine.specs.Progress.{Progress}
+use Rattle.rpc_machine.specs.Advancing.{headed}
+use Rattle.laws_order.specs.Machine.{changed, choose, put_ref}
+use Rattle.laws_order.specs.Machine as routing
+use Rattle.laws_order.specs.Events.{happens, Rename, Shorten}
+use Rattle.laws_order.specs.Moves.{Moves, Done, Next, Happens}
+use Rattle.laws_order.proofs.Choices.{changed_here, changed_other}
 use Rattle.laws_routes.specs.Points.{Point, vat_of, end, routes}
 use Rattle.laws_routes.specs.Ghosts.{Ghost, point, ref_at}
 use Rattle.laws_routes.specs.Sides.{Side, IsRef, IsEmbargo, HasEmbargo, IsEmbargoOf}

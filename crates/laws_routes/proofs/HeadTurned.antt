@@ -12,19 +12,19 @@ use Rattle.rpc_msg.specs.declared.message.PlainMessage.TheVariants as plain
 use Rattle.rpc_msg.specs.declared.message.Message as rpc
 use Rattle.rpc_msg.specs.declared.message.Message.TheVariants as message
 use Rattle.rpc_msg.specs.Vats.{other_vat}
-use Rattle.vat_journal.specs.History.{Ref, DeliveredAt}
-use Rattle.vat_machine.specs.declared.node.Node.{Node}
-use Rattle.vat_machine.specs.declared.entries.Reference.{Reference}
-use Rattle.vat_machine.specs.declared.entries.Embargo.{Embargo}
-use Rattle.vat_machine.specs.State.{State}
-use Rattle.vat_machine.specs.Progress.{Progress}
-use Rattle.vat_machine.specs.Advancing.{wire_target}
-use Rattle.call_order.specs.Machine.{Message, Disembargo, changed, choose, put_ref, same_vat}
-use Rattle.call_order.specs.Machine as routing
-use Rattle.call_order.specs.Routing as route
-use Rattle.call_order.specs.Events.{happens, Shorten, Turn_back}
-use Rattle.call_order.specs.Moves.{Moves, Done, Next, Happens}
-use Rattle.call_order.proofs.Choices.{by_choice, changed_here, changed_other}
+use Rattle.rpc_journal.specs.History.{Ref, DeliveredAt}
+use Rattle.rpc_machine.specs.declared.node.Node.{Node}
+use Rattle.rpc_machine.specs.declared.entries.Reference.{Reference}
+use Rattle.rpc_machine.specs.declared.entries.Embargo.{Embargo}
+use Rattle.rpc_machine.specs.State.{State}
+use Rattle.rpc_machine.specs.Progress.{Progress}
+use Rattle.rpc_machine.specs.Advancing.{wire_target}
+use Rattle.laws_order.specs.Machine.{Message, Disembargo, changed, choose, put_ref, same_vat}
+use Rattle.laws_order.specs.Machine as routing
+use Rattle.laws_order.specs.Routing as route
+use Rattle.laws_order.specs.Events.{happens, Shorten, Turn_back}
+use Rattle.laws_order.specs.Moves.{Moves, Done, Next, Happens}
+use Rattle.laws_order.proofs.Choices.{by_choice, changed_here, changed_other}
 use Rattle.laws_routes.specs.Points.{Point, vat_of, end, routes}
 use Rattle.laws_routes.specs.Ghosts.{Ghost, point, ref_at}
 use Rattle.laws_routes.specs.Sides.{Side, IsRef, IsEmbargo, HasEmbargo, IsEmbargoOf, Unborn}

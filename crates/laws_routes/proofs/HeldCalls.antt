@@ -1,17 +1,17 @@
 -- The calls that waited for an outcome are routed, each to its own field.
 use Rattle.std.proofs.Common.{◌≡◌, ℕ, true, List, [], ◌∷◌, refl, sym, ap, subst, ◌∙◌}
 use Rattle.rpc_msg.specs.declared.ids.Vat.{Vat}
-use Rattle.vat_journal.specs.History.{caller}
-use Rattle.vat_machine.specs.declared.node.Node.TheVariants as node
-use Rattle.vat_machine.specs.declared.calls.HeldCall.{HeldCall}
-use Rattle.vat_machine.specs.Nodes.{settle}
-use Rattle.vat_machine.specs.Progress.{Progress}
-use Rattle.vat_machine.specs.Routing.{RoutesHeld}
-use Rattle.call_order.specs.Machine.{Message, Net, Call}
-use Rattle.call_order.specs.Machine as routing
-use Rattle.call_order.specs.Invariant.{InvariantWith}
-use Rattle.call_order.specs.Moves.{Done}
-use Rattle.call_order.proofs.Moves.{moves_keep}
+use Rattle.rpc_journal.specs.History.{caller}
+use Rattle.rpc_machine.specs.declared.node.Node.TheVariants as node
+use Rattle.rpc_machine.specs.declared.calls.HeldCall.{HeldCall}
+use Rattle.rpc_machine.specs.Nodes.{settle}
+use Rattle.rpc_machine.specs.Progress.{Progress}
+use Rattle.rpc_machine.specs.Routing.{RoutesHeld}
+use Rattle.laws_order.specs.Machine.{Message, Net, Call}
+use Rattle.laws_order.specs.Machine as routing
+use Rattle.laws_order.specs.Invariant.{InvariantWith}
+use Rattle.laws_order.specs.Moves.{Done}
+use Rattle.laws_order.proofs.Moves.{moves_keep}
 use Rattle.laws_routes.specs.Points.{AField, routes}
 use Rattle.laws_routes.specs.Sides.{EndsAs}
 use Rattle.laws_routes.specs.Ties.{Around, Ghosts, Tied}

@@ -8,22 +8,22 @@ use Rattle.rpc_msg.specs.declared.parts.Descriptor.TheVariants as descriptor
 use Rattle.rpc_msg.specs.declared.message.Message as rpc
 use Rattle.rpc_msg.specs.Messages.{given}
 use Rattle.rpc_msg.specs.Vats.{other_vat}
-use Rattle.vat_machine.specs.declared.command.Level.{Level}
-use Rattle.vat_machine.specs.declared.command.Level.TheVariants.{Zero, One}
-use Rattle.vat_machine.specs.declared.node.Node.{Node}
-use Rattle.vat_machine.specs.declared.node.Node.TheVariants as node
-use Rattle.vat_machine.specs.declared.entries.SenderKind.{SenderKind}
-use Rattle.vat_machine.specs.declared.entries.SenderKind.TheVariants as kind
-use Rattle.vat_machine.specs.declared.entries.Reference.{Reference}
-use Rattle.vat_machine.specs.declared.entries.Embargo.{Embargo}
-use Rattle.vat_machine.specs.declared.entries.Export.{Export}
-use Rattle.vat_machine.specs.declared.entries.Import.{Import}
-use Rattle.vat_machine.specs.State.{State}
-use Rattle.vat_machine.specs.Nodes.{link, is_import, is_wire}
-use Rattle.vat_machine.specs.Progress.{Progress, with_state}
-use Rattle.vat_machine.specs.Descriptors.{export_node, received, import_one, take_each, take_at}
-use Rattle.call_order.specs.Machine.{Net}
-use Rattle.call_order.specs.Machine as routing
+use Rattle.rpc_machine.specs.declared.command.Level.{Level}
+use Rattle.rpc_machine.specs.declared.command.Level.TheVariants.{Zero, One}
+use Rattle.rpc_machine.specs.declared.node.Node.{Node}
+use Rattle.rpc_machine.specs.declared.node.Node.TheVariants as node
+use Rattle.rpc_machine.specs.declared.entries.SenderKind.{SenderKind}
+use Rattle.rpc_machine.specs.declared.entries.SenderKind.TheVariants as kind
+use Rattle.rpc_machine.specs.declared.entries.Reference.{Reference}
+use Rattle.rpc_machine.specs.declared.entries.Embargo.{Embargo}
+use Rattle.rpc_machine.specs.declared.entries.Export.{Export}
+use Rattle.rpc_machine.specs.declared.entries.Import.{Import}
+use Rattle.rpc_machine.specs.State.{State}
+use Rattle.rpc_machine.specs.Nodes.{link, is_import, is_wire}
+use Rattle.rpc_machine.specs.Progress.{Progress, with_state}
+use Rattle.rpc_machine.specs.Descriptors.{export_node, received, import_one, take_each, take_at}
+use Rattle.laws_order.specs.Machine.{Net}
+use Rattle.laws_order.specs.Machine as routing
 use Rattle.laws_routes.specs.Points.{Point, routes}
 use Rattle.laws_routes.specs.Ghosts.{Ghost, point, far, ref_at, importing}
 use Rattle.laws_routes.specs.Sides.{Side, IsLinked, HasHead, IsRef, HasEmbargo}

@@ -7,24 +7,24 @@ use Rattle.rpc_msg.specs.declared.ids.Vat.{Vat}
 use Rattle.rpc_msg.specs.declared.parts.Descriptor.{Descriptor}
 use Rattle.rpc_msg.specs.declared.message.PlainMessage.TheVariants as plain
 use Rattle.rpc_msg.specs.Vats.{other_vat}
-use Rattle.vat_machine.specs.declared.node.Node.{Node}
-use Rattle.vat_machine.specs.declared.entries.Export.{Export}
-use Rattle.vat_machine.specs.declared.entries.Finishing.{Finishing}
-use Rattle.vat_machine.specs.declared.entries.Finishing.TheVariants as finishing
-use Rattle.vat_machine.specs.declared.entries.Import.{Import}
-use Rattle.vat_machine.specs.declared.entries.Question.{Question}
-use Rattle.vat_machine.specs.declared.entries.Resolution.{Resolution}
-use Rattle.vat_machine.specs.declared.entries.Returned.{Returned}
-use Rattle.vat_machine.specs.declared.entries.SenderKind.{SenderKind}
-use Rattle.vat_machine.specs.State.{State}
-use Rattle.vat_machine.specs.Nodes.{is_field, is_import, is_pipe, is_promise}
-use Rattle.vat_machine.specs.Progress.{Progress, export_id, send}
-use Rattle.vat_machine.specs.Advancing.{Known, NothingYet, IsBroken, Leads, known_by_resolve, known_by_return, resolution_of, returned_of}
-use Rattle.vat_machine.specs.Collecting.{Goes, PromiseGoes, OutcomeGoes, ImportGoes, Collects, Tight, Loose}
-use Rattle.vat_machine.specs.Descriptors.{import_one, received}
-use Rattle.vat_machine.specs.Flags.{flag_for, give_back, give_each, give_if, give_one}
-use Rattle.vat_machine.specs.Sweeping.{FinishesEach, Sweeps, closed, closed_map, finished_by, got_of, release_each}
-use Rattle.call_order.specs.Machine.{Net}
+use Rattle.rpc_machine.specs.declared.node.Node.{Node}
+use Rattle.rpc_machine.specs.declared.entries.Export.{Export}
+use Rattle.rpc_machine.specs.declared.entries.Finishing.{Finishing}
+use Rattle.rpc_machine.specs.declared.entries.Finishing.TheVariants as finishing
+use Rattle.rpc_machine.specs.declared.entries.Import.{Import}
+use Rattle.rpc_machine.specs.declared.entries.Question.{Question}
+use Rattle.rpc_machine.specs.declared.entries.Resolution.{Resolution}
+use Rattle.rpc_machine.specs.declared.entries.Returned.{Returned}
+use Rattle.rpc_machine.specs.declared.entries.SenderKind.{SenderKind}
+use Rattle.rpc_machine.specs.State.{State}
+use Rattle.rpc_machine.specs.Nodes.{is_field, is_import, is_pipe, is_promise}
+use Rattle.rpc_machine.specs.Progress.{Progress, export_id, send}
+use Rattle.rpc_machine.specs.Advancing.{Known, NothingYet, IsBroken, Leads, known_by_resolve, known_by_return, resolution_of, returned_of}
+use Rattle.rpc_machine.specs.Collecting.{Goes, PromiseGoes, OutcomeGoes, ImportGoes, Collects, Tight, Loose}
+use Rattle.rpc_machine.specs.Descriptors.{import_one, received}
+use Rattle.rpc_machine.specs.Flags.{flag_for, give_back, give_each, give_if, give_one}
+use Rattle.rpc_machine.specs.Sweeping.{FinishesEach, Sweeps, closed, closed_map, finished_by, got_of, release_each}
+use Rattle.laws_order.specs.Machine.{Net}
 use Rattle.laws_routes.specs.Points.{Point, AField, routes}
 use Rattle.laws_routes.specs.Ghosts.{Ghost, point, asked, holding, importing, keeping}
 use Rattle.laws_routes.specs.Sayings.{IsKnown, IsSaid, KnownIsSo}

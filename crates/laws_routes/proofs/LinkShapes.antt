@@ -11,12 +11,12 @@ use Rattle.rpc_msg.specs.declared.message.PlainMessage.{PlainMessage}
 use Rattle.rpc_msg.specs.declared.message.PlainMessage.TheVariants as plain
 use Rattle.rpc_msg.specs.declared.message.Message.{Message}
 use Rattle.rpc_msg.specs.declared.message.Message.TheVariants as message
-use Rattle.vat_journal.specs.History.{caller, in_front}
-use Rattle.vat_machine.specs.declared.entries.Export.{Export}
-use Rattle.vat_machine.specs.declared.entries.Embargo.{Embargo}
-use Rattle.vat_machine.specs.Descriptors.{export_node}
-use Rattle.call_order.specs.Machine.{Call, Disembargo, Echo}
-use Rattle.call_order.specs.Machine as routing
+use Rattle.rpc_journal.specs.History.{caller, in_front}
+use Rattle.rpc_machine.specs.declared.entries.Export.{Export}
+use Rattle.rpc_machine.specs.declared.entries.Embargo.{Embargo}
+use Rattle.rpc_machine.specs.Descriptors.{export_node}
+use Rattle.laws_order.specs.Machine.{Call, Disembargo, Echo}
+use Rattle.laws_order.specs.Machine as routing
 use Rattle.laws_routes.specs.Points.{routes}
 use Rattle.laws_routes.specs.Ghosts.{Ghost, point, with_at}
 use Rattle.laws_routes.specs.Views.{Shape, Reader, embargo_ref, target_point, past_plain, past_one, past, disembargo_shape, shape, shapes, shape_of, shapes_of}

@@ -17,23 +17,23 @@ use Rattle.rpc_msg.specs.declared.message.Message.TheVariants as message
 use Rattle.rpc_msg.specs.declared.message.PlainMessage.TheVariants as plain
 use Rattle.rpc_msg.specs.declared.parts.Target.{Target}
 use Rattle.rpc_msg.specs.declared.parts.Target.TheVariants.{ImportedCap, PromisedAnswer}
-use Rattle.vat_machine.specs.declared.calls.Caller.{Caller}
-use Rattle.vat_machine.specs.declared.calls.Caller.TheVariants as who
-use Rattle.vat_machine.specs.declared.calls.KeptOutcome.{KeptOutcome}
-use Rattle.vat_machine.specs.declared.command.Level.TheVariants.{One}
-use Rattle.vat_machine.specs.declared.entries.AnswerEntry.{AnswerEntry}
-use Rattle.vat_machine.specs.declared.entries.Embargo.{Embargo}
-use Rattle.vat_machine.specs.declared.entries.Reference.{Reference}
-use Rattle.vat_machine.specs.declared.node.Node.{Node}
-use Rattle.vat_machine.specs.State.{State}
-use Rattle.vat_machine.specs.Advancing.{wire_target}
-use Rattle.vat_machine.specs.Faults.{disembargo_fault, gave, target_fault, target_node}
-use Rattle.vat_machine.specs.Flags.{lower_by, lower_each, obey}
-use Rattle.vat_machine.specs.Lists.{update, updated}
-use Rattle.vat_machine.specs.Messages.{Bounces, Lifts, TakesBootstrap, TakesDisembargo, TakesFinish, TakesPlain, bootstrap_value, finished_map, opened, unembargoed}
-use Rattle.vat_machine.specs.Nodes.{settle, value_of}
-use Rattle.vat_machine.specs.Progress.{Progress, caps_of, export_ids, with_state}
-use Rattle.vat_journal.specs.History.{if_so, or_rest}
+use Rattle.rpc_machine.specs.declared.calls.Caller.{Caller}
+use Rattle.rpc_machine.specs.declared.calls.Caller.TheVariants as who
+use Rattle.rpc_machine.specs.declared.calls.KeptOutcome.{KeptOutcome}
+use Rattle.rpc_machine.specs.declared.command.Level.TheVariants.{One}
+use Rattle.rpc_machine.specs.declared.entries.AnswerEntry.{AnswerEntry}
+use Rattle.rpc_machine.specs.declared.entries.Embargo.{Embargo}
+use Rattle.rpc_machine.specs.declared.entries.Reference.{Reference}
+use Rattle.rpc_machine.specs.declared.node.Node.{Node}
+use Rattle.rpc_machine.specs.State.{State}
+use Rattle.rpc_machine.specs.Advancing.{wire_target}
+use Rattle.rpc_machine.specs.Faults.{disembargo_fault, gave, target_fault, target_node}
+use Rattle.rpc_machine.specs.Flags.{lower_by, lower_each, obey}
+use Rattle.rpc_machine.specs.Lists.{update, updated}
+use Rattle.rpc_machine.specs.Messages.{Bounces, Lifts, TakesBootstrap, TakesDisembargo, TakesFinish, TakesPlain, bootstrap_value, finished_map, opened, unembargoed}
+use Rattle.rpc_machine.specs.Nodes.{settle, value_of}
+use Rattle.rpc_machine.specs.Progress.{Progress, caps_of, export_ids, with_state}
+use Rattle.rpc_journal.specs.History.{if_so, or_rest}
 use Rattle.laws_steps.specs.Callers.{AnswersWith, IsOpenFor, peer}
 use Rattle.laws_routes.specs.Laws.{lifted, with_back}
 use Rattle.laws_routes.specs.MakingLaws.{EmbargoIsThere}

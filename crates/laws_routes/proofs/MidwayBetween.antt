@@ -8,13 +8,13 @@ use Rattle.rpc_msg.specs.declared.parts.Descriptor.{Descriptor}
 use Rattle.rpc_msg.specs.declared.ids.ObjectId.{ObjectId}
 use Rattle.rpc_msg.specs.declared.ids.Vat.{Vat}
 use Rattle.rpc_msg.specs.declared.message.Message.{Message}
-use Rattle.vat_machine.specs.declared.command.Level.{Level}
-use Rattle.vat_machine.specs.declared.entries.Import.{Import}
-use Rattle.vat_machine.specs.declared.node.Node.{Node}
-use Rattle.vat_machine.specs.declared.node.Node.TheVariants as node
-use Rattle.vat_machine.specs.State.{State, start}
-use Rattle.vat_machine.specs.Nodes.{field_link, link, promise_link, value_of}
-use Rattle.vat_machine.specs.Advancing.{Leads, NothingYet, known_by_resolve, known_by_return, resolution_of, returned_of}
+use Rattle.rpc_machine.specs.declared.command.Level.{Level}
+use Rattle.rpc_machine.specs.declared.entries.Import.{Import}
+use Rattle.rpc_machine.specs.declared.node.Node.{Node}
+use Rattle.rpc_machine.specs.declared.node.Node.TheVariants as node
+use Rattle.rpc_machine.specs.State.{State, start}
+use Rattle.rpc_machine.specs.Nodes.{field_link, link, promise_link, value_of}
+use Rattle.rpc_machine.specs.Advancing.{Leads, NothingYet, known_by_resolve, known_by_return, resolution_of, returned_of}
 use Rattle.laws_steps.specs.Callers.{IsOpenFor}
 use Rattle.laws_routes.specs.Between.{Across, Inside}
 use Rattle.laws_routes.specs.Midway.{Midway}

@@ -1,12 +1,12 @@
 -- The outcomes that arose settle: each may, and it is still so in the middle of the step.
 use Rattle.std.specs.FinMap as map
 use Rattle.std.proofs.Common.{◌≡◌, ℕ, List, [], ◌∷◌, refl, subst, ◌∙◌}
-use Rattle.vat_machine.specs.declared.calls.Value.{Value}
-use Rattle.vat_machine.specs.declared.calls.Value.TheVariants as value
-use Rattle.vat_machine.specs.declared.command.Level.TheVariants.{One}
-use Rattle.vat_machine.specs.State.{State}
-use Rattle.vat_machine.specs.Progress.{Progress, caps_of}
-use Rattle.vat_machine.specs.Settling.{Drains, NoneLeft, OneMore}
+use Rattle.rpc_machine.specs.declared.calls.Value.{Value}
+use Rattle.rpc_machine.specs.declared.calls.Value.TheVariants as value
+use Rattle.rpc_machine.specs.declared.command.Level.TheVariants.{One}
+use Rattle.rpc_machine.specs.State.{State}
+use Rattle.rpc_machine.specs.Progress.{Progress, caps_of}
+use Rattle.rpc_machine.specs.Settling.{Drains, NoneLeft, OneMore}
 use Rattle.laws_steps.proofs.Exceptions.{AllExceptions, IsException, first_arises}
 use Rattle.laws_routes.specs.OutcomeLaws.{AllMaySettle}
 use Rattle.laws_routes.specs.Ties.{Around}

@@ -7,15 +7,15 @@ use Rattle.finite_maps.proofs.Tested.{at_put}
 use Rattle.rpc_msg.specs.declared.exception.Exception.{Exception}
 use Rattle.rpc_msg.specs.declared.ids.EmbargoId.{EmbargoId}
 use Rattle.rpc_msg.specs.declared.message.Message.{Message}
-use Rattle.vat_machine.specs.declared.calls.Promise.{Promise}
-use Rattle.vat_machine.specs.declared.calls.Promise.TheVariants as promise
-use Rattle.vat_machine.specs.declared.calls.WaitingCall.{WaitingCall}
-use Rattle.vat_machine.specs.declared.node.Node.{Node}
-use Rattle.vat_machine.specs.declared.node.Node.TheVariants as node
-use Rattle.vat_machine.specs.State.{State}
-use Rattle.vat_machine.specs.Nodes.{is_promise, link, promise_link, settle}
-use Rattle.vat_machine.specs.Progress.{Progress}
-use Rattle.vat_machine.specs.Settling.{FixesFrom}
+use Rattle.rpc_machine.specs.declared.calls.Promise.{Promise}
+use Rattle.rpc_machine.specs.declared.calls.Promise.TheVariants as promise
+use Rattle.rpc_machine.specs.declared.calls.WaitingCall.{WaitingCall}
+use Rattle.rpc_machine.specs.declared.node.Node.{Node}
+use Rattle.rpc_machine.specs.declared.node.Node.TheVariants as node
+use Rattle.rpc_machine.specs.State.{State}
+use Rattle.rpc_machine.specs.Nodes.{is_promise, link, promise_link, settle}
+use Rattle.rpc_machine.specs.Progress.{Progress}
+use Rattle.rpc_machine.specs.Settling.{FixesFrom}
 use Rattle.laws_nodes.specs.Settling.{fixed}
 use Rattle.laws_nodes.proofs.Stopping.{fixed_stops, same}
 use Rattle.laws_steps.specs.Settled.{IsThere}

@@ -9,14 +9,14 @@ use Rattle.rpc_msg.specs.declared.message.Message.{Message}
 use Rattle.rpc_msg.specs.declared.message.Message.TheVariants as message
 use Rattle.rpc_msg.specs.declared.message.ResolvedTo.{ResolvedTo}
 use Rattle.rpc_msg.specs.declared.message.ResolvedTo.TheVariants as resolved
-use Rattle.vat_machine.specs.declared.entries.Export.{Export}
-use Rattle.vat_machine.specs.declared.node.Node.{Node}
-use Rattle.vat_machine.specs.declared.node.Node.TheVariants as node
-use Rattle.vat_machine.specs.State.{State}
-use Rattle.vat_machine.specs.Nodes.{link, settle}
-use Rattle.vat_machine.specs.Descriptors.{Described}
-use Rattle.vat_machine.specs.Progress.{Progress, send, with_state}
-use Rattle.vat_machine.specs.Settling.{exports_where, or_failed, ResolvesTo, ResolvesBy, ResolvesEach, SendsResolves, resolve_message}
+use Rattle.rpc_machine.specs.declared.entries.Export.{Export}
+use Rattle.rpc_machine.specs.declared.node.Node.{Node}
+use Rattle.rpc_machine.specs.declared.node.Node.TheVariants as node
+use Rattle.rpc_machine.specs.State.{State}
+use Rattle.rpc_machine.specs.Nodes.{link, settle}
+use Rattle.rpc_machine.specs.Descriptors.{Described}
+use Rattle.rpc_machine.specs.Progress.{Progress, send, with_state}
+use Rattle.rpc_machine.specs.Settling.{exports_where, or_failed, ResolvesTo, ResolvesBy, ResolvesEach, SendsResolves, resolve_message}
 use Rattle.laws_routes.specs.Named.{AllMet}
 use Rattle.laws_routes.specs.Premises.{EachLoop, OpenOf}
 use Rattle.laws_routes.specs.Sayings.{Has, has_of}

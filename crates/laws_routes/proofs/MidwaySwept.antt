@@ -10,19 +10,19 @@ use Rattle.rpc_msg.specs.declared.message.Message.{Message}
 use Rattle.rpc_msg.specs.declared.message.Message.TheVariants as message
 use Rattle.rpc_msg.specs.declared.message.PlainMessage.{PlainMessage}
 use Rattle.rpc_msg.specs.declared.message.PlainMessage.TheVariants as plain
-use Rattle.vat_machine.specs.declared.calls.KeptOutcome.{KeptOutcome}
-use Rattle.vat_machine.specs.declared.entries.AnswerEntry.{AnswerEntry}
-use Rattle.vat_machine.specs.declared.entries.Finishing.{Finishing}
-use Rattle.vat_machine.specs.declared.entries.Finishing.TheVariants as finishing
-use Rattle.vat_machine.specs.declared.entries.Question.{Question}
-use Rattle.vat_machine.specs.declared.entries.Returned.{Returned}
-use Rattle.vat_machine.specs.declared.node.Node.{Node}
-use Rattle.vat_machine.specs.declared.node.Node.TheVariants as node
-use Rattle.vat_machine.specs.State.{State}
-use Rattle.vat_machine.specs.Collecting.{Collects}
-use Rattle.vat_machine.specs.Flags.{flag_for, give_if}
-use Rattle.vat_machine.specs.Progress.{Progress, export_id, send, with_state}
-use Rattle.vat_machine.specs.Sweeping.{Asked, FinishesEach, Over, Sweeps, Thing, Withers, closed, closed_map, finished_by, got_of, release_each}
+use Rattle.rpc_machine.specs.declared.calls.KeptOutcome.{KeptOutcome}
+use Rattle.rpc_machine.specs.declared.entries.AnswerEntry.{AnswerEntry}
+use Rattle.rpc_machine.specs.declared.entries.Finishing.{Finishing}
+use Rattle.rpc_machine.specs.declared.entries.Finishing.TheVariants as finishing
+use Rattle.rpc_machine.specs.declared.entries.Question.{Question}
+use Rattle.rpc_machine.specs.declared.entries.Returned.{Returned}
+use Rattle.rpc_machine.specs.declared.node.Node.{Node}
+use Rattle.rpc_machine.specs.declared.node.Node.TheVariants as node
+use Rattle.rpc_machine.specs.State.{State}
+use Rattle.rpc_machine.specs.Collecting.{Collects}
+use Rattle.rpc_machine.specs.Flags.{flag_for, give_if}
+use Rattle.rpc_machine.specs.Progress.{Progress, export_id, send, with_state}
+use Rattle.rpc_machine.specs.Sweeping.{Asked, FinishesEach, Over, Sweeps, Thing, Withers, closed, closed_map, finished_by, got_of, release_each}
 use Rattle.laws_steps.specs.Callers.{HasOutcome, IsAskedFor, IsFor, peer}
 use Rattle.laws_steps.specs.NodesThere.{IsWhole, Stands}
 use Rattle.laws_steps.proofs.Below.{Below, below_same, below_then, collects_below, collects_questions, goes_questions}

@@ -13,27 +13,27 @@ use Rattle.rpc_msg.specs.declared.message.PlainMessage.TheVariants as plain
 use Rattle.rpc_msg.specs.declared.message.ReturnBody.{ReturnBody}
 use Rattle.rpc_msg.specs.declared.parts.Descriptor.{Descriptor}
 use Rattle.rpc_msg.specs.Messages.{descriptors_of, given}
-use Rattle.vat_machine.specs.declared.calls.Caller.{Caller}
-use Rattle.vat_machine.specs.declared.calls.Caller.TheVariants as who
-use Rattle.vat_machine.specs.declared.calls.KeptOutcome.{KeptOutcome}
-use Rattle.vat_machine.specs.declared.calls.OwnCall.{OwnCall}
-use Rattle.vat_machine.specs.declared.calls.Value.{Value}
-use Rattle.vat_machine.specs.declared.calls.Value.TheVariants as value
-use Rattle.vat_machine.specs.declared.command.Level.TheVariants.{Zero, One}
-use Rattle.vat_machine.specs.declared.entries.AnswerEntry.{AnswerEntry}
-use Rattle.vat_machine.specs.declared.entries.Export.{Export}
-use Rattle.vat_machine.specs.declared.entries.Import.{Import}
-use Rattle.vat_machine.specs.declared.node.Node.{Node}
-use Rattle.vat_machine.specs.declared.node.Node.TheVariants as node
-use Rattle.vat_machine.specs.State.{State}
-use Rattle.vat_machine.specs.Lists.{how_many}
-use Rattle.vat_machine.specs.Nodes.{is_import, link, settle}
-use Rattle.vat_machine.specs.Collecting.{Collects, Goes, ImportGoes, Loose, OutcomeGoes, PromiseGoes, Tight}
-use Rattle.vat_machine.specs.Descriptors.{DescribesAll}
-use Rattle.vat_machine.specs.Flags.{flag_for, give_if}
-use Rattle.vat_machine.specs.Places.{imports_of, named_by_answer, named_by_taken, names, places}
-use Rattle.vat_machine.specs.Progress.{Progress, caps_of, export_ids, numbers, send, with_state}
-use Rattle.vat_machine.specs.Settling.{Returns, SaysBack, Tells, TellsCall, TellsPeer, returned, returned_map}
+use Rattle.rpc_machine.specs.declared.calls.Caller.{Caller}
+use Rattle.rpc_machine.specs.declared.calls.Caller.TheVariants as who
+use Rattle.rpc_machine.specs.declared.calls.KeptOutcome.{KeptOutcome}
+use Rattle.rpc_machine.specs.declared.calls.OwnCall.{OwnCall}
+use Rattle.rpc_machine.specs.declared.calls.Value.{Value}
+use Rattle.rpc_machine.specs.declared.calls.Value.TheVariants as value
+use Rattle.rpc_machine.specs.declared.command.Level.TheVariants.{Zero, One}
+use Rattle.rpc_machine.specs.declared.entries.AnswerEntry.{AnswerEntry}
+use Rattle.rpc_machine.specs.declared.entries.Export.{Export}
+use Rattle.rpc_machine.specs.declared.entries.Import.{Import}
+use Rattle.rpc_machine.specs.declared.node.Node.{Node}
+use Rattle.rpc_machine.specs.declared.node.Node.TheVariants as node
+use Rattle.rpc_machine.specs.State.{State}
+use Rattle.rpc_machine.specs.Lists.{how_many}
+use Rattle.rpc_machine.specs.Nodes.{is_import, link, settle}
+use Rattle.rpc_machine.specs.Collecting.{Collects, Goes, ImportGoes, Loose, OutcomeGoes, PromiseGoes, Tight}
+use Rattle.rpc_machine.specs.Descriptors.{DescribesAll}
+use Rattle.rpc_machine.specs.Flags.{flag_for, give_if}
+use Rattle.rpc_machine.specs.Places.{imports_of, named_by_answer, named_by_taken, names, places}
+use Rattle.rpc_machine.specs.Progress.{Progress, caps_of, export_ids, numbers, send, with_state}
+use Rattle.rpc_machine.specs.Settling.{Returns, SaysBack, Tells, TellsCall, TellsPeer, returned, returned_map}
 use Rattle.laws_steps.specs.Callers.{AnswersWith, IsOpenFor, peer}
 use Rattle.laws_steps.specs.Settled.{IsAmong, IsThere}
 use Rattle.laws_steps.proofs.Below.{gives_below, places_below}

@@ -4,13 +4,13 @@ use Rattle.std.proofs.Common.{◌≡◌, ℕ, zero, suc, List, Option, None, Som
 use Rattle.finite_maps.specs.Tally.{Map}
 use Rattle.rpc_msg.specs.declared.ids.EmbargoId.{EmbargoId}
 use Rattle.rpc_msg.specs.declared.message.Message.{Message}
-use Rattle.vat_machine.specs.declared.entries.Embargo.{Embargo}
-use Rattle.vat_machine.specs.declared.entries.Reference.{Reference}
-use Rattle.vat_machine.specs.declared.node.Node.{Node}
-use Rattle.vat_machine.specs.declared.node.Node.TheVariants as node
-use Rattle.vat_machine.specs.State.{State}
-use Rattle.vat_machine.specs.Nodes.{link}
-use Rattle.vat_machine.specs.Laws as machine
+use Rattle.rpc_machine.specs.declared.entries.Embargo.{Embargo}
+use Rattle.rpc_machine.specs.declared.entries.Reference.{Reference}
+use Rattle.rpc_machine.specs.declared.node.Node.{Node}
+use Rattle.rpc_machine.specs.declared.node.Node.TheVariants as node
+use Rattle.rpc_machine.specs.State.{State}
+use Rattle.rpc_machine.specs.Nodes.{link}
+use Rattle.rpc_machine.specs.Laws as machine
 use Rattle.laws_steps.specs.Settled.{IsThere}
 use Rattle.laws_routes.specs.MakingLaws.{EmbargoIsThere}
 use Rattle.laws_routes.specs.Premises.{EachLoop, IsOnlyEmbargo}

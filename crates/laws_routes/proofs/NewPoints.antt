@@ -1,9 +1,9 @@
 -- Behind a change of one identity the points of other nodes are as before.
 use Rattle.std.proofs.Common.{◌≡◌, ℕ, false, refl, ap}
 use Rattle.rpc_msg.specs.declared.ids.Vat.{Vat}
-use Rattle.vat_machine.specs.declared.node.Node.{Node}
-use Rattle.vat_machine.specs.declared.node.Node.TheVariants as node
-use Rattle.vat_machine.specs.Nodes.{is_field, is_import, is_pipe, is_promise, is_wire}
+use Rattle.rpc_machine.specs.declared.node.Node.{Node}
+use Rattle.rpc_machine.specs.declared.node.Node.TheVariants as node
+use Rattle.rpc_machine.specs.Nodes.{is_field, is_import, is_pipe, is_promise, is_wire}
 use Rattle.laws_routes.specs.Points.{Point, APromise, AField}
 use Rattle.laws_routes.specs.Ghosts.{Ghost, point, asked, holding, importing, keeping}
 use Rattle.laws_routes.proofs.Differing.{with_other}

@@ -5,18 +5,18 @@ use Rattle.finite_maps.proofs.Gets.{get-insert_same}
 use Rattle.finite_maps.proofs.Tested.{apart, equal, get_other}
 use Rattle.rpc_msg.specs.declared.ids.Vat.{Vat}
 use Rattle.rpc_msg.specs.Vats.{other_vat}
-use Rattle.vat_journal.specs.History.{Ref}
-use Rattle.vat_journal.specs.History.{DeliveredAt}
-use Rattle.vat_machine.specs.declared.node.Node.{Node}
-use Rattle.vat_machine.specs.declared.node.Node.TheVariants as node
-use Rattle.vat_machine.specs.declared.entries.Reference.{Reference}
-use Rattle.vat_machine.specs.declared.entries.Embargo.{Embargo}
-use Rattle.vat_machine.specs.State.{State}
-use Rattle.vat_machine.specs.Progress.{Progress, with_state, with_refs}
-use Rattle.call_order.specs.Machine.{Message, changed, new_reference, put_ref}
-use Rattle.call_order.specs.Moves.{Moves, Done, Next, Begins}
-use Rattle.call_order.specs.Machine as routing
-use Rattle.call_order.proofs.Choices.{by_choice, changed_here, changed_other}
+use Rattle.rpc_journal.specs.History.{Ref}
+use Rattle.rpc_journal.specs.History.{DeliveredAt}
+use Rattle.rpc_machine.specs.declared.node.Node.{Node}
+use Rattle.rpc_machine.specs.declared.node.Node.TheVariants as node
+use Rattle.rpc_machine.specs.declared.entries.Reference.{Reference}
+use Rattle.rpc_machine.specs.declared.entries.Embargo.{Embargo}
+use Rattle.rpc_machine.specs.State.{State}
+use Rattle.rpc_machine.specs.Progress.{Progress, with_state, with_refs}
+use Rattle.laws_order.specs.Machine.{Message, changed, new_reference, put_ref}
+use Rattle.laws_order.specs.Moves.{Moves, Done, Next, Begins}
+use Rattle.laws_order.specs.Machine as routing
+use Rattle.laws_order.proofs.Choices.{by_choice, changed_here, changed_other}
 use Rattle.laws_routes.specs.Points.{Point, routes}
 use Rattle.laws_routes.specs.Ghosts.{Ghost, point, ref_at}
 use Rattle.laws_routes.specs.Sides.{Side, HasHead, IsRef, Refs, IsEmbargo, HasEmbargo, IsEmbargoOf}

@@ -11,22 +11,22 @@ use Rattle.rpc_msg.specs.declared.message.PlainMessage.TheVariants as plain
 use Rattle.rpc_msg.specs.declared.message.Message as rpc
 use Rattle.rpc_msg.specs.declared.message.Message.TheVariants as message
 use Rattle.rpc_msg.specs.Vats.{other_vat}
-use Rattle.vat_machine.specs.declared.node.Node.{Node}
-use Rattle.vat_machine.specs.declared.node.Node.TheVariants as node
-use Rattle.vat_machine.specs.declared.calls.Caller.{Caller}
-use Rattle.vat_machine.specs.declared.calls.KeptOutcome.{KeptOutcome}
-use Rattle.vat_machine.specs.declared.entries.AnswerEntry.{AnswerEntry}
-use Rattle.vat_machine.specs.declared.entries.Reference.{Reference}
-use Rattle.vat_machine.specs.declared.entries.Embargo.{Embargo}
-use Rattle.vat_machine.specs.declared.entries.Export.{Export}
-use Rattle.vat_machine.specs.declared.entries.Import.{Import}
-use Rattle.vat_machine.specs.State.{State}
-use Rattle.vat_machine.specs.Nodes.{link, is_field, field_link, value_of}
-use Rattle.vat_machine.specs.Progress.{Progress, with_state}
-use Rattle.vat_machine.specs.Commands.{with_outcome}
-use Rattle.vat_machine.specs.Descriptors.{export_node}
-use Rattle.call_order.specs.Machine.{Kind}
-use Rattle.call_order.specs.Machine as routing
+use Rattle.rpc_machine.specs.declared.node.Node.{Node}
+use Rattle.rpc_machine.specs.declared.node.Node.TheVariants as node
+use Rattle.rpc_machine.specs.declared.calls.Caller.{Caller}
+use Rattle.rpc_machine.specs.declared.calls.KeptOutcome.{KeptOutcome}
+use Rattle.rpc_machine.specs.declared.entries.AnswerEntry.{AnswerEntry}
+use Rattle.rpc_machine.specs.declared.entries.Reference.{Reference}
+use Rattle.rpc_machine.specs.declared.entries.Embargo.{Embargo}
+use Rattle.rpc_machine.specs.declared.entries.Export.{Export}
+use Rattle.rpc_machine.specs.declared.entries.Import.{Import}
+use Rattle.rpc_machine.specs.State.{State}
+use Rattle.rpc_machine.specs.Nodes.{link, is_field, field_link, value_of}
+use Rattle.rpc_machine.specs.Progress.{Progress, with_state}
+use Rattle.rpc_machine.specs.Commands.{with_outcome}
+use Rattle.rpc_machine.specs.Descriptors.{export_node}
+use Rattle.laws_order.specs.Machine.{Kind}
+use Rattle.laws_order.specs.Machine as routing
 use Rattle.laws_routes.specs.Points.{Point, AField, OfOutcome, routes}
 use Rattle.laws_routes.specs.Ghosts.{Ghost, point, far, ref_at, keeping}
 use Rattle.laws_routes.specs.Sides.{Side, Stops, IsLinked, HasHead, IsRef, HasEmbargo, OutcomeHolds, IsOpenOutcome, IsStop, Lists, Ids}

@@ -6,21 +6,21 @@ use Rattle.finite_maps.specs.Tally.{Map}
 use Rattle.finite_maps.proofs.Tested.{apart, at_put}
 use Rattle.rpc_msg.specs.declared.ids.Vat.{Vat}
 use Rattle.rpc_msg.specs.Vats.{other_vat}
-use Rattle.vat_machine.specs.declared.node.Node.{Node}
-use Rattle.vat_machine.specs.declared.node.Node.TheVariants as node
-use Rattle.vat_machine.specs.declared.calls.Caller.{Caller}
-use Rattle.vat_machine.specs.declared.calls.HeldCall.{HeldCall}
-use Rattle.vat_machine.specs.declared.calls.KeptOutcome.{KeptOutcome}
-use Rattle.vat_machine.specs.declared.calls.Value.{Value}
-use Rattle.vat_machine.specs.State.{State}
-use Rattle.vat_machine.specs.Nodes.{link, settle, is_wire, field_link, value_of}
-use Rattle.vat_machine.specs.Progress.{Progress, with_state}
-use Rattle.vat_machine.specs.Settling.{known}
-use Rattle.call_order.specs.Machine.{Kind, Message, Net, changed}
-use Rattle.call_order.specs.Machine as routing
-use Rattle.call_order.specs.Events.{Fate, Leaves, Merges, Breaks, Settle, Allowed, new_stop, settled}
-use Rattle.call_order.specs.Moves.{Moves, Done, Next, Settles}
-use Rattle.call_order.proofs.Choices.{by_choice, changed_other}
+use Rattle.rpc_machine.specs.declared.node.Node.{Node}
+use Rattle.rpc_machine.specs.declared.node.Node.TheVariants as node
+use Rattle.rpc_machine.specs.declared.calls.Caller.{Caller}
+use Rattle.rpc_machine.specs.declared.calls.HeldCall.{HeldCall}
+use Rattle.rpc_machine.specs.declared.calls.KeptOutcome.{KeptOutcome}
+use Rattle.rpc_machine.specs.declared.calls.Value.{Value}
+use Rattle.rpc_machine.specs.State.{State}
+use Rattle.rpc_machine.specs.Nodes.{link, settle, is_wire, field_link, value_of}
+use Rattle.rpc_machine.specs.Progress.{Progress, with_state}
+use Rattle.rpc_machine.specs.Settling.{known}
+use Rattle.laws_order.specs.Machine.{Kind, Message, Net, changed}
+use Rattle.laws_order.specs.Machine as routing
+use Rattle.laws_order.specs.Events.{Fate, Leaves, Merges, Breaks, Settle, Allowed, new_stop, settled}
+use Rattle.laws_order.specs.Moves.{Moves, Done, Next, Settles}
+use Rattle.laws_order.proofs.Choices.{by_choice, changed_other}
 use Rattle.laws_routes.specs.Points.{Point, AnObject, APromise, AField, Nowhere, Group, OfPromise, OfOutcome, group_of, vat_of, end, routes}
 use Rattle.laws_routes.specs.Ghosts.{Ghost, point}
 use Rattle.laws_routes.specs.Sides.{Side, Stops, IsLinked, Queue, AllHeld, HeldFor, PromiseWaits, OutcomeHolds, IsOpenPromise, IsOpenOutcome, Lists, Ids}

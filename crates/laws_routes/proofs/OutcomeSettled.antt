@@ -3,21 +3,21 @@ use Rattle.std.specs.FinMap as map
 use Rattle.std.proofs.Common.{◌≡◌, ℕ, Option, None, Some, [], refl, ap, ◌∙◌, Bool, true, false}
 use Rattle.finite_maps.proofs.Gets.{get-insert_same}
 use Rattle.rpc_msg.specs.declared.exception.Exception.{Exception}
-use Rattle.vat_machine.specs.declared.entries.AnswerEntry.{AnswerEntry}
-use Rattle.vat_machine.specs.declared.node.Node.{Node}
-use Rattle.vat_machine.specs.declared.calls.Caller.{Caller}
-use Rattle.vat_machine.specs.declared.calls.Caller.TheVariants as who
-use Rattle.vat_machine.specs.declared.calls.KeptOutcome.{KeptOutcome}
-use Rattle.vat_machine.specs.declared.calls.Promise.{Promise}
-use Rattle.vat_machine.specs.declared.calls.Promise.TheVariants as promise
-use Rattle.vat_machine.specs.declared.calls.Value.{Value}
-use Rattle.vat_machine.specs.Nodes.{is_field, is_promise, value_of}
-use Rattle.vat_machine.specs.Progress.{Progress, with_state}
-use Rattle.vat_machine.specs.Settling.{exports_where, Tells, SettlesOpen, SettlesFrom, SettlesOutcome, FixesFrom, FixesPromise, Drains, NoneLeft, OneMore, Returns, TellsPeer}
-use Rattle.call_order.specs.Machine as routing
-use Rattle.call_order.specs.Invariant.{InvariantWith}
-use Rattle.call_order.specs.Moves.{Done}
-use Rattle.call_order.proofs.Moves.{moves_keep}
+use Rattle.rpc_machine.specs.declared.entries.AnswerEntry.{AnswerEntry}
+use Rattle.rpc_machine.specs.declared.node.Node.{Node}
+use Rattle.rpc_machine.specs.declared.calls.Caller.{Caller}
+use Rattle.rpc_machine.specs.declared.calls.Caller.TheVariants as who
+use Rattle.rpc_machine.specs.declared.calls.KeptOutcome.{KeptOutcome}
+use Rattle.rpc_machine.specs.declared.calls.Promise.{Promise}
+use Rattle.rpc_machine.specs.declared.calls.Promise.TheVariants as promise
+use Rattle.rpc_machine.specs.declared.calls.Value.{Value}
+use Rattle.rpc_machine.specs.Nodes.{is_field, is_promise, value_of}
+use Rattle.rpc_machine.specs.Progress.{Progress, with_state}
+use Rattle.rpc_machine.specs.Settling.{exports_where, Tells, SettlesOpen, SettlesFrom, SettlesOutcome, FixesFrom, FixesPromise, Drains, NoneLeft, OneMore, Returns, TellsPeer}
+use Rattle.laws_order.specs.Machine as routing
+use Rattle.laws_order.specs.Invariant.{InvariantWith}
+use Rattle.laws_order.specs.Moves.{Done}
+use Rattle.laws_order.proofs.Moves.{moves_keep}
 use Rattle.laws_routes.specs.Points.{OfOutcome, routes}
 use Rattle.laws_routes.specs.Ties.{Around, Ghosts, Tied}
 use Rattle.laws_routes.specs.Laws.{Comes, IsFollowed}

@@ -8,23 +8,23 @@ use Rattle.rpc_msg.specs.declared.ids.Vat.TheVariants.{A, B}
 use Rattle.rpc_msg.specs.declared.ids.ObjectId.{ObjectId}
 use Rattle.rpc_msg.specs.declared.message.Message.{Message}
 use Rattle.rpc_msg.specs.Vats.{other_vat}
-use Rattle.vat_journal.specs.History.{Ref}
-use Rattle.vat_machine.specs.declared.node.Node.TheVariants as node
-use Rattle.vat_machine.specs.declared.command.Level.{Level}
-use Rattle.vat_machine.specs.declared.command.Effects.{Effects}
-use Rattle.vat_machine.specs.declared.calls.KeptOutcome.{KeptOutcome}
-use Rattle.vat_machine.specs.declared.calls.Promise.{Promise}
-use Rattle.vat_machine.specs.declared.entries.Embargo.{Embargo}
-use Rattle.vat_machine.specs.declared.entries.Import.{Import}
-use Rattle.vat_machine.specs.declared.entries.Question.{Question}
-use Rattle.vat_machine.specs.declared.entries.Reference.{Reference}
-use Rattle.vat_machine.specs.State.{State, start}
-use Rattle.call_order.specs.Machine.{Kind}
-use Rattle.call_order.specs.Machine as routing
-use Rattle.call_order.specs.Invariant.{InvariantWith}
-use Rattle.call_order.specs.Order.{AtOne, IsBeginningOf, InOrder, below, indexes}
-use Rattle.call_order.proofs.Claims.{gives_order}
-use Rattle.call_order.proofs.Events.{start_holds}
+use Rattle.rpc_journal.specs.History.{Ref}
+use Rattle.rpc_machine.specs.declared.node.Node.TheVariants as node
+use Rattle.rpc_machine.specs.declared.command.Level.{Level}
+use Rattle.rpc_machine.specs.declared.command.Effects.{Effects}
+use Rattle.rpc_machine.specs.declared.calls.KeptOutcome.{KeptOutcome}
+use Rattle.rpc_machine.specs.declared.calls.Promise.{Promise}
+use Rattle.rpc_machine.specs.declared.entries.Embargo.{Embargo}
+use Rattle.rpc_machine.specs.declared.entries.Import.{Import}
+use Rattle.rpc_machine.specs.declared.entries.Question.{Question}
+use Rattle.rpc_machine.specs.declared.entries.Reference.{Reference}
+use Rattle.rpc_machine.specs.State.{State, start}
+use Rattle.laws_order.specs.Machine.{Kind}
+use Rattle.laws_order.specs.Machine as routing
+use Rattle.laws_order.specs.Invariant.{InvariantWith}
+use Rattle.laws_order.specs.Order.{AtOne, IsBeginningOf, InOrder, below, indexes}
+use Rattle.laws_order.proofs.Claims.{gives_order}
+use Rattle.laws_order.proofs.Events.{start_holds}
 use Rattle.laws_routes.specs.Points.{Point, AnObject, APromise, AField, Nowhere, routes}
 use Rattle.laws_routes.specs.Ghosts.{Ghost, ref_at}
 use Rattle.laws_routes.specs.Sides.{HasEmbargo, IsRef, OutcomeHolds, PromiseWaits, Side, Stops, Unborn}
@@ -33,7 +33,7 @@ use Rattle.laws_routes.specs.Ties.{Around, Ghosts, Told, TiedBy, all_at, deliver
 use Rattle.laws_routes.specs.StepLaws.{TiedAt}
 use Rattle.laws_routes.specs.PairLaws.{beginning, behind, turned}
 use Rattle.laws_routes.specs.Sayings.{IsKnown, KnownAt, KnownIsSo, SaidOn, bare}
-use Rattle.vat_machine.specs.Advancing.{known_by_resolve, known_by_return, resolution_of, returned_of}
+use Rattle.rpc_machine.specs.Advancing.{known_by_resolve, known_by_return, resolution_of, returned_of}
 
 -- ---- The start
 

@@ -6,29 +6,29 @@ use Rattle.rpc_msg.specs.CapAt.{CapAt}
 use Rattle.rpc_msg.specs.CapAt.TheVariants.{Cap, Null, NotCap}
 use Rattle.rpc_msg.specs.declared.parts.Descriptor.{Descriptor}
 use Rattle.rpc_msg.specs.declared.parts.Descriptor.TheVariants as descriptor
-use Rattle.vat_machine.specs.Payloads.{cap_at}
-use Rattle.vat_machine.specs.declared.calls.KeptOutcome.{KeptOutcome}
-use Rattle.vat_machine.specs.declared.calls.Promise.TheVariants as promise
-use Rattle.vat_machine.specs.declared.calls.Value.{Value}
-use Rattle.vat_machine.specs.declared.calls.Value.TheVariants as value
-use Rattle.vat_machine.specs.declared.calls.WaitingCall.{WaitingCall}
-use Rattle.vat_machine.specs.declared.entries.Embargo.{Embargo}
-use Rattle.vat_machine.specs.declared.entries.Export.{Export}
-use Rattle.vat_machine.specs.declared.entries.Import.{Import}
-use Rattle.vat_machine.specs.declared.entries.Question.{Question}
-use Rattle.vat_machine.specs.declared.entries.Reference.{Reference}
-use Rattle.vat_machine.specs.declared.entries.Resolution.{Resolution}
-use Rattle.vat_machine.specs.declared.entries.Resolution.TheVariants as resolution
-use Rattle.vat_machine.specs.declared.entries.Returned.{Returned}
-use Rattle.vat_machine.specs.declared.entries.Returned.TheVariants as back
-use Rattle.vat_machine.specs.declared.node.Node.{Node}
-use Rattle.vat_machine.specs.declared.node.Node.TheVariants as node
-use Rattle.vat_machine.specs.declared.node.Reason.{Reason}
-use Rattle.vat_machine.specs.State.{State}
-use Rattle.vat_machine.specs.Nodes.{field_of, node_of_cap}
-use Rattle.vat_machine.specs.Advancing.{Leads, known_at, known_by, known_by_resolve, known_by_return, known_cap, resolution_of, returned_of}
-use Rattle.vat_machine.specs.Places.{named_by_calls, named_by_embargo, named_by_export, named_by_held, named_by_import, named_by_outcome, named_by_promise, named_by_question, named_by_reference, named_by_resolution, named_by_returned, named_by_value, nodes, places}
-use Rattle.vat_machine.specs.Progress.{caps_of}
+use Rattle.rpc_machine.specs.Payloads.{cap_at}
+use Rattle.rpc_machine.specs.declared.calls.KeptOutcome.{KeptOutcome}
+use Rattle.rpc_machine.specs.declared.calls.Promise.TheVariants as promise
+use Rattle.rpc_machine.specs.declared.calls.Value.{Value}
+use Rattle.rpc_machine.specs.declared.calls.Value.TheVariants as value
+use Rattle.rpc_machine.specs.declared.calls.WaitingCall.{WaitingCall}
+use Rattle.rpc_machine.specs.declared.entries.Embargo.{Embargo}
+use Rattle.rpc_machine.specs.declared.entries.Export.{Export}
+use Rattle.rpc_machine.specs.declared.entries.Import.{Import}
+use Rattle.rpc_machine.specs.declared.entries.Question.{Question}
+use Rattle.rpc_machine.specs.declared.entries.Reference.{Reference}
+use Rattle.rpc_machine.specs.declared.entries.Resolution.{Resolution}
+use Rattle.rpc_machine.specs.declared.entries.Resolution.TheVariants as resolution
+use Rattle.rpc_machine.specs.declared.entries.Returned.{Returned}
+use Rattle.rpc_machine.specs.declared.entries.Returned.TheVariants as back
+use Rattle.rpc_machine.specs.declared.node.Node.{Node}
+use Rattle.rpc_machine.specs.declared.node.Node.TheVariants as node
+use Rattle.rpc_machine.specs.declared.node.Reason.{Reason}
+use Rattle.rpc_machine.specs.State.{State}
+use Rattle.rpc_machine.specs.Nodes.{field_of, node_of_cap}
+use Rattle.rpc_machine.specs.Advancing.{Leads, known_at, known_by, known_by_resolve, known_by_return, known_cap, resolution_of, returned_of}
+use Rattle.rpc_machine.specs.Places.{named_by_calls, named_by_embargo, named_by_export, named_by_held, named_by_import, named_by_outcome, named_by_promise, named_by_question, named_by_reference, named_by_resolution, named_by_returned, named_by_value, nodes, places}
+use Rattle.rpc_machine.specs.Progress.{caps_of}
 use Rattle.laws_steps.specs.Settled.{IsAmong}
 use Rattle.laws_steps.proofs.Among.{among_left, among_right, in_embargoes, in_exports, in_imports, in_outcomes, in_promises, in_questions, in_refs, named}
 

@@ -5,23 +5,23 @@ use Rattle.finite_maps.specs.Tally.{Map}
 use Rattle.finite_maps.proofs.Tested.{apart, at_put}
 use Rattle.rpc_msg.specs.declared.ids.Vat.{Vat}
 use Rattle.rpc_msg.specs.Vats.{other_vat}
-use Rattle.vat_machine.specs.declared.node.Node.{Node}
-use Rattle.vat_machine.specs.declared.node.Node.TheVariants as node
-use Rattle.vat_machine.specs.declared.calls.WaitingCall.{WaitingCall}
-use Rattle.vat_machine.specs.declared.calls.Promise.{Promise}
-use Rattle.vat_machine.specs.declared.calls.Promise.TheVariants as promise
-use Rattle.vat_machine.specs.State.{State}
-use Rattle.vat_machine.specs.Nodes.{link, settle, is_wire, is_promise, promise_link}
-use Rattle.vat_machine.specs.Progress.{Progress, with_state}
-use Rattle.vat_machine.specs.Routing.{RoutesAll}
+use Rattle.rpc_machine.specs.declared.node.Node.{Node}
+use Rattle.rpc_machine.specs.declared.node.Node.TheVariants as node
+use Rattle.rpc_machine.specs.declared.calls.WaitingCall.{WaitingCall}
+use Rattle.rpc_machine.specs.declared.calls.Promise.{Promise}
+use Rattle.rpc_machine.specs.declared.calls.Promise.TheVariants as promise
+use Rattle.rpc_machine.specs.State.{State}
+use Rattle.rpc_machine.specs.Nodes.{link, settle, is_wire, is_promise, promise_link}
+use Rattle.rpc_machine.specs.Progress.{Progress, with_state}
+use Rattle.rpc_machine.specs.Routing.{RoutesAll}
 use Rattle.laws_steps.specs.Settled.{IsThere}
-use Rattle.call_order.specs.Machine.{Kind, Message, Net, changed, choose}
-use Rattle.call_order.specs.Machine as routing
-use Rattle.call_order.specs.Events.{Fate, Leaves, Merges, Settle, Allowed, place_of, kind_of, new_stop, new_kind, settled}
-use Rattle.call_order.specs.Invariant.{InPlace, InvariantWith}
-use Rattle.call_order.specs.Moves.{Moves, Done, Next, Settles}
-use Rattle.call_order.proofs.Moves.{moves_keep}
-use Rattle.call_order.proofs.Choices.{by_choice, changed_other}
+use Rattle.laws_order.specs.Machine.{Kind, Message, Net, changed, choose}
+use Rattle.laws_order.specs.Machine as routing
+use Rattle.laws_order.specs.Events.{Fate, Leaves, Merges, Settle, Allowed, place_of, kind_of, new_stop, new_kind, settled}
+use Rattle.laws_order.specs.Invariant.{InPlace, InvariantWith}
+use Rattle.laws_order.specs.Moves.{Moves, Done, Next, Settles}
+use Rattle.laws_order.proofs.Moves.{moves_keep}
+use Rattle.laws_order.proofs.Choices.{by_choice, changed_other}
 use Rattle.laws_routes.specs.Points.{Point, APromise, AField, Group, OfPromise, OfOutcome, group_of, vat_of, end, routes}
 use Rattle.laws_routes.specs.Ghosts.{Ghost, point, far}
 use Rattle.laws_routes.specs.Sides.{Side, Stops, IsLinked, LinkedTo, EndsAs, Queue, AllWait, PromiseWaits, OutcomeHolds, IsOpenPromise, IsOpenOutcome, Lists, Ids}

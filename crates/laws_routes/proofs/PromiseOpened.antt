@@ -4,19 +4,19 @@ use Rattle.std.proofs.Common.{◌≡◌, ◌⊎◌, inl, inr, ℕ, ◌+◌, ◌<
 use Rattle.finite_maps.proofs.Tested.{at_put, equal}
 use Rattle.rpc_msg.specs.declared.ids.Vat.{Vat}
 use Rattle.rpc_msg.specs.Vats.{other_vat}
-use Rattle.vat_machine.specs.declared.node.Node.{Node}
-use Rattle.vat_machine.specs.declared.node.Node.TheVariants as node
-use Rattle.vat_machine.specs.declared.calls.Promise.{Promise}
-use Rattle.vat_machine.specs.declared.calls.Promise.TheVariants as promise
-use Rattle.vat_machine.specs.declared.entries.Reference.{Reference}
-use Rattle.vat_machine.specs.declared.entries.Embargo.{Embargo}
-use Rattle.vat_machine.specs.declared.entries.Export.{Export}
-use Rattle.vat_machine.specs.declared.entries.Import.{Import}
-use Rattle.vat_machine.specs.State.{State}
-use Rattle.vat_machine.specs.Nodes.{link, is_promise, promise_link}
-use Rattle.vat_machine.specs.Progress.{Progress, with_state}
-use Rattle.vat_machine.specs.Descriptors.{export_node}
-use Rattle.call_order.specs.Machine as routing
+use Rattle.rpc_machine.specs.declared.node.Node.{Node}
+use Rattle.rpc_machine.specs.declared.node.Node.TheVariants as node
+use Rattle.rpc_machine.specs.declared.calls.Promise.{Promise}
+use Rattle.rpc_machine.specs.declared.calls.Promise.TheVariants as promise
+use Rattle.rpc_machine.specs.declared.entries.Reference.{Reference}
+use Rattle.rpc_machine.specs.declared.entries.Embargo.{Embargo}
+use Rattle.rpc_machine.specs.declared.entries.Export.{Export}
+use Rattle.rpc_machine.specs.declared.entries.Import.{Import}
+use Rattle.rpc_machine.specs.State.{State}
+use Rattle.rpc_machine.specs.Nodes.{link, is_promise, promise_link}
+use Rattle.rpc_machine.specs.Progress.{Progress, with_state}
+use Rattle.rpc_machine.specs.Descriptors.{export_node}
+use Rattle.laws_order.specs.Machine as routing
 use Rattle.laws_routes.specs.Premises.{MayOpen}
 use Rattle.laws_routes.specs.Points.{Point, OfPromise, routes}
 use Rattle.laws_routes.specs.Ghosts.{Ghost, point, far, ref_at, holding}

@@ -3,13 +3,13 @@ use Rattle.std.proofs.Common.{ℕ, Option, List, [], ◌∷◌, refl, sym, subst
 use Rattle.rpc_msg.specs.declared.exception.Exception.{Exception}
 use Rattle.rpc_msg.specs.declared.message.ResolvedTo.{ResolvedTo}
 use Rattle.rpc_msg.specs.declared.message.Message.TheVariants as message
-use Rattle.vat_machine.specs.declared.node.Node.{Node}
-use Rattle.vat_machine.specs.declared.node.Node.TheVariants as node
-use Rattle.vat_machine.specs.Nodes.{settle}
-use Rattle.vat_machine.specs.Progress.{Progress, with_state}
-use Rattle.vat_machine.specs.Settling.{or_failed, ResolvesTo, ResolvesBy, ResolvesEach, resolve_message}
-use Rattle.call_order.specs.Machine as routing
-use Rattle.call_order.specs.Moves.{Done}
+use Rattle.rpc_machine.specs.declared.node.Node.{Node}
+use Rattle.rpc_machine.specs.declared.node.Node.TheVariants as node
+use Rattle.rpc_machine.specs.Nodes.{settle}
+use Rattle.rpc_machine.specs.Progress.{Progress, with_state}
+use Rattle.rpc_machine.specs.Settling.{or_failed, ResolvesTo, ResolvesBy, ResolvesEach, resolve_message}
+use Rattle.laws_order.specs.Machine as routing
+use Rattle.laws_order.specs.Moves.{Done}
 use Rattle.laws_routes.specs.Points.{Point, routes}
 use Rattle.laws_routes.specs.Ties.{Around, Ghosts, Tied}
 use Rattle.laws_routes.specs.Laws.{IsFollowed}
@@ -18,9 +18,9 @@ use Rattle.laws_routes.proofs.SilentMessages.{silent_goes}
 use Rattle.std.specs.FinMap as map
 use Rattle.rpc_msg.specs.declared.parts.Descriptor.{Descriptor}
 use Rattle.rpc_msg.specs.declared.message.ResolvedTo.TheVariants as resolved
-use Rattle.vat_machine.specs.declared.entries.Export.{Export}
-use Rattle.vat_machine.specs.State.{State}
-use Rattle.vat_machine.specs.Descriptors.{Described}
+use Rattle.rpc_machine.specs.declared.entries.Export.{Export}
+use Rattle.rpc_machine.specs.State.{State}
+use Rattle.rpc_machine.specs.Descriptors.{Described}
 use Rattle.laws_routes.specs.Ghosts.{point}
 use Rattle.laws_routes.specs.Sides.{EndsAs}
 use Rattle.laws_routes.specs.Sayings.{IsSaid, SaidIfThere, SaidOfExport, bare, has_of}

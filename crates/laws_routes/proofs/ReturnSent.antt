@@ -11,17 +11,17 @@ use Rattle.rpc_msg.specs.declared.message.PlainMessage.TheVariants as plain
 use Rattle.rpc_msg.specs.declared.message.Message.TheVariants as message
 use Rattle.rpc_msg.specs.Messages.{descriptors_of, given}
 use Rattle.rpc_msg.specs.Vats.{other_vat}
-use Rattle.vat_machine.specs.declared.calls.Value.{Value}
-use Rattle.vat_machine.specs.declared.calls.Value.TheVariants as value
-use Rattle.vat_machine.specs.declared.entries.AnswerEntry.{AnswerEntry}
-use Rattle.vat_machine.specs.declared.entries.Import.{Import}
-use Rattle.vat_machine.specs.State.{State}
-use Rattle.vat_machine.specs.Progress.{Progress, with_state, export_ids, numbers}
-use Rattle.vat_machine.specs.Collecting.{Goes, PromiseGoes, OutcomeGoes, ImportGoes, Collects, Tight, Loose}
-use Rattle.vat_machine.specs.Flags.{flag_for, give_one, give_each, give_if}
-use Rattle.vat_machine.specs.Settling.{SaysBack, Returns, returned, returned_map}
-use Rattle.call_order.specs.Machine as routing
-use Rattle.call_order.specs.Moves.{Done}
+use Rattle.rpc_machine.specs.declared.calls.Value.{Value}
+use Rattle.rpc_machine.specs.declared.calls.Value.TheVariants as value
+use Rattle.rpc_machine.specs.declared.entries.AnswerEntry.{AnswerEntry}
+use Rattle.rpc_machine.specs.declared.entries.Import.{Import}
+use Rattle.rpc_machine.specs.State.{State}
+use Rattle.rpc_machine.specs.Progress.{Progress, with_state, export_ids, numbers}
+use Rattle.rpc_machine.specs.Collecting.{Goes, PromiseGoes, OutcomeGoes, ImportGoes, Collects, Tight, Loose}
+use Rattle.rpc_machine.specs.Flags.{flag_for, give_one, give_each, give_if}
+use Rattle.rpc_machine.specs.Settling.{SaysBack, Returns, returned, returned_map}
+use Rattle.laws_order.specs.Machine as routing
+use Rattle.laws_order.specs.Moves.{Done}
 use Rattle.laws_routes.specs.Points.{Point, routes}
 use Rattle.laws_routes.specs.Views.{IsImportOf, IsSession, past, reader, session_of, sessions_at, shapes}
 use Rattle.laws_routes.specs.Ties.{Around, Ghosts, Tied}
@@ -40,12 +40,12 @@ use Rattle.laws_routes.specs.KnownLaws.{has_past}
 use Rattle.laws_routes.proofs.AlikeSessions.{past_off}
 use Rattle.laws_routes.proofs.ReturnsSaySo.{exception_says, results_say}
 use Rattle.rpc_msg.specs.declared.message.Message.{Message}
-use Rattle.vat_machine.specs.declared.entries.Export.{Export}
-use Rattle.vat_machine.specs.declared.entries.Question.{Question}
-use Rattle.vat_machine.specs.declared.entries.Finishing.{Finishing}
-use Rattle.vat_machine.specs.declared.entries.Finishing.TheVariants as finishing
-use Rattle.vat_machine.specs.Sweeping.{IsNotSent}
-use Rattle.vat_machine.specs.Nodes.{value_of}
+use Rattle.rpc_machine.specs.declared.entries.Export.{Export}
+use Rattle.rpc_machine.specs.declared.entries.Question.{Question}
+use Rattle.rpc_machine.specs.declared.entries.Finishing.{Finishing}
+use Rattle.rpc_machine.specs.declared.entries.Finishing.TheVariants as finishing
+use Rattle.rpc_machine.specs.Sweeping.{IsNotSent}
+use Rattle.rpc_machine.specs.Nodes.{value_of}
 
 -- ---- What it leaves of exports, and of what no place names
 

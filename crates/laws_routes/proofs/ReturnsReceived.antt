@@ -15,29 +15,29 @@ use Rattle.rpc_msg.specs.declared.message.ReturnBody.{ReturnBody}
 use Rattle.rpc_msg.specs.declared.message.ReturnBody.TheVariants as body
 use Rattle.rpc_msg.specs.declared.parts.Descriptor.{Descriptor}
 use Rattle.rpc_msg.specs.Messages.{descriptors_of_body}
-use Rattle.vat_machine.specs.declared.calls.OwnCall.{OwnCall}
-use Rattle.vat_machine.specs.declared.calls.Value.{Value}
-use Rattle.vat_machine.specs.declared.command.Level.TheVariants.{One}
-use Rattle.vat_machine.specs.declared.entries.Export.{Export}
-use Rattle.vat_machine.specs.declared.entries.Finishing.{Finishing}
-use Rattle.vat_machine.specs.declared.entries.Finishing.TheVariants as finishing
-use Rattle.vat_machine.specs.declared.entries.Question.{Question}
-use Rattle.vat_machine.specs.declared.entries.Returned.{Returned}
-use Rattle.vat_machine.specs.declared.entries.Returned.TheVariants as returned_as
-use Rattle.vat_machine.specs.declared.entries.Role.{Role}
-use Rattle.vat_machine.specs.declared.entries.Role.TheVariants as role
-use Rattle.vat_machine.specs.declared.node.Node.{Node}
-use Rattle.vat_machine.specs.State.{State}
-use Rattle.vat_machine.specs.Advancing.{IsBroken, Leads, NothingYet, known_at, known_by_return, known_cap, returned_of}
-use Rattle.vat_machine.specs.Descriptors.{read_beside, take_all}
-use Rattle.vat_machine.specs.Faults.{body_fault, descriptors_fault, return_fault}
-use Rattle.vat_machine.specs.Flags.{lower_each, obey}
-use Rattle.vat_machine.specs.Messages.{ComesBack, ComesFor, TakesReturn, kept_returned, results_of, value_of_results}
-use Rattle.vat_machine.specs.Payloads.{cap_at}
-use Rattle.vat_machine.specs.Places.{nodes}
-use Rattle.vat_machine.specs.Progress.{Progress, caps_of, numbers, with_refs, with_state}
-use Rattle.vat_machine.specs.Settling.{TellsCall}
-use Rattle.vat_machine.specs.Sweeping.{IsNotSent}
+use Rattle.rpc_machine.specs.declared.calls.OwnCall.{OwnCall}
+use Rattle.rpc_machine.specs.declared.calls.Value.{Value}
+use Rattle.rpc_machine.specs.declared.command.Level.TheVariants.{One}
+use Rattle.rpc_machine.specs.declared.entries.Export.{Export}
+use Rattle.rpc_machine.specs.declared.entries.Finishing.{Finishing}
+use Rattle.rpc_machine.specs.declared.entries.Finishing.TheVariants as finishing
+use Rattle.rpc_machine.specs.declared.entries.Question.{Question}
+use Rattle.rpc_machine.specs.declared.entries.Returned.{Returned}
+use Rattle.rpc_machine.specs.declared.entries.Returned.TheVariants as returned_as
+use Rattle.rpc_machine.specs.declared.entries.Role.{Role}
+use Rattle.rpc_machine.specs.declared.entries.Role.TheVariants as role
+use Rattle.rpc_machine.specs.declared.node.Node.{Node}
+use Rattle.rpc_machine.specs.State.{State}
+use Rattle.rpc_machine.specs.Advancing.{IsBroken, Leads, NothingYet, known_at, known_by_return, known_cap, returned_of}
+use Rattle.rpc_machine.specs.Descriptors.{read_beside, take_all}
+use Rattle.rpc_machine.specs.Faults.{body_fault, descriptors_fault, return_fault}
+use Rattle.rpc_machine.specs.Flags.{lower_each, obey}
+use Rattle.rpc_machine.specs.Messages.{ComesBack, ComesFor, TakesReturn, kept_returned, results_of, value_of_results}
+use Rattle.rpc_machine.specs.Payloads.{cap_at}
+use Rattle.rpc_machine.specs.Places.{nodes}
+use Rattle.rpc_machine.specs.Progress.{Progress, caps_of, numbers, with_refs, with_state}
+use Rattle.rpc_machine.specs.Settling.{TellsCall}
+use Rattle.rpc_machine.specs.Sweeping.{IsNotSent}
 use Rattle.laws_routes.specs.Laws.{with_back}
 use Rattle.laws_routes.specs.Named.{EachReturn, ReturnOf}
 use Rattle.laws_routes.specs.Premises.{EachOpen, IsUnfinished, OpenOf}

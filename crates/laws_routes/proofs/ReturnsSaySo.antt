@@ -10,20 +10,20 @@ use Rattle.rpc_msg.specs.declared.exception.Exception.{Exception}
 use Rattle.rpc_msg.specs.declared.parts.Descriptor.{Descriptor}
 use Rattle.rpc_msg.specs.declared.message.ReturnBody.TheVariants as body
 use Rattle.rpc_msg.specs.declared.message.Message.{Message}
-use Rattle.vat_machine.specs.Payloads.{cap_at}
-use Rattle.vat_machine.specs.declared.node.Node.{Node}
-use Rattle.vat_machine.specs.declared.node.Node.TheVariants as node
-use Rattle.vat_machine.specs.declared.calls.KeptOutcome.{KeptOutcome}
-use Rattle.vat_machine.specs.declared.calls.Value.TheVariants as value
-use Rattle.vat_machine.specs.declared.entries.Export.{Export}
-use Rattle.vat_machine.specs.declared.node.Reason.TheVariants.{NullCapability, NotACapability, BrokenPromise}
-use Rattle.vat_machine.specs.State.{State}
-use Rattle.vat_machine.specs.Nodes.{field_link, link, node_of_cap, settle, value_of}
-use Rattle.vat_machine.specs.Progress.{Progress, with_state}
-use Rattle.vat_machine.specs.Descriptors.{Described, DescribesAll, ExportedAs, export_node}
-use Rattle.vat_machine.specs.Laws as machine
+use Rattle.rpc_machine.specs.Payloads.{cap_at}
+use Rattle.rpc_machine.specs.declared.node.Node.{Node}
+use Rattle.rpc_machine.specs.declared.node.Node.TheVariants as node
+use Rattle.rpc_machine.specs.declared.calls.KeptOutcome.{KeptOutcome}
+use Rattle.rpc_machine.specs.declared.calls.Value.TheVariants as value
+use Rattle.rpc_machine.specs.declared.entries.Export.{Export}
+use Rattle.rpc_machine.specs.declared.node.Reason.TheVariants.{NullCapability, NotACapability, BrokenPromise}
+use Rattle.rpc_machine.specs.State.{State}
+use Rattle.rpc_machine.specs.Nodes.{field_link, link, node_of_cap, settle, value_of}
+use Rattle.rpc_machine.specs.Progress.{Progress, with_state}
+use Rattle.rpc_machine.specs.Descriptors.{Described, DescribesAll, ExportedAs, export_node}
+use Rattle.rpc_machine.specs.Laws as machine
 use Rattle.laws_steps.specs.Settled.{IsThere}
-use Rattle.call_order.specs.Machine as routing
+use Rattle.laws_order.specs.Machine as routing
 use Rattle.laws_routes.specs.Points.{Point, AField, routes}
 use Rattle.laws_routes.specs.Ghosts.{point}
 use Rattle.laws_routes.specs.Sides.{EndsAs}

@@ -15,22 +15,22 @@ use Rattle.rpc_msg.specs.declared.message.PlainMessage.TheVariants as plain
 use Rattle.rpc_msg.specs.declared.message.Message.{Message}
 use Rattle.rpc_msg.specs.declared.message.Message.TheVariants as message
 use Rattle.rpc_msg.specs.Messages.{descriptors_of}
-use Rattle.vat_machine.specs.Payloads.{cap_at}
-use Rattle.vat_machine.specs.declared.entries.Export.{Export}
-use Rattle.vat_machine.specs.State.{State}
-use Rattle.vat_machine.specs.Advancing.{Known, NothingYet, IsBroken, Leads, known_by_resolve, known_by_return, known_of_wire, resolution_of, returned_of}
+use Rattle.rpc_machine.specs.Payloads.{cap_at}
+use Rattle.rpc_machine.specs.declared.entries.Export.{Export}
+use Rattle.rpc_machine.specs.State.{State}
+use Rattle.rpc_machine.specs.Advancing.{Known, NothingYet, IsBroken, Leads, known_by_resolve, known_by_return, known_of_wire, resolution_of, returned_of}
 use Rattle.rpc_msg.specs.Vats.{other_vat}
 use Rattle.rpc_msg.specs.declared.parts.Descriptor.TheVariants as descriptor
-use Rattle.call_order.specs.Machine.{Net}
-use Rattle.call_order.specs.Events.{Fate, settled}
+use Rattle.laws_order.specs.Machine.{Net}
+use Rattle.laws_order.specs.Events.{Fate, settled}
 use Rattle.laws_routes.specs.Points.{Point, AField, Group, routes}
 use Rattle.laws_routes.specs.Ghosts.{Ghost, point}
 use Rattle.laws_routes.specs.Views.{past_one}
 use Rattle.laws_routes.specs.Sayings.{Has, IsKnown, IsSaid, KnownIsSo, SaidOfExport, SaidIfThere, SaidAt, SaidOfCap, SaidOfAnswer, SaidBy, AllSaid, bare, descriptor_point, has_behind}
 use Rattle.laws_routes.proofs.GroupSettles.{said_after, known_after, breaks_after}
-use Rattle.vat_machine.specs.declared.node.Node.{Node}
-use Rattle.vat_machine.specs.declared.node.Node.TheVariants as node
-use Rattle.vat_machine.specs.Nodes.{is_wire}
+use Rattle.rpc_machine.specs.declared.node.Node.{Node}
+use Rattle.rpc_machine.specs.declared.node.Node.TheVariants as node
+use Rattle.rpc_machine.specs.Nodes.{is_wire}
 
 bare_said : (n : Net routes) (w : Point) (d : Descriptor) (to : Point) → IsSaid n w d to → IsSaid (bare n) w d to
 bare_said n w descriptor.None to h = h

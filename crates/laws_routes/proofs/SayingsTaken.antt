@@ -9,14 +9,14 @@ use Rattle.rpc_msg.specs.declared.parts.Descriptor.{Descriptor}
 use Rattle.rpc_msg.specs.declared.parts.Descriptor.TheVariants as descriptor
 use Rattle.rpc_msg.specs.declared.message.Message.{Message}
 use Rattle.rpc_msg.specs.Messages.{given}
-use Rattle.vat_machine.specs.declared.command.Level.{Level}
-use Rattle.vat_machine.specs.declared.command.Level.TheVariants.{Zero, One}
-use Rattle.vat_machine.specs.declared.entries.Export.{Export}
-use Rattle.vat_machine.specs.declared.entries.SenderKind.{SenderKind}
-use Rattle.vat_machine.specs.declared.entries.SenderKind.TheVariants as kind
-use Rattle.vat_machine.specs.State.{State}
-use Rattle.vat_machine.specs.Descriptors.{import_one, received, take_all, take_at, take_each}
-use Rattle.call_order.specs.Machine.{Net}
+use Rattle.rpc_machine.specs.declared.command.Level.{Level}
+use Rattle.rpc_machine.specs.declared.command.Level.TheVariants.{Zero, One}
+use Rattle.rpc_machine.specs.declared.entries.Export.{Export}
+use Rattle.rpc_machine.specs.declared.entries.SenderKind.{SenderKind}
+use Rattle.rpc_machine.specs.declared.entries.SenderKind.TheVariants as kind
+use Rattle.rpc_machine.specs.State.{State}
+use Rattle.rpc_machine.specs.Descriptors.{import_one, received, take_all, take_at, take_each}
+use Rattle.laws_order.specs.Machine.{Net}
 use Rattle.laws_routes.specs.Points.{routes}
 use Rattle.laws_routes.specs.Ghosts.{Ghost}
 use Rattle.laws_routes.specs.Sayings.{AllSaid, has_behind, has_of, is_among}

@@ -6,9 +6,9 @@ use Rattle.rpc_msg.specs.declared.message.PlainMessage.TheVariants as plain
 use Rattle.rpc_msg.specs.declared.message.Message.{Message}
 use Rattle.rpc_msg.specs.declared.message.Message.TheVariants as message
 use Rattle.rpc_msg.specs.Vats.{other_vat}
-use Rattle.vat_journal.specs.History.{in_front}
-use Rattle.vat_machine.specs.Progress.{Progress}
-use Rattle.call_order.specs.Machine as routing
+use Rattle.rpc_journal.specs.History.{in_front}
+use Rattle.rpc_machine.specs.Progress.{Progress}
+use Rattle.laws_order.specs.Machine as routing
 use Rattle.laws_routes.specs.Points.{routes}
 use Rattle.laws_routes.specs.Ghosts.{Ghost}
 use Rattle.laws_routes.specs.Views.{Reader, IsSession, reader, past_one, past, shape, shapes, sessions_at, unborn_ids, unborn_of}
@@ -21,8 +21,8 @@ use Rattle.laws_routes.proofs.SayingsCarried.{each_return, or_right, said_is_sen
 use Rattle.laws_routes.specs.Sayings.{AllSaid, Has, bare, has_of, is_among}
 use Rattle.rpc_msg.specs.Messages.{descriptors_of, given}
 use Rattle.std.specs.Prelude.{is_some}
-use Rattle.vat_journal.specs.declared.report.Delivery.{Delivery}
-use Rattle.vat_machine.specs.State.{State}
+use Rattle.rpc_journal.specs.declared.report.Delivery.{Delivery}
+use Rattle.rpc_machine.specs.State.{State}
 use Rattle.laws_routes.specs.Sides.{Unborn}
 
 opens_none : (g : Ghost) (now : ℕ → ℕ) (x : Message) → IsSilent x → past_one g now x ≡ now

@@ -5,14 +5,14 @@ use Rattle.finite_maps.specs.Tally.{Map}
 use Rattle.finite_maps.proofs.Tested.{at_cut, at_put}
 use Rattle.rpc_msg.specs.declared.message.PlainMessage.TheVariants as plain
 use Rattle.rpc_msg.specs.declared.message.Message.TheVariants as message
-use Rattle.vat_machine.specs.declared.entries.Finishing.{Finishing}
-use Rattle.vat_machine.specs.declared.entries.Finishing.TheVariants as finishing
-use Rattle.vat_machine.specs.declared.entries.Question.{Question}
-use Rattle.vat_machine.specs.declared.entries.Returned.{Returned}
-use Rattle.vat_machine.specs.Progress.{Progress, with_state, send, export_id}
-use Rattle.vat_machine.specs.Flags.{flag_for, give_back}
-use Rattle.vat_machine.specs.Sweeping.{Sweeps, FinishesEach, closed, closed_map, finished_by, got_of, release_each}
-use Rattle.call_order.specs.Machine as routing
+use Rattle.rpc_machine.specs.declared.entries.Finishing.{Finishing}
+use Rattle.rpc_machine.specs.declared.entries.Finishing.TheVariants as finishing
+use Rattle.rpc_machine.specs.declared.entries.Question.{Question}
+use Rattle.rpc_machine.specs.declared.entries.Returned.{Returned}
+use Rattle.rpc_machine.specs.Progress.{Progress, with_state, send, export_id}
+use Rattle.rpc_machine.specs.Flags.{flag_for, give_back}
+use Rattle.rpc_machine.specs.Sweeping.{Sweeps, FinishesEach, closed, closed_map, finished_by, got_of, release_each}
+use Rattle.laws_order.specs.Machine as routing
 use Rattle.laws_routes.specs.Points.{routes}
 use Rattle.laws_routes.specs.Views.{IsSession, past, sessions_at}
 use Rattle.laws_routes.specs.Ties.{Around, Ghosts, Tied}
@@ -21,7 +21,7 @@ use Rattle.laws_routes.proofs.SilentMessages.{silent_goes}
 use Rattle.laws_routes.specs.Sayings.{KnownAt, bare, has_of, is_waiting, not_sent}
 use Rattle.laws_routes.proofs.KnownKept.{Less, close, less}
 use Rattle.laws_routes.proofs.SayingsCarried.{each_return, said_of_fewer}
-use Rattle.vat_machine.specs.Advancing.{returned_of}
+use Rattle.rpc_machine.specs.Advancing.{returned_of}
 use Rattle.rpc_msg.specs.Vats.{other_vat}
 
 -- Other questions, each of the same session where its Finish was not sent.

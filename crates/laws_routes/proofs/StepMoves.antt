@@ -12,35 +12,35 @@ use Rattle.rpc_msg.specs.declared.message.PlainMessage.TheVariants as plain
 use Rattle.rpc_msg.specs.declared.message.Message as rpc
 use Rattle.rpc_msg.specs.declared.message.Message.TheVariants as message
 use Rattle.rpc_msg.specs.Vats.{other_vat}
-use Rattle.vat_machine.specs.declared.command.Command.{Command}
-use Rattle.vat_machine.specs.declared.command.Command.TheVariants as command
-use Rattle.vat_machine.specs.declared.command.CallCommand.{CallCommand}
-use Rattle.vat_machine.specs.declared.command.Effects.{Effects}
-use Rattle.vat_machine.specs.declared.command.Granted.{Granted}
-use Rattle.vat_machine.specs.declared.calls.OwnCall.{OwnCall}
-use Rattle.vat_machine.specs.declared.calls.Value.{Value}
-use Rattle.vat_machine.specs.declared.calls.Value.TheVariants as value
-use Rattle.vat_machine.specs.declared.entries.AnswerEntry.{AnswerEntry}
-use Rattle.vat_machine.specs.declared.entries.Embargo.{Embargo}
-use Rattle.vat_machine.specs.declared.entries.Question.{Question}
-use Rattle.vat_machine.specs.declared.entries.Reference.{Reference}
-use Rattle.vat_machine.specs.declared.node.Node.{Node}
-use Rattle.vat_machine.specs.declared.node.Node.TheVariants as node
-use Rattle.vat_machine.specs.declared.node.Reason.TheVariants.{BrokenPromise}
+use Rattle.rpc_machine.specs.declared.command.Command.{Command}
+use Rattle.rpc_machine.specs.declared.command.Command.TheVariants as command
+use Rattle.rpc_machine.specs.declared.command.CallCommand.{CallCommand}
+use Rattle.rpc_machine.specs.declared.command.Effects.{Effects}
+use Rattle.rpc_machine.specs.declared.command.Granted.{Granted}
+use Rattle.rpc_machine.specs.declared.calls.OwnCall.{OwnCall}
+use Rattle.rpc_machine.specs.declared.calls.Value.{Value}
+use Rattle.rpc_machine.specs.declared.calls.Value.TheVariants as value
+use Rattle.rpc_machine.specs.declared.entries.AnswerEntry.{AnswerEntry}
+use Rattle.rpc_machine.specs.declared.entries.Embargo.{Embargo}
+use Rattle.rpc_machine.specs.declared.entries.Question.{Question}
+use Rattle.rpc_machine.specs.declared.entries.Reference.{Reference}
+use Rattle.rpc_machine.specs.declared.node.Node.{Node}
+use Rattle.rpc_machine.specs.declared.node.Node.TheVariants as node
+use Rattle.rpc_machine.specs.declared.node.Reason.TheVariants.{BrokenPromise}
 use Rattle.rpc_msg.specs.declared.exception.Exception.{Exception}
 use Rattle.rpc_msg.specs.Op.{Op}
-use Rattle.vat_machine.specs.State.{State}
-use Rattle.vat_machine.specs.Nodes.{settle}
-use Rattle.vat_machine.specs.Progress.{Progress, begin}
-use Rattle.vat_machine.specs.Advancing.{wire_target}
-use Rattle.vat_machine.specs.Commands.{Acts, AnswersTask, ClonesRef, MakesCall, NamesField, NewRef, RejectsPromise, ResolvesPromise, answered, heads, settled_now}
-use Rattle.vat_machine.specs.Faults.{given_by, is_foreign, target_node}
-use Rattle.vat_machine.specs.Messages.{Bounces, Lifts, Takes, TakesDisembargo, TakesFinish, TakesPlain, TakesReturn, TakesUnimplemented, TakesUnless}
-use Rattle.vat_machine.specs.Steps.{Does, Ends, Handles}
-use Rattle.call_order.specs.Machine as routing
-use Rattle.call_order.specs.Invariant.{InvariantWith}
-use Rattle.call_order.specs.Moves.{Done}
-use Rattle.call_order.proofs.Moves.{moves_keep}
+use Rattle.rpc_machine.specs.State.{State}
+use Rattle.rpc_machine.specs.Nodes.{settle}
+use Rattle.rpc_machine.specs.Progress.{Progress, begin}
+use Rattle.rpc_machine.specs.Advancing.{wire_target}
+use Rattle.rpc_machine.specs.Commands.{Acts, AnswersTask, ClonesRef, MakesCall, NamesField, NewRef, RejectsPromise, ResolvesPromise, answered, heads, settled_now}
+use Rattle.rpc_machine.specs.Faults.{given_by, is_foreign, target_node}
+use Rattle.rpc_machine.specs.Messages.{Bounces, Lifts, Takes, TakesDisembargo, TakesFinish, TakesPlain, TakesReturn, TakesUnimplemented, TakesUnless}
+use Rattle.rpc_machine.specs.Steps.{Does, Ends, Handles}
+use Rattle.laws_order.specs.Machine as routing
+use Rattle.laws_order.specs.Invariant.{InvariantWith}
+use Rattle.laws_order.specs.Moves.{Done}
+use Rattle.laws_order.proofs.Moves.{moves_keep}
 use Rattle.laws_routes.specs.Points.{Point, routes}
 use Rattle.laws_routes.specs.Ghosts.{point}
 use Rattle.laws_routes.specs.Sides.{EndsAs}

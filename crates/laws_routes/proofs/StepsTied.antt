@@ -3,16 +3,16 @@ use Rattle.std.proofs.Common.{List, [], ◌∷◌, Option, sym, subst}
 use Rattle.rpc_msg.specs.declared.ids.Vat.{Vat}
 use Rattle.rpc_msg.specs.declared.ids.ObjectId.{ObjectId}
 use Rattle.rpc_msg.specs.declared.message.Message.{Message}
-use Rattle.vat_journal.specs.History.{Ref}
-use Rattle.vat_machine.specs.declared.command.Effects.{Effects}
-use Rattle.vat_machine.specs.declared.command.Level.{Level}
-use Rattle.vat_machine.specs.State.{State, start}
-use Rattle.call_order.specs.Machine as routing
-use Rattle.call_order.specs.Invariant.{InvariantWith}
-use Rattle.call_order.specs.Moves.{Moves}
-use Rattle.call_order.specs.Moves as moves
-use Rattle.call_order.specs.Order.{AtOne, IsBeginningOf, below, indexes}
-use Rattle.call_order.proofs.Moves.{moves_keep}
+use Rattle.rpc_journal.specs.History.{Ref}
+use Rattle.rpc_machine.specs.declared.command.Effects.{Effects}
+use Rattle.rpc_machine.specs.declared.command.Level.{Level}
+use Rattle.rpc_machine.specs.State.{State, start}
+use Rattle.laws_order.specs.Machine as routing
+use Rattle.laws_order.specs.Invariant.{InvariantWith}
+use Rattle.laws_order.specs.Moves.{Moves}
+use Rattle.laws_order.specs.Moves as moves
+use Rattle.laws_order.specs.Order.{AtOne, IsBeginningOf, below, indexes}
+use Rattle.laws_order.proofs.Moves.{moves_keep}
 use Rattle.laws_routes.specs.Points.{routes}
 use Rattle.laws_routes.specs.Ties.{Around, Ghosts, deliveries_of}
 use Rattle.laws_routes.specs.Laws.{with_back}

@@ -7,13 +7,13 @@ use Rattle.rpc_msg.specs.declared.ids.Vat.{Vat}
 use Rattle.rpc_msg.specs.declared.message.PlainMessage.TheVariants as plain
 use Rattle.rpc_msg.specs.declared.message.Message.{Message}
 use Rattle.rpc_msg.specs.declared.message.Message.TheVariants as message
-use Rattle.vat_journal.specs.History.{in_front}
-use Rattle.vat_machine.specs.declared.calls.KeptOutcome.{KeptOutcome}
-use Rattle.vat_machine.specs.State.{State}
-use Rattle.call_order.specs.Machine.{Kind, Net}
-use Rattle.call_order.specs.Machine as routing
-use Rattle.call_order.specs.Events.{Fate, settled}
-use Rattle.call_order.proofs.Choices.{changed_other}
+use Rattle.rpc_journal.specs.History.{in_front}
+use Rattle.rpc_machine.specs.declared.calls.KeptOutcome.{KeptOutcome}
+use Rattle.rpc_machine.specs.State.{State}
+use Rattle.laws_order.specs.Machine.{Kind, Net}
+use Rattle.laws_order.specs.Machine as routing
+use Rattle.laws_order.specs.Events.{Fate, settled}
+use Rattle.laws_order.proofs.Choices.{changed_other}
 use Rattle.laws_routes.specs.Points.{Point, AField, Group, OfOutcome, routes}
 use Rattle.laws_routes.specs.Ghosts.{Ghost, with_at}
 use Rattle.laws_routes.specs.Sides.{Side, Queue, IsOpenOutcome, IsIn, AllDiffer, IsUnborn, Unborn}

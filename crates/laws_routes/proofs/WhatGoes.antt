@@ -4,16 +4,16 @@ use Rattle.std.proofs.Common.{◌≡◌, ◌⊎◌, inl, inr, ℕ, [], true, Opt
 use Rattle.finite_maps.proofs.Tested.{at_cut}
 use Rattle.rpc_msg.specs.declared.ids.Vat.{Vat}
 use Rattle.rpc_msg.specs.Vats.{other_vat}
-use Rattle.vat_machine.specs.declared.node.Node.TheVariants as node
-use Rattle.vat_machine.specs.declared.calls.KeptOutcome.{KeptOutcome}
-use Rattle.vat_machine.specs.declared.calls.Promise.{Promise}
-use Rattle.vat_machine.specs.declared.calls.Promise.TheVariants as promise
-use Rattle.vat_machine.specs.declared.calls.Value.{Value}
-use Rattle.vat_machine.specs.State.{State}
-use Rattle.vat_machine.specs.Nodes.{promise_link, field_link, value_of}
-use Rattle.vat_machine.specs.Progress.{Progress}
-use Rattle.vat_machine.specs.Collecting.{Goes, PromiseGoes, OutcomeGoes, ImportGoes, IsLoosePromise, IsLooseOutcome, IsLooseValue}
-use Rattle.call_order.specs.Machine as routing
+use Rattle.rpc_machine.specs.declared.node.Node.TheVariants as node
+use Rattle.rpc_machine.specs.declared.calls.KeptOutcome.{KeptOutcome}
+use Rattle.rpc_machine.specs.declared.calls.Promise.{Promise}
+use Rattle.rpc_machine.specs.declared.calls.Promise.TheVariants as promise
+use Rattle.rpc_machine.specs.declared.calls.Value.{Value}
+use Rattle.rpc_machine.specs.State.{State}
+use Rattle.rpc_machine.specs.Nodes.{promise_link, field_link, value_of}
+use Rattle.rpc_machine.specs.Progress.{Progress}
+use Rattle.rpc_machine.specs.Collecting.{Goes, PromiseGoes, OutcomeGoes, ImportGoes, IsLoosePromise, IsLooseOutcome, IsLooseValue}
+use Rattle.laws_order.specs.Machine as routing
 use Rattle.laws_routes.specs.Points.{OfPromise, OfOutcome, routes}
 use Rattle.laws_routes.specs.Ghosts.{Ghost}
 use Rattle.laws_routes.specs.Sides.{Side, Stops, IsLinked, PromiseWaits, OutcomeHolds, IsOpenPromise, IsOpenOutcome}
@@ -23,7 +23,7 @@ use Rattle.laws_routes.proofs.UnbornKept.{unborn_fewer}
 use Rattle.laws_routes.proofs.KnownKept.{Less, less}
 use Rattle.laws_routes.proofs.SayingsCarried.{each_return, said_of_fewer}
 use Rattle.laws_routes.specs.Sayings.{bare, has_of}
-use Rattle.vat_machine.specs.Advancing.{resolution_of}
+use Rattle.rpc_machine.specs.Advancing.{resolution_of}
 use Rattle.std.specs.Prelude.{is_some}
 
 pub none_there : (X : Type 0) {A : Type 0} → IsSome {T = X} None → A

@@ -1,16 +1,16 @@
 -- A call that is routed to a point goes where its node settles.
 use Rattle.std.proofs.Common.{◌≡◌, inl, inr, ℕ, zero, suc, false, None, refl, sym, ap, subst, ◌∙◌}
 use Rattle.rpc_msg.specs.declared.ids.Vat.{Vat}
-use Rattle.vat_machine.specs.declared.node.Node.{Node}
-use Rattle.vat_machine.specs.declared.node.Node.TheVariants as node
-use Rattle.vat_machine.specs.State.{State}
-use Rattle.vat_machine.specs.Nodes.{link, settle, is_wire}
-use Rattle.vat_machine.specs.Laws as machine
-use Rattle.vat_machine.specs.Laws.{SettlesWhereItLeads}
-pub use Rattle.vat_machine.proofs.Settles.{settles_here}
+use Rattle.rpc_machine.specs.declared.node.Node.{Node}
+use Rattle.rpc_machine.specs.declared.node.Node.TheVariants as node
+use Rattle.rpc_machine.specs.State.{State}
+use Rattle.rpc_machine.specs.Nodes.{link, settle, is_wire}
+use Rattle.rpc_machine.specs.Laws as machine
+use Rattle.rpc_machine.specs.Laws.{SettlesWhereItLeads}
+pub use Rattle.rpc_machine.proofs.Settles.{settles_here}
 use Rattle.laws_steps.specs.Settled.{IsThere}
-use Rattle.call_order.specs.Machine.{Kind, Net}
-use Rattle.call_order.specs.Machine as routing
+use Rattle.laws_order.specs.Machine.{Kind, Net}
+use Rattle.laws_order.specs.Machine as routing
 use Rattle.laws_routes.specs.Points.{Point, routes}
 use Rattle.laws_routes.specs.Ghosts.{Ghost, point, far}
 use Rattle.laws_routes.specs.Sides.{IsFinal, SameEnd, IsLinked, LinkedTo, Stops, EndsAs}

@@ -4,19 +4,19 @@ use Rattle.std.specs.FinMap as map
 use Rattle.rpc_msg.specs.Op.{Op}
 use Rattle.rpc_msg.specs.declared.parts.Descriptor.{Descriptor}
 use Rattle.rpc_msg.specs.declared.message.Message.{Message}
-use Rattle.vat_machine.specs.declared.entries.AnswerEntry.{AnswerEntry}
-use Rattle.vat_machine.specs.declared.entries.Embargo.{Embargo}
-use Rattle.vat_machine.specs.declared.entries.Export.{Export}
-use Rattle.vat_machine.specs.declared.entries.Question.{Question}
-use Rattle.vat_machine.specs.declared.entries.Reference.{Reference}
-use Rattle.vat_machine.specs.declared.node.Node.{Node}
-use Rattle.vat_machine.specs.State.{State}
-use Rattle.vat_machine.specs.Nodes.{is_wire, link}
-use Rattle.vat_machine.specs.Advancing.{Leads, known_by_resolve, known_by_return, resolution_of, returned_of}
-use Rattle.vat_machine.specs.declared.calls.KeptOutcome.{KeptOutcome}
-use Rattle.vat_machine.specs.declared.calls.Promise.TheVariants as promise
-use Rattle.vat_machine.specs.declared.calls.WaitingCall.{WaitingCall}
-use Rattle.vat_machine.specs.Laws as machine
+use Rattle.rpc_machine.specs.declared.entries.AnswerEntry.{AnswerEntry}
+use Rattle.rpc_machine.specs.declared.entries.Embargo.{Embargo}
+use Rattle.rpc_machine.specs.declared.entries.Export.{Export}
+use Rattle.rpc_machine.specs.declared.entries.Question.{Question}
+use Rattle.rpc_machine.specs.declared.entries.Reference.{Reference}
+use Rattle.rpc_machine.specs.declared.node.Node.{Node}
+use Rattle.rpc_machine.specs.State.{State}
+use Rattle.rpc_machine.specs.Nodes.{is_wire, link}
+use Rattle.rpc_machine.specs.Advancing.{Leads, known_by_resolve, known_by_return, resolution_of, returned_of}
+use Rattle.rpc_machine.specs.declared.calls.KeptOutcome.{KeptOutcome}
+use Rattle.rpc_machine.specs.declared.calls.Promise.TheVariants as promise
+use Rattle.rpc_machine.specs.declared.calls.WaitingCall.{WaitingCall}
+use Rattle.rpc_machine.specs.Laws as machine
 use Rattle.laws_steps.specs.Callers.{AnswersWith, IsOpenFor}
 use Rattle.laws_steps.specs.Settled.{IsThere}
 use Rattle.laws_routes.specs.Named.{EachReturn, LinksMet}
@@ -25,8 +25,8 @@ use Rattle.laws_routes.specs.MakingLaws.{EmbargoIsThere}
 use Rattle.laws_routes.specs.Midway.{CallsAreHeld, HeldCallsAreHeld, IsAwaited, IsHeld, IsOutcomeOf, Midway}
 use Rattle.rpc_msg.specs.declared.ids.Vat.{Vat}
 use Rattle.rpc_msg.specs.declared.ids.ObjectId.{ObjectId}
-use Rattle.vat_machine.specs.declared.command.Level.{Level}
-use Rattle.vat_machine.specs.State.{start}
+use Rattle.rpc_machine.specs.declared.command.Level.{Level}
+use Rattle.rpc_machine.specs.State.{start}
 
 -- What is so of a vat alone: where its nodes lead, what its places name, its embargoes, and its answers.
 pub record Inside (s : State) : Type 0 where

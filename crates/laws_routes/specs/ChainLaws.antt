@@ -3,18 +3,18 @@ use Rattle.std.specs.Prelude.{◌≡◌, Option, List, [], ◌∷◌}
 use Rattle.rpc_msg.specs.declared.ids.Vat.{Vat}
 use Rattle.rpc_msg.specs.declared.ids.ObjectId.{ObjectId}
 use Rattle.rpc_msg.specs.declared.message.Message.{Message}
-use Rattle.vat_journal.specs.History.{Ref}
-use Rattle.vat_machine.specs.declared.command.Command.{Command}
-use Rattle.vat_machine.specs.declared.command.Effects.{Effects}
-use Rattle.vat_machine.specs.declared.command.Granted.{Granted}
-use Rattle.vat_machine.specs.declared.command.Level.{Level}
-use Rattle.vat_machine.specs.State.{State, start}
-use Rattle.vat_machine.specs.Progress.{begin}
-use Rattle.vat_machine.specs.Steps.{Does, Handles}
-use Rattle.call_order.specs.Machine as routing
-use Rattle.call_order.specs.Invariant.{InvariantWith}
-use Rattle.call_order.specs.Moves.{Moves}
-use Rattle.call_order.specs.Order.{AtOne, IsBeginningOf, below, indexes}
+use Rattle.rpc_journal.specs.History.{Ref}
+use Rattle.rpc_machine.specs.declared.command.Command.{Command}
+use Rattle.rpc_machine.specs.declared.command.Effects.{Effects}
+use Rattle.rpc_machine.specs.declared.command.Granted.{Granted}
+use Rattle.rpc_machine.specs.declared.command.Level.{Level}
+use Rattle.rpc_machine.specs.State.{State, start}
+use Rattle.rpc_machine.specs.Progress.{begin}
+use Rattle.rpc_machine.specs.Steps.{Does, Handles}
+use Rattle.laws_order.specs.Machine as routing
+use Rattle.laws_order.specs.Invariant.{InvariantWith}
+use Rattle.laws_order.specs.Moves.{Moves}
+use Rattle.laws_order.specs.Order.{AtOne, IsBeginningOf, below, indexes}
 use Rattle.laws_routes.specs.Points.{routes}
 use Rattle.laws_routes.specs.Ties.{Around, Ghosts, deliveries_of}
 use Rattle.laws_routes.specs.Laws.{with_back}

@@ -1,17 +1,17 @@
 -- What is proved of first acts: what is so in the middle of a step is so behind each of them.
 use Rattle.std.specs.Prelude.{◌≡◌, ℕ, None, Some}
 use Rattle.std.specs.FinMap as map
-use Rattle.vat_machine.specs.declared.command.Command.{Command}
-use Rattle.vat_machine.specs.declared.command.Effects.{Effects}
-use Rattle.vat_machine.specs.declared.command.Granted.{Granted}
-use Rattle.vat_machine.specs.declared.command.Level.TheVariants.{One}
-use Rattle.vat_machine.specs.declared.entries.Reference.{Reference}
-use Rattle.vat_machine.specs.State.{State}
-use Rattle.vat_machine.specs.Commands.{Acts}
-use Rattle.vat_machine.specs.Progress.{Progress, begin}
-use Rattle.vat_machine.specs.Refusals.{refused}
-use Rattle.vat_machine.specs.Steps.{Does}
-use Rattle.call_order.specs.Machine as routing
+use Rattle.rpc_machine.specs.declared.command.Command.{Command}
+use Rattle.rpc_machine.specs.declared.command.Effects.{Effects}
+use Rattle.rpc_machine.specs.declared.command.Granted.{Granted}
+use Rattle.rpc_machine.specs.declared.command.Level.TheVariants.{One}
+use Rattle.rpc_machine.specs.declared.entries.Reference.{Reference}
+use Rattle.rpc_machine.specs.State.{State}
+use Rattle.rpc_machine.specs.Commands.{Acts}
+use Rattle.rpc_machine.specs.Progress.{Progress, begin}
+use Rattle.rpc_machine.specs.Refusals.{refused}
+use Rattle.rpc_machine.specs.Steps.{Does}
+use Rattle.laws_order.specs.Machine as routing
 use Rattle.laws_steps.specs.Callers.{HasSource}
 use Rattle.laws_steps.specs.NodesThere.{IsWhole}
 use Rattle.laws_routes.specs.OutcomeLaws.{AllMaySettle}

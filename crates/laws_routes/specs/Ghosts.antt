@@ -3,9 +3,9 @@
 use Rattle.std.specs.Prelude.{ℕ, nat_eq, cond, Option, None, Some}
 use Rattle.rpc_msg.specs.declared.ids.Vat.{Vat}
 use Rattle.rpc_msg.specs.Vats.{other_vat}
-use Rattle.vat_journal.specs.History.{Ref}
-use Rattle.vat_machine.specs.declared.node.Node.{Node}
-use Rattle.vat_machine.specs.declared.node.Node.TheVariants as node
+use Rattle.rpc_journal.specs.History.{Ref}
+use Rattle.rpc_machine.specs.declared.node.Node.{Node}
+use Rattle.rpc_machine.specs.declared.node.Node.TheVariants as node
 use Rattle.laws_routes.specs.Points.{Point, AnObject, APromise, AField, Nowhere}
 
 -- Of one vat: the identities of its promises and outcomes, by their keys; by question ids, the identity of the outcome that

@@ -10,33 +10,33 @@ use Rattle.rpc_msg.specs.declared.message.PlainMessage.TheVariants as plain
 use Rattle.rpc_msg.specs.declared.message.Message.{Message}
 use Rattle.rpc_msg.specs.declared.message.Message.TheVariants as message
 use Rattle.rpc_msg.specs.Vats.{other_vat}
-use Rattle.vat_journal.specs.History.{Ref, caller}
-use Rattle.vat_machine.specs.declared.calls.Request.{Request}
-use Rattle.vat_machine.specs.declared.entries.Reference.{Reference}
-use Rattle.vat_machine.specs.declared.entries.Embargo.{Embargo}
-use Rattle.vat_machine.specs.Lists.{update}
-use Rattle.vat_machine.specs.Messages.{unembargoed, opened}
-use Rattle.vat_machine.specs.Collecting.{Goes}
-use Rattle.vat_machine.specs.Commands.{counted, kept, with_outcome, CallsDirect}
-use Rattle.vat_machine.specs.declared.calls.Caller.{Caller}
-use Rattle.vat_machine.specs.Advancing.{wire_target, headed}
-use Rattle.vat_machine.specs.declared.calls.WaitingCall.{WaitingCall}
-use Rattle.vat_machine.specs.declared.node.Node.TheVariants as node
-use Rattle.vat_machine.specs.declared.calls.Promise.TheVariants as promise
-use Rattle.vat_machine.specs.State.{State}
-use Rattle.vat_machine.specs.Nodes.{settle, is_wire, is_promise}
-use Rattle.vat_machine.specs.declared.calls.KeptOutcome.{KeptOutcome}
-use Rattle.vat_machine.specs.declared.calls.Value.{Value}
-use Rattle.vat_machine.specs.Settling.{known}
-use Rattle.vat_machine.specs.Routing.{Routes, RoutedTo, RoutesAll}
-use Rattle.vat_machine.specs.declared.node.Node.{Node}
-use Rattle.vat_machine.specs.Progress.{Progress, with_state, with_refs, send}
+use Rattle.rpc_journal.specs.History.{Ref, caller}
+use Rattle.rpc_machine.specs.declared.calls.Request.{Request}
+use Rattle.rpc_machine.specs.declared.entries.Reference.{Reference}
+use Rattle.rpc_machine.specs.declared.entries.Embargo.{Embargo}
+use Rattle.rpc_machine.specs.Lists.{update}
+use Rattle.rpc_machine.specs.Messages.{unembargoed, opened}
+use Rattle.rpc_machine.specs.Collecting.{Goes}
+use Rattle.rpc_machine.specs.Commands.{counted, kept, with_outcome, CallsDirect}
+use Rattle.rpc_machine.specs.declared.calls.Caller.{Caller}
+use Rattle.rpc_machine.specs.Advancing.{wire_target, headed}
+use Rattle.rpc_machine.specs.declared.calls.WaitingCall.{WaitingCall}
+use Rattle.rpc_machine.specs.declared.node.Node.TheVariants as node
+use Rattle.rpc_machine.specs.declared.calls.Promise.TheVariants as promise
+use Rattle.rpc_machine.specs.State.{State}
+use Rattle.rpc_machine.specs.Nodes.{settle, is_wire, is_promise}
+use Rattle.rpc_machine.specs.declared.calls.KeptOutcome.{KeptOutcome}
+use Rattle.rpc_machine.specs.declared.calls.Value.{Value}
+use Rattle.rpc_machine.specs.Settling.{known}
+use Rattle.rpc_machine.specs.Routing.{Routes, RoutedTo, RoutesAll}
+use Rattle.rpc_machine.specs.declared.node.Node.{Node}
+use Rattle.rpc_machine.specs.Progress.{Progress, with_state, with_refs, send}
 use Rattle.laws_steps.specs.Settled.{IsThere}
-use Rattle.call_order.specs.Events.{Fate, Leaves, Merges, Breaks, settled}
-use Rattle.call_order.specs.Machine.{Message as Routed, Net, Call, changed}
-use Rattle.call_order.specs.Machine as routing
-use Rattle.call_order.specs.Moves.{Moves}
-use Rattle.call_order.specs.Invariant.{InvariantWith}
+use Rattle.laws_order.specs.Events.{Fate, Leaves, Merges, Breaks, settled}
+use Rattle.laws_order.specs.Machine.{Message as Routed, Net, Call, changed}
+use Rattle.laws_order.specs.Machine as routing
+use Rattle.laws_order.specs.Moves.{Moves}
+use Rattle.laws_order.specs.Invariant.{InvariantWith}
 use Rattle.laws_routes.specs.Sides.{EndsAs, Side, Stops}
 use Rattle.laws_routes.specs.Views.{target_point, sessions_at}
 use Rattle.laws_routes.specs.Points.{Point, AnObject, APromise, AField, Nowhere, OfOutcome, vat_of, routes}

@@ -8,14 +8,14 @@ use Rattle.rpc_msg.specs.declared.message.Message.{Message}
 use Rattle.rpc_msg.specs.declared.message.Message.TheVariants as message
 use Rattle.rpc_msg.specs.Messages.{given}
 use Rattle.rpc_msg.specs.declared.ids.QuestionId.{QuestionId}
-use Rattle.vat_machine.specs.declared.node.Node.{Node}
-use Rattle.vat_machine.specs.declared.calls.Value.{Value}
-use Rattle.vat_machine.specs.declared.entries.AnswerEntry.{AnswerEntry}
-use Rattle.vat_machine.specs.State.{State}
-use Rattle.vat_machine.specs.Progress.{Progress, with_state}
-use Rattle.vat_machine.specs.Descriptors.{DescribesAll, take_all}
-use Rattle.vat_machine.specs.Settling.{ResolvesEach, Returns}
-use Rattle.call_order.specs.Machine as routing
+use Rattle.rpc_machine.specs.declared.node.Node.{Node}
+use Rattle.rpc_machine.specs.declared.calls.Value.{Value}
+use Rattle.rpc_machine.specs.declared.entries.AnswerEntry.{AnswerEntry}
+use Rattle.rpc_machine.specs.State.{State}
+use Rattle.rpc_machine.specs.Progress.{Progress, with_state}
+use Rattle.rpc_machine.specs.Descriptors.{DescribesAll, take_all}
+use Rattle.rpc_machine.specs.Settling.{ResolvesEach, Returns}
+use Rattle.laws_order.specs.Machine as routing
 use Rattle.laws_routes.specs.Points.{routes}
 use Rattle.laws_routes.specs.Ties.{Around, Ghosts, Tied, TiedBy}
 use Rattle.laws_routes.specs.Premises.{EachMayTake, ExportsAreOwn, TargetsAreMet}
@@ -24,7 +24,7 @@ use Rattle.laws_routes.specs.Sayings.{IsSilentPlain, SaidBy, bare, has_of}
 use Rattle.laws_routes.specs.KnownLaws.{has_past}
 use Rattle.laws_routes.specs.Views.{past, sessions_at}
 use Rattle.rpc_msg.specs.Vats.{other_vat}
-use Rattle.vat_machine.specs.Nodes.{value_of}
+use Rattle.rpc_machine.specs.Nodes.{value_of}
 use Rattle.laws_routes.specs.SayingLaws.{AllMaySend, MaySayBack}
 use Rattle.laws_routes.specs.Laws.{IsFollowed, with_back}
 

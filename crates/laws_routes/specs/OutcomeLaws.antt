@@ -4,26 +4,26 @@ use Rattle.std.specs.Prelude.{◌≡◌, ℕ, ◌+◌, Option, None, Some, List,
 use Rattle.std.specs.FinMap as map
 use Rattle.rpc_msg.specs.declared.ids.Vat.{Vat}
 use Rattle.rpc_msg.specs.declared.exception.Exception.{Exception}
-use Rattle.vat_journal.specs.History.{caller}
-use Rattle.vat_machine.specs.declared.node.Node.{Node}
-use Rattle.vat_machine.specs.declared.node.Node.TheVariants as node
-use Rattle.vat_machine.specs.declared.calls.Caller.{Caller}
-use Rattle.vat_machine.specs.declared.calls.Caller.TheVariants as who
-use Rattle.vat_machine.specs.declared.calls.HeldCall.{HeldCall}
-use Rattle.vat_machine.specs.declared.calls.KeptOutcome.{KeptOutcome}
-use Rattle.vat_machine.specs.declared.calls.Promise.{Promise}
-use Rattle.vat_machine.specs.declared.calls.Promise.TheVariants as promise
-use Rattle.vat_machine.specs.declared.calls.Value.{Value}
-use Rattle.vat_machine.specs.declared.entries.AnswerEntry.{AnswerEntry}
-use Rattle.vat_machine.specs.State.{State}
-use Rattle.vat_machine.specs.Progress.{Progress, with_state}
-use Rattle.vat_machine.specs.Routing.{RoutesHeld}
-use Rattle.vat_machine.specs.Nodes.{is_field, is_promise}
-use Rattle.vat_machine.specs.Settling.{known, exports_where, Fits, Tells, TellsPeer, SendsResolves, SettlesOpen, SettlesFrom, SettlesOutcome, FixesFrom, FixesPromise, Drains, NoneLeft, OneMore}
-use Rattle.call_order.specs.Machine.{Message as Routed, Net, Call}
-use Rattle.call_order.specs.Machine as routing
-use Rattle.call_order.specs.Moves.{Moves}
-use Rattle.call_order.specs.Invariant.{InvariantWith}
+use Rattle.rpc_journal.specs.History.{caller}
+use Rattle.rpc_machine.specs.declared.node.Node.{Node}
+use Rattle.rpc_machine.specs.declared.node.Node.TheVariants as node
+use Rattle.rpc_machine.specs.declared.calls.Caller.{Caller}
+use Rattle.rpc_machine.specs.declared.calls.Caller.TheVariants as who
+use Rattle.rpc_machine.specs.declared.calls.HeldCall.{HeldCall}
+use Rattle.rpc_machine.specs.declared.calls.KeptOutcome.{KeptOutcome}
+use Rattle.rpc_machine.specs.declared.calls.Promise.{Promise}
+use Rattle.rpc_machine.specs.declared.calls.Promise.TheVariants as promise
+use Rattle.rpc_machine.specs.declared.calls.Value.{Value}
+use Rattle.rpc_machine.specs.declared.entries.AnswerEntry.{AnswerEntry}
+use Rattle.rpc_machine.specs.State.{State}
+use Rattle.rpc_machine.specs.Progress.{Progress, with_state}
+use Rattle.rpc_machine.specs.Routing.{RoutesHeld}
+use Rattle.rpc_machine.specs.Nodes.{is_field, is_promise}
+use Rattle.rpc_machine.specs.Settling.{known, exports_where, Fits, Tells, TellsPeer, SendsResolves, SettlesOpen, SettlesFrom, SettlesOutcome, FixesFrom, FixesPromise, Drains, NoneLeft, OneMore}
+use Rattle.laws_order.specs.Machine.{Message as Routed, Net, Call}
+use Rattle.laws_order.specs.Machine as routing
+use Rattle.laws_order.specs.Moves.{Moves}
+use Rattle.laws_order.specs.Invariant.{InvariantWith}
 use Rattle.laws_routes.specs.Points.{AField, OfOutcome, routes}
 use Rattle.laws_routes.specs.Premises.{LinksRest, MayGoTo, MayOpen, EachMayOpen, IsAnswerOf}
 use Rattle.laws_routes.specs.Ties.{Around, Ghosts, Tied}

@@ -6,9 +6,9 @@ use Rattle.rpc_msg.specs.Op.{Op}
 use Rattle.rpc_msg.specs.Op.TheVariants as op
 use Rattle.rpc_msg.specs.declared.ids.Vat.{Vat}
 use Rattle.rpc_msg.specs.declared.ids.Vat.TheVariants.{A, B}
-use Rattle.vat_journal.specs.History.{Ref}
-use Rattle.call_order.specs.Machine.{Names}
-use Rattle.call_order.specs.Decisions.{same_by_code}
+use Rattle.rpc_journal.specs.History.{Ref}
+use Rattle.laws_order.specs.Machine.{Names}
+use Rattle.laws_order.specs.Decisions.{same_by_code}
 
 pub data Point : Type 0 where
   AnObject : (vat : Vat) (number : ℕ) → Point

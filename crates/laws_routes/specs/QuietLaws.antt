@@ -11,16 +11,16 @@ use Rattle.rpc_msg.specs.declared.message.PlainMessage.TheVariants as plain
 use Rattle.rpc_msg.specs.declared.message.Message.{Message}
 use Rattle.rpc_msg.specs.declared.message.Message.TheVariants as message
 use Rattle.rpc_msg.specs.declared.ids.ExportId.{ExportId}
-use Rattle.vat_machine.specs.declared.calls.Value.{Value}
-use Rattle.vat_machine.specs.declared.entries.AnswerEntry.{AnswerEntry}
-use Rattle.vat_machine.specs.declared.entries.Question.{Question}
-use Rattle.vat_machine.specs.State.{State}
-use Rattle.vat_machine.specs.Progress.{Progress, with_state}
-use Rattle.vat_machine.specs.Flags.{obey, lower_by}
-use Rattle.vat_machine.specs.Messages.{TakesFinish}
-use Rattle.vat_machine.specs.Settling.{Returns}
-use Rattle.vat_machine.specs.Sweeping.{IsNotSent, Sweeps}
-use Rattle.call_order.specs.Machine as routing
+use Rattle.rpc_machine.specs.declared.calls.Value.{Value}
+use Rattle.rpc_machine.specs.declared.entries.AnswerEntry.{AnswerEntry}
+use Rattle.rpc_machine.specs.declared.entries.Question.{Question}
+use Rattle.rpc_machine.specs.State.{State}
+use Rattle.rpc_machine.specs.Progress.{Progress, with_state}
+use Rattle.rpc_machine.specs.Flags.{obey, lower_by}
+use Rattle.rpc_machine.specs.Messages.{TakesFinish}
+use Rattle.rpc_machine.specs.Settling.{Returns}
+use Rattle.rpc_machine.specs.Sweeping.{IsNotSent, Sweeps}
+use Rattle.laws_order.specs.Machine as routing
 use Rattle.laws_routes.specs.Points.{routes}
 use Rattle.laws_routes.specs.Ties.{Around, Ghosts, Tied}
 use Rattle.laws_routes.specs.Premises.{TargetsAreMet}

@@ -10,20 +10,20 @@ use Rattle.rpc_msg.specs.declared.message.PlainMessage.{PlainMessage}
 use Rattle.rpc_msg.specs.declared.message.PlainMessage.TheVariants as plain
 use Rattle.rpc_msg.specs.declared.message.Return.{Return}
 use Rattle.rpc_msg.specs.Messages.{descriptors_of_body}
-use Rattle.vat_machine.specs.declared.command.Effects.{Effects}
-use Rattle.vat_machine.specs.declared.command.Level.TheVariants.{One}
-use Rattle.vat_machine.specs.declared.entries.AnswerEntry.{AnswerEntry}
-use Rattle.vat_machine.specs.declared.entries.Embargo.{Embargo}
-use Rattle.vat_machine.specs.declared.entries.Question.{Question}
-use Rattle.vat_machine.specs.State.{State}
-use Rattle.vat_machine.specs.Descriptors.{take_all}
-use Rattle.vat_machine.specs.Faults.{fault_of, gave, plain_fault}
-use Rattle.vat_machine.specs.Flags.{obey}
-use Rattle.vat_machine.specs.Messages.{TakesPlain}
-use Rattle.vat_machine.specs.Nodes.{is_wire}
-use Rattle.vat_machine.specs.Progress.{Progress, begin, numbers}
-use Rattle.vat_machine.specs.Steps.{Handles}
-use Rattle.vat_machine.specs.Sweeping.{IsNotSent}
+use Rattle.rpc_machine.specs.declared.command.Effects.{Effects}
+use Rattle.rpc_machine.specs.declared.command.Level.TheVariants.{One}
+use Rattle.rpc_machine.specs.declared.entries.AnswerEntry.{AnswerEntry}
+use Rattle.rpc_machine.specs.declared.entries.Embargo.{Embargo}
+use Rattle.rpc_machine.specs.declared.entries.Question.{Question}
+use Rattle.rpc_machine.specs.State.{State}
+use Rattle.rpc_machine.specs.Descriptors.{take_all}
+use Rattle.rpc_machine.specs.Faults.{fault_of, gave, plain_fault}
+use Rattle.rpc_machine.specs.Flags.{obey}
+use Rattle.rpc_machine.specs.Messages.{TakesPlain}
+use Rattle.rpc_machine.specs.Nodes.{is_wire}
+use Rattle.rpc_machine.specs.Progress.{Progress, begin, numbers}
+use Rattle.rpc_machine.specs.Steps.{Handles}
+use Rattle.rpc_machine.specs.Sweeping.{IsNotSent}
 use Rattle.laws_steps.specs.NodesThere.{IsWhole}
 use Rattle.laws_routes.specs.Laws.{with_back}
 use Rattle.laws_routes.specs.OutcomeLaws.{AllMaySettle}

@@ -13,35 +13,35 @@ use Rattle.rpc_msg.specs.declared.message.ReturnBody.TheVariants as body
 use Rattle.rpc_msg.specs.Messages.{descriptors_of_body}
 use Rattle.rpc_msg.specs.Payloads.{Contents as Payload}
 use Rattle.rpc_msg.specs.declared.exception.Exception.{Exception}
-use Rattle.vat_machine.specs.declared.calls.Value.TheVariants as value
-use Rattle.vat_machine.specs.declared.command.Level.TheVariants.{One}
-use Rattle.vat_machine.specs.declared.entries.Import.{Import}
-use Rattle.vat_machine.specs.declared.entries.Resolution.{Resolution}
-use Rattle.vat_machine.specs.declared.entries.Resolution.TheVariants as resolution
-use Rattle.vat_machine.specs.Descriptors.{Described, DescribesAll, read}
-use Rattle.vat_machine.specs.declared.entries.Question.{Question}
-use Rattle.vat_machine.specs.Messages.{kept_returned, resolve_import, results_of}
-use Rattle.vat_machine.specs.declared.command.Granted.{Granted}
-use Rattle.vat_machine.specs.declared.entries.Reference.{Reference}
-use Rattle.vat_machine.specs.State.{State}
-use Rattle.vat_machine.specs.Nodes.{link, settle, is_wire, value_of}
-use Rattle.vat_machine.specs.Progress.{Progress}
-use Rattle.vat_machine.specs.Advancing.{Advances}
-use Rattle.vat_machine.specs.declared.node.Node.{Node}
+use Rattle.rpc_machine.specs.declared.calls.Value.TheVariants as value
+use Rattle.rpc_machine.specs.declared.command.Level.TheVariants.{One}
+use Rattle.rpc_machine.specs.declared.entries.Import.{Import}
+use Rattle.rpc_machine.specs.declared.entries.Resolution.{Resolution}
+use Rattle.rpc_machine.specs.declared.entries.Resolution.TheVariants as resolution
+use Rattle.rpc_machine.specs.Descriptors.{Described, DescribesAll, read}
+use Rattle.rpc_machine.specs.declared.entries.Question.{Question}
+use Rattle.rpc_machine.specs.Messages.{kept_returned, resolve_import, results_of}
+use Rattle.rpc_machine.specs.declared.command.Granted.{Granted}
+use Rattle.rpc_machine.specs.declared.entries.Reference.{Reference}
+use Rattle.rpc_machine.specs.State.{State}
+use Rattle.rpc_machine.specs.Nodes.{link, settle, is_wire, value_of}
+use Rattle.rpc_machine.specs.Progress.{Progress}
+use Rattle.rpc_machine.specs.Advancing.{Advances}
+use Rattle.rpc_machine.specs.declared.node.Node.{Node}
 use Rattle.laws_steps.specs.Settled.{IsThere}
-use Rattle.call_order.specs.Machine.{Net}
-use Rattle.call_order.specs.Machine as routing
-use Rattle.call_order.specs.Events.{Fate, settled}
+use Rattle.laws_order.specs.Machine.{Net}
+use Rattle.laws_order.specs.Machine as routing
+use Rattle.laws_order.specs.Events.{Fate, settled}
 use Rattle.laws_routes.specs.Views.{past, sessions_at}
 use Rattle.laws_routes.specs.Points.{Point, Group, vat_of, routes}
 use Rattle.laws_routes.specs.Ghosts.{Ghost}
 use Rattle.laws_routes.specs.Named.{LinksMet}
 use Rattle.rpc_msg.specs.declared.ids.QuestionId.{QuestionId}
 use Rattle.finite_maps.specs.Tally.{Map}
-use Rattle.vat_machine.specs.declared.calls.Value.{Value}
-use Rattle.vat_machine.specs.declared.entries.AnswerEntry.{AnswerEntry}
-use Rattle.vat_machine.specs.declared.entries.Export.{Export}
-use Rattle.vat_machine.specs.Settling.{ResolvesEach, Returns, SaysBack}
+use Rattle.rpc_machine.specs.declared.calls.Value.{Value}
+use Rattle.rpc_machine.specs.declared.entries.AnswerEntry.{AnswerEntry}
+use Rattle.rpc_machine.specs.declared.entries.Export.{Export}
+use Rattle.rpc_machine.specs.Settling.{ResolvesEach, Returns, SaysBack}
 use Rattle.laws_routes.specs.Premises.{EachOpen, ExportsAreOwn, IsLastLoop, IsWireThere, LinksRest, TargetsAreMet}
 use Rattle.laws_routes.specs.Sides.{EndsAs}
 use Rattle.laws_routes.specs.Ties.{Around, Ghosts, Tied}

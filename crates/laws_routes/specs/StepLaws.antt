@@ -12,37 +12,37 @@ use Rattle.rpc_msg.specs.declared.message.PlainMessage.TheVariants as plain
 use Rattle.rpc_msg.specs.declared.message.Message.{Message}
 use Rattle.rpc_msg.specs.declared.message.Message.TheVariants as message
 use Rattle.rpc_msg.specs.Messages.{given, descriptors_of_resolved}
-use Rattle.vat_machine.specs.declared.calls.Value.{Value}
-use Rattle.vat_machine.specs.declared.calls.Value.TheVariants as value
-use Rattle.vat_machine.specs.declared.command.Command.{Command}
-use Rattle.vat_machine.specs.declared.command.Command.TheVariants as command
-use Rattle.vat_machine.specs.declared.command.Effects.{Effects}
-use Rattle.vat_machine.specs.declared.command.Granted.{Granted}
-use Rattle.vat_machine.specs.declared.entries.AnswerEntry.{AnswerEntry}
-use Rattle.vat_machine.specs.declared.entries.Embargo.{Embargo}
-use Rattle.vat_machine.specs.declared.entries.Question.{Question}
-use Rattle.vat_machine.specs.declared.entries.Reference.{Reference}
-use Rattle.vat_machine.specs.declared.node.Node.TheVariants as node
-use Rattle.vat_machine.specs.declared.node.Reason.TheVariants.{BrokenPromise}
-use Rattle.vat_machine.specs.State.{State}
-use Rattle.vat_machine.specs.Nodes.{is_wire, settle}
-use Rattle.vat_machine.specs.Progress.{Progress, begin}
-use Rattle.vat_machine.specs.Commands.{Acts, AnswersTask, RejectsPromise, ResolvesPromise, answered, heads, settled_now}
-use Rattle.vat_machine.specs.Faults.{given_by, is_foreign, target_node}
-use Rattle.vat_machine.specs.Flags.{obey}
-use Rattle.vat_machine.specs.Messages.{Lifts, Takes, TakesDisembargo, TakesPlain, TakesUnimplemented, TakesUnless}
-use Rattle.vat_machine.specs.Steps.{Does, Handles}
-use Rattle.call_order.specs.Machine as routing
-use Rattle.call_order.specs.Invariant.{InvariantWith}
-use Rattle.call_order.specs.Moves.{Moves}
+use Rattle.rpc_machine.specs.declared.calls.Value.{Value}
+use Rattle.rpc_machine.specs.declared.calls.Value.TheVariants as value
+use Rattle.rpc_machine.specs.declared.command.Command.{Command}
+use Rattle.rpc_machine.specs.declared.command.Command.TheVariants as command
+use Rattle.rpc_machine.specs.declared.command.Effects.{Effects}
+use Rattle.rpc_machine.specs.declared.command.Granted.{Granted}
+use Rattle.rpc_machine.specs.declared.entries.AnswerEntry.{AnswerEntry}
+use Rattle.rpc_machine.specs.declared.entries.Embargo.{Embargo}
+use Rattle.rpc_machine.specs.declared.entries.Question.{Question}
+use Rattle.rpc_machine.specs.declared.entries.Reference.{Reference}
+use Rattle.rpc_machine.specs.declared.node.Node.TheVariants as node
+use Rattle.rpc_machine.specs.declared.node.Reason.TheVariants.{BrokenPromise}
+use Rattle.rpc_machine.specs.State.{State}
+use Rattle.rpc_machine.specs.Nodes.{is_wire, settle}
+use Rattle.rpc_machine.specs.Progress.{Progress, begin}
+use Rattle.rpc_machine.specs.Commands.{Acts, AnswersTask, RejectsPromise, ResolvesPromise, answered, heads, settled_now}
+use Rattle.rpc_machine.specs.Faults.{given_by, is_foreign, target_node}
+use Rattle.rpc_machine.specs.Flags.{obey}
+use Rattle.rpc_machine.specs.Messages.{Lifts, Takes, TakesDisembargo, TakesPlain, TakesUnimplemented, TakesUnless}
+use Rattle.rpc_machine.specs.Steps.{Does, Handles}
+use Rattle.laws_order.specs.Machine as routing
+use Rattle.laws_order.specs.Invariant.{InvariantWith}
+use Rattle.laws_order.specs.Moves.{Moves}
 use Rattle.laws_routes.specs.Points.{routes}
 use Rattle.laws_routes.specs.Ghosts.{ref_at}
 use Rattle.laws_routes.specs.Ties.{Around, Ghosts, Tied, TiedBy}
 use Rattle.laws_routes.specs.Premises.{EachMayOpen, EachMayTake, ExportsAreOwn, IsLastLoop, IsOnlyEmbargo, IsWireThere, MayAsk}
 use Rattle.laws_routes.specs.Sayings.{IsSilentPlain}
 use Rattle.laws_routes.specs.SayingLaws.{IsReadableIn}
-use Rattle.vat_machine.specs.declared.command.Level.TheVariants.{One}
-use Rattle.vat_machine.specs.Descriptors.{take_all}
+use Rattle.rpc_machine.specs.declared.command.Level.TheVariants.{One}
+use Rattle.rpc_machine.specs.Descriptors.{take_all}
 use Rattle.laws_routes.specs.Laws.{AllMayGo, Comes, lifted, one_made, with_back}
 use Rattle.laws_routes.specs.OutcomeLaws.{AllMaySettle, MayFixFrom, MaySettleFrom}
 use Rattle.laws_routes.specs.SayingLaws.{MayAdvanceFrom}

@@ -13,16 +13,16 @@ use Rattle.rpc_msg.specs.declared.message.PlainMessage.TheVariants as plain
 use Rattle.rpc_msg.specs.declared.message.Message.{Message}
 use Rattle.rpc_msg.specs.declared.message.Message.TheVariants as message
 use Rattle.rpc_msg.specs.Messages.{given, descriptors_of_body, descriptors_of_resolved}
-use Rattle.vat_machine.specs.declared.entries.Question.{Question}
-use Rattle.vat_machine.specs.State.{State}
-use Rattle.vat_machine.specs.Nodes.{settle, is_wire}
-use Rattle.vat_machine.specs.Progress.{Progress, with_state, numbers}
-use Rattle.vat_machine.specs.Descriptors.{take_all, taken_of}
-use Rattle.vat_machine.specs.Faults.{target_node}
-use Rattle.vat_machine.specs.Flags.{obey}
-use Rattle.vat_machine.specs.Messages.{opened, bootstrap_value, TakesBootstrap, TakesCall, TakesReturn, take_resolve}
-use Rattle.call_order.specs.Machine as routing
-use Rattle.call_order.specs.Invariant.{InvariantWith}
+use Rattle.rpc_machine.specs.declared.entries.Question.{Question}
+use Rattle.rpc_machine.specs.State.{State}
+use Rattle.rpc_machine.specs.Nodes.{settle, is_wire}
+use Rattle.rpc_machine.specs.Progress.{Progress, with_state, numbers}
+use Rattle.rpc_machine.specs.Descriptors.{take_all, taken_of}
+use Rattle.rpc_machine.specs.Faults.{target_node}
+use Rattle.rpc_machine.specs.Flags.{obey}
+use Rattle.rpc_machine.specs.Messages.{opened, bootstrap_value, TakesBootstrap, TakesCall, TakesReturn, take_resolve}
+use Rattle.laws_order.specs.Machine as routing
+use Rattle.laws_order.specs.Invariant.{InvariantWith}
 use Rattle.laws_steps.specs.Settled.{IsThere}
 use Rattle.laws_routes.specs.Points.{routes}
 use Rattle.laws_routes.specs.Ghosts.{keeping}
@@ -33,8 +33,8 @@ use Rattle.laws_routes.specs.MessageLaws.{SameButImports}
 use Rattle.laws_routes.specs.OutcomeLaws.{MaySettleFrom}
 use Rattle.laws_routes.specs.QuietLaws.{MayLower}
 use Rattle.laws_routes.specs.SayingLaws.{EachReadable, IsNotCanceled, IsReadableIn}
-use Rattle.vat_machine.specs.declared.command.Level.TheVariants.{One}
-use Rattle.vat_machine.specs.Sweeping.{IsNotSent}
+use Rattle.rpc_machine.specs.declared.command.Level.TheVariants.{One}
+use Rattle.rpc_machine.specs.Sweeping.{IsNotSent}
 
 -- What a target names is there, where it names an answer.
 abbrev pub IsAnswered : State → Target → Type 0

@@ -3,12 +3,12 @@ use Rattle.std.specs.Prelude.{◌≡◌, ℕ, List, [], ◌∷◌, ◌++◌}
 use Rattle.rpc_msg.specs.declared.ids.Vat.{Vat}
 use Rattle.rpc_msg.specs.declared.message.Message.{Message}
 use Rattle.rpc_msg.specs.Vats.{other_vat}
-use Rattle.vat_journal.specs.declared.report.Delivery.{Delivery}
-use Rattle.vat_journal.specs.History.{Ref, DeliveredAt, caller}
-use Rattle.vat_machine.specs.State.{State}
-use Rattle.vat_machine.specs.Progress.{Progress}
-use Rattle.call_order.specs.Machine.{choose}
-use Rattle.call_order.specs.Machine as routing
+use Rattle.rpc_journal.specs.declared.report.Delivery.{Delivery}
+use Rattle.rpc_journal.specs.History.{Ref, DeliveredAt, caller}
+use Rattle.rpc_machine.specs.State.{State}
+use Rattle.rpc_machine.specs.Progress.{Progress}
+use Rattle.laws_order.specs.Machine.{choose}
+use Rattle.laws_order.specs.Machine as routing
 use Rattle.laws_routes.specs.Points.{AnObject, routes}
 use Rattle.laws_routes.specs.Ghosts.{Ghost}
 use Rattle.laws_routes.specs.Sides.{Side, Unborn}

@@ -12,17 +12,17 @@ use Rattle.rpc_msg.specs.declared.message.PlainMessage.TheVariants as plain
 use Rattle.rpc_msg.specs.declared.message.Message.{Message}
 use Rattle.rpc_msg.specs.declared.message.Message.TheVariants as message
 use Rattle.rpc_msg.specs.Paths.{fields}
-use Rattle.vat_journal.specs.History.{Ref, caller, in_front}
-use Rattle.vat_machine.specs.declared.entries.Import.{Import}
-use Rattle.vat_machine.specs.declared.entries.Export.{Export}
-use Rattle.vat_machine.specs.declared.entries.Question.{Question}
-use Rattle.vat_machine.specs.declared.entries.AnswerEntry.{AnswerEntry}
-use Rattle.vat_machine.specs.declared.entries.Embargo.{Embargo}
-use Rattle.vat_machine.specs.State.{State}
-use Rattle.vat_machine.specs.Descriptors.{export_node}
-use Rattle.vat_machine.specs.Sweeping.{IsNotSent}
-use Rattle.call_order.specs.Machine.{Content, Call, Disembargo, Echo}
-use Rattle.call_order.specs.Machine as routing
+use Rattle.rpc_journal.specs.History.{Ref, caller, in_front}
+use Rattle.rpc_machine.specs.declared.entries.Import.{Import}
+use Rattle.rpc_machine.specs.declared.entries.Export.{Export}
+use Rattle.rpc_machine.specs.declared.entries.Question.{Question}
+use Rattle.rpc_machine.specs.declared.entries.AnswerEntry.{AnswerEntry}
+use Rattle.rpc_machine.specs.declared.entries.Embargo.{Embargo}
+use Rattle.rpc_machine.specs.State.{State}
+use Rattle.rpc_machine.specs.Descriptors.{export_node}
+use Rattle.rpc_machine.specs.Sweeping.{IsNotSent}
+use Rattle.laws_order.specs.Machine.{Content, Call, Disembargo, Echo}
+use Rattle.laws_order.specs.Machine as routing
 use Rattle.laws_routes.specs.Points.{Point, AField, routes, end}
 use Rattle.laws_routes.specs.Ghosts.{Ghost, point, ref_at, with_at}
 

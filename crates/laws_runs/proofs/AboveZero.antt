@@ -20,39 +20,39 @@ use Rattle.rpc_msg.specs.Messages.{descriptors_of_body}
 use Rattle.finite_maps.specs.Tally.{Map}
 use Rattle.finite_maps.proofs.Tested.{at_put, at_cut}
 use Rattle.finite_maps.proofs.Sorted.{behind, first_entry}
-use Rattle.vat_machine.specs.declared.node.Node.{Node}
-use Rattle.vat_machine.specs.declared.node.Node.TheVariants as node
-use Rattle.vat_machine.specs.declared.calls.Request.{Request}
-use Rattle.vat_machine.specs.declared.calls.HeldCall.{HeldCall}
-use Rattle.vat_machine.specs.declared.calls.OwnCall.{OwnCall}
-use Rattle.vat_machine.specs.declared.calls.Value.{Value}
-use Rattle.vat_machine.specs.declared.calls.Value.TheVariants as value
-use Rattle.vat_machine.specs.declared.calls.Caller.{Caller}
-use Rattle.vat_machine.specs.declared.calls.Caller.TheVariants as caller
-use Rattle.vat_machine.specs.declared.command.Level.{Level}
-use Rattle.vat_machine.specs.declared.command.Level.TheVariants.{Zero, One}
-use Rattle.vat_machine.specs.declared.entries.Role.{Role}
-use Rattle.vat_machine.specs.declared.entries.Finishing.{Finishing}
-use Rattle.vat_machine.specs.declared.entries.Finishing.TheVariants as finishing
-use Rattle.vat_machine.specs.declared.entries.Question.{Question}
-use Rattle.vat_machine.specs.declared.entries.AnswerEntry.{AnswerEntry}
-use Rattle.vat_machine.specs.declared.entries.Import.{Import}
-use Rattle.vat_machine.specs.declared.entries.Export.{Export}
-use Rattle.vat_machine.specs.declared.entries.Resolution.{Resolution}
-use Rattle.vat_machine.specs.declared.entries.SenderKind.{SenderKind}
-use Rattle.vat_machine.specs.declared.entries.SenderKind.TheVariants as kind
-use Rattle.vat_machine.specs.State.{State}
-use Rattle.vat_machine.specs.Lists.{updated}
-use Rattle.vat_machine.specs.Nodes.{settle}
-use Rattle.vat_machine.specs.Progress.{Progress, with_state, with_refs, caps_of, numbers}
-use Rattle.vat_machine.specs.Descriptors.{ExportedAs, Described, DescribesAll, received, take_one, take_each, take_at, take_all}
-use Rattle.vat_machine.specs.Flags.{flag_for, give_one, give_each, give_if, lowered, lower_by, lower_each, obey}
-use Rattle.vat_machine.specs.Faults.{gave}
-use Rattle.vat_machine.specs.Routing.{Asks}
-use Rattle.vat_machine.specs.Collecting.{Goes, PromiseGoes, OutcomeGoes, ImportGoes, Collects, Tight, Loose, release}
-use Rattle.vat_machine.specs.Settling.{known, Fits, SaysBack, TellsCall, TellsPeer, Tells, ResolvesBy}
-use Rattle.vat_machine.specs.Sweeping.{got_of, finished_by, releases}
-use Rattle.vat_machine.specs.Messages.{resolve_import, set_resolution, take_resolve}
+use Rattle.rpc_machine.specs.declared.node.Node.{Node}
+use Rattle.rpc_machine.specs.declared.node.Node.TheVariants as node
+use Rattle.rpc_machine.specs.declared.calls.Request.{Request}
+use Rattle.rpc_machine.specs.declared.calls.HeldCall.{HeldCall}
+use Rattle.rpc_machine.specs.declared.calls.OwnCall.{OwnCall}
+use Rattle.rpc_machine.specs.declared.calls.Value.{Value}
+use Rattle.rpc_machine.specs.declared.calls.Value.TheVariants as value
+use Rattle.rpc_machine.specs.declared.calls.Caller.{Caller}
+use Rattle.rpc_machine.specs.declared.calls.Caller.TheVariants as caller
+use Rattle.rpc_machine.specs.declared.command.Level.{Level}
+use Rattle.rpc_machine.specs.declared.command.Level.TheVariants.{Zero, One}
+use Rattle.rpc_machine.specs.declared.entries.Role.{Role}
+use Rattle.rpc_machine.specs.declared.entries.Finishing.{Finishing}
+use Rattle.rpc_machine.specs.declared.entries.Finishing.TheVariants as finishing
+use Rattle.rpc_machine.specs.declared.entries.Question.{Question}
+use Rattle.rpc_machine.specs.declared.entries.AnswerEntry.{AnswerEntry}
+use Rattle.rpc_machine.specs.declared.entries.Import.{Import}
+use Rattle.rpc_machine.specs.declared.entries.Export.{Export}
+use Rattle.rpc_machine.specs.declared.entries.Resolution.{Resolution}
+use Rattle.rpc_machine.specs.declared.entries.SenderKind.{SenderKind}
+use Rattle.rpc_machine.specs.declared.entries.SenderKind.TheVariants as kind
+use Rattle.rpc_machine.specs.State.{State}
+use Rattle.rpc_machine.specs.Lists.{updated}
+use Rattle.rpc_machine.specs.Nodes.{settle}
+use Rattle.rpc_machine.specs.Progress.{Progress, with_state, with_refs, caps_of, numbers}
+use Rattle.rpc_machine.specs.Descriptors.{ExportedAs, Described, DescribesAll, received, take_one, take_each, take_at, take_all}
+use Rattle.rpc_machine.specs.Flags.{flag_for, give_one, give_each, give_if, lowered, lower_by, lower_each, obey}
+use Rattle.rpc_machine.specs.Faults.{gave}
+use Rattle.rpc_machine.specs.Routing.{Asks}
+use Rattle.rpc_machine.specs.Collecting.{Goes, PromiseGoes, OutcomeGoes, ImportGoes, Collects, Tight, Loose, release}
+use Rattle.rpc_machine.specs.Settling.{known, Fits, SaysBack, TellsCall, TellsPeer, Tells, ResolvesBy}
+use Rattle.rpc_machine.specs.Sweeping.{got_of, finished_by, releases}
+use Rattle.rpc_machine.specs.Messages.{resolve_import, set_resolution, take_resolve}
 use Rattle.laws_acts.specs.Acts.{came, ComesTo, TurnsBy, Consumes, Acts, NoMore, Then}
 use Rattle.laws_acts.specs.Sent.{Noted, asks_sent, end_sent, peer_sent, told_sent, releases_sent, sent_by, all_sent, turned_sent, sent_at_once}
 use Rattle.laws_runs.proofs.Same.{SameCounts, fits, refs_same}

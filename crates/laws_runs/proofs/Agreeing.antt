@@ -11,25 +11,25 @@ use Rattle.rpc_msg.specs.declared.message.Message.TheVariants as message
 use Rattle.rpc_msg.specs.Messages.{given, descriptors_of_plain}
 use Rattle.finite_maps.specs.Tally.{Map}
 use Rattle.finite_maps.proofs.Tallies.{tally-empty}
-use Rattle.vat_machine.specs.declared.command.Command.{Command}
-use Rattle.vat_machine.specs.declared.command.Granted.{Granted}
-use Rattle.vat_machine.specs.declared.command.Effects.{Effects}
-use Rattle.vat_machine.specs.declared.command.Level.{Level}
-use Rattle.vat_machine.specs.declared.command.Level.TheVariants.{One}
-use Rattle.vat_machine.specs.declared.entries.Question.{Question}
-use Rattle.vat_machine.specs.declared.entries.Import.{Import}
-use Rattle.vat_machine.specs.declared.entries.Export.{Export}
-use Rattle.vat_machine.specs.State.{State, start}
-use Rattle.vat_machine.specs.Progress.{Progress, begin, with_state}
-use Rattle.vat_machine.specs.Limits.{import_count, export_count}
-use Rattle.vat_machine.specs.Lists.{how_many}
-use Rattle.vat_machine.specs.Descriptors.{giving}
-use Rattle.vat_machine.specs.Laws.{given_out, SendsRaiseCounts}
-use Rattle.vat_machine.specs.Refusals.{refused}
-use Rattle.vat_machine.specs.Faults.{fault_of, is_foreign}
-use Rattle.vat_machine.specs.UnderWay.{plain_takes, taking_off, under_way}
-use Rattle.vat_machine.specs.Steps.{Does, Handles}
-use Rattle.vat_machine.specs.World.{World, core}
+use Rattle.rpc_machine.specs.declared.command.Command.{Command}
+use Rattle.rpc_machine.specs.declared.command.Granted.{Granted}
+use Rattle.rpc_machine.specs.declared.command.Effects.{Effects}
+use Rattle.rpc_machine.specs.declared.command.Level.{Level}
+use Rattle.rpc_machine.specs.declared.command.Level.TheVariants.{One}
+use Rattle.rpc_machine.specs.declared.entries.Question.{Question}
+use Rattle.rpc_machine.specs.declared.entries.Import.{Import}
+use Rattle.rpc_machine.specs.declared.entries.Export.{Export}
+use Rattle.rpc_machine.specs.State.{State, start}
+use Rattle.rpc_machine.specs.Progress.{Progress, begin, with_state}
+use Rattle.rpc_machine.specs.Limits.{import_count, export_count}
+use Rattle.rpc_machine.specs.Lists.{how_many}
+use Rattle.rpc_machine.specs.Descriptors.{giving}
+use Rattle.rpc_machine.specs.Laws.{given_out, SendsRaiseCounts}
+use Rattle.rpc_machine.specs.Refusals.{refused}
+use Rattle.rpc_machine.specs.Faults.{fault_of, is_foreign}
+use Rattle.rpc_machine.specs.UnderWay.{plain_takes, taking_off, under_way}
+use Rattle.rpc_machine.specs.Steps.{Does, Handles}
+use Rattle.rpc_machine.specs.World.{World, core}
 use Rattle.laws_acts.specs.Acts.{Consumes, IsActs, StepsAreActs}
 use Rattle.laws_acts.specs.Sent.{Noted, messages, all_sent, sent_at_once}
 use Rattle.laws_runs.specs.Views.{Moves, Gets, Did}
@@ -46,7 +46,7 @@ use Rattle.laws_runs.proofs.Paid as pays
 use Rattle.laws_runs.proofs.Got.{took_one, balanced}
 use Rattle.laws_runs.proofs.AboveZero as above
 use Rattle.laws_runs.proofs.Flags.{Reads, reads, takes_first, takes_all}
-use Rattle.vat_machine.proofs.ExportCounts.{giving-append}
+use Rattle.rpc_machine.proofs.ExportCounts.{giving-append}
 
 pub given_behind : (e : ℕ) (to sent : List Noted) → giving e (messages (to ++ sent)) ≡ giving e (messages to) + giving e (messages sent)
 given_behind e to sent = ap (giving e) (messages-append to sent) ∙ giving-append e (messages to) (messages sent)

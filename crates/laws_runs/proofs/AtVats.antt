@@ -7,15 +7,15 @@ use Rattle.rpc_msg.specs.declared.message.Message.{Message}
 use Rattle.rpc_msg.specs.declared.message.Message.TheVariants as message
 use Rattle.rpc_msg.specs.declared.message.PlainMessage.TheVariants as plain
 use Rattle.rpc_msg.specs.Vats.{other_vat}
-use Rattle.vat_journal.specs.declared.entry.JournalEntry.{JournalEntry}
-use Rattle.vat_machine.specs.declared.command.Effects.{Effects}
-use Rattle.vat_machine.specs.declared.command.Level.{Level}
-use Rattle.vat_machine.specs.declared.command.Level.TheVariants.{Zero, One}
-use Rattle.vat_machine.specs.Numbers.{peer_abort}
-use Rattle.vat_machine.specs.State.{State}
-use Rattle.vat_machine.specs.Progress.{quiet}
-use Rattle.vat_machine.specs.Faults.{fault_of, is_foreign, unless_foreign}
-use Rattle.vat_machine.specs.World.{World, core, inbox, put_inbox, after}
+use Rattle.rpc_journal.specs.declared.entry.JournalEntry.{JournalEntry}
+use Rattle.rpc_machine.specs.declared.command.Effects.{Effects}
+use Rattle.rpc_machine.specs.declared.command.Level.{Level}
+use Rattle.rpc_machine.specs.declared.command.Level.TheVariants.{Zero, One}
+use Rattle.rpc_machine.specs.Numbers.{peer_abort}
+use Rattle.rpc_machine.specs.State.{State}
+use Rattle.rpc_machine.specs.Progress.{quiet}
+use Rattle.rpc_machine.specs.Faults.{fault_of, is_foreign, unless_foreign}
+use Rattle.rpc_machine.specs.World.{World, core, inbox, put_inbox, after}
 use Rattle.laws_runs.specs.Telling.{telling}
 use Rattle.laws_runs.specs.Scenes.{Scene, is_over, goes_on, stopped, IsLast, AtVat, Shows}
 use Rattle.laws_runs.proofs.Outcomes.{IsFall, not_down}

@@ -11,20 +11,20 @@ use Rattle.rpc_msg.specs.declared.ids.CallId.{CallId}
 use Rattle.rpc_msg.specs.declared.ids.Stamp.{Stamp}
 use Rattle.rpc_msg.specs.declared.message.Message.{Message}
 use Rattle.rpc_msg.specs.Vats.{other_vat}
-use Rattle.vat_journal.specs.declared.entry.JournalEntry.{JournalEntry}
-use Rattle.vat_journal.specs.History.{Ref, same_vat, in_front, if_so, made}
-use Rattle.vat_machine.specs.declared.command.CallCommand.{CallCommand}
-use Rattle.vat_machine.specs.declared.command.Command.{Command}
-use Rattle.vat_machine.specs.declared.command.Command.TheVariants as command
-use Rattle.vat_machine.specs.declared.command.Granted.{Granted}
-use Rattle.vat_machine.specs.declared.command.Granted.TheVariants as granted
-use Rattle.vat_machine.specs.declared.command.Effects.{Effects}
-use Rattle.vat_machine.specs.declared.command.Level.TheVariants.{One}
-use Rattle.vat_machine.specs.declared.entries.Reference.{Reference}
-use Rattle.vat_machine.specs.State.{State, start}
-use Rattle.vat_machine.specs.Steps.{Does}
-use Rattle.vat_machine.specs.World.{World, core, put_inbox, after, Answered, Handled}
-use Rattle.vat_machine.specs.Journal.{index_in, made_entries, granted_entries, effect_entries, command_entries, deliver_entries, journal}
+use Rattle.rpc_journal.specs.declared.entry.JournalEntry.{JournalEntry}
+use Rattle.rpc_journal.specs.History.{Ref, same_vat, in_front, if_so, made}
+use Rattle.rpc_machine.specs.declared.command.CallCommand.{CallCommand}
+use Rattle.rpc_machine.specs.declared.command.Command.{Command}
+use Rattle.rpc_machine.specs.declared.command.Command.TheVariants as command
+use Rattle.rpc_machine.specs.declared.command.Granted.{Granted}
+use Rattle.rpc_machine.specs.declared.command.Granted.TheVariants as granted
+use Rattle.rpc_machine.specs.declared.command.Effects.{Effects}
+use Rattle.rpc_machine.specs.declared.command.Level.TheVariants.{One}
+use Rattle.rpc_machine.specs.declared.entries.Reference.{Reference}
+use Rattle.rpc_machine.specs.State.{State, start}
+use Rattle.rpc_machine.specs.Steps.{Does}
+use Rattle.rpc_machine.specs.World.{World, core, put_inbox, after, Answered, Handled}
+use Rattle.rpc_machine.specs.Journal.{index_in, made_entries, granted_entries, effect_entries, command_entries, deliver_entries, journal}
 use Rattle.laws_runs.specs.Scenes.{Scene, IsScene, begins, goes_on, stopped, Steps, Commanded, Received, GivesUp, Stops, LeadsTo, NoMore, Then}
 use Rattle.laws_runs.specs.Telling.{telling}
 use Rattle.laws_runs.specs.MadeCalls.{NumbersItsCalls, ScenesCount, RunsCount}

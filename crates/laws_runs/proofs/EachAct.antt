@@ -10,26 +10,26 @@ use Rattle.rpc_msg.specs.declared.message.PlainMessage.TheVariants as plain
 use Rattle.rpc_msg.specs.declared.message.Message.TheVariants as message
 use Rattle.finite_maps.specs.Tally.{Map}
 use Rattle.finite_maps.proofs.Tested.{equal, get_put}
-use Rattle.vat_machine.specs.declared.node.Node.{Node}
-use Rattle.vat_machine.specs.declared.calls.Request.{Request}
-use Rattle.vat_machine.specs.declared.calls.Value.{Value}
-use Rattle.vat_machine.specs.declared.calls.Caller.TheVariants as caller
-use Rattle.vat_machine.specs.declared.calls.KeptOutcome.{KeptOutcome}
-use Rattle.vat_machine.specs.declared.calls.OwnCall.TheVariants as own
-use Rattle.vat_machine.specs.declared.command.Granted.{Granted}
-use Rattle.vat_machine.specs.declared.entries.Role.{Role}
-use Rattle.vat_machine.specs.declared.entries.Role.TheVariants as role
-use Rattle.vat_machine.specs.declared.entries.Question.{Question}
-use Rattle.vat_machine.specs.declared.entries.Reference.{Reference}
-use Rattle.vat_machine.specs.State.{State}
-use Rattle.vat_machine.specs.Nodes.{settle}
-use Rattle.vat_machine.specs.Progress.{Progress, with_state, caps_of}
-use Rattle.vat_machine.specs.Commands.{AsksBootstrap, counted}
-use Rattle.vat_machine.specs.Routing.{Asks}
-use Rattle.vat_machine.specs.Collecting.{Goes}
-use Rattle.vat_machine.specs.Settling.{known, Fits, Tells, ResolvesBy}
-use Rattle.vat_machine.specs.Sweeping.{IsNotSent, finished_by, releases}
-use Rattle.vat_machine.specs.Advancing.{Embargoes}
+use Rattle.rpc_machine.specs.declared.node.Node.{Node}
+use Rattle.rpc_machine.specs.declared.calls.Request.{Request}
+use Rattle.rpc_machine.specs.declared.calls.Value.{Value}
+use Rattle.rpc_machine.specs.declared.calls.Caller.TheVariants as caller
+use Rattle.rpc_machine.specs.declared.calls.KeptOutcome.{KeptOutcome}
+use Rattle.rpc_machine.specs.declared.calls.OwnCall.TheVariants as own
+use Rattle.rpc_machine.specs.declared.command.Granted.{Granted}
+use Rattle.rpc_machine.specs.declared.entries.Role.{Role}
+use Rattle.rpc_machine.specs.declared.entries.Role.TheVariants as role
+use Rattle.rpc_machine.specs.declared.entries.Question.{Question}
+use Rattle.rpc_machine.specs.declared.entries.Reference.{Reference}
+use Rattle.rpc_machine.specs.State.{State}
+use Rattle.rpc_machine.specs.Nodes.{settle}
+use Rattle.rpc_machine.specs.Progress.{Progress, with_state, caps_of}
+use Rattle.rpc_machine.specs.Commands.{AsksBootstrap, counted}
+use Rattle.rpc_machine.specs.Routing.{Asks}
+use Rattle.rpc_machine.specs.Collecting.{Goes}
+use Rattle.rpc_machine.specs.Settling.{known, Fits, Tells, ResolvesBy}
+use Rattle.rpc_machine.specs.Sweeping.{IsNotSent, finished_by, releases}
+use Rattle.rpc_machine.specs.Advancing.{Embargoes}
 use Rattle.laws_steps.specs.Callers.{IsOpenFor, peer}
 use Rattle.laws_acts.specs.Acts.{Act, Makes, Drops, AsksRoot, CallsOut, Keeps, Joins, Promises, Unsettles, Answers, Finishes, Heads, Turns, Delivers, Waits, Holds, Relays, Fails, Fixes, Settles, Reports, Resolves, NextArisen, Gone, Ends, Releases}
 use Rattle.laws_acts.specs.Sent.{Noted, note, asks_sent, root_sent, turn_sent, resolve_sent, end_sent, told_sent, releases_sent, sent_by}

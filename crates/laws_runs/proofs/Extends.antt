@@ -3,11 +3,11 @@ use Rattle.std.proofs.Common.{◌≡◌, ℕ, Option, None, Some, List, ◌++◌
 use Rattle.rpc_msg.specs.declared.ids.Vat.{Vat}
 use Rattle.rpc_msg.specs.declared.ids.Vat.TheVariants.{A, B}
 use Rattle.rpc_msg.specs.declared.ids.Stamp.{Stamp}
-use Rattle.vat_journal.specs.declared.entry.MadeCall.{MadeCall}
-use Rattle.vat_journal.specs.declared.entry.JournalEntry.{JournalEntry}
-use Rattle.vat_journal.specs.History.{Ref, DeliveredAt, Reply, first_that, made_one, made_with, delivery_one, reply_one, reply_to, answer_of}
-use Rattle.vat_journal.specs.Sources.{Asking, asking_one, asking, Source, source_one, source, Fate, fate_one, fate}
-use Rattle.vat_journal.specs.Meaning.{History, root}
+use Rattle.rpc_journal.specs.declared.entry.MadeCall.{MadeCall}
+use Rattle.rpc_journal.specs.declared.entry.JournalEntry.{JournalEntry}
+use Rattle.rpc_journal.specs.History.{Ref, DeliveredAt, Reply, first_that, made_one, made_with, delivery_one, reply_one, reply_to, answer_of}
+use Rattle.rpc_journal.specs.Sources.{Asking, asking_one, asking, Source, source_one, source, Fate, fate_one, fate}
+use Rattle.rpc_journal.specs.Meaning.{History, root}
 use Rattle.laws_runs.specs.Meanings.{with_more}
 use Rattle.laws_runs.proofs.Reading.{still_first}
 

@@ -4,23 +4,23 @@ use Rattle.rpc_msg.specs.declared.ids.Vat.{Vat}
 use Rattle.rpc_msg.specs.declared.message.Message.{Message}
 use Rattle.rpc_msg.specs.declared.message.Message.TheVariants as message
 use Rattle.rpc_msg.specs.declared.message.PlainMessage.TheVariants as plain
-use Rattle.vat_journal.specs.History.{if_so}
-use Rattle.vat_machine.specs.declared.command.Command.{Command}
-use Rattle.vat_machine.specs.declared.command.Command.TheVariants as command
-use Rattle.vat_machine.specs.declared.command.Granted.{Granted}
-use Rattle.vat_machine.specs.declared.command.Refusal.{Refusal}
-use Rattle.vat_machine.specs.declared.command.Effects.{Effects}
-use Rattle.vat_machine.specs.declared.event.Event.TheVariants as event
-use Rattle.vat_machine.specs.Numbers.{want_of_room}
-use Rattle.vat_machine.specs.State.{State}
-use Rattle.vat_machine.specs.Refusals.{refused, is_shut}
-use Rattle.vat_machine.specs.Faults.{fault_of}
-use Rattle.vat_machine.specs.Progress.{begin}
-use Rattle.vat_machine.specs.Down.{falling_by, Falls, ShutsFrom}
-use Rattle.vat_machine.specs.Steps.{Obeys, Refuses, LacksMemory, GoesDown, Shuts, IsDone, Receives, WasDown, FaultsBy, LacksRoom, IsHandled}
-use Rattle.vat_machine.specs.World.{overflow_effects, CommandTold, MessageTold, Answered, shut_with}
+use Rattle.rpc_journal.specs.History.{if_so}
+use Rattle.rpc_machine.specs.declared.command.Command.{Command}
+use Rattle.rpc_machine.specs.declared.command.Command.TheVariants as command
+use Rattle.rpc_machine.specs.declared.command.Granted.{Granted}
+use Rattle.rpc_machine.specs.declared.command.Refusal.{Refusal}
+use Rattle.rpc_machine.specs.declared.command.Effects.{Effects}
+use Rattle.rpc_machine.specs.declared.event.Event.TheVariants as event
+use Rattle.rpc_machine.specs.Numbers.{want_of_room}
+use Rattle.rpc_machine.specs.State.{State}
+use Rattle.rpc_machine.specs.Refusals.{refused, is_shut}
+use Rattle.rpc_machine.specs.Faults.{fault_of}
+use Rattle.rpc_machine.specs.Progress.{begin}
+use Rattle.rpc_machine.specs.Down.{falling_by, Falls, ShutsFrom}
+use Rattle.rpc_machine.specs.Steps.{Obeys, Refuses, LacksMemory, GoesDown, Shuts, IsDone, Receives, WasDown, FaultsBy, LacksRoom, IsHandled}
+use Rattle.rpc_machine.specs.World.{overflow_effects, CommandTold, MessageTold, Answered, shut_with}
 use Rattle.laws_steps.proofs.UsedOnce.{command_leaves_up}
-use Rattle.vat_machine.proofs.StaysDown.{acts_no_shut, falls_no_shut}
+use Rattle.rpc_machine.proofs.StaysDown.{acts_no_shut, falls_no_shut}
 use Rattle.laws_runs.proofs.QuietRuns.{shut_not_refused, lacks_no_shut}
 use Rattle.laws_runs.proofs.Reading.{itself}
 use Rattle.laws_runs.proofs.Outcomes.{not_down}

@@ -1,13 +1,13 @@
 -- The entries that say that a vat went down: each is the vat's first, and says why.
 use Rattle.std.proofs.Common.{◌≡◌, ◌⊎◌, inl, inr, ℕ, Bool, true, false, ◌||◌, List, [], ◌∷◌, ◌++◌, map, append_assoc, append-nil, Option, refl, sym, ap, subst, ◌∙◌}
 use Rattle.rpc_msg.specs.declared.ids.Vat.{Vat}
-use Rattle.vat_journal.specs.declared.entry.JournalEntry.{JournalEntry}
-use Rattle.vat_journal.specs.declared.entry.JournalEntry.TheVariants as entry
-use Rattle.vat_journal.specs.History.{same_vat}
-use Rattle.vat_journal.specs.Meaning.{History}
-use Rattle.vat_machine.specs.declared.command.Effects.{Effects}
-use Rattle.vat_machine.specs.World.{Happening, shut_number}
-use Rattle.vat_machine.specs.Claims.{went_down_in, FallsFor, Upto, IfFalls}
+use Rattle.rpc_journal.specs.declared.entry.JournalEntry.{JournalEntry}
+use Rattle.rpc_journal.specs.declared.entry.JournalEntry.TheVariants as entry
+use Rattle.rpc_journal.specs.History.{same_vat}
+use Rattle.rpc_journal.specs.Meaning.{History}
+use Rattle.rpc_machine.specs.declared.command.Effects.{Effects}
+use Rattle.rpc_machine.specs.World.{Happening, shut_number}
+use Rattle.rpc_machine.specs.Claims.{went_down_in, FallsFor, Upto, IfFalls}
 use Rattle.laws_runs.proofs.QuietEntries as quiet
 use Rattle.laws_runs.proofs.QuietEntries.{after-append, sent_after, delivered_after, ended_after}
 use Rattle.laws_runs.proofs.Reading.{itself}

@@ -8,23 +8,23 @@ use Rattle.rpc_msg.specs.declared.message.Message.{Message}
 use Rattle.rpc_msg.specs.declared.message.Message.TheVariants as message
 use Rattle.rpc_msg.specs.declared.message.PlainMessage.TheVariants as plain
 use Rattle.rpc_msg.specs.Vats.{other_vat}
-use Rattle.vat_journal.specs.declared.entry.JournalEntry.{JournalEntry}
-use Rattle.vat_journal.specs.declared.entry.JournalEntry.TheVariants as entry
-use Rattle.vat_journal.specs.History.{or_rest}
-use Rattle.vat_machine.specs.declared.command.Command.{Command}
-use Rattle.vat_machine.specs.declared.command.Level.{Level}
-use Rattle.vat_machine.specs.declared.command.Level.TheVariants.{Zero, One}
-use Rattle.vat_machine.specs.declared.command.Granted.{Granted}
-use Rattle.vat_machine.specs.declared.command.Refusal.{Refusal}
-use Rattle.vat_machine.specs.declared.command.Effects.{Effects}
-use Rattle.vat_machine.specs.declared.event.Event.{Event}
-use Rattle.vat_machine.specs.declared.event.Event.TheVariants as event
-use Rattle.vat_machine.specs.Numbers.{held_past_limit, peer_abort}
-use Rattle.vat_machine.specs.State.{State}
-use Rattle.vat_machine.specs.Faults.{fault_of, is_foreign, unless_foreign}
-use Rattle.vat_machine.specs.World.{World, core, inbox, put_inbox, new_world, StepAnswer, Answered, Handled, Empty, Happening, CommandTold, MessageTold, CommandsAt, ReceivesAt, HappensBy, Run, shut_with, shut_number}
-use Rattle.vat_machine.specs.Journal.{went_down, effect_entries, own_entries, command_entries, deliver_entries, event_entries, journal_from}
-use Rattle.vat_machine.specs.Claims.{went_down_in, FallsFor, ByShut, ForRoom, ForHeld, ByPeer}
+use Rattle.rpc_journal.specs.declared.entry.JournalEntry.{JournalEntry}
+use Rattle.rpc_journal.specs.declared.entry.JournalEntry.TheVariants as entry
+use Rattle.rpc_journal.specs.History.{or_rest}
+use Rattle.rpc_machine.specs.declared.command.Command.{Command}
+use Rattle.rpc_machine.specs.declared.command.Level.{Level}
+use Rattle.rpc_machine.specs.declared.command.Level.TheVariants.{Zero, One}
+use Rattle.rpc_machine.specs.declared.command.Granted.{Granted}
+use Rattle.rpc_machine.specs.declared.command.Refusal.{Refusal}
+use Rattle.rpc_machine.specs.declared.command.Effects.{Effects}
+use Rattle.rpc_machine.specs.declared.event.Event.{Event}
+use Rattle.rpc_machine.specs.declared.event.Event.TheVariants as event
+use Rattle.rpc_machine.specs.Numbers.{held_past_limit, peer_abort}
+use Rattle.rpc_machine.specs.State.{State}
+use Rattle.rpc_machine.specs.Faults.{fault_of, is_foreign, unless_foreign}
+use Rattle.rpc_machine.specs.World.{World, core, inbox, put_inbox, new_world, StepAnswer, Answered, Handled, Empty, Happening, CommandTold, MessageTold, CommandsAt, ReceivesAt, HappensBy, Run, shut_with, shut_number}
+use Rattle.rpc_machine.specs.Journal.{went_down, effect_entries, own_entries, command_entries, deliver_entries, event_entries, journal_from}
+use Rattle.rpc_machine.specs.Claims.{went_down_in, FallsFor, ByShut, ForRoom, ForHeld, ByPeer}
 use Rattle.laws_runs.proofs.QuietRuns.{is_down, acted, taken, commanded_tells, message_tells, writes_nothing}
 use Rattle.laws_runs.proofs.QuietEntries.{own_steady, if_room_steady}
 use Rattle.laws_runs.specs.Scenes.{Scene, is_over, begins, Steps, LeadsTo, NoMore, Then, IsScene, IsLast, AtVat, Shows}

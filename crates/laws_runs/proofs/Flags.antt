@@ -6,16 +6,16 @@ use Rattle.rpc_msg.specs.declared.message.PlainMessage.{PlainMessage}
 use Rattle.rpc_msg.specs.declared.message.PlainMessage.TheVariants as plain
 use Rattle.rpc_msg.specs.Messages.{given, descriptors_of_body}
 use Rattle.finite_maps.proofs.Tested.{itself}
-use Rattle.vat_machine.specs.declared.entries.Finishing.{Finishing}
-use Rattle.vat_machine.specs.declared.entries.Finishing.TheVariants as finishing
-use Rattle.vat_machine.specs.declared.entries.Returned.{Returned}
-use Rattle.vat_machine.specs.declared.entries.Question.{Question}
-use Rattle.vat_machine.specs.declared.entries.AnswerEntry.{AnswerEntry}
-use Rattle.vat_machine.specs.State.{State}
-use Rattle.vat_machine.specs.Lists.{how_many}
-use Rattle.vat_machine.specs.Progress.{numbers}
-use Rattle.vat_machine.specs.Faults.{gave}
-use Rattle.vat_machine.specs.UnderWay.{call_gave, return_gave, if_true, plain_takes, taking_off}
+use Rattle.rpc_machine.specs.declared.entries.Finishing.{Finishing}
+use Rattle.rpc_machine.specs.declared.entries.Finishing.TheVariants as finishing
+use Rattle.rpc_machine.specs.declared.entries.Returned.{Returned}
+use Rattle.rpc_machine.specs.declared.entries.Question.{Question}
+use Rattle.rpc_machine.specs.declared.entries.AnswerEntry.{AnswerEntry}
+use Rattle.rpc_machine.specs.State.{State}
+use Rattle.rpc_machine.specs.Lists.{how_many}
+use Rattle.rpc_machine.specs.Progress.{numbers}
+use Rattle.rpc_machine.specs.Faults.{gave}
+use Rattle.rpc_machine.specs.UnderWay.{call_gave, return_gave, if_true, plain_takes, taking_off}
 use Rattle.laws_acts.specs.Sent.{Ids, Noted, messages}
 use Rattle.laws_runs.specs.Questions as session
 use Rattle.laws_runs.specs.Questions.{Asker, Answerer, Out, Ret, IsJust, Row, Idle, Closing, Sent, SentBehind, Held, Returning, EarlySent, EarlyBehind, EarlyHeld, EarlyCrossed, EarlyWaits, EarlyReturning}

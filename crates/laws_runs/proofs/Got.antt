@@ -21,28 +21,28 @@ use Rattle.rpc_msg.specs.declared.parts.Descriptor.TheVariants as descriptor
 use Rattle.finite_maps.specs.Tally.{Map, tally, worth}
 use Rattle.finite_maps.proofs.Tallies.{tally-new, tally-split, tally-insert, tally-same}
 use Rattle.finite_maps.proofs.Tested.{equal, get_put, get_cut, at_changed}
-use Rattle.vat_machine.specs.declared.command.Level.{Level}
-use Rattle.vat_machine.specs.declared.command.Level.TheVariants.{One}
-use Rattle.vat_machine.specs.declared.entries.Finishing.{Finishing}
-use Rattle.vat_machine.specs.declared.entries.Finishing.TheVariants as finishing
-use Rattle.vat_machine.specs.declared.entries.Returned.{Returned}
-use Rattle.vat_machine.specs.declared.entries.Question.{Question}
-use Rattle.vat_machine.specs.declared.entries.AnswerEntry.{AnswerEntry}
-use Rattle.vat_machine.specs.State.{State}
-use Rattle.vat_machine.specs.Progress.{Progress, with_state, export_ids, numbers, begin}
-use Rattle.vat_machine.specs.Sweeping.{got_of}
-use Rattle.vat_machine.specs.Descriptors.{read, read_beside, take_each, take_at, take_all, received, import_one}
-use Rattle.vat_machine.specs.Flags.{obey}
-use Rattle.vat_machine.specs.Limits.{import_count}
-use Rattle.vat_machine.specs.Lists.{how_many, updated}
-use Rattle.vat_machine.specs.declared.entries.Import.{Import}
-use Rattle.vat_machine.specs.declared.entries.Resolution.{Resolution}
-use Rattle.vat_machine.specs.Faults.{gave}
-use Rattle.vat_machine.specs.Messages.{opened, results_of, kept_returned, finished_map, take_resolve, resolve_import, set_resolution}
-use Rattle.vat_machine.specs.declared.entries.SenderKind.{SenderKind}
-use Rattle.vat_machine.specs.declared.entries.SenderKind.TheVariants as kind
-use Rattle.vat_machine.specs.declared.entries.Resolution.TheVariants as resolution
-use Rattle.vat_machine.specs.declared.entries.Returned.TheVariants as back
+use Rattle.rpc_machine.specs.declared.command.Level.{Level}
+use Rattle.rpc_machine.specs.declared.command.Level.TheVariants.{One}
+use Rattle.rpc_machine.specs.declared.entries.Finishing.{Finishing}
+use Rattle.rpc_machine.specs.declared.entries.Finishing.TheVariants as finishing
+use Rattle.rpc_machine.specs.declared.entries.Returned.{Returned}
+use Rattle.rpc_machine.specs.declared.entries.Question.{Question}
+use Rattle.rpc_machine.specs.declared.entries.AnswerEntry.{AnswerEntry}
+use Rattle.rpc_machine.specs.State.{State}
+use Rattle.rpc_machine.specs.Progress.{Progress, with_state, export_ids, numbers, begin}
+use Rattle.rpc_machine.specs.Sweeping.{got_of}
+use Rattle.rpc_machine.specs.Descriptors.{read, read_beside, take_each, take_at, take_all, received, import_one}
+use Rattle.rpc_machine.specs.Flags.{obey}
+use Rattle.rpc_machine.specs.Limits.{import_count}
+use Rattle.rpc_machine.specs.Lists.{how_many, updated}
+use Rattle.rpc_machine.specs.declared.entries.Import.{Import}
+use Rattle.rpc_machine.specs.declared.entries.Resolution.{Resolution}
+use Rattle.rpc_machine.specs.Faults.{gave}
+use Rattle.rpc_machine.specs.Messages.{opened, results_of, kept_returned, finished_map, take_resolve, resolve_import, set_resolution}
+use Rattle.rpc_machine.specs.declared.entries.SenderKind.{SenderKind}
+use Rattle.rpc_machine.specs.declared.entries.SenderKind.TheVariants as kind
+use Rattle.rpc_machine.specs.declared.entries.Resolution.TheVariants as resolution
+use Rattle.rpc_machine.specs.declared.entries.Returned.TheVariants as back
 use Rattle.laws_steps.proofs.Taken.{brought_results}
 use Rattle.laws_steps.proofs.NamedNodes as nodes_there
 use Rattle.laws_acts.specs.Acts.{came, ComesTo, TurnsBy, Consumes}

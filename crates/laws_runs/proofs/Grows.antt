@@ -9,11 +9,11 @@ use Rattle.rpc_msg.specs.CapAt.{CapAt}
 use Rattle.rpc_msg.specs.CapAt.TheVariants.{Cap, Null, NotCap}
 use Rattle.rpc_msg.specs.Payloads.{tree_of}
 use Rattle.rpc_msg.specs.Walking.{capability_at}
-use Rattle.vat_journal.specs.declared.report.Outcome.{Outcome}
-use Rattle.vat_journal.specs.declared.report.Outcome.TheVariants as outcome
-use Rattle.vat_journal.specs.History.{Ref, refs_at, caller, or_rest, made_with, answer_of}
-use Rattle.vat_journal.specs.Sources.{Asking, OfBootstrap, OfCall, asking, Source, OwnObject, OwnPromise, CloneOf, SentWith, EndedWith, FieldOf, source, Fate, FixedTo, WasRejected, fate}
-use Rattle.vat_journal.specs.Meaning.{History, Meaning, ObjectAt, Broken, object_or_broken, bootstrap_meaning, root_field, by_fate, by_ref, by_made, by_reply, by_end, by_cap, by_outcome, if_broken, by_replied, by_asking, by_source, within}
+use Rattle.rpc_journal.specs.declared.report.Outcome.{Outcome}
+use Rattle.rpc_journal.specs.declared.report.Outcome.TheVariants as outcome
+use Rattle.rpc_journal.specs.History.{Ref, refs_at, caller, or_rest, made_with, answer_of}
+use Rattle.rpc_journal.specs.Sources.{Asking, OfBootstrap, OfCall, asking, Source, OwnObject, OwnPromise, CloneOf, SentWith, EndedWith, FieldOf, source, Fate, FixedTo, WasRejected, fate}
+use Rattle.rpc_journal.specs.Meaning.{History, Meaning, ObjectAt, Broken, object_or_broken, bootstrap_meaning, root_field, by_fate, by_ref, by_made, by_reply, by_end, by_cap, by_outcome, if_broken, by_replied, by_asking, by_source, within}
 use Rattle.laws_runs.proofs.Extends.{Extends}
 
 abbrev pub Grows : Option Meaning → Option Meaning → Type 0

@@ -17,23 +17,23 @@ use Rattle.rpc_msg.specs.declared.message.DisembargoContext.{DisembargoContext}
 use Rattle.finite_maps.specs.Tally.{Map}
 use Rattle.finite_maps.proofs.Tested.{equal, get_put, get_cut, at_changed}
 use Rattle.finite_maps.proofs.Gets.{get-insert_same}
-use Rattle.vat_machine.specs.declared.calls.Caller.{Caller}
-use Rattle.vat_machine.specs.declared.calls.Caller.TheVariants as caller
-use Rattle.vat_machine.specs.declared.calls.KeptOutcome.{KeptOutcome}
-use Rattle.vat_machine.specs.declared.command.Level.{Level}
-use Rattle.vat_machine.specs.declared.command.Level.TheVariants.{One}
-use Rattle.vat_machine.specs.declared.entries.Finishing.{Finishing}
-use Rattle.vat_machine.specs.declared.entries.Finishing.TheVariants as finishing
-use Rattle.vat_machine.specs.declared.entries.Returned.{Returned}
-use Rattle.vat_machine.specs.declared.entries.Question.{Question}
-use Rattle.vat_machine.specs.declared.entries.AnswerEntry.{AnswerEntry}
-use Rattle.vat_machine.specs.State.{State}
-use Rattle.vat_machine.specs.Progress.{Progress, with_state, export_ids, numbers}
-use Rattle.vat_machine.specs.Sweeping.{got_of, descriptors_said}
-use Rattle.vat_machine.specs.Descriptors.{read_beside, take_all, taken_of, taken_at}
-use Rattle.vat_machine.specs.Flags.{obey}
-use Rattle.vat_machine.specs.Faults.{gave}
-use Rattle.vat_machine.specs.Messages.{opened, results_of, finished_map}
+use Rattle.rpc_machine.specs.declared.calls.Caller.{Caller}
+use Rattle.rpc_machine.specs.declared.calls.Caller.TheVariants as caller
+use Rattle.rpc_machine.specs.declared.calls.KeptOutcome.{KeptOutcome}
+use Rattle.rpc_machine.specs.declared.command.Level.{Level}
+use Rattle.rpc_machine.specs.declared.command.Level.TheVariants.{One}
+use Rattle.rpc_machine.specs.declared.entries.Finishing.{Finishing}
+use Rattle.rpc_machine.specs.declared.entries.Finishing.TheVariants as finishing
+use Rattle.rpc_machine.specs.declared.entries.Returned.{Returned}
+use Rattle.rpc_machine.specs.declared.entries.Question.{Question}
+use Rattle.rpc_machine.specs.declared.entries.AnswerEntry.{AnswerEntry}
+use Rattle.rpc_machine.specs.State.{State}
+use Rattle.rpc_machine.specs.Progress.{Progress, with_state, export_ids, numbers}
+use Rattle.rpc_machine.specs.Sweeping.{got_of, descriptors_said}
+use Rattle.rpc_machine.specs.Descriptors.{read_beside, take_all, taken_of, taken_at}
+use Rattle.rpc_machine.specs.Flags.{obey}
+use Rattle.rpc_machine.specs.Faults.{gave}
+use Rattle.rpc_machine.specs.Messages.{opened, results_of, finished_map}
 use Rattle.laws_steps.specs.Callers.{IsOpenFor, AnswersWith}
 use Rattle.laws_acts.specs.Acts.{came, ComesTo, TurnsBy, Consumes}
 use Rattle.laws_acts.proofs.Alone.{all_alone}

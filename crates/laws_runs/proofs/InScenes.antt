@@ -4,12 +4,12 @@ use Rattle.std.specs.FinMap as map
 use Rattle.rpc_msg.specs.declared.ids.Vat.{Vat}
 use Rattle.rpc_msg.specs.declared.ids.Vat.TheVariants.{A, B}
 use Rattle.rpc_msg.specs.declared.ids.ObjectId.{ObjectId}
-use Rattle.vat_journal.specs.declared.entry.JournalEntry.{JournalEntry}
-use Rattle.vat_machine.specs.Nodes.{is_import}
-use Rattle.vat_machine.specs.Places.{names}
-use Rattle.vat_machine.specs.World.{World, new_world, core}
-use Rattle.vat_machine.specs.Journal.{journal}
-use Rattle.vat_machine.specs.Claims.{CountsAgree}
+use Rattle.rpc_journal.specs.declared.entry.JournalEntry.{JournalEntry}
+use Rattle.rpc_machine.specs.Nodes.{is_import}
+use Rattle.rpc_machine.specs.Places.{names}
+use Rattle.rpc_machine.specs.World.{World, new_world, core}
+use Rattle.rpc_machine.specs.Journal.{journal}
+use Rattle.rpc_machine.specs.Claims.{CountsAgree}
 use Rattle.laws_steps.specs.NodesThere.{NodesThereInRuns, IsWhole}
 use Rattle.laws_runs.specs.Scenes as scenes
 use Rattle.laws_runs.specs.Scenes.{Scene, IsScene, LeadsTo, stopped, Commanded, Received, GivesUp, NoMore, Then}

@@ -3,12 +3,12 @@ use Rattle.std.proofs.Common.{◌≡◌, Bool, true, false, List, [], ◌∷◌,
 use Rattle.std.specs.List.{All}
 use Rattle.std.proofs.lemmas.List.Elements.{All-nil, All-cons, All-append, All-same}
 use Rattle.rpc_msg.specs.declared.ids.Vat.{Vat}
-use Rattle.vat_journal.specs.declared.report.Delivery.{Delivery}
-use Rattle.vat_journal.specs.declared.entry.JournalEntry.{JournalEntry}
-use Rattle.vat_journal.specs.declared.entry.JournalEntry.TheVariants as entry
-use Rattle.vat_journal.specs.History.{Ref, DeliveredAt, same_ref, caller, in_front, if_so, delivered_one, deliveries}
-use Rattle.vat_journal.specs.Meaning.{History, ObjectAt, StandsFor}
-use Rattle.vat_machine.specs.Claims.{IsTo, IsToOne, IsInTime, IfDelivers}
+use Rattle.rpc_journal.specs.declared.report.Delivery.{Delivery}
+use Rattle.rpc_journal.specs.declared.entry.JournalEntry.{JournalEntry}
+use Rattle.rpc_journal.specs.declared.entry.JournalEntry.TheVariants as entry
+use Rattle.rpc_journal.specs.History.{Ref, DeliveredAt, same_ref, caller, in_front, if_so, delivered_one, deliveries}
+use Rattle.rpc_journal.specs.Meaning.{History, ObjectAt, StandsFor}
+use Rattle.rpc_machine.specs.Claims.{IsTo, IsToOne, IsInTime, IfDelivers}
 use Rattle.laws_runs.proofs.Reading.{all_that-append, same_ref_is}
 use Rattle.laws_runs.proofs.Lasting.{lasts}
 

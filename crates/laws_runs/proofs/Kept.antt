@@ -5,14 +5,14 @@ use Rattle.rpc_msg.specs.declared.ids.Vat.TheVariants.{A, B}
 use Rattle.rpc_msg.specs.declared.ids.ObjectId.{ObjectId}
 use Rattle.rpc_msg.specs.declared.message.Message.{Message}
 use Rattle.rpc_msg.specs.declared.message.Message.TheVariants as message
-use Rattle.vat_machine.specs.declared.command.Command.{Command}
-use Rattle.vat_machine.specs.declared.command.Granted.{Granted}
-use Rattle.vat_machine.specs.declared.command.Effects.{Effects}
-use Rattle.vat_machine.specs.State.{State}
-use Rattle.vat_machine.specs.Refusals.{refused}
-use Rattle.vat_machine.specs.Faults.{fault_of}
-use Rattle.vat_machine.specs.Steps.{Does, Handles}
-use Rattle.vat_machine.specs.World.{World, new_world, core, inbox, put_inbox, after}
+use Rattle.rpc_machine.specs.declared.command.Command.{Command}
+use Rattle.rpc_machine.specs.declared.command.Granted.{Granted}
+use Rattle.rpc_machine.specs.declared.command.Effects.{Effects}
+use Rattle.rpc_machine.specs.State.{State}
+use Rattle.rpc_machine.specs.Refusals.{refused}
+use Rattle.rpc_machine.specs.Faults.{fault_of}
+use Rattle.rpc_machine.specs.Steps.{Does, Handles}
+use Rattle.rpc_machine.specs.World.{World, new_world, core, inbox, put_inbox, after}
 use Rattle.laws_acts.specs.Sent.{Noted, messages}
 use Rattle.laws_runs.specs.Between.{IsSteady, Commands, Receives, Steady, Stays, OneMore, HoldsIn, StillHolds, IsKept}
 

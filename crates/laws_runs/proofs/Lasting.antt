@@ -11,14 +11,14 @@ use Rattle.rpc_msg.specs.CapAt.{CapAt}
 use Rattle.rpc_msg.specs.CapAt.TheVariants.{Cap, Null, NotCap}
 use Rattle.rpc_msg.specs.Payloads.{tree_of}
 use Rattle.rpc_msg.specs.Walking.{capability_at}
-use Rattle.vat_journal.specs.declared.report.Outcome.{Outcome}
-use Rattle.vat_journal.specs.declared.report.Outcome.TheVariants as outcome
-use Rattle.vat_journal.specs.declared.entry.JournalEntry.{JournalEntry}
-use Rattle.vat_journal.specs.declared.entry.JournalEntry.TheVariants as entry
-use Rattle.vat_journal.specs.History.{Ref, DeliveredAt, Reply, same_vat, same_ref, same_stamp, refs_at, caller, or_rest, in_front, if_so, first_that, made_with, delivery_one, delivered_one, deliveries, reply_to, answer_of}
-use Rattle.vat_journal.specs.Sources.{Asking, OfBootstrap, OfCall, asking, Source, OwnObject, OwnPromise, CloneOf, SentWith, EndedWith, FieldOf, source, Fate, FixedTo, WasRejected, fate}
-use Rattle.vat_journal.specs.Meaning.{History, Meaning, ObjectAt, Broken, root_field, by_fate, by_ref, by_made, by_reply, by_end, by_cap, by_outcome, if_broken, by_answer, by_asking, by_source, within, StandsFor}
-use Rattle.vat_machine.specs.Claims.{IsTo, IsToOne, MeansOne}
+use Rattle.rpc_journal.specs.declared.report.Outcome.{Outcome}
+use Rattle.rpc_journal.specs.declared.report.Outcome.TheVariants as outcome
+use Rattle.rpc_journal.specs.declared.entry.JournalEntry.{JournalEntry}
+use Rattle.rpc_journal.specs.declared.entry.JournalEntry.TheVariants as entry
+use Rattle.rpc_journal.specs.History.{Ref, DeliveredAt, Reply, same_vat, same_ref, same_stamp, refs_at, caller, or_rest, in_front, if_so, first_that, made_with, delivery_one, delivered_one, deliveries, reply_to, answer_of}
+use Rattle.rpc_journal.specs.Sources.{Asking, OfBootstrap, OfCall, asking, Source, OwnObject, OwnPromise, CloneOf, SentWith, EndedWith, FieldOf, source, Fate, FixedTo, WasRejected, fate}
+use Rattle.rpc_journal.specs.Meaning.{History, Meaning, ObjectAt, Broken, root_field, by_fate, by_ref, by_made, by_reply, by_end, by_cap, by_outcome, if_broken, by_answer, by_asking, by_source, within, StandsFor}
+use Rattle.rpc_machine.specs.Claims.{IsTo, IsToOne, MeansOne}
 use Rattle.laws_runs.specs.Meanings.{with_more}
 use Rattle.laws_runs.proofs.Extends.{Extends, extends, extends_itself}
 use Rattle.laws_runs.proofs.Grows.{Grows, grows, same_bootstrap}

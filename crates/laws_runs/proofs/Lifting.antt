@@ -4,15 +4,15 @@ use Rattle.rpc_msg.specs.declared.ids.Vat.{Vat}
 use Rattle.rpc_msg.specs.declared.ids.Stamp.{Stamp}
 use Rattle.rpc_msg.specs.declared.ids.RefId.{RefId}
 use Rattle.rpc_msg.specs.Vats.{other_vat}
-use Rattle.vat_journal.specs.declared.report.Delivery.{Delivery}
-use Rattle.vat_journal.specs.declared.report.Ended.{Ended}
-use Rattle.vat_journal.specs.declared.report.Outcome.{Outcome}
-use Rattle.vat_journal.specs.declared.entry.JournalEntry.{JournalEntry}
-use Rattle.vat_journal.specs.declared.entry.JournalEntry.TheVariants as entry
-use Rattle.vat_journal.specs.History.{Ref, Reply, caller, refs_at, answer_of}
-use Rattle.vat_journal.specs.Sources.{Asking, OfBootstrap, OfCall, asking}
-use Rattle.vat_journal.specs.Meaning.{History, ObjectAt, Broken}
-use Rattle.vat_machine.specs.Claims.{IsInTime, EndsAreSo, DeliversMade, EndsSo, EndsRoot, EndsCall, EndsAsked, AreNew}
+use Rattle.rpc_journal.specs.declared.report.Delivery.{Delivery}
+use Rattle.rpc_journal.specs.declared.report.Ended.{Ended}
+use Rattle.rpc_journal.specs.declared.report.Outcome.{Outcome}
+use Rattle.rpc_journal.specs.declared.entry.JournalEntry.{JournalEntry}
+use Rattle.rpc_journal.specs.declared.entry.JournalEntry.TheVariants as entry
+use Rattle.rpc_journal.specs.History.{Ref, Reply, caller, refs_at, answer_of}
+use Rattle.rpc_journal.specs.Sources.{Asking, OfBootstrap, OfCall, asking}
+use Rattle.rpc_journal.specs.Meaning.{History, ObjectAt, Broken}
+use Rattle.rpc_machine.specs.Claims.{IsInTime, EndsAreSo, DeliversMade, EndsSo, EndsRoot, EndsCall, EndsAsked, AreNew}
 use Rattle.laws_runs.specs.Telling.{tells, telling}
 use Rattle.laws_runs.proofs.Silent.{telling-append}
 use Rattle.laws_runs.proofs.ToldAlike.{SameRoots, same_root, same_source, same_asking, same_made_with, same_answer, same_ended, same_meaning}

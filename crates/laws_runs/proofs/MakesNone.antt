@@ -3,22 +3,22 @@ use Rattle.std.proofs.Common.{◌≡◌, ◌⊎◌, inl, inr, Option, None, Some
 use Rattle.rpc_msg.specs.declared.ids.Vat.{Vat}
 use Rattle.rpc_msg.specs.declared.ids.RefId.{RefId}
 use Rattle.rpc_msg.specs.declared.ids.Stamp.{Stamp}
-use Rattle.vat_journal.specs.declared.entry.Origin.{Origin}
-use Rattle.vat_journal.specs.declared.entry.Origin.TheVariants as origin
-use Rattle.vat_journal.specs.declared.entry.JournalEntry.{JournalEntry}
-use Rattle.vat_journal.specs.declared.entry.JournalEntry.TheVariants as entry
-use Rattle.vat_journal.specs.History.{Ref, in_front, made_stamp, made}
-use Rattle.vat_machine.specs.declared.command.CallCommand.{CallCommand}
-use Rattle.vat_machine.specs.declared.command.Command.{Command}
-use Rattle.vat_machine.specs.declared.command.Command.TheVariants as command
-use Rattle.vat_machine.specs.declared.command.Granted.{Granted}
-use Rattle.vat_machine.specs.declared.command.Granted.TheVariants as granted
-use Rattle.vat_machine.specs.declared.command.Refusal.{Refusal}
-use Rattle.vat_machine.specs.declared.command.Refusal.TheVariants as refusal
-use Rattle.vat_machine.specs.declared.command.Effects.{Effects}
-use Rattle.vat_machine.specs.Steps.{MayFall}
-use Rattle.vat_machine.specs.World.{StepAnswer, Answered, Handled, Empty}
-use Rattle.vat_machine.specs.Journal.{went_down, effect_entries, refused_entries, born, born_promise, asked_entries, advanced_entries, granted_entries, deliver_entries}
+use Rattle.rpc_journal.specs.declared.entry.Origin.{Origin}
+use Rattle.rpc_journal.specs.declared.entry.Origin.TheVariants as origin
+use Rattle.rpc_journal.specs.declared.entry.JournalEntry.{JournalEntry}
+use Rattle.rpc_journal.specs.declared.entry.JournalEntry.TheVariants as entry
+use Rattle.rpc_journal.specs.History.{Ref, in_front, made_stamp, made}
+use Rattle.rpc_machine.specs.declared.command.CallCommand.{CallCommand}
+use Rattle.rpc_machine.specs.declared.command.Command.{Command}
+use Rattle.rpc_machine.specs.declared.command.Command.TheVariants as command
+use Rattle.rpc_machine.specs.declared.command.Granted.{Granted}
+use Rattle.rpc_machine.specs.declared.command.Granted.TheVariants as granted
+use Rattle.rpc_machine.specs.declared.command.Refusal.{Refusal}
+use Rattle.rpc_machine.specs.declared.command.Refusal.TheVariants as refusal
+use Rattle.rpc_machine.specs.declared.command.Effects.{Effects}
+use Rattle.rpc_machine.specs.Steps.{MayFall}
+use Rattle.rpc_machine.specs.World.{StepAnswer, Answered, Handled, Empty}
+use Rattle.rpc_machine.specs.Journal.{went_down, effect_entries, refused_entries, born, born_promise, asked_entries, advanced_entries, granted_entries, deliver_entries}
 use Rattle.laws_runs.proofs.KeptCounts.{IsNoCall}
 use Rattle.laws_runs.proofs.Reading.{made-append}
 

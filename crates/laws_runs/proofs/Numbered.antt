@@ -3,19 +3,19 @@ use Rattle.std.proofs.Common.{◌≡◌, ℕ, ◌+◌, Bool, true, false, cond, 
 use Rattle.rpc_msg.specs.declared.ids.Vat.{Vat}
 use Rattle.rpc_msg.specs.declared.ids.CallId.{CallId}
 use Rattle.rpc_msg.specs.declared.ids.Stamp.{Stamp}
-use Rattle.vat_journal.specs.declared.entry.JournalEntry.{JournalEntry}
-use Rattle.vat_journal.specs.History.{Ref, same_ref, in_front, if_so, made}
-use Rattle.vat_machine.specs.declared.command.CallCommand.{CallCommand}
-use Rattle.vat_machine.specs.declared.command.Command.{Command}
-use Rattle.vat_machine.specs.declared.command.Command.TheVariants as command
-use Rattle.vat_machine.specs.declared.command.Granted.{Granted}
-use Rattle.vat_machine.specs.declared.command.Granted.TheVariants as granted
-use Rattle.vat_machine.specs.declared.command.Refusal.{Refusal}
-use Rattle.vat_machine.specs.declared.event.Event.{Event}
-use Rattle.vat_machine.specs.declared.event.Event.TheVariants as event
-use Rattle.vat_machine.specs.World.{StepAnswer, Answered, Handled, Empty, Happening}
-use Rattle.vat_machine.specs.Journal.{effect_entries, index_in, made_entries, granted_entries, own_entries, command_entries, event_entries, journal_from, journal}
-use Rattle.vat_machine.specs.Claims.{IsNumbered, AreNumbered}
+use Rattle.rpc_journal.specs.declared.entry.JournalEntry.{JournalEntry}
+use Rattle.rpc_journal.specs.History.{Ref, same_ref, in_front, if_so, made}
+use Rattle.rpc_machine.specs.declared.command.CallCommand.{CallCommand}
+use Rattle.rpc_machine.specs.declared.command.Command.{Command}
+use Rattle.rpc_machine.specs.declared.command.Command.TheVariants as command
+use Rattle.rpc_machine.specs.declared.command.Granted.{Granted}
+use Rattle.rpc_machine.specs.declared.command.Granted.TheVariants as granted
+use Rattle.rpc_machine.specs.declared.command.Refusal.{Refusal}
+use Rattle.rpc_machine.specs.declared.event.Event.{Event}
+use Rattle.rpc_machine.specs.declared.event.Event.TheVariants as event
+use Rattle.rpc_machine.specs.World.{StepAnswer, Answered, Handled, Empty, Happening}
+use Rattle.rpc_machine.specs.Journal.{effect_entries, index_in, made_entries, granted_entries, own_entries, command_entries, event_entries, journal_from, journal}
+use Rattle.rpc_machine.specs.Claims.{IsNumbered, AreNumbered}
 use Rattle.laws_runs.proofs.Reading.{made-append, same_ref_is}
 use Rattle.laws_runs.proofs.MakesNone.{MakesNone, none_behind, effects_make_none, refused_none, granted_none, deliver_none}
 

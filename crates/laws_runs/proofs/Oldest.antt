@@ -14,24 +14,24 @@ use Rattle.rpc_msg.specs.declared.message.Finish.{Finish}
 use Rattle.rpc_msg.specs.declared.message.Return.{Return}
 use Rattle.rpc_msg.specs.declared.message.Release.{Release}
 use Rattle.finite_maps.proofs.Tested.{itself}
-use Rattle.vat_journal.specs.History.{if_so}
-use Rattle.vat_machine.specs.declared.command.Level.TheVariants.{One}
-use Rattle.vat_machine.specs.declared.entries.Question.{Question}
-use Rattle.vat_machine.specs.declared.entries.AnswerEntry.{AnswerEntry}
-use Rattle.vat_machine.specs.State.{State}
-use Rattle.vat_machine.specs.Lists.{how_many, earliest}
-use Rattle.vat_machine.specs.Numbers.{question_in_use, unknown_answer, over_release}
-use Rattle.vat_machine.specs.Laws.{given_out}
-use Rattle.vat_machine.specs.UnderWay.{plain_takes, if_true, call_gave, return_gave}
-use Rattle.vat_machine.specs.World.{World, core, inbox}
-use Rattle.vat_machine.specs.declared.entries.Export.{Export}
-use Rattle.vat_machine.specs.Limits.{export_count}
-use Rattle.vat_machine.specs.declared.entries.Finishing.{Finishing}
-use Rattle.vat_machine.specs.declared.entries.Finishing.TheVariants as finishing
-use Rattle.vat_machine.specs.declared.entries.Returned.{Returned}
-use Rattle.vat_machine.specs.Progress.{numbers}
-use Rattle.vat_machine.specs.Faults.{gave, is_short, flag_fault, finish_fault, release_fault, is_foreign, plain_fault, unless_foreign}
-use Rattle.vat_machine.specs.declared.command.Level.{Level}
+use Rattle.rpc_journal.specs.History.{if_so}
+use Rattle.rpc_machine.specs.declared.command.Level.TheVariants.{One}
+use Rattle.rpc_machine.specs.declared.entries.Question.{Question}
+use Rattle.rpc_machine.specs.declared.entries.AnswerEntry.{AnswerEntry}
+use Rattle.rpc_machine.specs.State.{State}
+use Rattle.rpc_machine.specs.Lists.{how_many, earliest}
+use Rattle.rpc_machine.specs.Numbers.{question_in_use, unknown_answer, over_release}
+use Rattle.rpc_machine.specs.Laws.{given_out}
+use Rattle.rpc_machine.specs.UnderWay.{plain_takes, if_true, call_gave, return_gave}
+use Rattle.rpc_machine.specs.World.{World, core, inbox}
+use Rattle.rpc_machine.specs.declared.entries.Export.{Export}
+use Rattle.rpc_machine.specs.Limits.{export_count}
+use Rattle.rpc_machine.specs.declared.entries.Finishing.{Finishing}
+use Rattle.rpc_machine.specs.declared.entries.Finishing.TheVariants as finishing
+use Rattle.rpc_machine.specs.declared.entries.Returned.{Returned}
+use Rattle.rpc_machine.specs.Progress.{numbers}
+use Rattle.rpc_machine.specs.Faults.{gave, is_short, flag_fault, finish_fault, release_fault, is_foreign, plain_fault, unless_foreign}
+use Rattle.rpc_machine.specs.declared.command.Level.{Level}
 use Rattle.laws_acts.specs.Sent.{Ids, Noted, messages, note}
 use Rattle.laws_runs.specs.Worlds.{AreRows}
 use Rattle.laws_runs.specs.Between.{HoldsIn}

@@ -15,35 +15,35 @@ use Rattle.finite_maps.proofs.Tallies.{tally-new, tally-split, tally-insert, tal
 use Rattle.finite_maps.proofs.Tested.{ties, equal, get_put, get_cut, get_left, at_changed}
 use Rattle.finite_maps.proofs.Gets.{get-insert_same, get-remove_same}
 use Rattle.finite_maps.proofs.Sorted.{behind}
-use Rattle.vat_machine.specs.declared.node.Node.{Node}
-use Rattle.vat_machine.specs.declared.calls.Request.{Request}
-use Rattle.vat_machine.specs.declared.calls.Value.{Value}
-use Rattle.vat_machine.specs.declared.calls.Caller.{Caller}
-use Rattle.vat_machine.specs.declared.calls.Caller.TheVariants as caller
-use Rattle.vat_machine.specs.declared.calls.KeptOutcome.{KeptOutcome}
-use Rattle.vat_machine.specs.declared.command.Granted.{Granted}
-use Rattle.vat_machine.specs.declared.entries.Role.{Role}
-use Rattle.vat_machine.specs.declared.entries.Finishing.{Finishing}
-use Rattle.vat_machine.specs.declared.entries.Finishing.TheVariants as finishing
-use Rattle.vat_machine.specs.declared.entries.Returned.{Returned}
-use Rattle.vat_machine.specs.declared.entries.Question.{Question}
-use Rattle.vat_machine.specs.declared.entries.AnswerEntry.{AnswerEntry}
-use Rattle.vat_machine.specs.State.{State}
-use Rattle.vat_machine.specs.Nodes.{is_import}
-use Rattle.vat_machine.specs.Progress.{Progress, with_state, send, export_id, export_ids, numbers}
-use Rattle.vat_machine.specs.Flags.{flag_for, give_back, give_if, give_one, give_each}
-use Rattle.vat_machine.specs.Commands.{AsksBootstrap}
-use Rattle.vat_machine.specs.declared.entries.Role.TheVariants as role
-use Rattle.vat_machine.specs.declared.calls.OwnCall.TheVariants as own
-use Rattle.vat_machine.specs.Routing.{Asks}
-use Rattle.vat_machine.specs.Collecting.{Goes, PromiseGoes, OutcomeGoes, ImportGoes, Collects, Tight, Loose, IsLooseImport, release, without_import}
-use Rattle.vat_machine.specs.Settling.{known, Fits, TellsPeer, Returns, Tells, returned_map, returned, ResolvesBy}
-use Rattle.vat_machine.specs.Sweeping.{closed_map, closed, got_of, finished_by, release_each, releases}
-use Rattle.vat_machine.specs.Limits.{import_count}
-use Rattle.vat_machine.specs.Lists.{how_many}
-use Rattle.vat_machine.specs.UnderWay.{if_true}
-use Rattle.vat_machine.specs.Places.{named_by_question, named_by_returned, named_by_answer, named_by_taken, places, names}
-use Rattle.vat_machine.specs.declared.entries.Import.{Import}
+use Rattle.rpc_machine.specs.declared.node.Node.{Node}
+use Rattle.rpc_machine.specs.declared.calls.Request.{Request}
+use Rattle.rpc_machine.specs.declared.calls.Value.{Value}
+use Rattle.rpc_machine.specs.declared.calls.Caller.{Caller}
+use Rattle.rpc_machine.specs.declared.calls.Caller.TheVariants as caller
+use Rattle.rpc_machine.specs.declared.calls.KeptOutcome.{KeptOutcome}
+use Rattle.rpc_machine.specs.declared.command.Granted.{Granted}
+use Rattle.rpc_machine.specs.declared.entries.Role.{Role}
+use Rattle.rpc_machine.specs.declared.entries.Finishing.{Finishing}
+use Rattle.rpc_machine.specs.declared.entries.Finishing.TheVariants as finishing
+use Rattle.rpc_machine.specs.declared.entries.Returned.{Returned}
+use Rattle.rpc_machine.specs.declared.entries.Question.{Question}
+use Rattle.rpc_machine.specs.declared.entries.AnswerEntry.{AnswerEntry}
+use Rattle.rpc_machine.specs.State.{State}
+use Rattle.rpc_machine.specs.Nodes.{is_import}
+use Rattle.rpc_machine.specs.Progress.{Progress, with_state, send, export_id, export_ids, numbers}
+use Rattle.rpc_machine.specs.Flags.{flag_for, give_back, give_if, give_one, give_each}
+use Rattle.rpc_machine.specs.Commands.{AsksBootstrap}
+use Rattle.rpc_machine.specs.declared.entries.Role.TheVariants as role
+use Rattle.rpc_machine.specs.declared.calls.OwnCall.TheVariants as own
+use Rattle.rpc_machine.specs.Routing.{Asks}
+use Rattle.rpc_machine.specs.Collecting.{Goes, PromiseGoes, OutcomeGoes, ImportGoes, Collects, Tight, Loose, IsLooseImport, release, without_import}
+use Rattle.rpc_machine.specs.Settling.{known, Fits, TellsPeer, Returns, Tells, returned_map, returned, ResolvesBy}
+use Rattle.rpc_machine.specs.Sweeping.{closed_map, closed, got_of, finished_by, release_each, releases}
+use Rattle.rpc_machine.specs.Limits.{import_count}
+use Rattle.rpc_machine.specs.Lists.{how_many}
+use Rattle.rpc_machine.specs.UnderWay.{if_true}
+use Rattle.rpc_machine.specs.Places.{named_by_question, named_by_returned, named_by_answer, named_by_taken, places, names}
+use Rattle.rpc_machine.specs.declared.entries.Import.{Import}
 use Rattle.laws_steps.specs.Callers.{IsOpenFor, AnswersWith}
 use Rattle.laws_steps.proofs.Among.{none_among, none_counted, in_questions, in_answers, named}
 use Rattle.laws_steps.proofs.GivenBack.{of_taken, given_elsewhere}

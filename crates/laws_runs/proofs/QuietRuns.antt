@@ -6,30 +6,30 @@ use Rattle.rpc_msg.specs.declared.ids.ObjectId.{ObjectId}
 use Rattle.rpc_msg.specs.declared.message.Message.{Message}
 use Rattle.rpc_msg.specs.declared.message.Message.TheVariants as message
 use Rattle.rpc_msg.specs.declared.message.PlainMessage.TheVariants as plain
-use Rattle.vat_journal.specs.declared.entry.JournalEntry.{JournalEntry}
-use Rattle.vat_journal.specs.declared.entry.JournalEntry.TheVariants as entry
-use Rattle.vat_journal.specs.History.{same_vat, if_so}
-use Rattle.vat_machine.specs.declared.command.Command.{Command}
-use Rattle.vat_machine.specs.declared.command.Command.TheVariants as command
-use Rattle.vat_machine.specs.declared.command.Granted.{Granted}
-use Rattle.vat_machine.specs.declared.command.Granted.TheVariants as granted
-use Rattle.vat_machine.specs.declared.command.Refusal.{Refusal}
-use Rattle.vat_machine.specs.declared.command.Refusal.TheVariants as refusal
-use Rattle.vat_machine.specs.declared.command.Effects.{Effects}
-use Rattle.vat_machine.specs.declared.event.Event.{Event}
-use Rattle.vat_machine.specs.declared.event.Event.TheVariants as event
-use Rattle.vat_machine.specs.Numbers.{want_of_room}
-use Rattle.vat_machine.specs.State.{State}
-use Rattle.vat_machine.specs.Down.{falling_by, IsUnchanged, Falls, ShutsFrom}
-use Rattle.vat_machine.specs.Steps.{MayLackMemory, Obeys, Refuses, LacksMemory, GoesDown, Shuts, IsDone, Receives, WasDown, FaultsBy, LacksRoom, IsHandled}
-use Rattle.vat_machine.specs.Lists.{earliest}
-use Rattle.vat_machine.specs.Refusals.{refusals, is_shut, without_room, refused}
-use Rattle.vat_machine.specs.World.{World, StepAnswer, Answered, Handled, Empty, Happening, core, inbox, put_inbox, after, overflow_effects, overflown, Tells, CommandTold, MessageTold, CommandsUp, CommandsDown, CommandsAt, ReceivesUp, ReceivesAt, HappensBy, Run, new_world}
-use Rattle.vat_machine.specs.Journal.{effect_entries, refused_entries, granted_entries, own_entries, command_entries, deliver_entries, event_entries, journal_from, journal}
-use Rattle.vat_machine.specs.Progress.{begin}
-use Rattle.vat_machine.specs.Claims.{IsQuietWhenDown, EveryRun}
+use Rattle.rpc_journal.specs.declared.entry.JournalEntry.{JournalEntry}
+use Rattle.rpc_journal.specs.declared.entry.JournalEntry.TheVariants as entry
+use Rattle.rpc_journal.specs.History.{same_vat, if_so}
+use Rattle.rpc_machine.specs.declared.command.Command.{Command}
+use Rattle.rpc_machine.specs.declared.command.Command.TheVariants as command
+use Rattle.rpc_machine.specs.declared.command.Granted.{Granted}
+use Rattle.rpc_machine.specs.declared.command.Granted.TheVariants as granted
+use Rattle.rpc_machine.specs.declared.command.Refusal.{Refusal}
+use Rattle.rpc_machine.specs.declared.command.Refusal.TheVariants as refusal
+use Rattle.rpc_machine.specs.declared.command.Effects.{Effects}
+use Rattle.rpc_machine.specs.declared.event.Event.{Event}
+use Rattle.rpc_machine.specs.declared.event.Event.TheVariants as event
+use Rattle.rpc_machine.specs.Numbers.{want_of_room}
+use Rattle.rpc_machine.specs.State.{State}
+use Rattle.rpc_machine.specs.Down.{falling_by, IsUnchanged, Falls, ShutsFrom}
+use Rattle.rpc_machine.specs.Steps.{MayLackMemory, Obeys, Refuses, LacksMemory, GoesDown, Shuts, IsDone, Receives, WasDown, FaultsBy, LacksRoom, IsHandled}
+use Rattle.rpc_machine.specs.Lists.{earliest}
+use Rattle.rpc_machine.specs.Refusals.{refusals, is_shut, without_room, refused}
+use Rattle.rpc_machine.specs.World.{World, StepAnswer, Answered, Handled, Empty, Happening, core, inbox, put_inbox, after, overflow_effects, overflown, Tells, CommandTold, MessageTold, CommandsUp, CommandsDown, CommandsAt, ReceivesUp, ReceivesAt, HappensBy, Run, new_world}
+use Rattle.rpc_machine.specs.Journal.{effect_entries, refused_entries, granted_entries, own_entries, command_entries, deliver_entries, event_entries, journal_from, journal}
+use Rattle.rpc_machine.specs.Progress.{begin}
+use Rattle.rpc_machine.specs.Claims.{IsQuietWhenDown, EveryRun}
 use Rattle.laws_steps.proofs.UsedOnce.{command_leaves_up, message_leaves_up}
-use Rattle.vat_machine.proofs.StaysDown.{command_down, acts_no_shut, falls_no_shut, not_open}
+use Rattle.rpc_machine.proofs.StaysDown.{command_down, acts_no_shut, falls_no_shut, not_open}
 use Rattle.laws_runs.proofs.Reading.{same_is}
 use Rattle.laws_runs.proofs.QuietEntries as quiet
 use Rattle.laws_runs.proofs.QuietEntries.{Quiet, Steady, quiet-append, after-append, effects_quiet, effects_after, own_steady, if_room_steady, quiet_when_down}

@@ -4,18 +4,18 @@ use Rattle.std.specs.List.{list_any}
 use Rattle.rpc_msg.specs.declared.ids.Vat.{Vat}
 use Rattle.rpc_msg.specs.declared.ids.Vat.TheVariants.{A, B}
 use Rattle.rpc_msg.specs.declared.ids.Stamp.{Stamp}
-use Rattle.vat_journal.specs.declared.entry.JournalEntry.{JournalEntry}
-use Rattle.vat_journal.specs.declared.entry.JournalEntry.TheVariants as entry
-use Rattle.vat_journal.specs.History.{Ref, DeliveredAt, or_rest, first_that, in_front, all_that, made_stamp, made, made_one, made_with, delivery_one, delivered_one, stamps, delivered, reply_one, reply_to, answer_of}
-use Rattle.vat_journal.specs.Sources.{asking_one, asking, source_one, source, fate_one, fate}
-use Rattle.vat_journal.specs.Meaning.{History, Meaning, ObjectAt, Broken, root, within, StandsFor}
-use Rattle.vat_machine.specs.declared.command.CallCommand.{CallCommand}
-use Rattle.vat_machine.specs.declared.command.Command.{Command}
-use Rattle.vat_machine.specs.declared.command.Command.TheVariants as command
-use Rattle.vat_machine.specs.declared.command.Granted.{Granted}
-use Rattle.vat_machine.specs.declared.command.Granted.TheVariants as granted
-use Rattle.vat_machine.specs.Journal.{made_entries, granted_entries}
-use Rattle.vat_machine.specs.Claims.{is_end_of}
+use Rattle.rpc_journal.specs.declared.entry.JournalEntry.{JournalEntry}
+use Rattle.rpc_journal.specs.declared.entry.JournalEntry.TheVariants as entry
+use Rattle.rpc_journal.specs.History.{Ref, DeliveredAt, or_rest, first_that, in_front, all_that, made_stamp, made, made_one, made_with, delivery_one, delivered_one, stamps, delivered, reply_one, reply_to, answer_of}
+use Rattle.rpc_journal.specs.Sources.{asking_one, asking, source_one, source, fate_one, fate}
+use Rattle.rpc_journal.specs.Meaning.{History, Meaning, ObjectAt, Broken, root, within, StandsFor}
+use Rattle.rpc_machine.specs.declared.command.CallCommand.{CallCommand}
+use Rattle.rpc_machine.specs.declared.command.Command.{Command}
+use Rattle.rpc_machine.specs.declared.command.Command.TheVariants as command
+use Rattle.rpc_machine.specs.declared.command.Granted.{Granted}
+use Rattle.rpc_machine.specs.declared.command.Granted.TheVariants as granted
+use Rattle.rpc_machine.specs.Journal.{made_entries, granted_entries}
+use Rattle.rpc_machine.specs.Claims.{is_end_of}
 use Rattle.laws_runs.specs.Telling.{tells, telling}
 use Rattle.laws_runs.proofs.Extends.{Extends}
 use Rattle.laws_runs.proofs.Grows.{Grows, grows}

@@ -5,17 +5,17 @@ use Rattle.rpc_msg.specs.declared.ids.Vat.TheVariants.{A, B}
 use Rattle.rpc_msg.specs.declared.message.Message.{Message}
 use Rattle.rpc_msg.specs.Vats.{other_vat}
 use Rattle.rpc_msg.specs.declared.ids.ObjectId.{ObjectId}
-use Rattle.vat_journal.specs.Meaning.{History}
-use Rattle.vat_machine.specs.declared.command.Command.{Command}
-use Rattle.vat_machine.specs.declared.command.Level.TheVariants.{One}
-use Rattle.vat_machine.specs.declared.event.Event.TheVariants as event
-use Rattle.vat_machine.specs.State.{State, start}
-use Rattle.vat_machine.specs.World.{World, core, inbox, put_core, put_inbox, after, StepAnswer, Answered, Handled, Empty, Happening, CommandsAt, ReceivesAt, ReceivesUp, HappensBy}
-use Rattle.vat_machine.specs.Journal.{journal}
-use Rattle.vat_machine.specs.Claims.{EveryRun, IsSound, history}
-use Rattle.log_weave.specs.Machine as weave
-use Rattle.log_weave.specs.Machine.{Input, Shut, Receive, Takes}
-use Rattle.log_weave.proofs.Theorem as theorem
+use Rattle.rpc_journal.specs.Meaning.{History}
+use Rattle.rpc_machine.specs.declared.command.Command.{Command}
+use Rattle.rpc_machine.specs.declared.command.Level.TheVariants.{One}
+use Rattle.rpc_machine.specs.declared.event.Event.TheVariants as event
+use Rattle.rpc_machine.specs.State.{State, start}
+use Rattle.rpc_machine.specs.World.{World, core, inbox, put_core, put_inbox, after, StepAnswer, Answered, Handled, Empty, Happening, CommandsAt, ReceivesAt, ReceivesUp, HappensBy}
+use Rattle.rpc_machine.specs.Journal.{journal}
+use Rattle.rpc_machine.specs.Claims.{EveryRun, IsSound, history}
+use Rattle.laws_merge.specs.Machine as weave
+use Rattle.laws_merge.specs.Machine.{Input, Shut, Receive, Takes}
+use Rattle.laws_merge.proofs.Theorem as theorem
 use Rattle.laws_runs.specs.Sides.{Note, CommandBy, MessageBy, StepBy, vat_side, Log, event_by, happened, as_world, woven}
 use Rattle.laws_runs.specs.Woven.{RunsAreRuns, Logs, end_of, LogsAreRuns, LogsAreSound}
 

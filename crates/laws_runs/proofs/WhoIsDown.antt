@@ -1,19 +1,19 @@
 -- Which vats are down through a run: as the journal says, and those that a shut took down.
 use Rattle.std.proofs.Common.{◌≡◌, ℕ, Bool, true, false, ◌&&◌, ◌||◌, List, [], ◌∷◌, ◌++◌, Option, None, Some, is_some, Result, refl, sym, ap, ◌∙◌}
 use Rattle.rpc_msg.specs.declared.ids.Vat.{Vat}
-use Rattle.vat_journal.specs.declared.entry.JournalEntry.{JournalEntry}
-use Rattle.vat_journal.specs.History.{same_vat, or_rest, if_so}
-use Rattle.vat_machine.specs.declared.command.Command.TheVariants as command
-use Rattle.vat_machine.specs.declared.command.Granted.{Granted}
-use Rattle.vat_machine.specs.declared.command.Refusal.{Refusal}
-use Rattle.vat_machine.specs.declared.command.Effects.{Effects}
-use Rattle.vat_machine.specs.declared.event.Event.{Event}
-use Rattle.vat_machine.specs.declared.event.Event.TheVariants as event
-use Rattle.vat_machine.specs.World.{World, core, StepAnswer, Answered, Happening, CommandsAt, HappensBy, Run, shut_with, shut_number}
-use Rattle.vat_machine.specs.Journal.{event_entries}
-use Rattle.vat_machine.specs.Claims.{went_down_in}
+use Rattle.rpc_journal.specs.declared.entry.JournalEntry.{JournalEntry}
+use Rattle.rpc_journal.specs.History.{same_vat, or_rest, if_so}
+use Rattle.rpc_machine.specs.declared.command.Command.TheVariants as command
+use Rattle.rpc_machine.specs.declared.command.Granted.{Granted}
+use Rattle.rpc_machine.specs.declared.command.Refusal.{Refusal}
+use Rattle.rpc_machine.specs.declared.command.Effects.{Effects}
+use Rattle.rpc_machine.specs.declared.event.Event.{Event}
+use Rattle.rpc_machine.specs.declared.event.Event.TheVariants as event
+use Rattle.rpc_machine.specs.World.{World, core, StepAnswer, Answered, Happening, CommandsAt, HappensBy, Run, shut_with, shut_number}
+use Rattle.rpc_machine.specs.Journal.{event_entries}
+use Rattle.rpc_machine.specs.Claims.{went_down_in}
 use Rattle.laws_runs.proofs.QuietRuns.{is_down, acted, commanded_tells, event_fine}
-use Rattle.vat_machine.proofs.StaysDown.{command_down}
+use Rattle.rpc_machine.proofs.StaysDown.{command_down}
 use Rattle.laws_runs.proofs.QuietEntries as quiet
 use Rattle.laws_runs.proofs.Reading.{same_is}
 use Rattle.laws_runs.proofs.FallEntries.{after_is, went-append}

@@ -3,14 +3,14 @@ use Rattle.std.proofs.Common.{◌≡◌, false, List, [], Option, refl, sym, sub
 use Rattle.rpc_msg.specs.declared.ids.Vat.TheVariants.{A, B}
 use Rattle.rpc_msg.specs.declared.ids.ObjectId.{ObjectId}
 use Rattle.rpc_msg.specs.declared.ids.Stamp.{Stamp}
-use Rattle.vat_journal.specs.declared.entry.JournalEntry.{JournalEntry}
-use Rattle.vat_journal.specs.History.{made, delivered}
-use Rattle.vat_journal.specs.Meaning.{ObjectAt}
-use Rattle.vat_machine.specs.World.{World, Happening, Run, new_world, shut_number}
-use Rattle.vat_machine.specs.Journal.{journal}
-use Rattle.vat_machine.specs.Claims.{IsInOrder, IsBeginning, IsInFull, CountsAgree, BothUp, IsInTime, IsSound, history}
+use Rattle.rpc_journal.specs.declared.entry.JournalEntry.{JournalEntry}
+use Rattle.rpc_journal.specs.History.{made, delivered}
+use Rattle.rpc_journal.specs.Meaning.{ObjectAt}
+use Rattle.rpc_machine.specs.World.{World, Happening, Run, new_world, shut_number}
+use Rattle.rpc_machine.specs.Journal.{journal}
+use Rattle.rpc_machine.specs.Claims.{IsInOrder, IsBeginning, IsInFull, CountsAgree, BothUp, IsInTime, IsSound, history}
 use Rattle.laws_runs.proofs.QuietRuns.{every_run_is_quiet}
-use Rattle.vat_machine.proofs.Idle.{idle_is_none_pending}
+use Rattle.rpc_machine.proofs.Idle.{idle_is_none_pending}
 use Rattle.laws_runs.specs.Telling.{telling}
 use Rattle.laws_runs.specs.Scenes.{Scene, Shows}
 use Rattle.laws_runs.proofs.Lasting.{means_one}

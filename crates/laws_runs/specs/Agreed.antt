@@ -8,15 +8,15 @@ use Rattle.rpc_msg.specs.declared.message.PlainMessage.{PlainMessage}
 use Rattle.rpc_msg.specs.declared.message.PlainMessage.TheVariants as plain
 use Rattle.rpc_msg.specs.declared.message.Message.{Message}
 use Rattle.rpc_msg.specs.declared.message.Message.TheVariants as message
-use Rattle.vat_machine.specs.declared.entries.Question.{Question}
-use Rattle.vat_machine.specs.State.{State}
-use Rattle.vat_machine.specs.Progress.{numbers}
-use Rattle.vat_machine.specs.Faults.{flag_fault, fault_of}
-use Rattle.vat_machine.specs.Limits.{import_count, export_count}
-use Rattle.vat_machine.specs.Laws.{given_out}
-use Rattle.vat_machine.specs.Descriptors.{giving}
-use Rattle.vat_machine.specs.UnderWay.{under_way}
-use Rattle.vat_machine.specs.World.{World, new_world, core, inbox}
+use Rattle.rpc_machine.specs.declared.entries.Question.{Question}
+use Rattle.rpc_machine.specs.State.{State}
+use Rattle.rpc_machine.specs.Progress.{numbers}
+use Rattle.rpc_machine.specs.Faults.{flag_fault, fault_of}
+use Rattle.rpc_machine.specs.Limits.{import_count, export_count}
+use Rattle.rpc_machine.specs.Laws.{given_out}
+use Rattle.rpc_machine.specs.Descriptors.{giving}
+use Rattle.rpc_machine.specs.UnderWay.{under_way}
+use Rattle.rpc_machine.specs.World.{World, new_world, core, inbox}
 use Rattle.laws_acts.specs.Sent.{Noted, messages}
 use Rattle.laws_runs.specs.Between.{Steady}
 use Rattle.laws_runs.specs.Worlds.{Stand}

@@ -6,16 +6,16 @@ use Rattle.rpc_msg.specs.declared.message.PlainMessage.{PlainMessage}
 use Rattle.rpc_msg.specs.declared.message.PlainMessage.TheVariants as plain
 use Rattle.rpc_msg.specs.Messages.{given, descriptors_of_plain}
 use Rattle.finite_maps.specs.Tally.{tally, worth}
-use Rattle.vat_machine.specs.declared.entries.Question.{Question}
-use Rattle.vat_machine.specs.declared.entries.AnswerEntry.{AnswerEntry}
-use Rattle.vat_machine.specs.State.{State}
-use Rattle.vat_machine.specs.Limits.{import_count}
-use Rattle.vat_machine.specs.Lists.{how_many}
-use Rattle.vat_machine.specs.Progress.{Progress, with_state, numbers}
-use Rattle.vat_machine.specs.Sweeping.{got_of}
-use Rattle.vat_machine.specs.UnderWay.{if_true}
-use Rattle.vat_machine.specs.Nodes.{is_import}
-use Rattle.vat_machine.specs.Places.{named_by_returned}
+use Rattle.rpc_machine.specs.declared.entries.Question.{Question}
+use Rattle.rpc_machine.specs.declared.entries.AnswerEntry.{AnswerEntry}
+use Rattle.rpc_machine.specs.State.{State}
+use Rattle.rpc_machine.specs.Limits.{import_count}
+use Rattle.rpc_machine.specs.Lists.{how_many}
+use Rattle.rpc_machine.specs.Progress.{Progress, with_state, numbers}
+use Rattle.rpc_machine.specs.Sweeping.{got_of}
+use Rattle.rpc_machine.specs.UnderWay.{if_true}
+use Rattle.rpc_machine.specs.Nodes.{is_import}
+use Rattle.rpc_machine.specs.Places.{named_by_returned}
 use Rattle.laws_acts.specs.Acts.{Acts, Consumes}
 use Rattle.laws_acts.specs.Sent.{Ids, Noted, all_sent, sent_at_once}
 use Rattle.laws_runs.specs.Views.{IsUseful, IsReady}

@@ -12,7 +12,7 @@
 -- - `SoundScenes`: what is left to show of scenes, and that all that is promised of runs follows. Proofs: `Lifting`: claims
 --   of entries, for histories that tell the same; `FallCauses`, `FallEntries`: why vats go down, and what is written of it;
 --   `WhoIsDown`, `FallsInRuns`: over a run; `Whole`.
--- - `Sides`, `Woven`: a vat as a side of `log_weave`; two logs are a run. Proofs: `Weaving`.
+-- - `Sides`, `Woven`: a vat as a side of `laws_merge`; two logs are a run. Proofs: `Weaving`.
 --
 -- Sessions of ids, and counts:
 -- - `Questions`: the session of a question id: what asker and answerer may do, the thirteen ways in which it stands, and

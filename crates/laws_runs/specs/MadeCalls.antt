@@ -4,15 +4,15 @@ use Rattle.std.specs.Prelude.{◌≡◌, ℕ, Option, None, Some, List, length}
 use Rattle.std.specs.FinMap as map
 use Rattle.rpc_msg.specs.declared.ids.Vat.{Vat}
 use Rattle.rpc_msg.specs.declared.ids.ObjectId.{ObjectId}
-use Rattle.vat_journal.specs.declared.entry.JournalEntry.{JournalEntry}
-use Rattle.vat_journal.specs.History.{made}
-use Rattle.vat_machine.specs.declared.command.CallCommand.{CallCommand}
-use Rattle.vat_machine.specs.declared.entries.Reference.{Reference}
-use Rattle.vat_machine.specs.State.{State}
-use Rattle.vat_machine.specs.Commands.{request}
-use Rattle.vat_machine.specs.World.{Happening, core}
-use Rattle.vat_machine.specs.Journal.{index_in, journal}
-use Rattle.vat_machine.specs.Claims.{AreNumbered, EveryRun}
+use Rattle.rpc_journal.specs.declared.entry.JournalEntry.{JournalEntry}
+use Rattle.rpc_journal.specs.History.{made}
+use Rattle.rpc_machine.specs.declared.command.CallCommand.{CallCommand}
+use Rattle.rpc_machine.specs.declared.entries.Reference.{Reference}
+use Rattle.rpc_machine.specs.State.{State}
+use Rattle.rpc_machine.specs.Commands.{request}
+use Rattle.rpc_machine.specs.World.{Happening, core}
+use Rattle.rpc_machine.specs.Journal.{index_in, journal}
+use Rattle.rpc_machine.specs.Claims.{AreNumbered, EveryRun}
 use Rattle.laws_runs.specs.Scenes.{Scene, IsScene}
 
 -- Whatever happened.

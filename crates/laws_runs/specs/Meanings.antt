@@ -1,9 +1,9 @@
 -- What a reference stands for it goes on to stand for, and it stands for nothing else (docs/history.md, "Meanings last").
 use Rattle.std.specs.Prelude.{List, ◌++◌}
-use Rattle.vat_journal.specs.declared.entry.JournalEntry.{JournalEntry}
-use Rattle.vat_journal.specs.History.{Ref}
-use Rattle.vat_journal.specs.Meaning.{History, Meaning, StandsFor}
-use Rattle.vat_machine.specs.Claims.{IsToOne, MeansOne, IsInTime}
+use Rattle.rpc_journal.specs.declared.entry.JournalEntry.{JournalEntry}
+use Rattle.rpc_journal.specs.History.{Ref}
+use Rattle.rpc_journal.specs.Meaning.{History, Meaning, StandsFor}
+use Rattle.rpc_machine.specs.Claims.{IsToOne, MeansOne, IsInTime}
 
 -- The history with these entries behind its own.
 abbrev pub with_more : History → List JournalEntry → History

@@ -5,8 +5,8 @@ use Rattle.rpc_msg.specs.declared.ids.ObjectId.{ObjectId}
 use Rattle.rpc_msg.specs.declared.message.PlainMessage.{PlainMessage}
 use Rattle.rpc_msg.specs.declared.message.Message.{Message}
 use Rattle.rpc_msg.specs.declared.message.Message.TheVariants as message
-use Rattle.vat_machine.specs.World.{World, new_world, core, inbox}
-use Rattle.vat_machine.specs.Claims.{CountsAgree, EveryRun}
+use Rattle.rpc_machine.specs.World.{World, new_world, core, inbox}
+use Rattle.rpc_machine.specs.Claims.{CountsAgree, EveryRun}
 use Rattle.laws_runs.specs.Scenes.{Scene, IsScene}
 use Rattle.laws_runs.specs.Between.{Steady, HoldsIn}
 use Rattle.laws_runs.specs.Worlds.{Stand}

@@ -1,10 +1,10 @@
 -- Each run is shown by a scene (docs/protocol.md, "Scenes"), and each scene shows a run.
 use Rattle.std.specs.Prelude.{◌≡◌, Option, List}
 use Rattle.rpc_msg.specs.declared.ids.ObjectId.{ObjectId}
-use Rattle.vat_journal.specs.declared.entry.JournalEntry.{JournalEntry}
-use Rattle.vat_machine.specs.World.{World, Happening, Run, new_world}
-use Rattle.vat_machine.specs.Journal.{journal}
-use Rattle.vat_machine.specs.Claims.{BothUp}
+use Rattle.rpc_journal.specs.declared.entry.JournalEntry.{JournalEntry}
+use Rattle.rpc_machine.specs.World.{World, Happening, Run, new_world}
+use Rattle.rpc_machine.specs.Journal.{journal}
+use Rattle.rpc_machine.specs.Claims.{BothUp}
 use Rattle.laws_runs.specs.Scenes.{Scene, IsScene, Shows}
 
 -- Every run is shown by a scene to which two new vats come.

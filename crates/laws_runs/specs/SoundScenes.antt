@@ -4,11 +4,11 @@ use Rattle.std.specs.Prelude.{◌≡◌, ℕ, false, Option, None, Some, List, �
 use Rattle.rpc_msg.specs.declared.ids.Vat.{Vat}
 use Rattle.rpc_msg.specs.declared.ids.ObjectId.{ObjectId}
 use Rattle.rpc_msg.specs.declared.message.Message.{Message}
-use Rattle.vat_journal.specs.Meaning.{History}
-use Rattle.vat_machine.specs.Numbers.{held_past_limit}
-use Rattle.vat_machine.specs.Faults.{fault_of}
-use Rattle.vat_machine.specs.World.{core, inbox}
-use Rattle.vat_machine.specs.Claims.{IsInOrder, IsInFull, CountsAgree, IsInTime, EndsAreSo, EveryRunIsSound, history}
+use Rattle.rpc_journal.specs.Meaning.{History}
+use Rattle.rpc_machine.specs.Numbers.{held_past_limit}
+use Rattle.rpc_machine.specs.Faults.{fault_of}
+use Rattle.rpc_machine.specs.World.{core, inbox}
+use Rattle.rpc_machine.specs.Claims.{IsInOrder, IsInFull, CountsAgree, IsInTime, EndsAreSo, EveryRunIsSound, history}
 use Rattle.laws_runs.specs.Scenes.{Scene, is_over, IsScene}
 
 -- A message may be refused because it would have to wait where no more may.

@@ -2,8 +2,8 @@
 use Rattle.std.specs.Prelude.{ℕ, List}
 use Rattle.std.specs.FinMap as map
 use Rattle.rpc_msg.specs.declared.message.PlainMessage.{PlainMessage}
-use Rattle.vat_machine.specs.State.{State}
-use Rattle.vat_machine.specs.Progress.{Progress}
+use Rattle.rpc_machine.specs.State.{State}
+use Rattle.rpc_machine.specs.Progress.{Progress}
 use Rattle.laws_acts.specs.Acts.{Acts, Consumes}
 use Rattle.laws_acts.specs.Sent.{Noted, all_sent, sent_at_once}
 use Rattle.laws_runs.specs.Questions.{Row}

@@ -2,13 +2,13 @@
 use Rattle.std.specs.Prelude.{List, map, Option}
 use Rattle.rpc_msg.specs.declared.ids.Vat.TheVariants.{A, B}
 use Rattle.rpc_msg.specs.declared.ids.ObjectId.{ObjectId}
-use Rattle.vat_machine.specs.declared.command.Level.TheVariants.{One}
-use Rattle.vat_machine.specs.State.{State, start}
-use Rattle.vat_machine.specs.World.{World, Run, new_world}
-use Rattle.vat_machine.specs.Journal.{journal}
-use Rattle.vat_machine.specs.Claims.{IsSound, EveryRunIsSound, history}
-use Rattle.log_weave.specs.Machine as weave
-use Rattle.log_weave.specs.Logs.{messages, Lawful, Fit}
+use Rattle.rpc_machine.specs.declared.command.Level.TheVariants.{One}
+use Rattle.rpc_machine.specs.State.{State, start}
+use Rattle.rpc_machine.specs.World.{World, Run, new_world}
+use Rattle.rpc_machine.specs.Journal.{journal}
+use Rattle.rpc_machine.specs.Claims.{IsSound, EveryRunIsSound, history}
+use Rattle.laws_merge.specs.Machine as weave
+use Rattle.laws_merge.specs.Logs.{messages, Lawful, Fit}
 use Rattle.laws_runs.specs.Sides.{vat_side, Log, happened, as_world, woven}
 
 -- A run of the pair machine is a run of two vats.

@@ -9,7 +9,7 @@ ghost use Rattle.laws_runs.specs.SceneSessions.{CountsOfScenes, CountsOfRuns};
 use crate::{every_run_is_shown, sessions_stand};
 use laws_acts::steps_are_acts;
 use laws_steps::nodes_are_there;
-use vat_machine::sends_raise_counts;
+use rpc_machine::sends_raise_counts;
 
 /// The count of an import rises by the descriptors of a message that a vat takes, and falls by what its messages let go:
 /// a vat lets go of no more than it holds, and tells of all of it.

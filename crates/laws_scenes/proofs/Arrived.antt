@@ -6,21 +6,21 @@ use Rattle.rpc_msg.specs.declared.ids.ObjectId.{ObjectId}
 use Rattle.rpc_msg.specs.declared.ids.Stamp.{Stamp}
 use Rattle.rpc_msg.specs.declared.ids.Vat.{Vat}
 use Rattle.rpc_msg.specs.declared.ids.Vat.TheVariants.{A, B}
-use Rattle.vat_journal.specs.declared.entry.JournalEntry.{JournalEntry}
-use Rattle.vat_journal.specs.History.{DeliveredAt, Ref, delivered, made, stamps}
-use Rattle.vat_machine.specs.Journal.{journal}
-use Rattle.vat_machine.specs.Pending.{pending}
-use Rattle.vat_machine.specs.World.{World, core}
-use Rattle.vat_machine.specs.declared.entries.Reference.{Reference}
-use Rattle.vat_machine.specs.declared.node.Node.{Node}
-use Rattle.vat_machine.specs.declared.node.Node.TheVariants as node
-use Rattle.vat_machine.specs.Nodes.{settle}
-use Rattle.vat_machine.specs.State.{State}
+use Rattle.rpc_journal.specs.declared.entry.JournalEntry.{JournalEntry}
+use Rattle.rpc_journal.specs.History.{DeliveredAt, Ref, delivered, made, stamps}
+use Rattle.rpc_machine.specs.Journal.{journal}
+use Rattle.rpc_machine.specs.Pending.{pending}
+use Rattle.rpc_machine.specs.World.{World, core}
+use Rattle.rpc_machine.specs.declared.entries.Reference.{Reference}
+use Rattle.rpc_machine.specs.declared.node.Node.{Node}
+use Rattle.rpc_machine.specs.declared.node.Node.TheVariants as node
+use Rattle.rpc_machine.specs.Nodes.{settle}
+use Rattle.rpc_machine.specs.State.{State}
 use Rattle.laws_steps.specs.Settled.{IsThere}
-use Rattle.call_order.specs.Machine as routing
-use Rattle.call_order.specs.Order.{EndsAt, GoodRoute, InOrder, NonePending, below, indexes}
-use Rattle.call_order.specs.Routes.{IsEnd}
-use Rattle.call_order.proofs.Claims.{gives_order}
+use Rattle.laws_order.specs.Machine as routing
+use Rattle.laws_order.specs.Order.{EndsAt, GoodRoute, InOrder, NonePending, below, indexes}
+use Rattle.laws_order.specs.Routes.{IsEnd}
+use Rattle.laws_order.proofs.Claims.{gives_order}
 use Rattle.laws_runs.specs.MadeCalls.{CallsAreNumbered}
 use Rattle.laws_runs.specs.Scenes.{Scene, IsScene}
 use Rattle.laws_runs.specs.Shown.{EveryRunIsShown, EverySceneShowsARun, ShowsBothUp}
@@ -34,7 +34,7 @@ use Rattle.laws_routes.specs.Premises.{LinksRest}
 use Rattle.laws_routes.specs.Sides.{EndsAs, HasHead, IsRef, Side}
 use Rattle.laws_routes.proofs.CallsRouted.{law}
 use Rattle.laws_routes.proofs.WhereNodesEnd.{ends}
-use Rattle.vat_machine.proofs.Settles.{settles_here}
+use Rattle.rpc_machine.proofs.Settles.{settles_here}
 use Rattle.laws_routes.specs.Ties.{deliveries_of, delivery_of}
 use Rattle.laws_scenes.specs.InFull.{IsOwnEnd, OwnScenesArriveInFull, RunsArriveInFull, ScenesArriveInFull}
 use Rattle.laws_scenes.specs.Walked.{ScenesAreBetweenSteps, all_told}

@@ -15,25 +15,25 @@ use Rattle.rpc_msg.specs.declared.message.Message.{Message}
 use Rattle.rpc_msg.specs.declared.message.Message.TheVariants as message
 use Rattle.rpc_msg.specs.declared.message.PlainMessage.TheVariants as plain
 use Rattle.rpc_msg.specs.declared.parts.Target.{Target}
-use Rattle.vat_journal.specs.History.{DeliveredAt, Ref, caller, same_ref}
-use Rattle.vat_machine.specs.declared.calls.HeldCall.{HeldCall}
-use Rattle.vat_machine.specs.declared.calls.KeptOutcome.{KeptOutcome}
-use Rattle.vat_machine.specs.declared.calls.Promise.{Promise}
-use Rattle.vat_machine.specs.declared.calls.Promise.TheVariants as promise
-use Rattle.vat_machine.specs.declared.calls.Value.{Value}
-use Rattle.vat_machine.specs.declared.calls.WaitingCall.{WaitingCall}
-use Rattle.vat_machine.specs.declared.entries.Embargo.{Embargo}
-use Rattle.vat_machine.specs.declared.node.Node.TheVariants as node
-use Rattle.vat_machine.specs.declared.node.Reason.TheVariants.{BrokenPromise}
-use Rattle.vat_machine.specs.State.{State}
-use Rattle.vat_machine.specs.Lists.{from_each, of_map}
-use Rattle.vat_machine.specs.Pending.{in_messages, pending, through}
-use Rattle.vat_machine.specs.Queries.{is_through, stamps_at_outcome, stamps_at_promise, stamps_of_calls, stamps_of_held, stamps_under, waiting}
-use Rattle.vat_machine.specs.World.{World}
-use Rattle.call_order.specs.Machine.{Kind}
-use Rattle.call_order.specs.Machine as routing
-use Rattle.call_order.specs.Invariant.{InPlace, InvariantWith, WaitsIn}
-use Rattle.call_order.specs.Order.{IsCall, NoCallOf, NonePending, kept_calls}
+use Rattle.rpc_journal.specs.History.{DeliveredAt, Ref, caller, same_ref}
+use Rattle.rpc_machine.specs.declared.calls.HeldCall.{HeldCall}
+use Rattle.rpc_machine.specs.declared.calls.KeptOutcome.{KeptOutcome}
+use Rattle.rpc_machine.specs.declared.calls.Promise.{Promise}
+use Rattle.rpc_machine.specs.declared.calls.Promise.TheVariants as promise
+use Rattle.rpc_machine.specs.declared.calls.Value.{Value}
+use Rattle.rpc_machine.specs.declared.calls.WaitingCall.{WaitingCall}
+use Rattle.rpc_machine.specs.declared.entries.Embargo.{Embargo}
+use Rattle.rpc_machine.specs.declared.node.Node.TheVariants as node
+use Rattle.rpc_machine.specs.declared.node.Reason.TheVariants.{BrokenPromise}
+use Rattle.rpc_machine.specs.State.{State}
+use Rattle.rpc_machine.specs.Lists.{from_each, of_map}
+use Rattle.rpc_machine.specs.Pending.{in_messages, pending, through}
+use Rattle.rpc_machine.specs.Queries.{is_through, stamps_at_outcome, stamps_at_promise, stamps_of_calls, stamps_of_held, stamps_under, waiting}
+use Rattle.rpc_machine.specs.World.{World}
+use Rattle.laws_order.specs.Machine.{Kind}
+use Rattle.laws_order.specs.Machine as routing
+use Rattle.laws_order.specs.Invariant.{InPlace, InvariantWith, WaitsIn}
+use Rattle.laws_order.specs.Order.{IsCall, NoCallOf, NonePending, kept_calls}
 use Rattle.laws_routes.specs.Points.{AField, APromise, AnObject, Apart, Group, Nowhere, OfOutcome, OfPromise, Point, group_of, routes}
 use Rattle.laws_routes.specs.Ghosts.{Ghost, ref_at}
 use Rattle.laws_routes.specs.Sides.{AllHeld, AllWait, AreCalls, HasEmbargo, HeldFor, IsEmbargoOf, IsOpenOutcome, IsOpenPromise, OutcomeHolds, PromiseWaits, Side}

@@ -2,8 +2,8 @@
 use Rattle.std.proofs.Common.{◌≡◌, List, sym, subst}
 use Rattle.rpc_msg.specs.declared.ids.Vat.TheVariants.{A, B}
 use Rattle.rpc_msg.specs.declared.message.Message.{Message}
-use Rattle.vat_machine.specs.State.{State}
-use Rattle.vat_machine.specs.World.{World}
+use Rattle.rpc_machine.specs.State.{State}
+use Rattle.rpc_machine.specs.World.{World}
 use Rattle.laws_acts.specs.Sent.{Noted, messages}
 use Rattle.laws_runs.specs.Between.{HoldsIn}
 use Rattle.laws_scenes.specs.Meeting.{OfBoth}

@@ -12,13 +12,13 @@ use Rattle.rpc_msg.specs.declared.parts.Descriptor.TheVariants as descriptor
 use Rattle.rpc_msg.specs.declared.parts.Target.{Target}
 use Rattle.rpc_msg.specs.declared.parts.Target.TheVariants.{ImportedCap, PromisedAnswer}
 use Rattle.rpc_msg.specs.Messages.{descriptors_of_plain, given}
-use Rattle.vat_machine.specs.declared.entries.Export.{Export}
-use Rattle.vat_machine.specs.declared.entries.Import.{Import}
-use Rattle.vat_machine.specs.State.{State}
-use Rattle.vat_machine.specs.World.{World}
-use Rattle.vat_machine.specs.Descriptors.{giving}
-use Rattle.vat_machine.specs.Limits.{export_count, import_count}
-use Rattle.vat_machine.specs.Lists.{how_many}
+use Rattle.rpc_machine.specs.declared.entries.Export.{Export}
+use Rattle.rpc_machine.specs.declared.entries.Import.{Import}
+use Rattle.rpc_machine.specs.State.{State}
+use Rattle.rpc_machine.specs.World.{World}
+use Rattle.rpc_machine.specs.Descriptors.{giving}
+use Rattle.rpc_machine.specs.Limits.{export_count, import_count}
+use Rattle.rpc_machine.specs.Lists.{how_many}
 use Rattle.laws_acts.specs.Sent.{Noted, messages}
 use Rattle.laws_runs.specs.Between.{HoldsIn}
 use Rattle.laws_runs.specs.Entries.{ImportCounts}

@@ -11,8 +11,8 @@ use Rattle.rpc_msg.specs.declared.message.DisembargoContext.TheVariants.{SenderL
 use Rattle.rpc_msg.specs.declared.message.Message.{Message}
 use Rattle.rpc_msg.specs.declared.message.Message.TheVariants as message
 use Rattle.rpc_msg.specs.declared.message.PlainMessage.TheVariants as plain
-use Rattle.vat_machine.specs.declared.entries.Embargo.{Embargo}
-use Rattle.vat_machine.specs.World.{World, core, inbox}
+use Rattle.rpc_machine.specs.declared.entries.Embargo.{Embargo}
+use Rattle.rpc_machine.specs.World.{World, core, inbox}
 use Rattle.laws_nodes.specs.Embargoes.{back, here, is_back, is_out, out}
 use Rattle.laws_messages.specs.Loopbacks.{OneIsAbout}
 use Rattle.laws_routes.specs.Premises.{EachLoop, IsLastLoop, LoopOf}

@@ -10,19 +10,19 @@ use Rattle.rpc_msg.specs.declared.message.Message.TheVariants as message
 use Rattle.rpc_msg.specs.declared.message.PlainMessage.{PlainMessage}
 use Rattle.rpc_msg.specs.declared.message.PlainMessage.TheVariants as plain
 use Rattle.rpc_msg.specs.Messages.{descriptors_of, descriptors_of_body}
-use Rattle.vat_machine.specs.declared.entries.AnswerEntry.{AnswerEntry}
-use Rattle.vat_machine.specs.declared.entries.Export.{Export}
-use Rattle.vat_machine.specs.declared.entries.Question.{Question}
-use Rattle.vat_machine.specs.State.{State}
-use Rattle.vat_machine.specs.World.{World}
-use Rattle.vat_machine.specs.Descriptors.{giving, take_all}
-use Rattle.vat_machine.specs.Faults.{gave}
-use Rattle.vat_machine.specs.Flags.{lower_by, lower_each, lowered, obey}
-use Rattle.vat_machine.specs.Laws.{given_out}
-use Rattle.vat_machine.specs.Limits.{export_count}
-use Rattle.vat_machine.specs.Lists.{how_many}
-use Rattle.vat_machine.specs.Progress.{numbers}
-use Rattle.vat_machine.specs.UnderWay.{call_gave, if_true, plain_takes, return_gave}
+use Rattle.rpc_machine.specs.declared.entries.AnswerEntry.{AnswerEntry}
+use Rattle.rpc_machine.specs.declared.entries.Export.{Export}
+use Rattle.rpc_machine.specs.declared.entries.Question.{Question}
+use Rattle.rpc_machine.specs.State.{State}
+use Rattle.rpc_machine.specs.World.{World}
+use Rattle.rpc_machine.specs.Descriptors.{giving, take_all}
+use Rattle.rpc_machine.specs.Faults.{gave}
+use Rattle.rpc_machine.specs.Flags.{lower_by, lower_each, lowered, obey}
+use Rattle.rpc_machine.specs.Laws.{given_out}
+use Rattle.rpc_machine.specs.Limits.{export_count}
+use Rattle.rpc_machine.specs.Lists.{how_many}
+use Rattle.rpc_machine.specs.Progress.{numbers}
+use Rattle.rpc_machine.specs.UnderWay.{call_gave, if_true, plain_takes, return_gave}
 use Rattle.laws_acts.specs.Sent.{Noted, messages}
 use Rattle.laws_runs.specs.Between.{HoldsIn}
 use Rattle.laws_runs.specs.Exports.{Leaves}

@@ -6,16 +6,16 @@ use Rattle.std.proofs.Common.{◌≡◌, ℕ, zero, suc, ◌+◌, Bool, true, fa
 use Rattle.rpc_msg.specs.declared.ids.ObjectId.{ObjectId}
 use Rattle.rpc_msg.specs.declared.ids.Stamp.{Stamp}
 use Rattle.rpc_msg.specs.declared.ids.Vat.TheVariants.{A}
-use Rattle.vat_journal.specs.declared.entry.JournalEntry.{JournalEntry}
-use Rattle.vat_journal.specs.declared.entry.JournalEntry.TheVariants as entry
-use Rattle.vat_journal.specs.History.{DeliveredAt, Ref, caller, deliveries, delivered, delivered_one, if_so, in_front, made, same_ref, stamps}
-use Rattle.vat_machine.specs.declared.command.Level.TheVariants.{One}
-use Rattle.vat_machine.specs.Claims.{AreNumbered, IsBeginning, IsInOrder, IsNumbered}
-use Rattle.vat_machine.specs.Journal.{journal}
-use Rattle.vat_machine.specs.World.{core}
-use Rattle.call_order.specs.Machine.{choose}
-use Rattle.call_order.specs.Machine as routing
-use Rattle.call_order.specs.Order.{AtOne, IsAt, IsBeginningOf, below, indexes}
+use Rattle.rpc_journal.specs.declared.entry.JournalEntry.{JournalEntry}
+use Rattle.rpc_journal.specs.declared.entry.JournalEntry.TheVariants as entry
+use Rattle.rpc_journal.specs.History.{DeliveredAt, Ref, caller, deliveries, delivered, delivered_one, if_so, in_front, made, same_ref, stamps}
+use Rattle.rpc_machine.specs.declared.command.Level.TheVariants.{One}
+use Rattle.rpc_machine.specs.Claims.{AreNumbered, IsBeginning, IsInOrder, IsNumbered}
+use Rattle.rpc_machine.specs.Journal.{journal}
+use Rattle.rpc_machine.specs.World.{core}
+use Rattle.laws_order.specs.Machine.{choose}
+use Rattle.laws_order.specs.Machine as routing
+use Rattle.laws_order.specs.Order.{AtOne, IsAt, IsBeginningOf, below, indexes}
 use Rattle.laws_runs.specs.MadeCalls.{CallsAreNumbered}
 use Rattle.laws_runs.specs.Scenes.{Scene, IsScene}
 use Rattle.laws_runs.specs.Shown.{EveryRunIsShown, EverySceneShowsARun}

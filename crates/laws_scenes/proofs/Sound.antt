@@ -2,8 +2,8 @@
 use Rattle.std.proofs.Common.{◌≡◌, false, List, [], ◌∷◌, Option, refl, sym}
 use Rattle.rpc_msg.specs.declared.ids.ObjectId.{ObjectId}
 use Rattle.rpc_msg.specs.declared.ids.Stamp.{Stamp}
-use Rattle.vat_journal.specs.History.{delivered, made}
-use Rattle.vat_machine.specs.Claims.{IsInFull, history}
+use Rattle.rpc_journal.specs.History.{delivered, made}
+use Rattle.rpc_machine.specs.Claims.{IsInFull, history}
 use Rattle.laws_runs.specs.Scenes.{Scene, IsScene}
 use Rattle.laws_messages.specs.Sound.{Rest, SoundByTheRest}
 use Rattle.laws_scenes.specs.InFull.{ScenesArriveInFull}

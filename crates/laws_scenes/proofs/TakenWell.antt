@@ -11,16 +11,16 @@ use Rattle.rpc_msg.specs.declared.message.Message.TheVariants as message
 use Rattle.rpc_msg.specs.declared.message.PlainMessage.{PlainMessage}
 use Rattle.rpc_msg.specs.declared.message.PlainMessage.TheVariants as plain
 use Rattle.rpc_msg.specs.Messages.{descriptors_of_body}
-use Rattle.vat_machine.specs.declared.entries.AnswerEntry.{AnswerEntry}
-use Rattle.vat_machine.specs.declared.entries.Embargo.{Embargo}
-use Rattle.vat_machine.specs.declared.entries.Question.{Question}
-use Rattle.vat_machine.specs.Descriptors.{take_all}
-use Rattle.vat_machine.specs.Faults.{gave}
-use Rattle.vat_machine.specs.Flags.{obey}
-use Rattle.vat_machine.specs.Nodes.{is_wire}
-use Rattle.vat_machine.specs.Progress.{numbers}
-use Rattle.vat_machine.specs.Sweeping.{IsNotSent}
-use Rattle.vat_machine.specs.World.{World, core, inbox}
+use Rattle.rpc_machine.specs.declared.entries.AnswerEntry.{AnswerEntry}
+use Rattle.rpc_machine.specs.declared.entries.Embargo.{Embargo}
+use Rattle.rpc_machine.specs.declared.entries.Question.{Question}
+use Rattle.rpc_machine.specs.Descriptors.{take_all}
+use Rattle.rpc_machine.specs.Faults.{gave}
+use Rattle.rpc_machine.specs.Flags.{obey}
+use Rattle.rpc_machine.specs.Nodes.{is_wire}
+use Rattle.rpc_machine.specs.Progress.{numbers}
+use Rattle.rpc_machine.specs.Sweeping.{IsNotSent}
+use Rattle.rpc_machine.specs.World.{World, core, inbox}
 use Rattle.laws_messages.specs.Loopbacks.{OneIsAbout}
 use Rattle.laws_routes.specs.Premises.{IsLastLoop, IsOnlyEmbargo}
 use Rattle.laws_routes.specs.QuietLaws.{MayLower}

@@ -3,12 +3,12 @@ use Rattle.std.proofs.Common.{[], Option}
 use Rattle.rpc_msg.specs.declared.ids.ObjectId.{ObjectId}
 use Rattle.rpc_msg.specs.declared.ids.Vat.{Vat}
 use Rattle.rpc_msg.specs.declared.ids.Vat.TheVariants.{A}
-use Rattle.vat_machine.specs.declared.command.Level.TheVariants.{One}
-use Rattle.vat_machine.specs.State.{start}
-use Rattle.vat_machine.specs.World.{core}
-use Rattle.call_order.specs.Machine as routing
-use Rattle.call_order.specs.Invariant.{InvariantWith}
-use Rattle.call_order.proofs.Moves.{moves_keep}
+use Rattle.rpc_machine.specs.declared.command.Level.TheVariants.{One}
+use Rattle.rpc_machine.specs.State.{start}
+use Rattle.rpc_machine.specs.World.{core}
+use Rattle.laws_order.specs.Machine as routing
+use Rattle.laws_order.specs.Invariant.{InvariantWith}
+use Rattle.laws_order.proofs.Moves.{moves_keep}
 use Rattle.laws_runs.specs.Scenes.{Scene}
 use Rattle.laws_routes.specs.ChainLaws.{VatsStayTied}
 use Rattle.laws_routes.specs.PairLaws.{StartIsTied, beginning}

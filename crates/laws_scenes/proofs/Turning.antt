@@ -10,11 +10,11 @@ use Rattle.rpc_msg.specs.declared.message.PlainMessage.TheVariants as plain
 use Rattle.rpc_msg.specs.declared.parts.Target.{Target}
 use Rattle.rpc_msg.specs.declared.parts.Target.TheVariants.{ImportedCap, PromisedAnswer}
 use Rattle.rpc_msg.specs.Vats.{other_vat}
-use Rattle.vat_machine.specs.State.{State}
-use Rattle.vat_machine.specs.Faults.{target_node}
-use Rattle.vat_machine.specs.Nodes.{is_wire, settle}
-use Rattle.vat_machine.specs.Progress.{begin}
-use Rattle.vat_machine.specs.World.{core, inbox}
+use Rattle.rpc_machine.specs.State.{State}
+use Rattle.rpc_machine.specs.Faults.{target_node}
+use Rattle.rpc_machine.specs.Nodes.{is_wire, settle}
+use Rattle.rpc_machine.specs.Progress.{begin}
+use Rattle.rpc_machine.specs.World.{core, inbox}
 use Rattle.laws_messages.specs.Named.{FindsTarget, FindsTargets, NamedAnswersAreThere}
 use Rattle.laws_messages.specs.Taken.{IsOldest}
 use Rattle.laws_routes.specs.ChainLaws.{VatsStayTied}

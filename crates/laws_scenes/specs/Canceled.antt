@@ -2,9 +2,9 @@
 use Rattle.std.specs.FinMap as map
 use Rattle.rpc_msg.specs.declared.message.PlainMessage.{PlainMessage}
 use Rattle.rpc_msg.specs.declared.message.PlainMessage.TheVariants as plain
-use Rattle.vat_machine.specs.declared.entries.Question.{Question}
-use Rattle.vat_machine.specs.State.{State}
-use Rattle.vat_machine.specs.Sweeping.{IsNotSent}
+use Rattle.rpc_machine.specs.declared.entries.Question.{Question}
+use Rattle.rpc_machine.specs.State.{State}
+use Rattle.rpc_machine.specs.Sweeping.{IsNotSent}
 use Rattle.laws_runs.specs.SceneSessions.{InScenes}
 use Rattle.laws_routes.specs.SayingLaws.{IsNotCanceled}
 use Rattle.laws_scenes.specs.Meeting.{IfThere, OfOldest}

@@ -7,20 +7,20 @@ use Rattle.rpc_msg.specs.declared.message.Message.{Message}
 use Rattle.rpc_msg.specs.declared.message.Message.TheVariants as message
 use Rattle.rpc_msg.specs.declared.message.PlainMessage.{PlainMessage}
 use Rattle.rpc_msg.specs.declared.message.PlainMessage.TheVariants as plain
-use Rattle.vat_machine.specs.declared.entries.AnswerEntry.{AnswerEntry}
+use Rattle.rpc_machine.specs.declared.entries.AnswerEntry.{AnswerEntry}
 use Rattle.rpc_msg.specs.declared.message.DisembargoContext.{DisembargoContext}
 use Rattle.rpc_msg.specs.declared.message.DisembargoContext.TheVariants.{SenderLoopback, ReceiverLoopback}
-use Rattle.vat_machine.specs.declared.entries.Embargo.{Embargo}
-use Rattle.vat_machine.specs.declared.entries.Question.{Question}
-use Rattle.vat_machine.specs.Nodes.{is_wire}
-use Rattle.vat_machine.specs.Sweeping.{IsNotSent}
-use Rattle.vat_machine.specs.State.{State}
+use Rattle.rpc_machine.specs.declared.entries.Embargo.{Embargo}
+use Rattle.rpc_machine.specs.declared.entries.Question.{Question}
+use Rattle.rpc_machine.specs.Nodes.{is_wire}
+use Rattle.rpc_machine.specs.Sweeping.{IsNotSent}
+use Rattle.rpc_machine.specs.State.{State}
 use Rattle.rpc_msg.specs.Messages.{descriptors_of_body}
-use Rattle.vat_machine.specs.Descriptors.{take_all}
-use Rattle.vat_machine.specs.Faults.{gave}
-use Rattle.vat_machine.specs.Flags.{obey}
-use Rattle.vat_machine.specs.Progress.{numbers}
-use Rattle.vat_machine.specs.World.{World, core, inbox}
+use Rattle.rpc_machine.specs.Descriptors.{take_all}
+use Rattle.rpc_machine.specs.Faults.{gave}
+use Rattle.rpc_machine.specs.Flags.{obey}
+use Rattle.rpc_machine.specs.Progress.{numbers}
+use Rattle.rpc_machine.specs.World.{World, core, inbox}
 use Rattle.laws_runs.specs.SceneSessions.{InScenes}
 use Rattle.laws_routes.specs.Between.{Across}
 use Rattle.laws_routes.specs.Midway.{IsAwaited}

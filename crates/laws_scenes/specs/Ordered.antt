@@ -1,9 +1,9 @@
 -- Calls keep their order: of each scene, and of each run (docs/protocol.md, "What is promised").
 use Rattle.std.specs.Prelude.{◌≡◌, Option, List, [], ◌∷◌, All}
 use Rattle.rpc_msg.specs.declared.ids.ObjectId.{ObjectId}
-use Rattle.vat_journal.specs.declared.entry.JournalEntry.{JournalEntry}
-use Rattle.vat_journal.specs.History.{DeliveredAt, Ref, deliveries}
-use Rattle.vat_machine.specs.Claims.{EveryRun, IsInOrder}
+use Rattle.rpc_journal.specs.declared.entry.JournalEntry.{JournalEntry}
+use Rattle.rpc_journal.specs.History.{DeliveredAt, Ref, deliveries}
+use Rattle.rpc_machine.specs.Claims.{EveryRun, IsInOrder}
 use Rattle.laws_runs.specs.Scenes.{Scene, IsScene}
 
 -- They are at one object of one vat.

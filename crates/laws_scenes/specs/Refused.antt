@@ -3,9 +3,9 @@ use Rattle.std.specs.Prelude.{◌≡◌, ◌⊎◌, None, Option, List, ◌∷�
 use Rattle.rpc_msg.specs.declared.ids.ObjectId.{ObjectId}
 use Rattle.rpc_msg.specs.declared.ids.Vat.{Vat}
 use Rattle.rpc_msg.specs.declared.message.Message.{Message}
-use Rattle.vat_machine.specs.Claims.{EveryRun, FallsAreKnown}
-use Rattle.vat_machine.specs.Faults.{fault_of}
-use Rattle.vat_machine.specs.World.{core, inbox}
+use Rattle.rpc_machine.specs.Claims.{EveryRun, FallsAreKnown}
+use Rattle.rpc_machine.specs.Faults.{fault_of}
+use Rattle.rpc_machine.specs.World.{core, inbox}
 use Rattle.laws_runs.specs.Scenes.{Scene, IsScene}
 use Rattle.laws_runs.specs.SoundScenes.{MayFault, OldestAreTaken}
 use Rattle.laws_runs.specs.SceneSessions.{InScenes}

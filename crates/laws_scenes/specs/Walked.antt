@@ -4,12 +4,12 @@ use Rattle.rpc_msg.specs.declared.ids.ObjectId.{ObjectId}
 use Rattle.rpc_msg.specs.declared.ids.Vat.{Vat}
 use Rattle.rpc_msg.specs.declared.ids.Vat.TheVariants.{A}
 use Rattle.rpc_msg.specs.Vats.{other_vat}
-use Rattle.vat_journal.specs.declared.entry.JournalEntry.{JournalEntry}
-use Rattle.vat_journal.specs.declared.entry.JournalEntry.TheVariants as entry
-use Rattle.vat_journal.specs.History.{DeliveredAt, Ref, all_that, made}
-use Rattle.vat_machine.specs.declared.command.Level.TheVariants.{One}
-use Rattle.vat_machine.specs.State.{State, start}
-use Rattle.vat_machine.specs.World.{World, core, inbox}
+use Rattle.rpc_journal.specs.declared.entry.JournalEntry.{JournalEntry}
+use Rattle.rpc_journal.specs.declared.entry.JournalEntry.TheVariants as entry
+use Rattle.rpc_journal.specs.History.{DeliveredAt, Ref, all_that, made}
+use Rattle.rpc_machine.specs.declared.command.Level.TheVariants.{One}
+use Rattle.rpc_machine.specs.State.{State, start}
+use Rattle.rpc_machine.specs.World.{World, core, inbox}
 use Rattle.laws_runs.specs.Scenes.{Scene, IsScene}
 use Rattle.laws_routes.specs.Between.{Inside}
 use Rattle.laws_routes.specs.ChainLaws.{Steps}

@@ -2,10 +2,10 @@
 use Rattle.std.specs.Prelude.{◌≡◌, ℕ, false, Option, []}
 use Rattle.rpc_msg.specs.declared.ids.ObjectId.{ObjectId}
 use Rattle.rpc_msg.specs.declared.ids.Vat.{Vat}
-use Rattle.vat_journal.specs.History.{Ref, delivered, made}
-use Rattle.vat_journal.specs.Meaning.{History, ObjectAt, StandsFor}
-use Rattle.vat_machine.specs.Claims.{EndsAreSo, EveryRunIsSound, IsInTime, history}
-use Rattle.vat_machine.specs.Pending.{pending}
+use Rattle.rpc_journal.specs.History.{Ref, delivered, made}
+use Rattle.rpc_journal.specs.Meaning.{History, ObjectAt, StandsFor}
+use Rattle.rpc_machine.specs.Claims.{EndsAreSo, EveryRunIsSound, IsInTime, history}
+use Rattle.rpc_machine.specs.Pending.{pending}
 use Rattle.laws_runs.specs.Scenes.{Scene, IsScene}
 
 -- What references stand for: each delivery, each end, and that of a reference which stands for an object no call is lost before the

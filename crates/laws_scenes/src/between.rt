@@ -4,7 +4,7 @@ ghost use Rattle.laws_scenes.specs.Meeting.{AcrossInScenes, ExportsMeetInScenes,
 
 use laws_messages::embargoes_are_about;
 use laws_runs::counts_agree_in_scenes;
-use vat_machine::sends_raise_counts;
+use rpc_machine::sends_raise_counts;
 
 /// In each scene what asks on the way is of a question that is there, and so is what returns; where the Return came the question is
 /// asked no more, and is not returned again; and an answer whose Return was not sent is not asked again, and may close if it is

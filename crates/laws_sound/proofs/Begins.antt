@@ -3,18 +3,18 @@ use Rattle.std.proofs.Common.{◌≡◌, ◌⊎◌, inl, inr, Option, List, ◌�
 use Rattle.rpc_msg.specs.declared.ids.Vat.TheVariants.{A, B}
 use Rattle.rpc_msg.specs.declared.ids.ObjectId.{ObjectId}
 use Rattle.rpc_msg.specs.Vats.{other_vat}
-use Rattle.vat_journal.specs.declared.entry.JournalEntry.{JournalEntry}
-use Rattle.vat_journal.specs.declared.entry.JournalEntry.TheVariants as entry
-use Rattle.vat_journal.specs.Meaning.{History}
-use Rattle.vat_machine.specs.declared.command.Command.{Command}
-use Rattle.vat_machine.specs.declared.command.Command.TheVariants as command
-use Rattle.vat_machine.specs.declared.command.Granted.TheVariants as granted
-use Rattle.vat_machine.specs.State.{State}
+use Rattle.rpc_journal.specs.declared.entry.JournalEntry.{JournalEntry}
+use Rattle.rpc_journal.specs.declared.entry.JournalEntry.TheVariants as entry
+use Rattle.rpc_journal.specs.Meaning.{History}
+use Rattle.rpc_machine.specs.declared.command.Command.{Command}
+use Rattle.rpc_machine.specs.declared.command.Command.TheVariants as command
+use Rattle.rpc_machine.specs.declared.command.Granted.TheVariants as granted
+use Rattle.rpc_machine.specs.State.{State}
 use Rattle.rpc_msg.specs.declared.ids.Vat.{Vat}
-use Rattle.vat_machine.specs.Claims.{history}
-use Rattle.vat_machine.specs.Journal.{effect_entries, granted_entries}
-use Rattle.vat_machine.specs.Progress.{quiet}
-use Rattle.vat_machine.specs.World.{core}
+use Rattle.rpc_machine.specs.Claims.{history}
+use Rattle.rpc_machine.specs.Journal.{effect_entries, granted_entries}
+use Rattle.rpc_machine.specs.Progress.{quiet}
+use Rattle.rpc_machine.specs.World.{core}
 use Rattle.laws_runs.specs.Scenes as scenes
 use Rattle.laws_runs.specs.Scenes.{Scene, IsScene}
 use Rattle.laws_meanings.specs.CommandMeanings.{OpensNothing, IsWritten, IsWrittenOpen}

@@ -4,16 +4,16 @@ use Rattle.rpc_msg.specs.declared.ids.Vat.{Vat}
 use Rattle.rpc_msg.specs.declared.ids.Vat.TheVariants.{A, B}
 use Rattle.rpc_msg.specs.declared.ids.ObjectId.{ObjectId}
 use Rattle.rpc_msg.specs.declared.message.Message.{Message}
-use Rattle.vat_machine.specs.declared.command.Command.{Command}
-use Rattle.vat_machine.specs.declared.command.Effects.{Effects}
-use Rattle.vat_machine.specs.declared.command.Granted.{Granted}
-use Rattle.vat_machine.specs.declared.command.Refusal.{Refusal}
-use Rattle.vat_machine.specs.declared.event.Event.{Event}
-use Rattle.vat_machine.specs.declared.event.Event.TheVariants as event
-use Rattle.vat_machine.specs.State.{State}
-use Rattle.vat_machine.specs.Down.{ShutsFrom}
-use Rattle.vat_machine.specs.Steps.{Obeys, Refuses, LacksMemory, GoesDown, Shuts, IsDone, Receives, WasDown, FaultsBy, LacksRoom, IsHandled}
-use Rattle.vat_machine.specs.World.{World, StepAnswer, Answered, Handled, Empty, CommandsAt, Happening, HappensBy, ReceivesAt, Run, Tells, after, core, inbox, new_world, overflown, put_inbox}
+use Rattle.rpc_machine.specs.declared.command.Command.{Command}
+use Rattle.rpc_machine.specs.declared.command.Effects.{Effects}
+use Rattle.rpc_machine.specs.declared.command.Granted.{Granted}
+use Rattle.rpc_machine.specs.declared.command.Refusal.{Refusal}
+use Rattle.rpc_machine.specs.declared.event.Event.{Event}
+use Rattle.rpc_machine.specs.declared.event.Event.TheVariants as event
+use Rattle.rpc_machine.specs.State.{State}
+use Rattle.rpc_machine.specs.Down.{ShutsFrom}
+use Rattle.rpc_machine.specs.Steps.{Obeys, Refuses, LacksMemory, GoesDown, Shuts, IsDone, Receives, WasDown, FaultsBy, LacksRoom, IsHandled}
+use Rattle.rpc_machine.specs.World.{World, StepAnswer, Answered, Handled, Empty, CommandsAt, Happening, HappensBy, ReceivesAt, Run, Tells, after, core, inbox, new_world, overflown, put_inbox}
 use Rattle.laws_meanings.proofs.Hosting.{commands, messages}
 use Rattle.laws_sound.specs.Promised.{BootstrapsStay, EventsLeaveBootstraps, history_of}
 

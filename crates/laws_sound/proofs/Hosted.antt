@@ -3,9 +3,9 @@ use Rattle.std.proofs.Common.{◌≡◌, Option, refl, sym, ap}
 use Rattle.rpc_msg.specs.declared.ids.Vat.{Vat}
 use Rattle.rpc_msg.specs.declared.ids.Vat.TheVariants.{A, B}
 use Rattle.rpc_msg.specs.declared.ids.ObjectId.{ObjectId}
-use Rattle.vat_journal.specs.Meaning.{root}
-use Rattle.vat_machine.specs.Claims.{history, object_number}
-use Rattle.vat_machine.specs.World.{core}
+use Rattle.rpc_journal.specs.Meaning.{root}
+use Rattle.rpc_machine.specs.Claims.{history, object_number}
+use Rattle.rpc_machine.specs.World.{core}
 use Rattle.laws_runs.specs.Scenes as scenes
 use Rattle.laws_runs.specs.Scenes.{Scene}
 use Rattle.laws_meanings.proofs.Hosting.{commands, messages}

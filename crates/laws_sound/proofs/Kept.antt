@@ -2,12 +2,12 @@
 use Rattle.std.proofs.Common.{◌≡◌, ℕ, Bool, cond, ◌||◌, Option, None, List, [], ◌∷◌, ◌++◌, refl, sym, ap, subst, ◌∙◌}
 use Rattle.rpc_msg.specs.declared.ids.Vat.{Vat}
 use Rattle.rpc_msg.specs.declared.ids.Stamp.{Stamp}
-use Rattle.vat_journal.specs.declared.entry.Counts.{Counts}
-use Rattle.vat_journal.specs.declared.entry.JournalEntry.{JournalEntry}
-use Rattle.vat_journal.specs.declared.entry.JournalEntry.TheVariants as entry
-use Rattle.vat_journal.specs.History.{Ref, same_vat, in_front, all_that, made_stamp, made, delivered_one, deliveries, stamps, delivered}
-use Rattle.vat_machine.specs.Claims.{AreNumbered, IsBeginning, IsInOrder, IsNumbered, IsQuietWhenDown, deliveries_at, is_down_of, went_down_in}
-use Rattle.vat_machine.specs.World.{World}
+use Rattle.rpc_journal.specs.declared.entry.Counts.{Counts}
+use Rattle.rpc_journal.specs.declared.entry.JournalEntry.{JournalEntry}
+use Rattle.rpc_journal.specs.declared.entry.JournalEntry.TheVariants as entry
+use Rattle.rpc_journal.specs.History.{Ref, same_vat, in_front, all_that, made_stamp, made, delivered_one, deliveries, stamps, delivered}
+use Rattle.rpc_machine.specs.Claims.{AreNumbered, IsBeginning, IsInOrder, IsNumbered, IsQuietWhenDown, deliveries_at, is_down_of, went_down_in}
+use Rattle.rpc_machine.specs.World.{World}
 use Rattle.laws_runs.proofs.Reading.{all_that-append}
 use Rattle.laws_scenes.specs.InFull.{ArriveInFull}
 use Rattle.laws_scenes.specs.Ordered.{AreAtOne}

@@ -1,5 +1,5 @@
 -- All that is promised of what references stand for, from what all means in each scene.
-use Rattle.vat_machine.specs.Claims.{history}
+use Rattle.rpc_machine.specs.Claims.{history}
 use Rattle.laws_runs.specs.Meanings.{InTimeIsToOne}
 use Rattle.laws_meanings.specs.NodeMeanings.{LinksToObjectsAreLeft, LinksToBrokenAreLeft}
 use Rattle.laws_meanings.specs.NoneLost.{ObjectsLoseNone}

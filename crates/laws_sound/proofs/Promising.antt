@@ -4,14 +4,14 @@ use Rattle.rpc_msg.specs.declared.ids.Vat.{Vat}
 use Rattle.rpc_msg.specs.declared.ids.Vat.TheVariants.{A, B}
 use Rattle.rpc_msg.specs.declared.ids.ObjectId.{ObjectId}
 use Rattle.rpc_msg.specs.Vats.{other_vat}
-use Rattle.vat_journal.specs.declared.entry.JournalEntry.{JournalEntry}
-use Rattle.vat_journal.specs.declared.entry.JournalEntry.TheVariants as entry
-use Rattle.vat_machine.specs.Laws.{IdleIsRight}
-use Rattle.vat_machine.specs.Claims.{AreNumbered, IsInOrder, IsQuietWhenDown, Falls, FallsAreKnown, FallsFor, ByShut, ForRoom, ForHeld, ByPeer, IsInTime, IsReached, IsSound, history, went_down_in}
-use Rattle.vat_journal.specs.History.{Ref}
-use Rattle.vat_journal.specs.Meaning.{History, Meaning, StandsFor}
-use Rattle.vat_machine.specs.World.{Happening, World, Run, new_world, shut_number, was_shut}
-use Rattle.vat_machine.specs.Journal.{event_entries, journal_from}
+use Rattle.rpc_journal.specs.declared.entry.JournalEntry.{JournalEntry}
+use Rattle.rpc_journal.specs.declared.entry.JournalEntry.TheVariants as entry
+use Rattle.rpc_machine.specs.Laws.{IdleIsRight}
+use Rattle.rpc_machine.specs.Claims.{AreNumbered, IsInOrder, IsQuietWhenDown, Falls, FallsAreKnown, FallsFor, ByShut, ForRoom, ForHeld, ByPeer, IsInTime, IsReached, IsSound, history, went_down_in}
+use Rattle.rpc_journal.specs.History.{Ref}
+use Rattle.rpc_journal.specs.Meaning.{History, Meaning, StandsFor}
+use Rattle.rpc_machine.specs.World.{Happening, World, Run, new_world, shut_number, was_shut}
+use Rattle.rpc_machine.specs.Journal.{event_entries, journal_from}
 use Rattle.laws_runs.proofs.WhoIsDown.{SaysDown, says_more}
 use Rattle.laws_runs.specs.MadeCalls.{CallsAreNumbered}
 use Rattle.laws_runs.specs.Meanings.{InTimeIsToOne, MeaningsLast}

@@ -3,11 +3,11 @@ use Rattle.std.proofs.Common.{◌≡◌, ℕ, cond, Option, List, [], ◌∷◌,
 use Rattle.rpc_msg.specs.declared.ids.Vat.{Vat}
 use Rattle.rpc_msg.specs.declared.ids.ObjectId.{ObjectId}
 use Rattle.rpc_msg.specs.Vats.{other_vat}
-use Rattle.vat_journal.specs.declared.entry.JournalEntry.{JournalEntry}
-use Rattle.vat_journal.specs.declared.entry.JournalEntry.TheVariants as entry
-use Rattle.vat_journal.specs.Meaning.{ObjectAt}
-use Rattle.vat_machine.specs.Claims.{Falls, FallsAreKnown, FallsFor, ByShut, ForRoom, ForHeld, ByPeer, IfFalls, IsInFull, IsInTime, IsSound, EveryRunIsSound, history}
-use Rattle.vat_machine.specs.World.{Happening, World, shut_number}
+use Rattle.rpc_journal.specs.declared.entry.JournalEntry.{JournalEntry}
+use Rattle.rpc_journal.specs.declared.entry.JournalEntry.TheVariants as entry
+use Rattle.rpc_journal.specs.Meaning.{ObjectAt}
+use Rattle.rpc_machine.specs.Claims.{Falls, FallsAreKnown, FallsFor, ByShut, ForRoom, ForHeld, ByPeer, IfFalls, IsInFull, IsInTime, IsSound, EveryRunIsSound, history}
+use Rattle.rpc_machine.specs.World.{Happening, World, shut_number}
 use Rattle.laws_runs.specs.Meanings.{InTimeIsToOne, MeaningsAreOne}
 use Rattle.laws_runs.specs.Telling.{tells, telling}
 use Rattle.laws_runs.proofs.Lifting.{lift_delivers, lift_ends}

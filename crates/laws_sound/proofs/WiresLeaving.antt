@@ -4,7 +4,7 @@ use Rattle.std.proofs.Common.{◌≡◌, ◌⊎◌, ℕ, List, ◌∷◌}
 use Rattle.rpc_msg.specs.declared.message.Message.{Message}
 use Rattle.rpc_msg.specs.declared.message.Message.TheVariants as message
 use Rattle.rpc_msg.specs.declared.message.PlainMessage.{PlainMessage}
-use Rattle.vat_machine.specs.declared.command.Effects.{Effects}
+use Rattle.rpc_machine.specs.declared.command.Effects.{Effects}
 use Rattle.laws_routes.specs.QuietLaws.{MayClose}
 use Rattle.laws_wires.specs.BackHeld.{BackIsHeld, CommandsHoldBack, MessagesHoldBack, RolesAreKept}
 use Rattle.laws_wires.specs.SceneOut.{CommandsMeetOut, MessagesMeetOut}

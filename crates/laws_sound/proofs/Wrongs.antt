@@ -5,19 +5,19 @@ use Rattle.rpc_msg.specs.declared.ids.Vat.{Vat}
 use Rattle.rpc_msg.specs.declared.ids.Vat.TheVariants.{A, B}
 use Rattle.rpc_msg.specs.declared.ids.Stamp.{Stamp}
 use Rattle.rpc_msg.specs.Payloads.{null_payload}
-use Rattle.vat_journal.specs.declared.report.Outcome.TheVariants as outcome
-use Rattle.vat_journal.specs.declared.entry.JournalEntry.{JournalEntry}
-use Rattle.vat_journal.specs.declared.entry.JournalEntry.TheVariants as entry
-use Rattle.vat_journal.specs.declared.entry.MadeCall.{MadeCall}
-use Rattle.vat_journal.specs.History.{DeliveredAt, Ref, made_with}
-use Rattle.vat_journal.specs.Meaning.{ObjectAt, Broken, within}
-use Rattle.vat_machine.specs.Claims.{IsTo}
-use Rattle.vat_machine.specs.Routing.{failed}
-use Rattle.vat_machine.specs.Lists.{from_each, of_map}
-use Rattle.vat_machine.specs.Pending.{pending, through}
-use Rattle.vat_machine.specs.Queries.{stamps_at_outcome, stamps_at_promise, stamps_under, waiting}
-use Rattle.vat_machine.specs.World.{core}
-use Rattle.vat_machine.specs.Numbers.{peer_abort}
+use Rattle.rpc_journal.specs.declared.report.Outcome.TheVariants as outcome
+use Rattle.rpc_journal.specs.declared.entry.JournalEntry.{JournalEntry}
+use Rattle.rpc_journal.specs.declared.entry.JournalEntry.TheVariants as entry
+use Rattle.rpc_journal.specs.declared.entry.MadeCall.{MadeCall}
+use Rattle.rpc_journal.specs.History.{DeliveredAt, Ref, made_with}
+use Rattle.rpc_journal.specs.Meaning.{ObjectAt, Broken, within}
+use Rattle.rpc_machine.specs.Claims.{IsTo}
+use Rattle.rpc_machine.specs.Routing.{failed}
+use Rattle.rpc_machine.specs.Lists.{from_each, of_map}
+use Rattle.rpc_machine.specs.Pending.{pending, through}
+use Rattle.rpc_machine.specs.Queries.{stamps_at_outcome, stamps_at_promise, stamps_under, waiting}
+use Rattle.rpc_machine.specs.World.{core}
+use Rattle.rpc_machine.specs.Numbers.{peer_abort}
 use Rattle.laws_sound.specs.Promised.{GoesDownFor, ItsShut, WantOfRoom, TheLimit, TheOther, history_of}
 use Rattle.laws_scenes.specs.Ordered.{IsWhere}
 use Rattle.laws_sound.specs.Wrong.{delivery, makes, delivers, hosts, answers, ends, elsewhere, idle_world, WrongJournals}

@@ -4,10 +4,10 @@ use Rattle.rpc_msg.specs.declared.ids.Vat.{Vat}
 use Rattle.rpc_msg.specs.declared.ids.ObjectId.{ObjectId}
 use Rattle.rpc_msg.specs.declared.message.Message.{Message}
 use Rattle.rpc_msg.specs.Vats.{other_vat}
-use Rattle.vat_journal.specs.Meaning.{History, root}
-use Rattle.vat_machine.specs.Claims.{history, object_number}
-use Rattle.vat_machine.specs.Faults.{fault_of}
-use Rattle.vat_machine.specs.World.{World, core, inbox}
+use Rattle.rpc_journal.specs.Meaning.{History, root}
+use Rattle.rpc_machine.specs.Claims.{history, object_number}
+use Rattle.rpc_machine.specs.Faults.{fault_of}
+use Rattle.rpc_machine.specs.World.{World, core, inbox}
 use Rattle.laws_runs.specs.Scenes.{Scene, IsScene}
 use Rattle.laws_meanings.specs.NodeMeanings.{Meant}
 use Rattle.laws_meanings.specs.NodeLabels.{Labels}

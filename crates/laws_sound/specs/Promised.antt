@@ -4,14 +4,14 @@ use Rattle.std.specs.Prelude.{◌≡◌, ◌⊎◌, ℕ, Bool, true, false, None
 use Rattle.rpc_msg.specs.declared.ids.Vat.{Vat}
 use Rattle.rpc_msg.specs.declared.message.Message.{Message}
 use Rattle.rpc_msg.specs.Vats.{other_vat}
-use Rattle.vat_journal.specs.declared.entry.JournalEntry.{JournalEntry}
-use Rattle.vat_journal.specs.declared.entry.JournalEntry.TheVariants as entry
-use Rattle.vat_journal.specs.History.{Ref, all_that, deliveries}
-use Rattle.vat_journal.specs.Meaning.{History, Meaning, StandsFor}
-use Rattle.vat_machine.specs.Claims.{AreNumbered, BothUp, CountsAgree, EndsAreSo, IsInFull, IsInTime, IsSound, IdleIsNonePending, IsInOrder, IsQuietWhenDown, IsReached, IsToOne, MeansOne, history, object_number, went_down_in}
-use Rattle.vat_machine.specs.Faults.{fault_of}
-use Rattle.vat_machine.specs.Numbers.{held_past_limit, peer_abort, want_of_room}
-use Rattle.vat_machine.specs.World.{Happening, Happens, World, core, inbox, was_shut}
+use Rattle.rpc_journal.specs.declared.entry.JournalEntry.{JournalEntry}
+use Rattle.rpc_journal.specs.declared.entry.JournalEntry.TheVariants as entry
+use Rattle.rpc_journal.specs.History.{Ref, all_that, deliveries}
+use Rattle.rpc_journal.specs.Meaning.{History, Meaning, StandsFor}
+use Rattle.rpc_machine.specs.Claims.{AreNumbered, BothUp, CountsAgree, EndsAreSo, IsInFull, IsInTime, IsSound, IdleIsNonePending, IsInOrder, IsQuietWhenDown, IsReached, IsToOne, MeansOne, history, object_number, went_down_in}
+use Rattle.rpc_machine.specs.Faults.{fault_of}
+use Rattle.rpc_machine.specs.Numbers.{held_past_limit, peer_abort, want_of_room}
+use Rattle.rpc_machine.specs.World.{Happening, Happens, World, core, inbox, was_shut}
 use Rattle.laws_runs.specs.SoundScenes.{MayFault}
 use Rattle.laws_messages.specs.Left.{IsLastWord}
 use Rattle.laws_scenes.specs.InFull.{ArriveInFull}

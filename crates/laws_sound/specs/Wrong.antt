@@ -3,15 +3,15 @@ use Rattle.std.specs.Prelude.{ℕ, Bool, false, None, List, [], ◌∷◌}
 use Rattle.rpc_msg.specs.declared.ids.Vat.{Vat}
 use Rattle.rpc_msg.specs.declared.ids.Vat.TheVariants.{A, B}
 use Rattle.rpc_msg.specs.Payloads.{null_payload}
-use Rattle.vat_journal.specs.declared.report.Delivery.{Delivery}
-use Rattle.vat_journal.specs.declared.report.Outcome.TheVariants as outcome
-use Rattle.vat_journal.specs.declared.entry.Origin.TheVariants as origin
-use Rattle.vat_journal.specs.declared.entry.JournalEntry.{JournalEntry}
-use Rattle.vat_journal.specs.declared.entry.JournalEntry.TheVariants as entry
-use Rattle.vat_machine.specs.Claims.{EndsAreSo, IsInFull, IsInOrder, IsInTime, IsQuietWhenDown, IsToOne}
-use Rattle.vat_machine.specs.Numbers.{peer_abort}
-use Rattle.vat_machine.specs.Routing.{failed}
-use Rattle.vat_machine.specs.World.{World, new_world}
+use Rattle.rpc_journal.specs.declared.report.Delivery.{Delivery}
+use Rattle.rpc_journal.specs.declared.report.Outcome.TheVariants as outcome
+use Rattle.rpc_journal.specs.declared.entry.Origin.TheVariants as origin
+use Rattle.rpc_journal.specs.declared.entry.JournalEntry.{JournalEntry}
+use Rattle.rpc_journal.specs.declared.entry.JournalEntry.TheVariants as entry
+use Rattle.rpc_machine.specs.Claims.{EndsAreSo, IsInFull, IsInOrder, IsInTime, IsQuietWhenDown, IsToOne}
+use Rattle.rpc_machine.specs.Numbers.{peer_abort}
+use Rattle.rpc_machine.specs.Routing.{failed}
+use Rattle.rpc_machine.specs.World.{World, new_world}
 use Rattle.laws_sound.specs.Promised.{AreEachAtOne, DownsAreKnown, history_of}
 
 -- A makes the call of that index through its reference 0.

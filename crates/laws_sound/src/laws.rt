@@ -1,6 +1,6 @@
 //! The functions run no code: what each ensures is the law.
 
-ghost use Rattle.vat_machine.specs.Claims.{EveryRunIsSound};
+ghost use Rattle.rpc_machine.specs.Claims.{EveryRunIsSound};
 ghost use Rattle.laws_sound.specs.OldestHeard.{OldestAreHeard, RootsAreHosted};
 ghost use Rattle.laws_sound.specs.ScenesMean.{BeginningsFollow, MeaningsAreKept, ScenesAreLed, ScenesAreMeant, ScenesMean};
 ghost use Rattle.laws_sound.specs.StepsInScenes.{CommandsStep, FirstActsSend, MessagesStep};

@@ -6,7 +6,7 @@ ghost use Rattle.laws_sound.specs.Wrong.{WrongJournals};
 use crate::every_run_is_sound;
 use laws_runs::{calls_are_numbered, counts_agree_in_runs, meanings_last, quiet_when_down};
 use laws_scenes::{calls_arrive_in_full, calls_keep_their_order, nothing_is_refused};
-use vat_machine::idle_is_none_pending;
+use rpc_machine::idle_is_none_pending;
 
 /// All that is promised of runs (`IsSound`) is so of each world to which a run of two new vats leads, with the journal that tells
 /// it, and with counts of both vats among its entries.

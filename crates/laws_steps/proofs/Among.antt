@@ -4,10 +4,10 @@ use Rattle.std.specs.Ordering.{nat_cmp, eq_by_cmp}
 use Rattle.std.specs.FinMap as map
 use Rattle.std.specs.FinMap.Entries as entries
 use Rattle.finite_maps.specs.Tally.{Map}
-use Rattle.laws_acts.specs.vat_machine.specs.declared.node.Node.{Node}
-use Rattle.laws_acts.specs.vat_machine.specs.State.{State}
-use Rattle.laws_acts.specs.vat_machine.specs.Lists.{how_many, from_each, of_map}
-use Rattle.laws_acts.specs.vat_machine.specs.Places.{named_by_reference, named_by_embargo, named_by_promise, named_by_outcome, named_by_question, named_by_import, named_by_export, named_by_answer, places}
+use Rattle.laws_acts.specs.rpc_machine.specs.declared.node.Node.{Node}
+use Rattle.laws_acts.specs.rpc_machine.specs.State.{State}
+use Rattle.laws_acts.specs.rpc_machine.specs.Lists.{how_many, from_each, of_map}
+use Rattle.laws_acts.specs.rpc_machine.specs.Places.{named_by_reference, named_by_embargo, named_by_promise, named_by_outcome, named_by_question, named_by_import, named_by_export, named_by_answer, places}
 use Rattle.laws_steps.specs.Settled.{IsAmong}
 use Rattle.finite_maps.proofs.Tested.{ties, equal}
 use Rattle.finite_maps.proofs.Sorted.{behind, first_entry}

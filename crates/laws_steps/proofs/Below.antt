@@ -3,28 +3,28 @@
 use Rattle.std.proofs.Common.{◌≡◌, ◌⊎◌, inl, inr, ℕ, ◌-◌, Bool, true, false, cond, nat_eq, nat_le, List, [], ◌∷◌, Option, None, Some, refl, sym, ap, subst, ◌∙◌}
 use Rattle.std.specs.FinMap as map
 use Rattle.finite_maps.specs.Tally.{Map}
-use Rattle.laws_acts.specs.vat_machine.specs.declared.node.Node.{Node}
-use Rattle.laws_acts.specs.vat_machine.specs.declared.calls.Promise.{Promise}
-use Rattle.laws_acts.specs.vat_machine.specs.declared.calls.Promise.TheVariants as promise
-use Rattle.laws_acts.specs.vat_machine.specs.declared.calls.Value.{Value}
-use Rattle.laws_acts.specs.vat_machine.specs.declared.calls.KeptOutcome.{KeptOutcome}
-use Rattle.laws_acts.specs.vat_machine.specs.declared.calls.Caller.{Caller}
-use Rattle.laws_acts.specs.vat_machine.specs.declared.calls.Caller.TheVariants as caller
-use Rattle.laws_acts.specs.vat_machine.specs.declared.calls.OwnCall.{OwnCall}
-use Rattle.laws_acts.specs.vat_machine.specs.declared.entries.Finishing.TheVariants as finishing
-use Rattle.laws_acts.specs.vat_machine.specs.declared.entries.Returned.{Returned}
-use Rattle.laws_acts.specs.vat_machine.specs.declared.entries.AnswerEntry.{AnswerEntry}
-use Rattle.laws_acts.specs.vat_machine.specs.declared.entries.Question.{Question}
-use Rattle.laws_acts.specs.vat_machine.specs.declared.entries.Import.{Import}
-use Rattle.laws_acts.specs.vat_machine.specs.declared.entries.Resolution.{Resolution}
-use Rattle.laws_acts.specs.vat_machine.specs.State.{State}
-use Rattle.laws_acts.specs.vat_machine.specs.Lists.{of_map}
-use Rattle.laws_acts.specs.vat_machine.specs.Places.{named_by_reference, named_by_embargo, named_by_promise, named_by_outcome, named_by_returned, named_by_question, named_by_resolution, named_by_import, named_by_export, named_by_answer, places, names}
-use Rattle.laws_acts.specs.vat_machine.specs.Progress.{Progress}
-use Rattle.laws_acts.specs.vat_machine.specs.Advancing.{resolution_of}
-use Rattle.laws_acts.specs.vat_machine.specs.Collecting.{IsLoosePromise, AnswerIsOther, CallerIsDone, IsLooseValue, IsLooseOutcome, IsLooseImport, Goes, PromiseGoes, OutcomeGoes, ImportGoes, IsTight, Collects, Tight, Loose}
-use Rattle.laws_acts.specs.vat_machine.specs.Flags.{give_one, give_each, give_if}
-use Rattle.laws_acts.specs.vat_machine.specs.Sweeping.{closed_map, closed}
+use Rattle.laws_acts.specs.rpc_machine.specs.declared.node.Node.{Node}
+use Rattle.laws_acts.specs.rpc_machine.specs.declared.calls.Promise.{Promise}
+use Rattle.laws_acts.specs.rpc_machine.specs.declared.calls.Promise.TheVariants as promise
+use Rattle.laws_acts.specs.rpc_machine.specs.declared.calls.Value.{Value}
+use Rattle.laws_acts.specs.rpc_machine.specs.declared.calls.KeptOutcome.{KeptOutcome}
+use Rattle.laws_acts.specs.rpc_machine.specs.declared.calls.Caller.{Caller}
+use Rattle.laws_acts.specs.rpc_machine.specs.declared.calls.Caller.TheVariants as caller
+use Rattle.laws_acts.specs.rpc_machine.specs.declared.calls.OwnCall.{OwnCall}
+use Rattle.laws_acts.specs.rpc_machine.specs.declared.entries.Finishing.TheVariants as finishing
+use Rattle.laws_acts.specs.rpc_machine.specs.declared.entries.Returned.{Returned}
+use Rattle.laws_acts.specs.rpc_machine.specs.declared.entries.AnswerEntry.{AnswerEntry}
+use Rattle.laws_acts.specs.rpc_machine.specs.declared.entries.Question.{Question}
+use Rattle.laws_acts.specs.rpc_machine.specs.declared.entries.Import.{Import}
+use Rattle.laws_acts.specs.rpc_machine.specs.declared.entries.Resolution.{Resolution}
+use Rattle.laws_acts.specs.rpc_machine.specs.State.{State}
+use Rattle.laws_acts.specs.rpc_machine.specs.Lists.{of_map}
+use Rattle.laws_acts.specs.rpc_machine.specs.Places.{named_by_reference, named_by_embargo, named_by_promise, named_by_outcome, named_by_returned, named_by_question, named_by_resolution, named_by_import, named_by_export, named_by_answer, places, names}
+use Rattle.laws_acts.specs.rpc_machine.specs.Progress.{Progress}
+use Rattle.laws_acts.specs.rpc_machine.specs.Advancing.{resolution_of}
+use Rattle.laws_acts.specs.rpc_machine.specs.Collecting.{IsLoosePromise, AnswerIsOther, CallerIsDone, IsLooseValue, IsLooseOutcome, IsLooseImport, Goes, PromiseGoes, OutcomeGoes, ImportGoes, IsTight, Collects, Tight, Loose}
+use Rattle.laws_acts.specs.rpc_machine.specs.Flags.{give_one, give_each, give_if}
+use Rattle.laws_acts.specs.rpc_machine.specs.Sweeping.{closed_map, closed}
 use Rattle.laws_steps.specs.Settled.{IsAmong}
 use Rattle.finite_maps.proofs.Tested.{equal, get_left}
 use Rattle.laws_steps.proofs.Among.{none_among, none_counted, named, by_entry, where_named, in_refs, in_embargoes, in_promises, in_outcomes, in_questions, in_imports, in_exports, in_answers}

@@ -7,22 +7,22 @@ use Rattle.laws_acts.specs.rpc_msg.specs.declared.message.Call.{Call}
 use Rattle.laws_acts.specs.rpc_msg.specs.declared.message.DisembargoContext.{DisembargoContext}
 use Rattle.laws_acts.specs.rpc_msg.specs.declared.message.DisembargoContext.TheVariants.{SenderLoopback, ReceiverLoopback}
 use Rattle.laws_acts.specs.rpc_msg.specs.declared.message.PlainMessage.TheVariants as plain
-use Rattle.laws_acts.specs.vat_machine.specs.declared.calls.Value.{Value}
-use Rattle.laws_acts.specs.vat_machine.specs.declared.calls.Value.TheVariants as value
-use Rattle.laws_acts.specs.vat_machine.specs.declared.calls.OwnCall.{OwnCall}
-use Rattle.laws_acts.specs.vat_machine.specs.declared.calls.WaitingCall.{WaitingCall}
-use Rattle.laws_acts.specs.vat_machine.specs.declared.entries.Embargo.{Embargo}
-use Rattle.laws_acts.specs.vat_machine.specs.declared.command.Command.{Command}
-use Rattle.laws_acts.specs.vat_machine.specs.declared.command.Granted.{Granted}
-use Rattle.laws_acts.specs.vat_machine.specs.declared.node.Node.{Node}
-use Rattle.laws_acts.specs.vat_machine.specs.State.{State}
-use Rattle.laws_acts.specs.vat_machine.specs.Progress.{Progress, begin, with_state}
-use Rattle.laws_acts.specs.vat_machine.specs.Descriptors.{take_all, taken_of}
-use Rattle.laws_acts.specs.vat_machine.specs.Routing.{RoutesAll}
-use Rattle.laws_acts.specs.vat_machine.specs.Settling.{SettlesOutcome, TellsCall}
-use Rattle.laws_acts.specs.vat_machine.specs.Commands as commands
-use Rattle.laws_acts.specs.vat_machine.specs.Messages.{opened, received_request, TakesPlain, TakesDisembargo, Bounces, Lifts}
-use Rattle.laws_acts.specs.vat_machine.specs.Faults.{target_node}
+use Rattle.laws_acts.specs.rpc_machine.specs.declared.calls.Value.{Value}
+use Rattle.laws_acts.specs.rpc_machine.specs.declared.calls.Value.TheVariants as value
+use Rattle.laws_acts.specs.rpc_machine.specs.declared.calls.OwnCall.{OwnCall}
+use Rattle.laws_acts.specs.rpc_machine.specs.declared.calls.WaitingCall.{WaitingCall}
+use Rattle.laws_acts.specs.rpc_machine.specs.declared.entries.Embargo.{Embargo}
+use Rattle.laws_acts.specs.rpc_machine.specs.declared.command.Command.{Command}
+use Rattle.laws_acts.specs.rpc_machine.specs.declared.command.Granted.{Granted}
+use Rattle.laws_acts.specs.rpc_machine.specs.declared.node.Node.{Node}
+use Rattle.laws_acts.specs.rpc_machine.specs.State.{State}
+use Rattle.laws_acts.specs.rpc_machine.specs.Progress.{Progress, begin, with_state}
+use Rattle.laws_acts.specs.rpc_machine.specs.Descriptors.{take_all, taken_of}
+use Rattle.laws_acts.specs.rpc_machine.specs.Routing.{RoutesAll}
+use Rattle.laws_acts.specs.rpc_machine.specs.Settling.{SettlesOutcome, TellsCall}
+use Rattle.laws_acts.specs.rpc_machine.specs.Commands as commands
+use Rattle.laws_acts.specs.rpc_machine.specs.Messages.{opened, received_request, TakesPlain, TakesDisembargo, Bounces, Lifts}
+use Rattle.laws_acts.specs.rpc_machine.specs.Faults.{target_node}
 use Rattle.laws_acts.specs.Moments.{Moment, beginning, at_rest}
 use Rattle.laws_acts.specs.FirstActs.{Starts}
 use Rattle.laws_acts.specs.FirstActs as first

@@ -5,23 +5,23 @@ use Rattle.std.specs.FinMap as map
 use Rattle.laws_acts.specs.rpc_msg.specs.declared.ids.ExportId.{ExportId}
 use Rattle.finite_maps.specs.Tally.{Map, tally, tally_of}
 use Rattle.finite_maps.proofs.Tallies.{tally-split, tally-insert}
-use Rattle.laws_acts.specs.vat_machine.specs.declared.node.Node.{Node}
-use Rattle.laws_acts.specs.vat_machine.specs.declared.node.Node.TheVariants as node
-use Rattle.laws_acts.specs.vat_machine.specs.declared.command.Level.{Level}
-use Rattle.laws_acts.specs.vat_machine.specs.declared.command.Level.TheVariants.{Zero, One}
-use Rattle.laws_acts.specs.vat_machine.specs.declared.entries.Finishing.TheVariants as finishing
-use Rattle.laws_acts.specs.vat_machine.specs.declared.entries.Returned.{Returned}
-use Rattle.laws_acts.specs.vat_machine.specs.declared.entries.Question.{Question}
-use Rattle.laws_acts.specs.vat_machine.specs.declared.entries.AnswerEntry.{AnswerEntry}
-use Rattle.laws_acts.specs.vat_machine.specs.declared.entries.Import.{Import}
-use Rattle.laws_acts.specs.vat_machine.specs.State.{State}
-use Rattle.laws_acts.specs.vat_machine.specs.Lists.{how_many, is_empty, from_each, of_map}
-use Rattle.laws_acts.specs.vat_machine.specs.Nodes.{is_import}
-use Rattle.laws_acts.specs.vat_machine.specs.Places.{imports_of, named_by_returned, named_by_question, named_by_import, named_by_export, named_by_answer, places, names}
-use Rattle.laws_acts.specs.vat_machine.specs.Progress.{numbers, export_ids}
-use Rattle.laws_acts.specs.vat_machine.specs.Flags.{may_lose, is_spared, flag_at, flag_for, give_one, give_each, give_if}
-use Rattle.laws_acts.specs.vat_machine.specs.Settling.{returned_map}
-use Rattle.laws_acts.specs.vat_machine.specs.Sweeping.{closed_map, closed}
+use Rattle.laws_acts.specs.rpc_machine.specs.declared.node.Node.{Node}
+use Rattle.laws_acts.specs.rpc_machine.specs.declared.node.Node.TheVariants as node
+use Rattle.laws_acts.specs.rpc_machine.specs.declared.command.Level.{Level}
+use Rattle.laws_acts.specs.rpc_machine.specs.declared.command.Level.TheVariants.{Zero, One}
+use Rattle.laws_acts.specs.rpc_machine.specs.declared.entries.Finishing.TheVariants as finishing
+use Rattle.laws_acts.specs.rpc_machine.specs.declared.entries.Returned.{Returned}
+use Rattle.laws_acts.specs.rpc_machine.specs.declared.entries.Question.{Question}
+use Rattle.laws_acts.specs.rpc_machine.specs.declared.entries.AnswerEntry.{AnswerEntry}
+use Rattle.laws_acts.specs.rpc_machine.specs.declared.entries.Import.{Import}
+use Rattle.laws_acts.specs.rpc_machine.specs.State.{State}
+use Rattle.laws_acts.specs.rpc_machine.specs.Lists.{how_many, is_empty, from_each, of_map}
+use Rattle.laws_acts.specs.rpc_machine.specs.Nodes.{is_import}
+use Rattle.laws_acts.specs.rpc_machine.specs.Places.{imports_of, named_by_returned, named_by_question, named_by_import, named_by_export, named_by_answer, places, names}
+use Rattle.laws_acts.specs.rpc_machine.specs.Progress.{numbers, export_ids}
+use Rattle.laws_acts.specs.rpc_machine.specs.Flags.{may_lose, is_spared, flag_at, flag_for, give_one, give_each, give_if}
+use Rattle.laws_acts.specs.rpc_machine.specs.Settling.{returned_map}
+use Rattle.laws_acts.specs.rpc_machine.specs.Sweeping.{closed_map, closed}
 use Rattle.laws_steps.specs.Settled.{IsAmong}
 use Rattle.finite_maps.proofs.Gets.{get-insert_same}
 use Rattle.finite_maps.proofs.Tested.{sides, equal, itself, get_other, get_left}

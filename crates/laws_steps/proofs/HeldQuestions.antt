@@ -3,16 +3,16 @@ use Rattle.std.proofs.Common.{◌≡◌, ℕ, ◌≤◌, Bool, true, false, cond
 use Rattle.std.specs.FinMap as map
 use Rattle.laws_acts.specs.rpc_msg.specs.declared.ids.ExportId.{ExportId}
 use Rattle.finite_maps.specs.Tally.{Map}
-use Rattle.laws_acts.specs.vat_machine.specs.declared.command.Level.{Level}
-use Rattle.laws_acts.specs.vat_machine.specs.declared.command.Level.TheVariants.{Zero, One}
-use Rattle.laws_acts.specs.vat_machine.specs.declared.entries.Role.{Role}
-use Rattle.laws_acts.specs.vat_machine.specs.declared.entries.Finishing.TheVariants as finishing
-use Rattle.laws_acts.specs.vat_machine.specs.declared.entries.Returned.{Returned}
-use Rattle.laws_acts.specs.vat_machine.specs.declared.entries.Question.{Question}
-use Rattle.laws_acts.specs.vat_machine.specs.Lists.{how_many}
-use Rattle.laws_acts.specs.vat_machine.specs.Nodes.{is_import}
-use Rattle.laws_acts.specs.vat_machine.specs.Places.{named_by_returned}
-use Rattle.laws_acts.specs.vat_machine.specs.Sweeping.{got_of}
+use Rattle.laws_acts.specs.rpc_machine.specs.declared.command.Level.{Level}
+use Rattle.laws_acts.specs.rpc_machine.specs.declared.command.Level.TheVariants.{Zero, One}
+use Rattle.laws_acts.specs.rpc_machine.specs.declared.entries.Role.{Role}
+use Rattle.laws_acts.specs.rpc_machine.specs.declared.entries.Finishing.TheVariants as finishing
+use Rattle.laws_acts.specs.rpc_machine.specs.declared.entries.Returned.{Returned}
+use Rattle.laws_acts.specs.rpc_machine.specs.declared.entries.Question.{Question}
+use Rattle.laws_acts.specs.rpc_machine.specs.Lists.{how_many}
+use Rattle.laws_acts.specs.rpc_machine.specs.Nodes.{is_import}
+use Rattle.laws_acts.specs.rpc_machine.specs.Places.{named_by_returned}
+use Rattle.laws_acts.specs.rpc_machine.specs.Sweeping.{got_of}
 use Rattle.finite_maps.proofs.Tested.{equal, itself, get_put}
 use Rattle.laws_steps.proofs.NamedNodes.{Asked, asker, Tied, at_put, at_cut, Brought}
 

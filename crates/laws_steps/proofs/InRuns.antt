@@ -4,15 +4,15 @@ use Rattle.laws_acts.specs.rpc_msg.specs.declared.ids.Vat.{Vat}
 use Rattle.laws_acts.specs.rpc_msg.specs.declared.ids.Vat.TheVariants.{A, B}
 use Rattle.laws_acts.specs.rpc_msg.specs.declared.ids.ObjectId.{ObjectId}
 use Rattle.laws_acts.specs.rpc_msg.specs.declared.message.Message.{Message}
-use Rattle.laws_acts.specs.vat_machine.specs.declared.command.Level.TheVariants.{One}
-use Rattle.laws_acts.specs.vat_machine.specs.declared.command.Command.{Command}
-use Rattle.laws_acts.specs.vat_machine.specs.declared.command.Granted.{Granted}
-use Rattle.laws_acts.specs.vat_machine.specs.declared.command.Refusal.{Refusal}
-use Rattle.laws_acts.specs.vat_machine.specs.declared.command.Effects.{Effects}
-use Rattle.laws_acts.specs.vat_machine.specs.declared.event.Event.{Event}
-use Rattle.laws_acts.specs.vat_machine.specs.declared.event.Event.TheVariants as event
-use Rattle.laws_acts.specs.vat_machine.specs.State.{State}
-use Rattle.laws_acts.specs.vat_machine.specs.World.{World, core, inbox, put_inbox, new_world, StepAnswer, Answered, Handled, Empty, Happening, after, overflown, Tells, CommandTold, MessageTold, CommandsUp, CommandsDown, CommandsAt, ReceivesUp, ReceivesAt, HappensBy, Run}
+use Rattle.laws_acts.specs.rpc_machine.specs.declared.command.Level.TheVariants.{One}
+use Rattle.laws_acts.specs.rpc_machine.specs.declared.command.Command.{Command}
+use Rattle.laws_acts.specs.rpc_machine.specs.declared.command.Granted.{Granted}
+use Rattle.laws_acts.specs.rpc_machine.specs.declared.command.Refusal.{Refusal}
+use Rattle.laws_acts.specs.rpc_machine.specs.declared.command.Effects.{Effects}
+use Rattle.laws_acts.specs.rpc_machine.specs.declared.event.Event.{Event}
+use Rattle.laws_acts.specs.rpc_machine.specs.declared.event.Event.TheVariants as event
+use Rattle.laws_acts.specs.rpc_machine.specs.State.{State}
+use Rattle.laws_acts.specs.rpc_machine.specs.World.{World, core, inbox, put_inbox, new_world, StepAnswer, Answered, Handled, Empty, Happening, after, overflown, Tells, CommandTold, MessageTold, CommandsUp, CommandsDown, CommandsAt, ReceivesUp, ReceivesAt, HappensBy, Run}
 use Rattle.laws_steps.specs.NodesThere.{Stays, Commanded, Received, Fell, IsReached, NodesThereInRuns}
 use Rattle.laws_steps.proofs.Reached.{are_there, go_on}
 

@@ -2,10 +2,10 @@
 use Rattle.std.proofs.Common.{ℕ, Option}
 use Rattle.laws_acts.specs.rpc_msg.specs.declared.ids.Vat.{Vat}
 use Rattle.laws_acts.specs.rpc_msg.specs.declared.ids.ObjectId.{ObjectId}
-use Rattle.laws_acts.specs.vat_machine.specs.declared.command.Level.{Level}
-use Rattle.laws_acts.specs.vat_machine.specs.State.{State, start}
-use Rattle.laws_acts.specs.vat_machine.specs.Down.{fallen}
-use Rattle.laws_acts.specs.vat_machine.specs.Laws.{OfEachStep}
+use Rattle.laws_acts.specs.rpc_machine.specs.declared.command.Level.{Level}
+use Rattle.laws_acts.specs.rpc_machine.specs.State.{State, start}
+use Rattle.laws_acts.specs.rpc_machine.specs.Down.{fallen}
+use Rattle.laws_acts.specs.rpc_machine.specs.Laws.{OfEachStep}
 use Rattle.laws_steps.specs.NodesThere.{ComesTo, Stays, Commanded, Received, Fell, IsReached}
 
 pub record IsKept (Q : State → Type 0) : Type 0 where

@@ -3,21 +3,21 @@ use Rattle.std.proofs.Common.{◌≡◌, ◌⊎◌, inl, inr, ℕ, zero, suc, fa
 use Rattle.std.specs.FinMap as map
 use Rattle.laws_acts.specs.rpc_msg.specs.CapAt.{CapAt}
 use Rattle.laws_acts.specs.rpc_msg.specs.CapAt.TheVariants.{Cap, Null, NotCap}
-use Rattle.laws_acts.specs.vat_machine.specs.Payloads.{cap_at}
-use Rattle.laws_acts.specs.vat_machine.specs.declared.node.Node.{Node}
-use Rattle.laws_acts.specs.vat_machine.specs.declared.node.Node.TheVariants as node
-use Rattle.laws_acts.specs.vat_machine.specs.declared.calls.Promise.{Promise}
-use Rattle.laws_acts.specs.vat_machine.specs.declared.calls.Promise.TheVariants as promise
-use Rattle.laws_acts.specs.vat_machine.specs.declared.calls.Value.{Value}
-use Rattle.laws_acts.specs.vat_machine.specs.declared.calls.Value.TheVariants as value
-use Rattle.laws_acts.specs.vat_machine.specs.declared.calls.KeptOutcome.{KeptOutcome}
-use Rattle.laws_acts.specs.vat_machine.specs.declared.command.Effects.{Effects}
-use Rattle.laws_acts.specs.vat_machine.specs.State.{State}
-use Rattle.laws_acts.specs.vat_machine.specs.Nodes.{node_of_cap, field_of, promise_link, value_of, field_link, link, settle, is_open}
-use Rattle.laws_acts.specs.vat_machine.specs.Places.{named_by_promise, named_by_value, named_by_held, named_by_outcome}
-use Rattle.laws_acts.specs.vat_machine.specs.Laws.{Stops, SettlesWhereItLeads}
-use Rattle.laws_acts.specs.vat_machine.proofs.Settles.{settles_here}
-use Rattle.laws_acts.specs.vat_machine.proofs.Following.{holds_where_it_settles, stops_where_it_settles}
+use Rattle.laws_acts.specs.rpc_machine.specs.Payloads.{cap_at}
+use Rattle.laws_acts.specs.rpc_machine.specs.declared.node.Node.{Node}
+use Rattle.laws_acts.specs.rpc_machine.specs.declared.node.Node.TheVariants as node
+use Rattle.laws_acts.specs.rpc_machine.specs.declared.calls.Promise.{Promise}
+use Rattle.laws_acts.specs.rpc_machine.specs.declared.calls.Promise.TheVariants as promise
+use Rattle.laws_acts.specs.rpc_machine.specs.declared.calls.Value.{Value}
+use Rattle.laws_acts.specs.rpc_machine.specs.declared.calls.Value.TheVariants as value
+use Rattle.laws_acts.specs.rpc_machine.specs.declared.calls.KeptOutcome.{KeptOutcome}
+use Rattle.laws_acts.specs.rpc_machine.specs.declared.command.Effects.{Effects}
+use Rattle.laws_acts.specs.rpc_machine.specs.State.{State}
+use Rattle.laws_acts.specs.rpc_machine.specs.Nodes.{node_of_cap, field_of, promise_link, value_of, field_link, link, settle, is_open}
+use Rattle.laws_acts.specs.rpc_machine.specs.Places.{named_by_promise, named_by_value, named_by_held, named_by_outcome}
+use Rattle.laws_acts.specs.rpc_machine.specs.Laws.{Stops, SettlesWhereItLeads}
+use Rattle.laws_acts.specs.rpc_machine.proofs.Settles.{settles_here}
+use Rattle.laws_acts.specs.rpc_machine.proofs.Following.{holds_where_it_settles, stops_where_it_settles}
 use Rattle.laws_steps.specs.Settled.{SaysTheSame, IsThere, IsAmong, AreThere}
 use Rattle.laws_steps.proofs.Among.{among_left, named, in_promises, in_outcomes}
 

@@ -20,43 +20,43 @@ use Rattle.laws_acts.specs.rpc_msg.specs.declared.message.Message.{Message}
 use Rattle.laws_acts.specs.rpc_msg.specs.declared.message.Message.TheVariants as message
 use Rattle.laws_acts.specs.rpc_msg.specs.Messages.{descriptors_of_body}
 use Rattle.finite_maps.specs.Tally.{Map}
-use Rattle.laws_acts.specs.vat_journal.specs.History.{if_so, or_rest}
-use Rattle.laws_acts.specs.vat_machine.specs.declared.node.Node.{Node}
-use Rattle.laws_acts.specs.vat_machine.specs.declared.node.Node.TheVariants as node
-use Rattle.laws_acts.specs.vat_machine.specs.declared.command.Level.{Level}
-use Rattle.laws_acts.specs.vat_machine.specs.declared.command.Level.TheVariants.{Zero, One}
-use Rattle.laws_acts.specs.vat_machine.specs.declared.command.Command.{Command}
-use Rattle.laws_acts.specs.vat_machine.specs.declared.command.Granted.{Granted}
-use Rattle.laws_acts.specs.vat_machine.specs.declared.command.Effects.{Effects}
-use Rattle.laws_acts.specs.vat_machine.specs.declared.calls.KeptOutcome.{KeptOutcome}
-use Rattle.laws_acts.specs.vat_machine.specs.declared.calls.Value.{Value}
-use Rattle.laws_acts.specs.vat_machine.specs.declared.calls.Value.TheVariants as value
-use Rattle.laws_acts.specs.vat_machine.specs.declared.calls.Caller.{Caller}
-use Rattle.laws_acts.specs.vat_machine.specs.declared.calls.Caller.TheVariants as caller
-use Rattle.laws_acts.specs.vat_machine.specs.declared.entries.Role.{Role}
-use Rattle.laws_acts.specs.vat_machine.specs.declared.entries.Role.TheVariants as role
-use Rattle.laws_acts.specs.vat_machine.specs.declared.entries.Finishing.{Finishing}
-use Rattle.laws_acts.specs.vat_machine.specs.declared.entries.Finishing.TheVariants as finishing
-use Rattle.laws_acts.specs.vat_machine.specs.declared.entries.Returned.{Returned}
-use Rattle.laws_acts.specs.vat_machine.specs.declared.entries.Returned.TheVariants as back
-use Rattle.laws_acts.specs.vat_machine.specs.declared.entries.Resolution.{Resolution}
-use Rattle.laws_acts.specs.vat_machine.specs.declared.entries.Resolution.TheVariants as resolution
-use Rattle.laws_acts.specs.vat_machine.specs.declared.entries.Question.{Question}
-use Rattle.laws_acts.specs.vat_machine.specs.declared.entries.AnswerEntry.{AnswerEntry}
-use Rattle.laws_acts.specs.vat_machine.specs.declared.entries.Import.{Import}
-use Rattle.laws_acts.specs.vat_machine.specs.declared.entries.Export.{Export}
-use Rattle.laws_acts.specs.vat_machine.specs.declared.entries.Reference.{Reference}
-use Rattle.laws_acts.specs.vat_machine.specs.declared.entries.Embargo.{Embargo}
-use Rattle.laws_acts.specs.vat_machine.specs.State.{State}
-use Rattle.laws_acts.specs.vat_machine.specs.Lists.{update, updated}
-use Rattle.laws_acts.specs.vat_machine.specs.Places.{named_by_calls, imports_of, named_by_reference, named_by_embargo, named_by_outcome, named_by_returned, named_by_question, named_by_resolution, named_by_import, named_by_export, named_by_answer}
-use Rattle.laws_acts.specs.vat_machine.specs.Progress.{Progress, begin, with_state, numbers, caps_of, export_ids}
-use Rattle.laws_acts.specs.vat_machine.specs.Descriptors.{read, read_all, take_all, taken_of}
-use Rattle.laws_acts.specs.vat_machine.specs.Flags.{lowered, lower_by, lower_each, obey}
-use Rattle.laws_acts.specs.vat_machine.specs.Settling.{Drains, NoneLeft, OneMore}
-use Rattle.laws_acts.specs.vat_machine.specs.Messages.{opened, bootstrap_value, received_request, results_of, value_of_results, waived, not_understood, ComesFor, ComesBack, TakesCall, TakesReturn, TakesEchoed, finished_map, TakesFinish, set_resolution, resolve_import, take_resolve, unembargoed, Bounces, Lifts, TakesDisembargo, TakesPlain, TakesUnimplemented, TakesUnless, Takes}
-use Rattle.laws_acts.specs.vat_machine.specs.Faults.{gave, given_by, target_node, is_foreign, plain_fault, fault_of, unless_foreign}
-use Rattle.laws_acts.specs.vat_machine.specs.Steps.{Ends, Does, Handles}
+use Rattle.laws_acts.specs.rpc_journal.specs.History.{if_so, or_rest}
+use Rattle.laws_acts.specs.rpc_machine.specs.declared.node.Node.{Node}
+use Rattle.laws_acts.specs.rpc_machine.specs.declared.node.Node.TheVariants as node
+use Rattle.laws_acts.specs.rpc_machine.specs.declared.command.Level.{Level}
+use Rattle.laws_acts.specs.rpc_machine.specs.declared.command.Level.TheVariants.{Zero, One}
+use Rattle.laws_acts.specs.rpc_machine.specs.declared.command.Command.{Command}
+use Rattle.laws_acts.specs.rpc_machine.specs.declared.command.Granted.{Granted}
+use Rattle.laws_acts.specs.rpc_machine.specs.declared.command.Effects.{Effects}
+use Rattle.laws_acts.specs.rpc_machine.specs.declared.calls.KeptOutcome.{KeptOutcome}
+use Rattle.laws_acts.specs.rpc_machine.specs.declared.calls.Value.{Value}
+use Rattle.laws_acts.specs.rpc_machine.specs.declared.calls.Value.TheVariants as value
+use Rattle.laws_acts.specs.rpc_machine.specs.declared.calls.Caller.{Caller}
+use Rattle.laws_acts.specs.rpc_machine.specs.declared.calls.Caller.TheVariants as caller
+use Rattle.laws_acts.specs.rpc_machine.specs.declared.entries.Role.{Role}
+use Rattle.laws_acts.specs.rpc_machine.specs.declared.entries.Role.TheVariants as role
+use Rattle.laws_acts.specs.rpc_machine.specs.declared.entries.Finishing.{Finishing}
+use Rattle.laws_acts.specs.rpc_machine.specs.declared.entries.Finishing.TheVariants as finishing
+use Rattle.laws_acts.specs.rpc_machine.specs.declared.entries.Returned.{Returned}
+use Rattle.laws_acts.specs.rpc_machine.specs.declared.entries.Returned.TheVariants as back
+use Rattle.laws_acts.specs.rpc_machine.specs.declared.entries.Resolution.{Resolution}
+use Rattle.laws_acts.specs.rpc_machine.specs.declared.entries.Resolution.TheVariants as resolution
+use Rattle.laws_acts.specs.rpc_machine.specs.declared.entries.Question.{Question}
+use Rattle.laws_acts.specs.rpc_machine.specs.declared.entries.AnswerEntry.{AnswerEntry}
+use Rattle.laws_acts.specs.rpc_machine.specs.declared.entries.Import.{Import}
+use Rattle.laws_acts.specs.rpc_machine.specs.declared.entries.Export.{Export}
+use Rattle.laws_acts.specs.rpc_machine.specs.declared.entries.Reference.{Reference}
+use Rattle.laws_acts.specs.rpc_machine.specs.declared.entries.Embargo.{Embargo}
+use Rattle.laws_acts.specs.rpc_machine.specs.State.{State}
+use Rattle.laws_acts.specs.rpc_machine.specs.Lists.{update, updated}
+use Rattle.laws_acts.specs.rpc_machine.specs.Places.{named_by_calls, imports_of, named_by_reference, named_by_embargo, named_by_outcome, named_by_returned, named_by_question, named_by_resolution, named_by_import, named_by_export, named_by_answer}
+use Rattle.laws_acts.specs.rpc_machine.specs.Progress.{Progress, begin, with_state, numbers, caps_of, export_ids}
+use Rattle.laws_acts.specs.rpc_machine.specs.Descriptors.{read, read_all, take_all, taken_of}
+use Rattle.laws_acts.specs.rpc_machine.specs.Flags.{lowered, lower_by, lower_each, obey}
+use Rattle.laws_acts.specs.rpc_machine.specs.Settling.{Drains, NoneLeft, OneMore}
+use Rattle.laws_acts.specs.rpc_machine.specs.Messages.{opened, bootstrap_value, received_request, results_of, value_of_results, waived, not_understood, ComesFor, ComesBack, TakesCall, TakesReturn, TakesEchoed, finished_map, TakesFinish, set_resolution, resolve_import, take_resolve, unembargoed, Bounces, Lifts, TakesDisembargo, TakesPlain, TakesUnimplemented, TakesUnless, Takes}
+use Rattle.laws_acts.specs.rpc_machine.specs.Faults.{gave, given_by, target_node, is_foreign, plain_fault, fault_of, unless_foreign}
+use Rattle.laws_acts.specs.rpc_machine.specs.Steps.{Ends, Does, Handles}
 use Rattle.finite_maps.proofs.Gets.{get-insert_same}
 use Rattle.finite_maps.proofs.Tested.{equal, get_other}
 use Rattle.laws_steps.proofs.Exceptions.{IsException, AllExceptions, act_arises, call_arises, first_arises, disembargo_arises, told_arises}

@@ -5,38 +5,38 @@ use Rattle.std.specs.FinMap as map
 use Rattle.laws_acts.specs.rpc_msg.specs.CapAt.{CapAt}
 use Rattle.laws_acts.specs.rpc_msg.specs.CapAt.TheVariants.{Cap, Null, NotCap}
 use Rattle.finite_maps.specs.Tally.{Map}
-use Rattle.laws_acts.specs.vat_machine.specs.Payloads.{cap_at}
-use Rattle.laws_acts.specs.vat_machine.specs.declared.node.Node.{Node}
-use Rattle.laws_acts.specs.vat_machine.specs.declared.node.Node.TheVariants as node
-use Rattle.laws_acts.specs.vat_machine.specs.declared.node.Reason.{Reason}
-use Rattle.laws_acts.specs.vat_machine.specs.declared.command.Level.{Level}
-use Rattle.laws_acts.specs.vat_machine.specs.declared.command.Level.TheVariants.{Zero, One}
-use Rattle.laws_acts.specs.vat_machine.specs.declared.entries.Role.{Role}
-use Rattle.laws_acts.specs.vat_machine.specs.declared.entries.Role.TheVariants as role
-use Rattle.laws_acts.specs.vat_machine.specs.declared.entries.Finishing.{Finishing}
-use Rattle.laws_acts.specs.vat_machine.specs.declared.entries.Finishing.TheVariants as finishing
-use Rattle.laws_acts.specs.vat_machine.specs.declared.calls.Promise.{Promise}
-use Rattle.laws_acts.specs.vat_machine.specs.declared.calls.Promise.TheVariants as promise
-use Rattle.laws_acts.specs.vat_machine.specs.declared.calls.Value.{Value}
-use Rattle.laws_acts.specs.vat_machine.specs.declared.calls.Value.TheVariants as value
-use Rattle.laws_acts.specs.vat_machine.specs.declared.calls.KeptOutcome.{KeptOutcome}
-use Rattle.laws_acts.specs.vat_machine.specs.declared.calls.Caller.{Caller}
-use Rattle.laws_acts.specs.vat_machine.specs.declared.calls.Caller.TheVariants as caller
-use Rattle.laws_acts.specs.vat_machine.specs.declared.calls.OwnCall.{OwnCall}
-use Rattle.laws_acts.specs.vat_machine.specs.declared.calls.OwnCall.TheVariants as own
-use Rattle.laws_acts.specs.vat_machine.specs.declared.entries.AnswerEntry.{AnswerEntry}
-use Rattle.laws_acts.specs.vat_machine.specs.declared.entries.Reference.{Reference}
-use Rattle.laws_acts.specs.vat_machine.specs.declared.entries.Embargo.{Embargo}
-use Rattle.laws_acts.specs.vat_machine.specs.declared.entries.Question.{Question}
-use Rattle.laws_acts.specs.vat_machine.specs.declared.entries.Import.{Import}
-use Rattle.laws_acts.specs.vat_machine.specs.declared.entries.Export.{Export}
-use Rattle.laws_acts.specs.vat_machine.specs.State.{State}
-use Rattle.laws_acts.specs.vat_machine.specs.Lists.{how_many, of_map}
-use Rattle.laws_acts.specs.vat_machine.specs.Nodes.{node_of_cap, promise_link, value_of, field_link, next, settle, is_promise, is_field, is_import}
-use Rattle.laws_acts.specs.vat_machine.specs.Places.{named_by_reference, named_by_embargo, named_by_promise, named_by_value, named_by_held, named_by_outcome, named_by_returned, named_by_question, named_by_import, named_by_export, named_by_answer, places, names}
-use Rattle.laws_acts.specs.vat_machine.specs.Collecting.{AnswerIsOther, IsLoosePromise, IsLooseOutcome, IsLooseValue, IsLooseImport, CallerIsDone}
-use Rattle.laws_acts.specs.vat_machine.specs.Sweeping.{got_of}
-use Rattle.laws_acts.specs.vat_machine.proofs.Following.{holds_where_it_settles}
+use Rattle.laws_acts.specs.rpc_machine.specs.Payloads.{cap_at}
+use Rattle.laws_acts.specs.rpc_machine.specs.declared.node.Node.{Node}
+use Rattle.laws_acts.specs.rpc_machine.specs.declared.node.Node.TheVariants as node
+use Rattle.laws_acts.specs.rpc_machine.specs.declared.node.Reason.{Reason}
+use Rattle.laws_acts.specs.rpc_machine.specs.declared.command.Level.{Level}
+use Rattle.laws_acts.specs.rpc_machine.specs.declared.command.Level.TheVariants.{Zero, One}
+use Rattle.laws_acts.specs.rpc_machine.specs.declared.entries.Role.{Role}
+use Rattle.laws_acts.specs.rpc_machine.specs.declared.entries.Role.TheVariants as role
+use Rattle.laws_acts.specs.rpc_machine.specs.declared.entries.Finishing.{Finishing}
+use Rattle.laws_acts.specs.rpc_machine.specs.declared.entries.Finishing.TheVariants as finishing
+use Rattle.laws_acts.specs.rpc_machine.specs.declared.calls.Promise.{Promise}
+use Rattle.laws_acts.specs.rpc_machine.specs.declared.calls.Promise.TheVariants as promise
+use Rattle.laws_acts.specs.rpc_machine.specs.declared.calls.Value.{Value}
+use Rattle.laws_acts.specs.rpc_machine.specs.declared.calls.Value.TheVariants as value
+use Rattle.laws_acts.specs.rpc_machine.specs.declared.calls.KeptOutcome.{KeptOutcome}
+use Rattle.laws_acts.specs.rpc_machine.specs.declared.calls.Caller.{Caller}
+use Rattle.laws_acts.specs.rpc_machine.specs.declared.calls.Caller.TheVariants as caller
+use Rattle.laws_acts.specs.rpc_machine.specs.declared.calls.OwnCall.{OwnCall}
+use Rattle.laws_acts.specs.rpc_machine.specs.declared.calls.OwnCall.TheVariants as own
+use Rattle.laws_acts.specs.rpc_machine.specs.declared.entries.AnswerEntry.{AnswerEntry}
+use Rattle.laws_acts.specs.rpc_machine.specs.declared.entries.Reference.{Reference}
+use Rattle.laws_acts.specs.rpc_machine.specs.declared.entries.Embargo.{Embargo}
+use Rattle.laws_acts.specs.rpc_machine.specs.declared.entries.Question.{Question}
+use Rattle.laws_acts.specs.rpc_machine.specs.declared.entries.Import.{Import}
+use Rattle.laws_acts.specs.rpc_machine.specs.declared.entries.Export.{Export}
+use Rattle.laws_acts.specs.rpc_machine.specs.State.{State}
+use Rattle.laws_acts.specs.rpc_machine.specs.Lists.{how_many, of_map}
+use Rattle.laws_acts.specs.rpc_machine.specs.Nodes.{node_of_cap, promise_link, value_of, field_link, next, settle, is_promise, is_field, is_import}
+use Rattle.laws_acts.specs.rpc_machine.specs.Places.{named_by_reference, named_by_embargo, named_by_promise, named_by_value, named_by_held, named_by_outcome, named_by_returned, named_by_question, named_by_import, named_by_export, named_by_answer, places, names}
+use Rattle.laws_acts.specs.rpc_machine.specs.Collecting.{AnswerIsOther, IsLoosePromise, IsLooseOutcome, IsLooseValue, IsLooseImport, CallerIsDone}
+use Rattle.laws_acts.specs.rpc_machine.specs.Sweeping.{got_of}
+use Rattle.laws_acts.specs.rpc_machine.proofs.Following.{holds_where_it_settles}
 use Rattle.laws_steps.specs.Settled.{IsAmong}
 use Rattle.laws_steps.specs.Callers.{IsFor, peer, HasOutcome, IsOpenFor, AnswersWith}
 use Rattle.finite_maps.proofs.Tested as tested

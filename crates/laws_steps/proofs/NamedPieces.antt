@@ -8,36 +8,36 @@ use Rattle.laws_acts.specs.rpc_msg.specs.declared.message.ReturnBody.{ReturnBody
 use Rattle.laws_acts.specs.rpc_msg.specs.Messages.{given}
 use Rattle.laws_acts.specs.rpc_msg.specs.Payloads.{Contents as Payload}
 use Rattle.finite_maps.specs.Tally.{Map}
-use Rattle.laws_acts.specs.vat_machine.specs.declared.node.Node.{Node}
-use Rattle.laws_acts.specs.vat_machine.specs.declared.node.Node.TheVariants as node
-use Rattle.laws_acts.specs.vat_machine.specs.declared.calls.Request.{Request}
-use Rattle.laws_acts.specs.vat_machine.specs.declared.calls.WaitingCall.{WaitingCall}
-use Rattle.laws_acts.specs.vat_machine.specs.declared.calls.HeldCall.{HeldCall}
-use Rattle.laws_acts.specs.vat_machine.specs.declared.calls.Promise.{Promise}
-use Rattle.laws_acts.specs.vat_machine.specs.declared.calls.Promise.TheVariants as promise
-use Rattle.laws_acts.specs.vat_machine.specs.declared.calls.Value.{Value}
-use Rattle.laws_acts.specs.vat_machine.specs.declared.calls.Value.TheVariants as value
-use Rattle.laws_acts.specs.vat_machine.specs.declared.calls.KeptOutcome.{KeptOutcome}
-use Rattle.laws_acts.specs.vat_machine.specs.declared.calls.Caller.{Caller}
-use Rattle.laws_acts.specs.vat_machine.specs.declared.calls.Caller.TheVariants as caller
-use Rattle.laws_acts.specs.vat_machine.specs.declared.calls.OwnCall.{OwnCall}
+use Rattle.laws_acts.specs.rpc_machine.specs.declared.node.Node.{Node}
+use Rattle.laws_acts.specs.rpc_machine.specs.declared.node.Node.TheVariants as node
+use Rattle.laws_acts.specs.rpc_machine.specs.declared.calls.Request.{Request}
+use Rattle.laws_acts.specs.rpc_machine.specs.declared.calls.WaitingCall.{WaitingCall}
+use Rattle.laws_acts.specs.rpc_machine.specs.declared.calls.HeldCall.{HeldCall}
+use Rattle.laws_acts.specs.rpc_machine.specs.declared.calls.Promise.{Promise}
+use Rattle.laws_acts.specs.rpc_machine.specs.declared.calls.Promise.TheVariants as promise
+use Rattle.laws_acts.specs.rpc_machine.specs.declared.calls.Value.{Value}
+use Rattle.laws_acts.specs.rpc_machine.specs.declared.calls.Value.TheVariants as value
+use Rattle.laws_acts.specs.rpc_machine.specs.declared.calls.KeptOutcome.{KeptOutcome}
+use Rattle.laws_acts.specs.rpc_machine.specs.declared.calls.Caller.{Caller}
+use Rattle.laws_acts.specs.rpc_machine.specs.declared.calls.Caller.TheVariants as caller
+use Rattle.laws_acts.specs.rpc_machine.specs.declared.calls.OwnCall.{OwnCall}
 use Rattle.laws_acts.specs.rpc_msg.specs.declared.ids.ExportId.{ExportId}
-use Rattle.laws_acts.specs.vat_machine.specs.declared.entries.Role.TheVariants as role
-use Rattle.laws_acts.specs.vat_machine.specs.declared.entries.Role.{Role}
-use Rattle.laws_acts.specs.vat_machine.specs.declared.entries.AnswerEntry.{AnswerEntry}
-use Rattle.laws_acts.specs.vat_machine.specs.declared.entries.Question.{Question}
-use Rattle.laws_acts.specs.vat_machine.specs.declared.entries.Import.{Import}
-use Rattle.laws_acts.specs.vat_machine.specs.declared.entries.Export.{Export}
-use Rattle.laws_acts.specs.vat_machine.specs.State.{State}
-use Rattle.laws_acts.specs.vat_machine.specs.Lists.{how_many, from_each, of_map}
-use Rattle.laws_acts.specs.vat_machine.specs.Nodes.{settle, is_import}
-use Rattle.laws_acts.specs.vat_machine.specs.Places.{imports_of, named_by_reference, named_by_calls, named_by_held, named_by_promise, named_by_value, named_by_outcome, named_by_question, named_by_export, named_by_answer, named_by_taken, names}
-use Rattle.laws_acts.specs.vat_machine.specs.Progress.{Progress, with_state, with_refs, caps_of, numbers, export_ids}
-use Rattle.laws_acts.specs.vat_machine.specs.Descriptors.{ExportedAs, Described, DescribesAll}
-use Rattle.laws_acts.specs.vat_machine.specs.Routing.{Asks, Relays, WaitsForPromise, WaitsForField, RoutedTo, Routes, RoutesAll, RoutesHeld}
-use Rattle.laws_acts.specs.vat_machine.specs.Collecting.{AnswerIsOther, IsLooseOutcome, IsLooseValue, CallerIsDone, Goes, PromiseGoes, OutcomeGoes, ImportGoes, Collects, Tight, Loose}
-use Rattle.laws_acts.specs.vat_machine.specs.Flags.{give_if, give_back, flag_for}
-use Rattle.laws_acts.specs.vat_machine.specs.Settling.{known, returned_map, PutsIn, Untangles, Fits, TellsCall, SaysBack, Returns, TellsPeer, Tells, ResolvesTo, ResolvesBy, ResolvesEach, exports_where, SendsResolves, SettlesOpen, FixesFrom, FixesPromise}
+use Rattle.laws_acts.specs.rpc_machine.specs.declared.entries.Role.TheVariants as role
+use Rattle.laws_acts.specs.rpc_machine.specs.declared.entries.Role.{Role}
+use Rattle.laws_acts.specs.rpc_machine.specs.declared.entries.AnswerEntry.{AnswerEntry}
+use Rattle.laws_acts.specs.rpc_machine.specs.declared.entries.Question.{Question}
+use Rattle.laws_acts.specs.rpc_machine.specs.declared.entries.Import.{Import}
+use Rattle.laws_acts.specs.rpc_machine.specs.declared.entries.Export.{Export}
+use Rattle.laws_acts.specs.rpc_machine.specs.State.{State}
+use Rattle.laws_acts.specs.rpc_machine.specs.Lists.{how_many, from_each, of_map}
+use Rattle.laws_acts.specs.rpc_machine.specs.Nodes.{settle, is_import}
+use Rattle.laws_acts.specs.rpc_machine.specs.Places.{imports_of, named_by_reference, named_by_calls, named_by_held, named_by_promise, named_by_value, named_by_outcome, named_by_question, named_by_export, named_by_answer, named_by_taken, names}
+use Rattle.laws_acts.specs.rpc_machine.specs.Progress.{Progress, with_state, with_refs, caps_of, numbers, export_ids}
+use Rattle.laws_acts.specs.rpc_machine.specs.Descriptors.{ExportedAs, Described, DescribesAll}
+use Rattle.laws_acts.specs.rpc_machine.specs.Routing.{Asks, Relays, WaitsForPromise, WaitsForField, RoutedTo, Routes, RoutesAll, RoutesHeld}
+use Rattle.laws_acts.specs.rpc_machine.specs.Collecting.{AnswerIsOther, IsLooseOutcome, IsLooseValue, CallerIsDone, Goes, PromiseGoes, OutcomeGoes, ImportGoes, Collects, Tight, Loose}
+use Rattle.laws_acts.specs.rpc_machine.specs.Flags.{give_if, give_back, flag_for}
+use Rattle.laws_acts.specs.rpc_machine.specs.Settling.{known, returned_map, PutsIn, Untangles, Fits, TellsCall, SaysBack, Returns, TellsPeer, Tells, ResolvesTo, ResolvesBy, ResolvesEach, exports_where, SendsResolves, SettlesOpen, FixesFrom, FixesPromise}
 use Rattle.finite_maps.proofs.Gets.{get-insert_same}
 use Rattle.finite_maps.proofs.Tested.{equal, get_other, get_left}
 use Rattle.laws_steps.proofs.Among.{by_entry}

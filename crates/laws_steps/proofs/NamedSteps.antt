@@ -11,40 +11,40 @@ use Rattle.laws_acts.specs.rpc_msg.specs.declared.parts.Descriptor.TheVariants a
 use Rattle.laws_acts.specs.rpc_msg.specs.declared.parts.Target.{Target}
 use Rattle.laws_acts.specs.rpc_msg.specs.declared.exception.Exception.{Exception}
 use Rattle.finite_maps.specs.Tally.{Map}
-use Rattle.laws_acts.specs.vat_machine.specs.Payloads.{cap_at}
-use Rattle.laws_acts.specs.vat_machine.specs.declared.node.Node.{Node}
-use Rattle.laws_acts.specs.vat_machine.specs.declared.node.Node.TheVariants as node
-use Rattle.laws_acts.specs.vat_machine.specs.declared.command.Command.{Command}
-use Rattle.laws_acts.specs.vat_machine.specs.declared.command.Command.TheVariants as command
-use Rattle.laws_acts.specs.vat_machine.specs.declared.command.CallCommand.{CallCommand}
-use Rattle.laws_acts.specs.vat_machine.specs.declared.command.Granted.{Granted}
-use Rattle.laws_acts.specs.vat_machine.specs.declared.calls.Request.{Request}
-use Rattle.laws_acts.specs.vat_machine.specs.declared.calls.WaitingCall.{WaitingCall}
-use Rattle.laws_acts.specs.vat_machine.specs.declared.calls.Promise.{Promise}
-use Rattle.laws_acts.specs.vat_machine.specs.declared.calls.Promise.TheVariants as promise
-use Rattle.laws_acts.specs.vat_machine.specs.declared.calls.KeptOutcome.{KeptOutcome}
-use Rattle.laws_acts.specs.vat_machine.specs.declared.calls.Value.{Value}
-use Rattle.laws_acts.specs.vat_machine.specs.declared.calls.Value.TheVariants as value
-use Rattle.laws_acts.specs.vat_machine.specs.declared.calls.Caller.{Caller}
-use Rattle.laws_acts.specs.vat_machine.specs.declared.calls.Caller.TheVariants as caller
-use Rattle.laws_acts.specs.vat_machine.specs.declared.calls.OwnCall.{OwnCall}
-use Rattle.laws_acts.specs.vat_machine.specs.declared.calls.OwnCall.TheVariants as own
-use Rattle.laws_acts.specs.vat_machine.specs.declared.entries.Role.TheVariants as role
-use Rattle.laws_acts.specs.vat_machine.specs.declared.entries.Returned.{Returned}
-use Rattle.laws_acts.specs.vat_machine.specs.declared.entries.Returned.TheVariants as back
-use Rattle.laws_acts.specs.vat_machine.specs.declared.entries.Resolution.{Resolution}
-use Rattle.laws_acts.specs.vat_machine.specs.declared.entries.Resolution.TheVariants as resolution
-use Rattle.laws_acts.specs.vat_machine.specs.declared.entries.Question.{Question}
-use Rattle.laws_acts.specs.vat_machine.specs.declared.entries.Import.{Import}
-use Rattle.laws_acts.specs.vat_machine.specs.declared.entries.Reference.{Reference}
-use Rattle.laws_acts.specs.vat_machine.specs.declared.entries.Embargo.{Embargo}
-use Rattle.laws_acts.specs.vat_machine.specs.State.{State}
-use Rattle.laws_acts.specs.vat_machine.specs.Nodes.{settle}
-use Rattle.laws_acts.specs.vat_machine.specs.Places.{named_by_reference, named_by_calls, named_by_embargo, named_by_question, named_by_import, nodes}
-use Rattle.laws_acts.specs.vat_machine.specs.Progress.{Progress, with_state, caps_of}
-use Rattle.laws_acts.specs.vat_machine.specs.Settling.{SettlesOpen, SettlesFrom, SettlesOutcome, FixesPromise}
-use Rattle.laws_acts.specs.vat_machine.specs.Commands.{head_of, heads, counted, request, field_node, with_outcome, NewRef, ClonesRef, DropsRef, settled_now, CallsDirect, CallsHere, CallsBy, WaitsForEmbargo, CallsThrough, MakesCall, NamesField, ResolvesPromise, RejectsPromise, AnswersTask, FinishesCall, Acts}
-use Rattle.laws_acts.specs.vat_machine.specs.Advancing.{Known, NothingYet, IsBroken, Leads, known_by_resolve, resolution_of, known_at, known_cap, known_by_return, returned_of, known_of_wire, known_by, wire_target, Embargoes, AdvancesBy, AdvancesTo, AdvancesFrom, Advances}
+use Rattle.laws_acts.specs.rpc_machine.specs.Payloads.{cap_at}
+use Rattle.laws_acts.specs.rpc_machine.specs.declared.node.Node.{Node}
+use Rattle.laws_acts.specs.rpc_machine.specs.declared.node.Node.TheVariants as node
+use Rattle.laws_acts.specs.rpc_machine.specs.declared.command.Command.{Command}
+use Rattle.laws_acts.specs.rpc_machine.specs.declared.command.Command.TheVariants as command
+use Rattle.laws_acts.specs.rpc_machine.specs.declared.command.CallCommand.{CallCommand}
+use Rattle.laws_acts.specs.rpc_machine.specs.declared.command.Granted.{Granted}
+use Rattle.laws_acts.specs.rpc_machine.specs.declared.calls.Request.{Request}
+use Rattle.laws_acts.specs.rpc_machine.specs.declared.calls.WaitingCall.{WaitingCall}
+use Rattle.laws_acts.specs.rpc_machine.specs.declared.calls.Promise.{Promise}
+use Rattle.laws_acts.specs.rpc_machine.specs.declared.calls.Promise.TheVariants as promise
+use Rattle.laws_acts.specs.rpc_machine.specs.declared.calls.KeptOutcome.{KeptOutcome}
+use Rattle.laws_acts.specs.rpc_machine.specs.declared.calls.Value.{Value}
+use Rattle.laws_acts.specs.rpc_machine.specs.declared.calls.Value.TheVariants as value
+use Rattle.laws_acts.specs.rpc_machine.specs.declared.calls.Caller.{Caller}
+use Rattle.laws_acts.specs.rpc_machine.specs.declared.calls.Caller.TheVariants as caller
+use Rattle.laws_acts.specs.rpc_machine.specs.declared.calls.OwnCall.{OwnCall}
+use Rattle.laws_acts.specs.rpc_machine.specs.declared.calls.OwnCall.TheVariants as own
+use Rattle.laws_acts.specs.rpc_machine.specs.declared.entries.Role.TheVariants as role
+use Rattle.laws_acts.specs.rpc_machine.specs.declared.entries.Returned.{Returned}
+use Rattle.laws_acts.specs.rpc_machine.specs.declared.entries.Returned.TheVariants as back
+use Rattle.laws_acts.specs.rpc_machine.specs.declared.entries.Resolution.{Resolution}
+use Rattle.laws_acts.specs.rpc_machine.specs.declared.entries.Resolution.TheVariants as resolution
+use Rattle.laws_acts.specs.rpc_machine.specs.declared.entries.Question.{Question}
+use Rattle.laws_acts.specs.rpc_machine.specs.declared.entries.Import.{Import}
+use Rattle.laws_acts.specs.rpc_machine.specs.declared.entries.Reference.{Reference}
+use Rattle.laws_acts.specs.rpc_machine.specs.declared.entries.Embargo.{Embargo}
+use Rattle.laws_acts.specs.rpc_machine.specs.State.{State}
+use Rattle.laws_acts.specs.rpc_machine.specs.Nodes.{settle}
+use Rattle.laws_acts.specs.rpc_machine.specs.Places.{named_by_reference, named_by_calls, named_by_embargo, named_by_question, named_by_import, nodes}
+use Rattle.laws_acts.specs.rpc_machine.specs.Progress.{Progress, with_state, caps_of}
+use Rattle.laws_acts.specs.rpc_machine.specs.Settling.{SettlesOpen, SettlesFrom, SettlesOutcome, FixesPromise}
+use Rattle.laws_acts.specs.rpc_machine.specs.Commands.{head_of, heads, counted, request, field_node, with_outcome, NewRef, ClonesRef, DropsRef, settled_now, CallsDirect, CallsHere, CallsBy, WaitsForEmbargo, CallsThrough, MakesCall, NamesField, ResolvesPromise, RejectsPromise, AnswersTask, FinishesCall, Acts}
+use Rattle.laws_acts.specs.rpc_machine.specs.Advancing.{Known, NothingYet, IsBroken, Leads, known_by_resolve, resolution_of, known_at, known_cap, known_by_return, returned_of, known_of_wire, known_by, wire_target, Embargoes, AdvancesBy, AdvancesTo, AdvancesFrom, Advances}
 use Rattle.finite_maps.proofs.Gets.{get-insert_same}
 use Rattle.laws_steps.specs.Callers.{IsFor, peer, AnswersWith}
 use Rattle.laws_steps.proofs.NamedNodes.{Present, Asked, AllIn, EachIn, all_none, all_cons, all_one, at_put, at_cut, each_put, each_cut, each_at, HasKept, HereIn, Sound, Fine, Good, good, more_asked, set_refs, set_embargoes, set_questions, set_calls, grows_outcome, set_promise, set_outcome}

@@ -8,15 +8,15 @@ use Rattle.std.specs.FinMap.Entries as entries
 use Rattle.laws_acts.specs.rpc_msg.specs.declared.parts.Descriptor.{Descriptor}
 use Rattle.laws_acts.specs.rpc_msg.specs.Op.{Op}
 use Rattle.laws_acts.specs.rpc_msg.specs.Op.TheVariants as op
-use Rattle.laws_acts.specs.vat_machine.specs.declared.node.Node.{Node}
-use Rattle.laws_acts.specs.vat_machine.specs.declared.node.Node.TheVariants as node
-use Rattle.laws_acts.specs.vat_machine.specs.declared.entries.Export.{Export}
-use Rattle.laws_acts.specs.vat_machine.specs.State.{State}
-use Rattle.laws_acts.specs.vat_machine.specs.Nodes.{link, settle, same_op, same_path, is_same_node}
-use Rattle.laws_acts.specs.vat_machine.specs.Descriptors.{IsOther, ExportedAs, Exported, Described, DescribesAll}
-use Rattle.laws_acts.specs.vat_machine.specs.Limits.{table_limit, count_limit, export_count}
-use Rattle.laws_acts.specs.vat_machine.specs.Fullness.{is_exportable, going_out, count_among, count_of, name_lacks_room, size_then, one_more, counts_then, names_lack_room}
-use Rattle.laws_acts.specs.vat_machine.proofs.Following.{settles_alike}
+use Rattle.laws_acts.specs.rpc_machine.specs.declared.node.Node.{Node}
+use Rattle.laws_acts.specs.rpc_machine.specs.declared.node.Node.TheVariants as node
+use Rattle.laws_acts.specs.rpc_machine.specs.declared.entries.Export.{Export}
+use Rattle.laws_acts.specs.rpc_machine.specs.State.{State}
+use Rattle.laws_acts.specs.rpc_machine.specs.Nodes.{link, settle, same_op, same_path, is_same_node}
+use Rattle.laws_acts.specs.rpc_machine.specs.Descriptors.{IsOther, ExportedAs, Exported, Described, DescribesAll}
+use Rattle.laws_acts.specs.rpc_machine.specs.Limits.{table_limit, count_limit, export_count}
+use Rattle.laws_acts.specs.rpc_machine.specs.Fullness.{is_exportable, going_out, count_among, count_of, name_lacks_room, size_then, one_more, counts_then, names_lack_room}
+use Rattle.laws_acts.specs.rpc_machine.proofs.Following.{settles_alike}
 use Rattle.laws_steps.specs.Room.{HasOneEach, ExportsFit, RoomIsExact}
 use Rattle.finite_maps.proofs.Tested.{equal, itself, get_put, get_other}
 use Rattle.finite_maps.proofs.Gets.{get-insert_same}

@@ -5,30 +5,30 @@ use Rattle.std.specs.FinMap as map
 use Rattle.laws_acts.specs.rpc_msg.specs.declared.ids.Vat.{Vat}
 use Rattle.laws_acts.specs.rpc_msg.specs.declared.ids.ObjectId.{ObjectId}
 use Rattle.laws_acts.specs.rpc_msg.specs.declared.message.Message.{Message}
-use Rattle.laws_acts.specs.vat_machine.specs.declared.command.Level.{Level}
-use Rattle.laws_acts.specs.vat_machine.specs.declared.calls.OwnCall.{OwnCall}
-use Rattle.laws_acts.specs.vat_machine.specs.declared.calls.OwnCall.TheVariants as own
-use Rattle.laws_acts.specs.vat_machine.specs.declared.entries.Role.{Role}
-use Rattle.laws_acts.specs.vat_machine.specs.declared.entries.Role.TheVariants as role
-use Rattle.laws_acts.specs.vat_machine.specs.declared.entries.Finishing.{Finishing}
-use Rattle.laws_acts.specs.vat_machine.specs.declared.entries.Finishing.TheVariants as finishing
-use Rattle.laws_acts.specs.vat_machine.specs.declared.entries.Question.{Question}
-use Rattle.laws_acts.specs.vat_machine.specs.declared.entries.Import.{Import}
+use Rattle.laws_acts.specs.rpc_machine.specs.declared.command.Level.{Level}
+use Rattle.laws_acts.specs.rpc_machine.specs.declared.calls.OwnCall.{OwnCall}
+use Rattle.laws_acts.specs.rpc_machine.specs.declared.calls.OwnCall.TheVariants as own
+use Rattle.laws_acts.specs.rpc_machine.specs.declared.entries.Role.{Role}
+use Rattle.laws_acts.specs.rpc_machine.specs.declared.entries.Role.TheVariants as role
+use Rattle.laws_acts.specs.rpc_machine.specs.declared.entries.Finishing.{Finishing}
+use Rattle.laws_acts.specs.rpc_machine.specs.declared.entries.Finishing.TheVariants as finishing
+use Rattle.laws_acts.specs.rpc_machine.specs.declared.entries.Question.{Question}
+use Rattle.laws_acts.specs.rpc_machine.specs.declared.entries.Import.{Import}
 use Rattle.finite_maps.specs.Tally.{Map}
-use Rattle.laws_acts.specs.vat_machine.specs.declared.node.Node.{Node}
-use Rattle.laws_acts.specs.vat_machine.specs.declared.node.Node.TheVariants as node
-use Rattle.laws_acts.specs.vat_machine.specs.declared.command.Command.{Command}
-use Rattle.laws_acts.specs.vat_machine.specs.declared.command.Granted.{Granted}
-use Rattle.laws_acts.specs.vat_machine.specs.declared.command.Refusal.{Refusal}
-use Rattle.laws_acts.specs.vat_machine.specs.declared.command.Effects.{Effects}
-use Rattle.laws_acts.specs.vat_machine.specs.State.{State, start}
-use Rattle.laws_acts.specs.vat_machine.specs.Places.{named_by_reference, named_by_embargo, named_by_promise, named_by_outcome, named_by_question, named_by_import, named_by_export, named_by_answer, places, names}
-use Rattle.laws_acts.specs.vat_machine.specs.Nodes.{is_import}
-use Rattle.laws_acts.specs.vat_machine.specs.Collecting.{IsLoosePromise, IsLooseOutcome, IsLooseImport, IsTight}
-use Rattle.laws_acts.specs.vat_machine.specs.Sweeping.{IsNotSent}
-use Rattle.laws_acts.specs.vat_machine.specs.Lists.{how_many, of_map}
-use Rattle.laws_acts.specs.vat_machine.specs.Down.{IsUnchanged, ShutsFrom, fallen}
-use Rattle.laws_acts.specs.vat_machine.specs.Steps.{Obeys, Refuses, LacksMemory, GoesDown, Shuts, IsDone, Receives, WasDown, FaultsBy, LacksRoom, IsHandled}
+use Rattle.laws_acts.specs.rpc_machine.specs.declared.node.Node.{Node}
+use Rattle.laws_acts.specs.rpc_machine.specs.declared.node.Node.TheVariants as node
+use Rattle.laws_acts.specs.rpc_machine.specs.declared.command.Command.{Command}
+use Rattle.laws_acts.specs.rpc_machine.specs.declared.command.Granted.{Granted}
+use Rattle.laws_acts.specs.rpc_machine.specs.declared.command.Refusal.{Refusal}
+use Rattle.laws_acts.specs.rpc_machine.specs.declared.command.Effects.{Effects}
+use Rattle.laws_acts.specs.rpc_machine.specs.State.{State, start}
+use Rattle.laws_acts.specs.rpc_machine.specs.Places.{named_by_reference, named_by_embargo, named_by_promise, named_by_outcome, named_by_question, named_by_import, named_by_export, named_by_answer, places, names}
+use Rattle.laws_acts.specs.rpc_machine.specs.Nodes.{is_import}
+use Rattle.laws_acts.specs.rpc_machine.specs.Collecting.{IsLoosePromise, IsLooseOutcome, IsLooseImport, IsTight}
+use Rattle.laws_acts.specs.rpc_machine.specs.Sweeping.{IsNotSent}
+use Rattle.laws_acts.specs.rpc_machine.specs.Lists.{how_many, of_map}
+use Rattle.laws_acts.specs.rpc_machine.specs.Down.{IsUnchanged, ShutsFrom, fallen}
+use Rattle.laws_acts.specs.rpc_machine.specs.Steps.{Obeys, Refuses, LacksMemory, GoesDown, Shuts, IsDone, Receives, WasDown, FaultsBy, LacksRoom, IsHandled}
 use Rattle.laws_steps.specs.Settled.{IsThere, IsAmong, AreThere}
 use Rattle.laws_steps.specs.NodesThere.{ComesTo, Stays, Commanded, Received, Fell, IsReached, Stands, IsWhole, NodesAreThere}
 use Rattle.laws_steps.proofs.Among.{by_entry, where_named}

@@ -9,24 +9,24 @@ use Rattle.laws_acts.specs.rpc_msg.specs.declared.exception.Exception.{Exception
 use Rattle.laws_acts.specs.rpc_msg.specs.declared.message.Message.{Message}
 use Rattle.finite_maps.specs.Tally.{Map}
 use Rattle.finite_maps.proofs.Tested.{at_put, at_cut}
-use Rattle.laws_acts.specs.vat_machine.specs.declared.node.Node.{Node}
-use Rattle.laws_acts.specs.vat_machine.specs.declared.node.Node.TheVariants as node
-use Rattle.laws_acts.specs.vat_machine.specs.declared.node.Reason.TheVariants.{BrokenPromise}
-use Rattle.laws_acts.specs.vat_machine.specs.declared.calls.WaitingCall.{WaitingCall}
-use Rattle.laws_acts.specs.vat_machine.specs.declared.calls.HeldCall.{HeldCall}
-use Rattle.laws_acts.specs.vat_machine.specs.declared.calls.Caller.{Caller}
-use Rattle.laws_acts.specs.vat_machine.specs.declared.calls.Caller.TheVariants as caller
-use Rattle.laws_acts.specs.vat_machine.specs.declared.calls.Promise.{Promise}
-use Rattle.laws_acts.specs.vat_machine.specs.declared.calls.Promise.TheVariants as promise
-use Rattle.laws_acts.specs.vat_machine.specs.declared.calls.Value.{Value}
-use Rattle.laws_acts.specs.vat_machine.specs.declared.calls.Value.TheVariants as value
-use Rattle.laws_acts.specs.vat_machine.specs.declared.calls.KeptOutcome.{KeptOutcome}
-use Rattle.laws_acts.specs.vat_machine.specs.declared.command.Command.{Command}
-use Rattle.laws_acts.specs.vat_machine.specs.declared.command.Granted.{Granted}
-use Rattle.laws_acts.specs.vat_machine.specs.State.{State}
-use Rattle.laws_acts.specs.vat_machine.specs.Nodes.{value_of}
-use Rattle.laws_acts.specs.vat_machine.specs.Settling.{PutsIn, Untangles, Fits}
-use Rattle.laws_acts.specs.vat_machine.specs.Laws.{OfEachStep}
+use Rattle.laws_acts.specs.rpc_machine.specs.declared.node.Node.{Node}
+use Rattle.laws_acts.specs.rpc_machine.specs.declared.node.Node.TheVariants as node
+use Rattle.laws_acts.specs.rpc_machine.specs.declared.node.Reason.TheVariants.{BrokenPromise}
+use Rattle.laws_acts.specs.rpc_machine.specs.declared.calls.WaitingCall.{WaitingCall}
+use Rattle.laws_acts.specs.rpc_machine.specs.declared.calls.HeldCall.{HeldCall}
+use Rattle.laws_acts.specs.rpc_machine.specs.declared.calls.Caller.{Caller}
+use Rattle.laws_acts.specs.rpc_machine.specs.declared.calls.Caller.TheVariants as caller
+use Rattle.laws_acts.specs.rpc_machine.specs.declared.calls.Promise.{Promise}
+use Rattle.laws_acts.specs.rpc_machine.specs.declared.calls.Promise.TheVariants as promise
+use Rattle.laws_acts.specs.rpc_machine.specs.declared.calls.Value.{Value}
+use Rattle.laws_acts.specs.rpc_machine.specs.declared.calls.Value.TheVariants as value
+use Rattle.laws_acts.specs.rpc_machine.specs.declared.calls.KeptOutcome.{KeptOutcome}
+use Rattle.laws_acts.specs.rpc_machine.specs.declared.command.Command.{Command}
+use Rattle.laws_acts.specs.rpc_machine.specs.declared.command.Granted.{Granted}
+use Rattle.laws_acts.specs.rpc_machine.specs.State.{State}
+use Rattle.laws_acts.specs.rpc_machine.specs.Nodes.{value_of}
+use Rattle.laws_acts.specs.rpc_machine.specs.Settling.{PutsIn, Untangles, Fits}
+use Rattle.laws_acts.specs.rpc_machine.specs.Laws.{OfEachStep}
 use Rattle.laws_acts.specs.Moments.{Clearing, Moment, beginning, is_collecting}
 use Rattle.laws_acts.specs.FirstActs.{Starts}
 use Rattle.laws_acts.specs.FirstActs as first

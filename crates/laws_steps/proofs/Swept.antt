@@ -5,26 +5,26 @@ use Rattle.std.specs.Ordering.{nat_cmp, eq_by_cmp}
 use Rattle.std.specs.FinMap as map
 use Rattle.std.specs.FinMap.Entries as entries
 use Rattle.finite_maps.specs.Tally.{Map}
-use Rattle.laws_acts.specs.vat_machine.specs.declared.node.Node.{Node}
-use Rattle.laws_acts.specs.vat_machine.specs.declared.node.Node.TheVariants as node
-use Rattle.laws_acts.specs.vat_machine.specs.declared.calls.OwnCall.{OwnCall}
-use Rattle.laws_acts.specs.vat_machine.specs.declared.calls.OwnCall.TheVariants as own
-use Rattle.laws_acts.specs.vat_machine.specs.declared.command.Level.{Level}
-use Rattle.laws_acts.specs.vat_machine.specs.declared.command.Level.TheVariants.{One}
-use Rattle.laws_acts.specs.vat_machine.specs.declared.entries.Role.{Role}
-use Rattle.laws_acts.specs.vat_machine.specs.declared.entries.Role.TheVariants as role
-use Rattle.laws_acts.specs.vat_machine.specs.declared.entries.Finishing.{Finishing}
-use Rattle.laws_acts.specs.vat_machine.specs.declared.entries.Finishing.TheVariants as finishing
-use Rattle.laws_acts.specs.vat_machine.specs.declared.entries.Returned.{Returned}
-use Rattle.laws_acts.specs.vat_machine.specs.declared.entries.Question.{Question}
-use Rattle.laws_acts.specs.vat_machine.specs.State.{State}
-use Rattle.laws_acts.specs.vat_machine.specs.Lists.{how_many}
-use Rattle.laws_acts.specs.vat_machine.specs.Nodes.{is_import, is_pipe}
-use Rattle.laws_acts.specs.vat_machine.specs.Places.{named_by_question, named_by_returned, places, names}
-use Rattle.laws_acts.specs.vat_machine.specs.Progress.{Progress, with_state}
-use Rattle.laws_acts.specs.vat_machine.specs.Collecting.{IsTight, Collects}
-use Rattle.laws_acts.specs.vat_machine.specs.Flags.{give_if, give_back, flag_for}
-use Rattle.laws_acts.specs.vat_machine.specs.Sweeping.{IsOver, IsNotSent, closed_map, closed, Withers, Over, Thing, Asked, got_of, finished_by, FinishesEach, release_each, Sweeps}
+use Rattle.laws_acts.specs.rpc_machine.specs.declared.node.Node.{Node}
+use Rattle.laws_acts.specs.rpc_machine.specs.declared.node.Node.TheVariants as node
+use Rattle.laws_acts.specs.rpc_machine.specs.declared.calls.OwnCall.{OwnCall}
+use Rattle.laws_acts.specs.rpc_machine.specs.declared.calls.OwnCall.TheVariants as own
+use Rattle.laws_acts.specs.rpc_machine.specs.declared.command.Level.{Level}
+use Rattle.laws_acts.specs.rpc_machine.specs.declared.command.Level.TheVariants.{One}
+use Rattle.laws_acts.specs.rpc_machine.specs.declared.entries.Role.{Role}
+use Rattle.laws_acts.specs.rpc_machine.specs.declared.entries.Role.TheVariants as role
+use Rattle.laws_acts.specs.rpc_machine.specs.declared.entries.Finishing.{Finishing}
+use Rattle.laws_acts.specs.rpc_machine.specs.declared.entries.Finishing.TheVariants as finishing
+use Rattle.laws_acts.specs.rpc_machine.specs.declared.entries.Returned.{Returned}
+use Rattle.laws_acts.specs.rpc_machine.specs.declared.entries.Question.{Question}
+use Rattle.laws_acts.specs.rpc_machine.specs.State.{State}
+use Rattle.laws_acts.specs.rpc_machine.specs.Lists.{how_many}
+use Rattle.laws_acts.specs.rpc_machine.specs.Nodes.{is_import, is_pipe}
+use Rattle.laws_acts.specs.rpc_machine.specs.Places.{named_by_question, named_by_returned, places, names}
+use Rattle.laws_acts.specs.rpc_machine.specs.Progress.{Progress, with_state}
+use Rattle.laws_acts.specs.rpc_machine.specs.Collecting.{IsTight, Collects}
+use Rattle.laws_acts.specs.rpc_machine.specs.Flags.{give_if, give_back, flag_for}
+use Rattle.laws_acts.specs.rpc_machine.specs.Sweeping.{IsOver, IsNotSent, closed_map, closed, Withers, Over, Thing, Asked, got_of, finished_by, FinishesEach, release_each, Sweeps}
 use Rattle.laws_steps.specs.Settled.{IsAmong}
 use Rattle.finite_maps.proofs.Gets.{get-insert_same, get-remove_same}
 use Rattle.finite_maps.proofs.Tested.{ties, equal, itself, untied, get_other, get_left}

@@ -6,27 +6,27 @@ use Rattle.laws_acts.specs.rpc_msg.specs.declared.parts.Descriptor.{Descriptor}
 use Rattle.laws_acts.specs.rpc_msg.specs.declared.parts.Descriptor.TheVariants as descriptor
 use Rattle.laws_acts.specs.rpc_msg.specs.Messages.{given}
 use Rattle.finite_maps.specs.Tally.{Map}
-use Rattle.laws_acts.specs.vat_machine.specs.declared.node.Node.{Node}
-use Rattle.laws_acts.specs.vat_machine.specs.declared.node.Node.TheVariants as node
-use Rattle.laws_acts.specs.vat_machine.specs.declared.node.Reason.{Reason}
-use Rattle.laws_acts.specs.vat_machine.specs.declared.command.Level.{Level}
-use Rattle.laws_acts.specs.vat_machine.specs.declared.command.Level.TheVariants.{Zero, One}
-use Rattle.laws_acts.specs.vat_machine.specs.declared.calls.KeptOutcome.{KeptOutcome}
-use Rattle.laws_acts.specs.vat_machine.specs.declared.calls.Caller.{Caller}
-use Rattle.laws_acts.specs.vat_machine.specs.declared.entries.SenderKind.{SenderKind}
-use Rattle.laws_acts.specs.vat_machine.specs.declared.entries.SenderKind.TheVariants as kind
-use Rattle.laws_acts.specs.vat_machine.specs.declared.entries.Returned.TheVariants as back
-use Rattle.laws_acts.specs.vat_machine.specs.declared.entries.Question.{Question}
-use Rattle.laws_acts.specs.vat_machine.specs.declared.entries.AnswerEntry.{AnswerEntry}
-use Rattle.laws_acts.specs.vat_machine.specs.declared.entries.Import.{Import}
-use Rattle.laws_acts.specs.vat_machine.specs.declared.entries.Export.{Export}
-use Rattle.laws_acts.specs.vat_machine.specs.State.{State}
-use Rattle.laws_acts.specs.vat_machine.specs.Lists.{how_many}
-use Rattle.laws_acts.specs.vat_machine.specs.Nodes.{is_import}
-use Rattle.laws_acts.specs.vat_machine.specs.Places.{imports_of, named_by_import, named_by_export, nodes}
-use Rattle.laws_acts.specs.vat_machine.specs.Progress.{export_ids}
-use Rattle.laws_acts.specs.vat_machine.specs.Descriptors.{export_node, answer_node, read_one, read, read_all, read_beside, received, import_one, take_one, take_each, take_at, take_all, taken_of}
-use Rattle.laws_acts.specs.vat_machine.specs.Sweeping.{descriptors_said}
+use Rattle.laws_acts.specs.rpc_machine.specs.declared.node.Node.{Node}
+use Rattle.laws_acts.specs.rpc_machine.specs.declared.node.Node.TheVariants as node
+use Rattle.laws_acts.specs.rpc_machine.specs.declared.node.Reason.{Reason}
+use Rattle.laws_acts.specs.rpc_machine.specs.declared.command.Level.{Level}
+use Rattle.laws_acts.specs.rpc_machine.specs.declared.command.Level.TheVariants.{Zero, One}
+use Rattle.laws_acts.specs.rpc_machine.specs.declared.calls.KeptOutcome.{KeptOutcome}
+use Rattle.laws_acts.specs.rpc_machine.specs.declared.calls.Caller.{Caller}
+use Rattle.laws_acts.specs.rpc_machine.specs.declared.entries.SenderKind.{SenderKind}
+use Rattle.laws_acts.specs.rpc_machine.specs.declared.entries.SenderKind.TheVariants as kind
+use Rattle.laws_acts.specs.rpc_machine.specs.declared.entries.Returned.TheVariants as back
+use Rattle.laws_acts.specs.rpc_machine.specs.declared.entries.Question.{Question}
+use Rattle.laws_acts.specs.rpc_machine.specs.declared.entries.AnswerEntry.{AnswerEntry}
+use Rattle.laws_acts.specs.rpc_machine.specs.declared.entries.Import.{Import}
+use Rattle.laws_acts.specs.rpc_machine.specs.declared.entries.Export.{Export}
+use Rattle.laws_acts.specs.rpc_machine.specs.State.{State}
+use Rattle.laws_acts.specs.rpc_machine.specs.Lists.{how_many}
+use Rattle.laws_acts.specs.rpc_machine.specs.Nodes.{is_import}
+use Rattle.laws_acts.specs.rpc_machine.specs.Places.{imports_of, named_by_import, named_by_export, nodes}
+use Rattle.laws_acts.specs.rpc_machine.specs.Progress.{export_ids}
+use Rattle.laws_acts.specs.rpc_machine.specs.Descriptors.{export_node, answer_node, read_one, read, read_all, read_beside, received, import_one, take_one, take_each, take_at, take_all, taken_of}
+use Rattle.laws_acts.specs.rpc_machine.specs.Sweeping.{descriptors_said}
 use Rattle.finite_maps.proofs.Gets.{get-insert_same}
 use Rattle.finite_maps.proofs.Tested.{sides}
 use Rattle.laws_steps.specs.Callers.{IsFor, peer, HasOutcome}

@@ -4,18 +4,18 @@ use Rattle.std.specs.Ordering.{nat_cmp}
 use Rattle.std.specs.FinMap as map
 use Rattle.laws_acts.specs.rpc_msg.specs.declared.message.Message.{Message}
 use Rattle.finite_maps.specs.Tally.{Map}
-use Rattle.laws_acts.specs.vat_machine.specs.declared.node.Node.{Node}
-use Rattle.laws_acts.specs.vat_machine.specs.declared.command.Command.{Command}
-use Rattle.laws_acts.specs.vat_machine.specs.declared.command.Granted.{Granted}
-use Rattle.laws_acts.specs.vat_machine.specs.declared.command.Effects.{Effects}
-use Rattle.laws_acts.specs.vat_machine.specs.State.{State, start}
-use Rattle.laws_acts.specs.vat_machine.specs.Lists.{update, updated}
-use Rattle.laws_acts.specs.vat_machine.specs.Progress.{with_refs, caps_of, quiet}
-use Rattle.laws_acts.specs.vat_machine.specs.Messages.{unembargoed}
-use Rattle.laws_acts.specs.vat_machine.specs.Down.{fallen}
-use Rattle.laws_acts.specs.vat_machine.specs.Faults.{fault_of}
-use Rattle.laws_acts.specs.vat_machine.specs.Laws.{OfEachStep}
-use Rattle.laws_acts.specs.vat_machine.specs.Steps.{Does, Handles}
+use Rattle.laws_acts.specs.rpc_machine.specs.declared.node.Node.{Node}
+use Rattle.laws_acts.specs.rpc_machine.specs.declared.command.Command.{Command}
+use Rattle.laws_acts.specs.rpc_machine.specs.declared.command.Granted.{Granted}
+use Rattle.laws_acts.specs.rpc_machine.specs.declared.command.Effects.{Effects}
+use Rattle.laws_acts.specs.rpc_machine.specs.State.{State, start}
+use Rattle.laws_acts.specs.rpc_machine.specs.Lists.{update, updated}
+use Rattle.laws_acts.specs.rpc_machine.specs.Progress.{with_refs, caps_of, quiet}
+use Rattle.laws_acts.specs.rpc_machine.specs.Messages.{unembargoed}
+use Rattle.laws_acts.specs.rpc_machine.specs.Down.{fallen}
+use Rattle.laws_acts.specs.rpc_machine.specs.Faults.{fault_of}
+use Rattle.laws_acts.specs.rpc_machine.specs.Laws.{OfEachStep}
+use Rattle.laws_acts.specs.rpc_machine.specs.Steps.{Does, Handles}
 use Rattle.laws_acts.specs.Moments.{Moment, beginning}
 use Rattle.laws_acts.specs.FirstActs.{Starts}
 use Rattle.laws_acts.specs.FirstActs as first

@@ -2,17 +2,17 @@
 use Rattle.std.specs.Prelude.{◌≡◌, ℕ, Option, None, Some}
 use Rattle.std.specs.FinMap as map
 use Rattle.finite_maps.specs.Tally.{Map}
-use Rattle.laws_acts.specs.vat_machine.specs.declared.calls.Caller.{Caller}
-use Rattle.laws_acts.specs.vat_machine.specs.declared.calls.Caller.TheVariants as caller
-use Rattle.laws_acts.specs.vat_machine.specs.declared.calls.KeptOutcome.{KeptOutcome}
-use Rattle.laws_acts.specs.vat_machine.specs.declared.calls.OwnCall.{OwnCall}
-use Rattle.laws_acts.specs.vat_machine.specs.declared.calls.OwnCall.TheVariants as own
-use Rattle.laws_acts.specs.vat_machine.specs.declared.entries.Role.{Role}
-use Rattle.laws_acts.specs.vat_machine.specs.declared.entries.Role.TheVariants as role
-use Rattle.laws_acts.specs.vat_machine.specs.declared.entries.Question.{Question}
-use Rattle.laws_acts.specs.vat_machine.specs.declared.entries.AnswerEntry.{AnswerEntry}
-use Rattle.laws_acts.specs.vat_machine.specs.State.{State}
-use Rattle.laws_acts.specs.vat_machine.specs.Sweeping.{IsNotSent}
+use Rattle.laws_acts.specs.rpc_machine.specs.declared.calls.Caller.{Caller}
+use Rattle.laws_acts.specs.rpc_machine.specs.declared.calls.Caller.TheVariants as caller
+use Rattle.laws_acts.specs.rpc_machine.specs.declared.calls.KeptOutcome.{KeptOutcome}
+use Rattle.laws_acts.specs.rpc_machine.specs.declared.calls.OwnCall.{OwnCall}
+use Rattle.laws_acts.specs.rpc_machine.specs.declared.calls.OwnCall.TheVariants as own
+use Rattle.laws_acts.specs.rpc_machine.specs.declared.entries.Role.{Role}
+use Rattle.laws_acts.specs.rpc_machine.specs.declared.entries.Role.TheVariants as role
+use Rattle.laws_acts.specs.rpc_machine.specs.declared.entries.Question.{Question}
+use Rattle.laws_acts.specs.rpc_machine.specs.declared.entries.AnswerEntry.{AnswerEntry}
+use Rattle.laws_acts.specs.rpc_machine.specs.State.{State}
+use Rattle.laws_acts.specs.rpc_machine.specs.Sweeping.{IsNotSent}
 
 abbrev pub IsDirectFor : ℕ → Role → Type 0
 IsDirectFor c (role.Direct k) = k.0 ≡ c

@@ -5,20 +5,20 @@ use Rattle.std.specs.FinMap as map
 use Rattle.laws_acts.specs.rpc_msg.specs.declared.ids.Vat.{Vat}
 use Rattle.laws_acts.specs.rpc_msg.specs.declared.ids.ObjectId.{ObjectId}
 use Rattle.laws_acts.specs.rpc_msg.specs.declared.message.Message.{Message}
-use Rattle.laws_acts.specs.vat_machine.specs.declared.command.Level.{Level}
-use Rattle.laws_acts.specs.vat_machine.specs.declared.command.Command.{Command}
-use Rattle.laws_acts.specs.vat_machine.specs.declared.command.Granted.{Granted}
-use Rattle.laws_acts.specs.vat_machine.specs.declared.command.Refusal.{Refusal}
-use Rattle.laws_acts.specs.vat_machine.specs.declared.command.Effects.{Effects}
-use Rattle.laws_acts.specs.vat_machine.specs.State.{State, start}
-use Rattle.laws_acts.specs.vat_machine.specs.Down.{fallen}
-use Rattle.laws_acts.specs.vat_machine.specs.Steps.{Obeys, Receives}
-use Rattle.laws_acts.specs.vat_machine.specs.Claims.{EveryRun}
-use Rattle.laws_acts.specs.vat_machine.specs.declared.node.Node.{Node}
-use Rattle.laws_acts.specs.vat_machine.specs.declared.node.Node.TheVariants as node
-use Rattle.laws_acts.specs.vat_machine.specs.declared.entries.Import.{Import}
-use Rattle.laws_acts.specs.vat_machine.specs.Nodes.{settle, is_open, is_import}
-use Rattle.laws_acts.specs.vat_machine.specs.Places.{places, names}
+use Rattle.laws_acts.specs.rpc_machine.specs.declared.command.Level.{Level}
+use Rattle.laws_acts.specs.rpc_machine.specs.declared.command.Command.{Command}
+use Rattle.laws_acts.specs.rpc_machine.specs.declared.command.Granted.{Granted}
+use Rattle.laws_acts.specs.rpc_machine.specs.declared.command.Refusal.{Refusal}
+use Rattle.laws_acts.specs.rpc_machine.specs.declared.command.Effects.{Effects}
+use Rattle.laws_acts.specs.rpc_machine.specs.State.{State, start}
+use Rattle.laws_acts.specs.rpc_machine.specs.Down.{fallen}
+use Rattle.laws_acts.specs.rpc_machine.specs.Steps.{Obeys, Receives}
+use Rattle.laws_acts.specs.rpc_machine.specs.Claims.{EveryRun}
+use Rattle.laws_acts.specs.rpc_machine.specs.declared.node.Node.{Node}
+use Rattle.laws_acts.specs.rpc_machine.specs.declared.node.Node.TheVariants as node
+use Rattle.laws_acts.specs.rpc_machine.specs.declared.entries.Import.{Import}
+use Rattle.laws_acts.specs.rpc_machine.specs.Nodes.{settle, is_open, is_import}
+use Rattle.laws_acts.specs.rpc_machine.specs.Places.{places, names}
 use Rattle.laws_steps.specs.Settled.{IsThere, IsAmong}
 use Rattle.laws_steps.specs.Callers.{IsAskedFor, CallersAreServed}
 

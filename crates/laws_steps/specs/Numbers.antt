@@ -5,10 +5,10 @@ use Rattle.std.specs.FinMap as map
 use Rattle.laws_acts.specs.rpc_msg.specs.declared.ids.Vat.{Vat}
 use Rattle.laws_acts.specs.rpc_msg.specs.declared.ids.ObjectId.{ObjectId}
 use Rattle.finite_maps.specs.Tally.{Map}
-use Rattle.laws_acts.specs.vat_machine.specs.declared.command.Level.{Level}
-use Rattle.laws_acts.specs.vat_machine.specs.declared.command.Effects.{Effects}
-use Rattle.laws_acts.specs.vat_machine.specs.State.{State, start}
-use Rattle.laws_acts.specs.vat_machine.specs.Laws.{OfEachStep}
+use Rattle.laws_acts.specs.rpc_machine.specs.declared.command.Level.{Level}
+use Rattle.laws_acts.specs.rpc_machine.specs.declared.command.Effects.{Effects}
+use Rattle.laws_acts.specs.rpc_machine.specs.State.{State, start}
+use Rattle.laws_acts.specs.rpc_machine.specs.Laws.{OfEachStep}
 
 -- No entry has that number, or a greater one.
 abbrev pub AllBelow : {X : Type 0} → Map X → ℕ → Type 0

@@ -2,12 +2,12 @@
 use Rattle.std.specs.Prelude.{◌≡◌, ◌≤◌, ◌<◌, ◌↔◌, ℕ, false, Some, List}
 use Rattle.std.specs.FinMap as map
 use Rattle.laws_acts.specs.rpc_msg.specs.declared.parts.Descriptor.{Descriptor}
-use Rattle.laws_acts.specs.vat_machine.specs.declared.node.Node.{Node}
-use Rattle.laws_acts.specs.vat_machine.specs.declared.entries.Export.{Export}
-use Rattle.laws_acts.specs.vat_machine.specs.State.{State}
-use Rattle.laws_acts.specs.vat_machine.specs.Descriptors.{DescribesAll}
-use Rattle.laws_acts.specs.vat_machine.specs.Limits.{table_limit, count_limit, export_count}
-use Rattle.laws_acts.specs.vat_machine.specs.Fullness.{going_out, exports_lack_room}
+use Rattle.laws_acts.specs.rpc_machine.specs.declared.node.Node.{Node}
+use Rattle.laws_acts.specs.rpc_machine.specs.declared.entries.Export.{Export}
+use Rattle.laws_acts.specs.rpc_machine.specs.State.{State}
+use Rattle.laws_acts.specs.rpc_machine.specs.Descriptors.{DescribesAll}
+use Rattle.laws_acts.specs.rpc_machine.specs.Limits.{table_limit, count_limit, export_count}
+use Rattle.laws_acts.specs.rpc_machine.specs.Fullness.{going_out, exports_lack_room}
 
 -- No two exports stand for one node.
 abbrev pub HasOneEach : State → Type 0

@@ -1,15 +1,15 @@
 -- What is settled stays settled, and leads to the same place (docs/protocol.md, "Where a node leads").
 use Rattle.std.specs.Prelude.{◌≡◌, ◌⊎◌, ℕ, false, None, Some, IsSome, List, [], ◌∷◌}
 use Rattle.std.specs.FinMap as map
-use Rattle.laws_acts.specs.vat_machine.specs.declared.node.Node.{Node}
-use Rattle.laws_acts.specs.vat_machine.specs.declared.node.Node.TheVariants as node
-use Rattle.laws_acts.specs.vat_machine.specs.declared.calls.Promise.TheVariants as promise
-use Rattle.laws_acts.specs.vat_machine.specs.declared.calls.Value.{Value}
-use Rattle.laws_acts.specs.vat_machine.specs.declared.command.Effects.{Effects}
-use Rattle.laws_acts.specs.vat_machine.specs.State.{State}
-use Rattle.laws_acts.specs.vat_machine.specs.Nodes.{value_of, settle, is_open}
-use Rattle.laws_acts.specs.vat_machine.specs.Places.{places}
-use Rattle.laws_acts.specs.vat_machine.specs.Laws.{Stops}
+use Rattle.laws_acts.specs.rpc_machine.specs.declared.node.Node.{Node}
+use Rattle.laws_acts.specs.rpc_machine.specs.declared.node.Node.TheVariants as node
+use Rattle.laws_acts.specs.rpc_machine.specs.declared.calls.Promise.TheVariants as promise
+use Rattle.laws_acts.specs.rpc_machine.specs.declared.calls.Value.{Value}
+use Rattle.laws_acts.specs.rpc_machine.specs.declared.command.Effects.{Effects}
+use Rattle.laws_acts.specs.rpc_machine.specs.State.{State}
+use Rattle.laws_acts.specs.rpc_machine.specs.Nodes.{value_of, settle, is_open}
+use Rattle.laws_acts.specs.rpc_machine.specs.Places.{places}
+use Rattle.laws_acts.specs.rpc_machine.specs.Laws.{Stops}
 
 -- A settled promise, and a known outcome, says the same in every state in which it still stands.
 pub record SaysTheSame (s : State) (effects : Effects) (t : State) : Type 0 where

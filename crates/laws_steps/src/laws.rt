@@ -1,12 +1,12 @@
 //! The functions run no code: what each ensures is the law.
 
-ghost use Rattle.laws_acts.specs.vat_machine.specs.Laws.{OfEachStep};
+ghost use Rattle.laws_acts.specs.rpc_machine.specs.Laws.{OfEachStep};
 ghost use Rattle.laws_steps.specs.Numbers.{NumbersRise, NumbersUsedOnce};
 ghost use Rattle.laws_steps.specs.Settled.{SaysTheSame, LeadsOn, StaysSettled};
 ghost use Rattle.laws_steps.specs.Room.{RoomIsExact};
 ghost use Rattle.laws_steps.specs.NodesThere.{NodesAreThere, NodesThereInRuns, SettledForGood};
 
-use laws_acts::vat_machine::settles_where_it_leads;
+use laws_acts::rpc_machine::settles_where_it_leads;
 
 /// References, calls, tasks and promises get numbers that only rise, in every step.
 pub fn numbers_only_rise()

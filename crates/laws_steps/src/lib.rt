@@ -1,4 +1,4 @@
-//! Laws over every step of the machine of `vat_machine`. No code runs here: what each function ensures is the law.
+//! Laws over every step of the machine of `rpc_machine`. No code runs here: what each function ensures is the law.
 #![tactic(auto)]
 
 mod laws;

@@ -9,16 +9,16 @@ use Rattle.rpc_msg.specs.declared.message.Message.TheVariants as message
 use Rattle.rpc_msg.specs.declared.message.Return.{Return}
 use Rattle.rpc_msg.specs.declared.message.Finish.{Finish}
 use Rattle.rpc_msg.specs.Messages.{given, descriptors_of_body}
-use Rattle.vat_machine.specs.State.{State}
-use Rattle.vat_machine.specs.Lists.{how_many}
-use Rattle.vat_machine.specs.UnderWay.{if_true}
+use Rattle.rpc_machine.specs.State.{State}
+use Rattle.rpc_machine.specs.Lists.{how_many}
+use Rattle.rpc_machine.specs.UnderWay.{if_true}
 use Rattle.laws_acts.specs.Sent.{Ids, Noted, messages}
 use Rattle.laws_runs.specs.Questions as session
 use Rattle.laws_runs.specs.Questions.{Asker, Answerer, Out, Ret, IsJust, Sends, Asks, GivesUp, IsDone, Returns, Answers, Cancels, Row, Idle, Closing, Sent, SentBehind, Held, Returning, Returned, EarlySent, EarlyBehind, EarlyHeld, EarlyCrossed, EarlyWaits, EarlyReturning, hear_one, tell_one}
 use Rattle.laws_runs.specs.Views.{asker_of, answerer_of, if_flag, only, out_of, ret_of, outs, rets, SendsAll, ReturnsAll, tell, hear, Moves, Gets}
 use Rattle.laws_runs.specs.Imports.{lets_of}
-use Rattle.trace_check.proofs.Saying.{handed_more}
-use Rattle.trace_check.specs.Counts.{CountsById, count_of, one_each, handed_on, is_question, is_answer, last_that, handed_on_by, released_after}
+use Rattle.rpc_check.proofs.Saying.{handed_more}
+use Rattle.rpc_check.specs.Counts.{CountsById, count_of, one_each, handed_on, is_question, is_answer, last_that, handed_on_by, released_after}
 
 -- ---- The last of each id
 

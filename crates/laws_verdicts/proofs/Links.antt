@@ -10,15 +10,15 @@ use Rattle.rpc_msg.specs.declared.ids.Vat.TheVariants.{A, B}
 use Rattle.rpc_msg.specs.declared.ids.ObjectId.{ObjectId}
 use Rattle.rpc_msg.specs.declared.message.Message.{Message}
 use Rattle.rpc_msg.specs.Vats.{other_vat}
-use Rattle.vat_journal.specs.declared.entry.JournalEntry.{JournalEntry}
-use Rattle.vat_journal.specs.declared.entry.JournalEntry.TheVariants as entry
-use Rattle.vat_machine.specs.declared.command.Effects.{Effects}
-use Rattle.vat_machine.specs.State.{State}
-use Rattle.vat_machine.specs.World.{World, core, inbox, put_inbox, after, tables_entry}
-use Rattle.vat_machine.specs.Journal.{Journaled, effect_entries, event_entries}
+use Rattle.rpc_journal.specs.declared.entry.JournalEntry.{JournalEntry}
+use Rattle.rpc_journal.specs.declared.entry.JournalEntry.TheVariants as entry
+use Rattle.rpc_machine.specs.declared.command.Effects.{Effects}
+use Rattle.rpc_machine.specs.State.{State}
+use Rattle.rpc_machine.specs.World.{World, core, inbox, put_inbox, after, tables_entry}
+use Rattle.rpc_machine.specs.Journal.{Journaled, effect_entries, event_entries}
 use Rattle.laws_runs.proofs.QuietRuns.{TellsDown, commanded_tells, message_tells, acted}
-use Rattle.trace_check.specs.Counts.{Sending}
-use Rattle.trace_check.specs.Breaches.{sent, sendings, got, is_down, on_the_way}
+use Rattle.rpc_check.specs.Counts.{Sending}
+use Rattle.rpc_check.specs.Breaches.{sent, sendings, got, is_down, on_the_way}
 use Rattle.laws_verdicts.specs.Recorded.{GoesOn, Happened, CountsNoted, nothing_yet}
 use Rattle.laws_verdicts.proofs.Events.{AreOwn, Writes, Nothing, Obeys, Takes, event_writes}
 use Rattle.laws_verdicts.proofs.Saying.{Says, after-append, behind, down-append, got-append, mute_says, obeys_mine, obeys_theirs, takes_mine, takes_theirs}

@@ -7,11 +7,11 @@ use Rattle.rpc_msg.specs.declared.message.Message.{Message}
 use Rattle.rpc_msg.specs.declared.message.Message.TheVariants as message
 use Rattle.rpc_msg.specs.Messages.{given, descriptors_of}
 use Rattle.rpc_msg.specs.Vats.{other_vat}
-use Rattle.vat_journal.specs.declared.entry.JournalEntry.{JournalEntry}
-use Rattle.vat_journal.specs.History.{in_front}
-use Rattle.vat_machine.specs.State.{State}
-use Rattle.vat_machine.specs.Lists.{how_many}
-use Rattle.vat_machine.specs.Descriptors.{giving}
+use Rattle.rpc_journal.specs.declared.entry.JournalEntry.{JournalEntry}
+use Rattle.rpc_journal.specs.History.{in_front}
+use Rattle.rpc_machine.specs.State.{State}
+use Rattle.rpc_machine.specs.Lists.{how_many}
+use Rattle.rpc_machine.specs.Descriptors.{giving}
 use Rattle.laws_acts.specs.Sent.{Noted, messages}
 use Rattle.laws_runs.specs.Views.{asker_of, answerer_of, outs, rets, Moves, Gets}
 use Rattle.laws_runs.specs.Imports.{lets_of, letting}
@@ -19,9 +19,9 @@ use Rattle.laws_runs.specs.Worlds.{AreRows}
 use Rattle.laws_runs.specs.Agreed.{Agree}
 use Rattle.laws_runs.proofs.Agreeing as agreeing
 use Rattle.laws_runs.proofs.Standing.{gets_back, gets_out}
-use Rattle.trace_check.specs.Counts.{count_of, one_each, Sending, gives, releases, of_each}
-use Rattle.trace_check.specs.Breaches.{sent, sent_one, sending, sendings_after, sending_one}
-use Rattle.trace_check.proofs.Counting.{count_of-append}
+use Rattle.rpc_check.specs.Counts.{count_of, one_each, Sending, gives, releases, of_each}
+use Rattle.rpc_check.specs.Breaches.{sent, sent_one, sending, sendings_after, sending_one}
+use Rattle.rpc_check.proofs.Counting.{count_of-append}
 use Rattle.laws_verdicts.proofs.Saying.{Says, behind, sent-append}
 use Rattle.laws_verdicts.proofs.Links.{IsLink, link_on, link_taken, message_of, messages_behind, back}
 use Rattle.laws_verdicts.proofs.LastSaid.{count_each, last_question, last_answer, AskedSaid, AnsweredSaid, WorksOn, HasBack, AllLetSo, works_by, back_by, asked_moved, answered_moved, asked_got, answered_got, moves_let}

@@ -9,23 +9,23 @@ use Rattle.rpc_msg.specs.declared.ids.ObjectId.{ObjectId}
 use Rattle.rpc_msg.specs.declared.message.Message.{Message}
 use Rattle.rpc_msg.specs.declared.message.Message.TheVariants as message
 use Rattle.rpc_msg.specs.Vats.{other_vat}
-use Rattle.vat_journal.specs.declared.entry.JournalEntry.{JournalEntry}
-use Rattle.vat_journal.specs.declared.entry.JournalEntry.TheVariants as entry
-use Rattle.vat_machine.specs.declared.command.Command.{Command}
-use Rattle.vat_machine.specs.declared.command.Granted.{Granted}
-use Rattle.vat_machine.specs.declared.command.Effects.{Effects}
-use Rattle.vat_machine.specs.declared.command.Level.TheVariants.{One}
-use Rattle.vat_machine.specs.declared.entries.Question.{Question}
-use Rattle.vat_machine.specs.declared.entries.AnswerEntry.{AnswerEntry}
-use Rattle.vat_machine.specs.State.{State, start}
-use Rattle.vat_machine.specs.Progress.{begin, with_state}
-use Rattle.vat_machine.specs.Faults.{fault_of}
-use Rattle.vat_machine.specs.Steps.{Does, Handles}
-use Rattle.vat_machine.specs.Laws.{SendsRaiseCounts}
-use Rattle.vat_machine.specs.Queries.{counts_of}
-use Rattle.vat_machine.specs.Claims.{BothUp}
-use Rattle.vat_machine.specs.World.{World, core, inbox, put_inbox, after, tables_entry}
-use Rattle.vat_machine.specs.Journal.{Journaled, effect_entries, event_entries}
+use Rattle.rpc_journal.specs.declared.entry.JournalEntry.{JournalEntry}
+use Rattle.rpc_journal.specs.declared.entry.JournalEntry.TheVariants as entry
+use Rattle.rpc_machine.specs.declared.command.Command.{Command}
+use Rattle.rpc_machine.specs.declared.command.Granted.{Granted}
+use Rattle.rpc_machine.specs.declared.command.Effects.{Effects}
+use Rattle.rpc_machine.specs.declared.command.Level.TheVariants.{One}
+use Rattle.rpc_machine.specs.declared.entries.Question.{Question}
+use Rattle.rpc_machine.specs.declared.entries.AnswerEntry.{AnswerEntry}
+use Rattle.rpc_machine.specs.State.{State, start}
+use Rattle.rpc_machine.specs.Progress.{begin, with_state}
+use Rattle.rpc_machine.specs.Faults.{fault_of}
+use Rattle.rpc_machine.specs.Steps.{Does, Handles}
+use Rattle.rpc_machine.specs.Laws.{SendsRaiseCounts}
+use Rattle.rpc_machine.specs.Queries.{counts_of}
+use Rattle.rpc_machine.specs.Claims.{BothUp}
+use Rattle.rpc_machine.specs.World.{World, core, inbox, put_inbox, after, tables_entry}
+use Rattle.rpc_machine.specs.Journal.{Journaled, effect_entries, event_entries}
 use Rattle.laws_acts.specs.Acts.{StepsAreActs}
 use Rattle.laws_acts.specs.Sent.{Noted, messages, all_sent, sent_at_once}
 use Rattle.laws_runs.specs.Agreed.{Agree}
@@ -36,10 +36,10 @@ use Rattle.laws_runs.proofs.QuietRuns.{acted}
 use Rattle.laws_runs.proofs.Acted as acts
 use Rattle.laws_runs.proofs.Heard.{consumes}
 use Rattle.laws_runs.proofs.Agreeing as agreeing
-use Rattle.trace_check.specs.Counts.{count_of, Sending, gives, releases, of_each}
-use Rattle.trace_check.specs.Breaches.{sent, is_down, on_the_way, counted_on_the_way, agrees, miscounts}
-use Rattle.trace_check.proofs.Counting.{count_of-append}
-use Rattle.trace_check.proofs.Evens.{same_from_everywhere}
+use Rattle.rpc_check.specs.Counts.{count_of, Sending, gives, releases, of_each}
+use Rattle.rpc_check.specs.Breaches.{sent, is_down, on_the_way, counted_on_the_way, agrees, miscounts}
+use Rattle.rpc_check.proofs.Counting.{count_of-append}
+use Rattle.rpc_check.proofs.Evens.{same_from_everywhere}
 use Rattle.laws_verdicts.specs.Recorded.{GoesOn, Happened, CountsNoted, IsRecorded, nothing_yet}
 use Rattle.laws_verdicts.specs.Good.{NotedCountsAgree}
 use Rattle.laws_verdicts.proofs.Walking.{Never, Each, each-append, each_so, never_where, never-append, none_breaks, keeps_on}

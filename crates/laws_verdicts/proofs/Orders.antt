@@ -6,17 +6,17 @@ use Rattle.std.proofs.lemmas.List.Elements.{All-head, All-tail}
 use Rattle.rpc_msg.specs.declared.ids.Vat.{Vat}
 use Rattle.rpc_msg.specs.declared.ids.ObjectId.{ObjectId}
 use Rattle.rpc_msg.specs.declared.ids.Stamp.{Stamp}
-use Rattle.vat_journal.specs.declared.entry.JournalEntry.{JournalEntry}
-use Rattle.vat_journal.specs.declared.entry.JournalEntry.TheVariants as entry
-use Rattle.vat_journal.specs.History.{Ref, DeliveredAt, same_vat, same_stamp, caller, made, made_stamp, delivered_one, deliveries, delivered, stamps}
-use Rattle.vat_machine.specs.declared.command.Effects.{Effects}
-use Rattle.vat_machine.specs.Claims.{IsBeginning, IsInOrder}
-use Rattle.vat_machine.specs.World.{World, tables_entry, was_shut}
-use Rattle.vat_machine.specs.Journal.{Journaled, effect_entries, event_entries}
+use Rattle.rpc_journal.specs.declared.entry.JournalEntry.{JournalEntry}
+use Rattle.rpc_journal.specs.declared.entry.JournalEntry.TheVariants as entry
+use Rattle.rpc_journal.specs.History.{Ref, DeliveredAt, same_vat, same_stamp, caller, made, made_stamp, delivered_one, deliveries, delivered, stamps}
+use Rattle.rpc_machine.specs.declared.command.Effects.{Effects}
+use Rattle.rpc_machine.specs.Claims.{IsBeginning, IsInOrder}
+use Rattle.rpc_machine.specs.World.{World, tables_entry, was_shut}
+use Rattle.rpc_machine.specs.Journal.{Journaled, effect_entries, event_entries}
 use Rattle.laws_runs.proofs.Reading.{all_that-append, itself}
 use Rattle.laws_scenes.specs.Ordered.{AreAtOne, IsWhere}
 use Rattle.laws_sound.specs.Promised.{AreEachAtOne, WorldsKeepPromises}
-use Rattle.trace_check.specs.Breaches.{is_beginning, same_place, at_one_place, in_order, breaks_order}
+use Rattle.rpc_check.specs.Breaches.{is_beginning, same_place, at_one_place, in_order, breaks_order}
 use Rattle.laws_verdicts.specs.Recorded.{GoesOn, Happened, CountsNoted, IsRecorded, nothing_yet}
 use Rattle.laws_verdicts.specs.Good.{EachIsInOrder}
 use Rattle.laws_verdicts.proofs.Walking.{Never, Each, each_so, never_where, never-append, none_breaks, keeps_on}

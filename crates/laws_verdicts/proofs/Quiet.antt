@@ -5,13 +5,13 @@ use Rattle.rpc_msg.specs.declared.ids.Vat.{Vat}
 use Rattle.rpc_msg.specs.declared.ids.ObjectId.{ObjectId}
 use Rattle.rpc_msg.specs.declared.message.Message.{Message}
 use Rattle.rpc_msg.specs.Vats.{other_vat}
-use Rattle.vat_journal.specs.declared.entry.JournalEntry.{JournalEntry}
-use Rattle.vat_journal.specs.declared.entry.JournalEntry.TheVariants as entry
-use Rattle.vat_machine.specs.declared.command.Effects.{Effects}
-use Rattle.vat_machine.specs.World.{World, inbox, tables_entry}
-use Rattle.vat_machine.specs.Journal.{Journaled, went_down, effect_entries, event_entries}
-use Rattle.trace_check.specs.Counts.{Sending}
-use Rattle.trace_check.specs.Breaches.{none_left, gets_nothing, acts_after_down, is_down, falls}
+use Rattle.rpc_journal.specs.declared.entry.JournalEntry.{JournalEntry}
+use Rattle.rpc_journal.specs.declared.entry.JournalEntry.TheVariants as entry
+use Rattle.rpc_machine.specs.declared.command.Effects.{Effects}
+use Rattle.rpc_machine.specs.World.{World, inbox, tables_entry}
+use Rattle.rpc_machine.specs.Journal.{Journaled, went_down, effect_entries, event_entries}
+use Rattle.rpc_check.specs.Counts.{Sending}
+use Rattle.rpc_check.specs.Breaches.{none_left, gets_nothing, acts_after_down, is_down, falls}
 use Rattle.laws_verdicts.specs.Recorded.{GoesOn, Happened, CountsNoted, IsRecorded, nothing_yet}
 use Rattle.laws_verdicts.specs.Good.{EachGotWasSent, NoneActsAfterDown}
 use Rattle.laws_verdicts.proofs.Walking.{Never, Each, each-append, each_so, never_where, never-append, none_breaks, keeps_on}

@@ -1,8 +1,8 @@
 -- Journals go on by one more, and runs are such journals.
 use Rattle.std.proofs.Common.{List, [], ◌∷◌, refl, subst}
-use Rattle.vat_journal.specs.declared.entry.JournalEntry.{JournalEntry}
-use Rattle.vat_machine.specs.World.{World, Happening, Run}
-use Rattle.vat_machine.specs.Journal.{Journaled, journal_from}
+use Rattle.rpc_journal.specs.declared.entry.JournalEntry.{JournalEntry}
+use Rattle.rpc_machine.specs.World.{World, Happening, Run}
+use Rattle.rpc_machine.specs.Journal.{Journaled, journal_from}
 use Rattle.laws_verdicts.specs.Recorded.{GoesOn, Happened, LeadsTo, NoMore, Then, RecordedGoOn, RunsAreRecorded, nothing_yet}
 
 more : (old new first : Journaled) → LeadsTo old first → GoesOn old new → LeadsTo new first

@@ -8,15 +8,15 @@ use Rattle.rpc_msg.specs.declared.ids.Vat.{Vat}
 use Rattle.rpc_msg.specs.declared.ids.Vat.TheVariants.{A, B}
 use Rattle.rpc_msg.specs.declared.message.Message.{Message}
 use Rattle.rpc_msg.specs.Vats.{other_vat}
-use Rattle.vat_journal.specs.declared.entry.JournalEntry.{JournalEntry}
-use Rattle.vat_journal.specs.declared.entry.JournalEntry.TheVariants as entry
-use Rattle.vat_journal.specs.History.{in_front}
-use Rattle.vat_machine.specs.declared.command.Effects.{Effects}
-use Rattle.vat_machine.specs.Journal.{went_down, effect_entries}
+use Rattle.rpc_journal.specs.declared.entry.JournalEntry.{JournalEntry}
+use Rattle.rpc_journal.specs.declared.entry.JournalEntry.TheVariants as entry
+use Rattle.rpc_journal.specs.History.{in_front}
+use Rattle.rpc_machine.specs.declared.command.Effects.{Effects}
+use Rattle.rpc_machine.specs.Journal.{went_down, effect_entries}
 use Rattle.laws_runs.proofs.Reading.{all_that-append}
-use Rattle.trace_check.specs.Counts.{Sending}
-use Rattle.trace_check.specs.Breaches.{sent_one, sent, sending_one, sendings_after, is_got, got, falls, is_down}
-use Rattle.trace_check.proofs.Growing.{in_front-append}
+use Rattle.rpc_check.specs.Counts.{Sending}
+use Rattle.rpc_check.specs.Breaches.{sent_one, sent, sending_one, sendings_after, is_got, got, falls, is_down}
+use Rattle.rpc_check.proofs.Growing.{in_front-append}
 use Rattle.laws_verdicts.proofs.Walking.{Each, each_map, each_so}
 use Rattle.laws_verdicts.proofs.Events.{IsOwn, AreOwn}
 

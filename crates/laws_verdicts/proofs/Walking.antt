@@ -1,8 +1,8 @@
 -- Entries that break no law, one after the other; and what is kept by each event and by each noting.
 use Rattle.std.proofs.Common.{◌≡◌, Bool, false, List, [], ◌∷◌, ◌++◌, append-nil, append_assoc, refl, sym, subst}
 use Rattle.std.specs.Prelude.{map}
-use Rattle.vat_journal.specs.declared.entry.JournalEntry.{JournalEntry}
-use Rattle.vat_machine.specs.Journal.{Journaled}
+use Rattle.rpc_journal.specs.declared.entry.JournalEntry.{JournalEntry}
+use Rattle.rpc_machine.specs.Journal.{Journaled}
 use Rattle.laws_verdicts.specs.Recorded.{GoesOn, LeadsTo, NoMore, Then}
 use Rattle.laws_verdicts.specs.Good.{NoneBreaks}
 

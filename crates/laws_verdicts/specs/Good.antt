@@ -1,9 +1,9 @@
 -- What the verdict says of the journal of two vats (docs/trace.md, "The verdict").
 use Rattle.std.specs.Prelude.{◌≡◌, Bool, false, List, ◌∷◌, ◌++◌, length, filter}
-use Rattle.vat_journal.specs.declared.entry.JournalEntry.{JournalEntry}
-use Rattle.vat_journal.specs.declared.entry.JournalEntry.TheVariants as entry
-use Rattle.trace_check.specs.declared.verdict.Verdict.TheVariants.{Good}
-use Rattle.trace_check.specs.Breaches.{breaks_order, gets_nothing, acts_after_down, miscounts, is_delivered, verdict_of}
+use Rattle.rpc_journal.specs.declared.entry.JournalEntry.{JournalEntry}
+use Rattle.rpc_journal.specs.declared.entry.JournalEntry.TheVariants as entry
+use Rattle.rpc_check.specs.declared.verdict.Verdict.TheVariants.{Good}
+use Rattle.rpc_check.specs.Breaches.{breaks_order, gets_nothing, acts_after_down, miscounts, is_delivered, verdict_of}
 use Rattle.laws_verdicts.specs.Recorded.{EveryRecorded}
 
 -- No entry breaks this law, by the entries before it.

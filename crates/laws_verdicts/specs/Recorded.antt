@@ -2,9 +2,9 @@
 -- asked for (docs/protocol.md, "Events and the journal").
 use Rattle.std.specs.Prelude.{◌≡◌, Option, List, [], ◌∷◌, ◌++◌}
 use Rattle.rpc_msg.specs.declared.ids.ObjectId.{ObjectId}
-use Rattle.vat_machine.specs.World.{Happening, Happens, Run, World, new_world, tables_entry}
-use Rattle.vat_machine.specs.Journal.{Journaled, event_entries, journal}
-use Rattle.vat_machine.specs.Claims.{IsReached}
+use Rattle.rpc_machine.specs.World.{Happening, Happens, Run, World, new_world, tables_entry}
+use Rattle.rpc_machine.specs.Journal.{Journaled, event_entries, journal}
+use Rattle.rpc_machine.specs.Claims.{IsReached}
 use Rattle.laws_sound.specs.Promised.{events_of}
 
 -- Two new vats of level 1, of which nothing was written.

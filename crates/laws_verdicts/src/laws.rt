@@ -5,8 +5,8 @@ ghost use Rattle.laws_verdicts.specs.Recorded.{RecordedAreReached, RecordedGoOn,
 
 use laws_acts::steps_are_acts;
 use laws_sound::worlds_keep_promises;
-use trace_check::verdict_is_first;
-use vat_machine::sends_raise_counts;
+use rpc_check::verdict_is_first;
+use rpc_machine::sends_raise_counts;
 
 /// Two new vats of level 1 come to each run's journal, with the world to which the run leads; with their journal they go on by
 /// each event and by each noting of counts; and but for what was noted it tells a run.

@@ -1,4 +1,4 @@
-//! The check of traces (`trace_check`) finds every journal of two vats good. No code runs here: what each function ensures is
+//! The check of traces (`rpc_check`) finds every journal of two vats good. No code runs here: what each function ensures is
 //! the law.
 #![tactic(auto)]
 

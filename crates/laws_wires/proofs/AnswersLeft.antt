@@ -6,14 +6,14 @@ use Rattle.finite_maps.specs.Tally.{Map}
 use Rattle.finite_maps.proofs.Tested.{at_cut, at_put}
 use Rattle.rpc_msg.specs.declared.ids.ExportId.{ExportId}
 use Rattle.rpc_msg.specs.declared.message.Message.{Message}
-use Rattle.vat_machine.specs.declared.command.Command.{Command}
-use Rattle.vat_machine.specs.declared.command.Granted.{Granted}
-use Rattle.vat_machine.specs.declared.entries.AnswerEntry.{AnswerEntry}
-use Rattle.vat_machine.specs.Down.{fallen}
-use Rattle.vat_machine.specs.Messages.{finished_map}
-use Rattle.vat_machine.specs.Progress.{export_ids}
-use Rattle.vat_machine.specs.Settling.{returned_map}
-use Rattle.vat_machine.specs.State.{State, start}
+use Rattle.rpc_machine.specs.declared.command.Command.{Command}
+use Rattle.rpc_machine.specs.declared.command.Granted.{Granted}
+use Rattle.rpc_machine.specs.declared.entries.AnswerEntry.{AnswerEntry}
+use Rattle.rpc_machine.specs.Down.{fallen}
+use Rattle.rpc_machine.specs.Messages.{finished_map}
+use Rattle.rpc_machine.specs.Progress.{export_ids}
+use Rattle.rpc_machine.specs.Settling.{returned_map}
+use Rattle.rpc_machine.specs.State.{State, start}
 use Rattle.laws_acts.specs.Moments.{Moment, beginning}
 use Rattle.laws_acts.specs.FirstActs.{Starts}
 use Rattle.laws_acts.specs.FirstActs as first

@@ -5,13 +5,13 @@ use Rattle.finite_maps.specs.Tally.{Map}
 use Rattle.rpc_msg.specs.declared.ids.ObjectId.{ObjectId}
 use Rattle.rpc_msg.specs.declared.ids.Vat.{Vat}
 use Rattle.rpc_msg.specs.declared.ids.Vat.TheVariants.{A, B}
-use Rattle.vat_journal.specs.Meaning.{History}
+use Rattle.rpc_journal.specs.Meaning.{History}
 use Rattle.rpc_msg.specs.Vats.{other_vat}
-use Rattle.vat_machine.specs.declared.command.Level.{Level}
-use Rattle.vat_machine.specs.declared.command.Level.TheVariants.{One}
-use Rattle.vat_machine.specs.State.{start}
-use Rattle.vat_machine.specs.Progress.{quiet}
-use Rattle.vat_machine.specs.World.{core, inbox}
+use Rattle.rpc_machine.specs.declared.command.Level.{Level}
+use Rattle.rpc_machine.specs.declared.command.Level.TheVariants.{One}
+use Rattle.rpc_machine.specs.State.{start}
+use Rattle.rpc_machine.specs.Progress.{quiet}
+use Rattle.rpc_machine.specs.World.{core, inbox}
 use Rattle.laws_runs.specs.Scenes.{begins}
 use Rattle.laws_meanings.specs.NodeLabels.{Places, RefMeans, PromiseMeans, IsUnsettled, OutcomeMeans, EmbargoMeans, TaskMeans, OwnCallMeans, QuestionMeans, ImportMeans}
 use Rattle.laws_wires.specs.Wires.{WiresMean, ImportAgrees, QuestionAgrees, export_label, past, sessions_at}

@@ -3,11 +3,11 @@ use Rattle.std.specs.FinMap as map
 use Rattle.std.proofs.Common.{◌≡◌, ℕ, Option, None, Some, refl, sym, subst, ap, ◌∙◌, arith}
 use Rattle.finite_maps.proofs.Tallies.{tally-within}
 use Rattle.finite_maps.proofs.Tested.{itself}
-use Rattle.vat_machine.specs.declared.calls.KeptOutcome.{KeptOutcome}
-use Rattle.vat_machine.specs.declared.entries.Question.{Question}
-use Rattle.vat_machine.specs.declared.entries.Role.{Role}
-use Rattle.vat_machine.specs.declared.entries.Role.TheVariants as role
-use Rattle.vat_machine.specs.State.{State}
+use Rattle.rpc_machine.specs.declared.calls.KeptOutcome.{KeptOutcome}
+use Rattle.rpc_machine.specs.declared.entries.Question.{Question}
+use Rattle.rpc_machine.specs.declared.entries.Role.{Role}
+use Rattle.rpc_machine.specs.declared.entries.Role.TheVariants as role
+use Rattle.rpc_machine.specs.State.{State}
 use Rattle.laws_nodes.specs.Ones.{one_if}
 use Rattle.laws_nodes.specs.Questions.{IsOpen, IsRelayOpen, QuestionsEnd}
 use Rattle.laws_nodes.specs.Sources.{HasOneSource, at_question, relay_for, sources, waits_for}

@@ -21,12 +21,12 @@ use Rattle.rpc_msg.specs.declared.message.Message.{Message}
 use Rattle.rpc_msg.specs.declared.message.Message.TheVariants as message
 use Rattle.rpc_msg.specs.Messages.{descriptors_of, descriptors_of_body, descriptors_of_resolved, given}
 use Rattle.rpc_msg.specs.Paths.{fields}
-use Rattle.vat_journal.specs.declared.entry.JournalEntry.{JournalEntry}
-use Rattle.vat_journal.specs.History.{caller}
-use Rattle.vat_journal.specs.Sources.{Asking, OfBootstrap, OfCall}
-use Rattle.vat_journal.specs.Meaning.{History, Meaning, Broken, root_field}
-use Rattle.vat_machine.specs.Payloads.{cap_at}
-use Rattle.vat_machine.specs.declared.entries.Export.{Export}
+use Rattle.rpc_journal.specs.declared.entry.JournalEntry.{JournalEntry}
+use Rattle.rpc_journal.specs.History.{caller}
+use Rattle.rpc_journal.specs.Sources.{Asking, OfBootstrap, OfCall}
+use Rattle.rpc_journal.specs.Meaning.{History, Meaning, Broken, root_field}
+use Rattle.rpc_machine.specs.Payloads.{cap_at}
+use Rattle.rpc_machine.specs.declared.entries.Export.{Export}
 use Rattle.laws_runs.specs.Meanings.{with_more}
 use Rattle.laws_runs.proofs.Extends.{extends}
 use Rattle.laws_runs.proofs.Grows.{same_bootstrap}

@@ -12,21 +12,21 @@ use Rattle.rpc_msg.specs.declared.message.PlainMessage.{PlainMessage}
 use Rattle.rpc_msg.specs.declared.message.PlainMessage.TheVariants as plain
 use Rattle.rpc_msg.specs.declared.message.Return.{Return}
 use Rattle.rpc_msg.specs.Messages.{descriptors_of_body}
-use Rattle.vat_journal.specs.Meaning.{History}
-use Rattle.vat_machine.specs.declared.entries.AnswerEntry.{AnswerEntry}
-use Rattle.vat_machine.specs.declared.entries.Finishing.{Finishing}
-use Rattle.vat_machine.specs.declared.entries.Finishing.TheVariants as finishing
-use Rattle.vat_machine.specs.declared.entries.Import.{Import}
-use Rattle.vat_machine.specs.declared.entries.Question.{Question}
-use Rattle.vat_machine.specs.declared.entries.Returned.{Returned}
-use Rattle.vat_machine.specs.declared.entries.Role.{Role}
-use Rattle.vat_machine.specs.declared.entries.Role.TheVariants as role
-use Rattle.vat_machine.specs.declared.command.Effects.{Effects}
-use Rattle.vat_machine.specs.State.{State}
-use Rattle.vat_machine.specs.Faults.{gave}
-use Rattle.vat_machine.specs.Messages.{results_of}
-use Rattle.vat_machine.specs.Progress.{Progress, begin, numbers}
-use Rattle.vat_machine.specs.Sweeping.{IsNotSent}
+use Rattle.rpc_journal.specs.Meaning.{History}
+use Rattle.rpc_machine.specs.declared.entries.AnswerEntry.{AnswerEntry}
+use Rattle.rpc_machine.specs.declared.entries.Finishing.{Finishing}
+use Rattle.rpc_machine.specs.declared.entries.Finishing.TheVariants as finishing
+use Rattle.rpc_machine.specs.declared.entries.Import.{Import}
+use Rattle.rpc_machine.specs.declared.entries.Question.{Question}
+use Rattle.rpc_machine.specs.declared.entries.Returned.{Returned}
+use Rattle.rpc_machine.specs.declared.entries.Role.{Role}
+use Rattle.rpc_machine.specs.declared.entries.Role.TheVariants as role
+use Rattle.rpc_machine.specs.declared.command.Effects.{Effects}
+use Rattle.rpc_machine.specs.State.{State}
+use Rattle.rpc_machine.specs.Faults.{gave}
+use Rattle.rpc_machine.specs.Messages.{results_of}
+use Rattle.rpc_machine.specs.Progress.{Progress, begin, numbers}
+use Rattle.rpc_machine.specs.Sweeping.{IsNotSent}
 use Rattle.laws_acts.specs.Acts.{ComesTo, Consumes, TurnsBy, came}
 use Rattle.laws_acts.specs.Sent.{Ids, sent_at_once}
 use Rattle.laws_runs.specs.Questions.{Answerer, Out, hear_one}

@@ -3,13 +3,13 @@ use Rattle.std.specs.FinMap as map
 use Rattle.std.proofs.Common.{◌≡◌, inl, inr, ℕ, true, false, List, Option, None, Some, IsSome, refl, sym, subst, ◌∙◌}
 use Rattle.rpc_msg.specs.declared.ids.Vat.{Vat}
 use Rattle.rpc_msg.specs.declared.message.Message.{Message}
-use Rattle.vat_journal.specs.Sources.{Asking}
-use Rattle.vat_machine.specs.declared.entries.Question.{Question}
-use Rattle.vat_machine.specs.declared.entries.Returned.{Returned}
-use Rattle.vat_machine.specs.declared.entries.Role.{Role}
-use Rattle.vat_machine.specs.declared.entries.Role.TheVariants as role
-use Rattle.vat_machine.specs.State.{State}
-use Rattle.vat_machine.specs.Progress.{Progress}
+use Rattle.rpc_journal.specs.Sources.{Asking}
+use Rattle.rpc_machine.specs.declared.entries.Question.{Question}
+use Rattle.rpc_machine.specs.declared.entries.Returned.{Returned}
+use Rattle.rpc_machine.specs.declared.entries.Role.{Role}
+use Rattle.rpc_machine.specs.declared.entries.Role.TheVariants as role
+use Rattle.rpc_machine.specs.State.{State}
+use Rattle.rpc_machine.specs.Progress.{Progress}
 use Rattle.laws_acts.specs.Acts.{Act, Acts, NoMore, Then}
 use Rattle.laws_acts.specs.Sent.{messages, sent_by}
 use Rattle.laws_runs.specs.Views.{IsReady, answerer_of, rets}

@@ -15,31 +15,31 @@ use Rattle.rpc_msg.specs.declared.message.Message.{Message}
 use Rattle.rpc_msg.specs.declared.message.Message.TheVariants as message
 use Rattle.rpc_msg.specs.declared.message.ReturnBody.{ReturnBody}
 use Rattle.rpc_msg.specs.Messages.{descriptors_of, descriptors_of_body, descriptors_of_resolved, given}
-use Rattle.vat_machine.specs.declared.calls.Caller.{Caller}
-use Rattle.vat_machine.specs.declared.calls.Caller.TheVariants as caller
-use Rattle.vat_machine.specs.declared.calls.OwnCall.TheVariants as own
-use Rattle.vat_machine.specs.declared.calls.Request.{Request}
-use Rattle.vat_machine.specs.declared.calls.Value.{Value}
-use Rattle.vat_machine.specs.declared.calls.Value.TheVariants as value
-use Rattle.vat_machine.specs.declared.command.Granted.{Granted}
-use Rattle.vat_machine.specs.declared.entries.AnswerEntry.{AnswerEntry}
-use Rattle.vat_machine.specs.declared.entries.Finishing.{Finishing}
-use Rattle.vat_machine.specs.declared.entries.Finishing.TheVariants as finishing
-use Rattle.vat_machine.specs.declared.entries.Import.{Import}
-use Rattle.vat_machine.specs.declared.entries.Question.{Question}
-use Rattle.vat_machine.specs.declared.entries.Reference.{Reference}
-use Rattle.vat_machine.specs.declared.entries.Role.{Role}
-use Rattle.vat_machine.specs.declared.entries.Role.TheVariants as role
-use Rattle.vat_machine.specs.declared.node.Node.{Node}
-use Rattle.vat_machine.specs.declared.node.Node.TheVariants as node
-use Rattle.vat_machine.specs.State.{State}
-use Rattle.vat_machine.specs.Advancing.{Embargoes}
-use Rattle.vat_machine.specs.Commands.{counted}
-use Rattle.vat_machine.specs.Nodes.{settle}
-use Rattle.vat_machine.specs.Progress.{Progress, caps_of, with_state}
-use Rattle.vat_machine.specs.Routing.{Asks}
-use Rattle.vat_machine.specs.Settling.{ResolvesBy, ResolvesTo, SaysBack, Tells, TellsPeer, known}
-use Rattle.vat_machine.specs.Sweeping.{IsNotSent}
+use Rattle.rpc_machine.specs.declared.calls.Caller.{Caller}
+use Rattle.rpc_machine.specs.declared.calls.Caller.TheVariants as caller
+use Rattle.rpc_machine.specs.declared.calls.OwnCall.TheVariants as own
+use Rattle.rpc_machine.specs.declared.calls.Request.{Request}
+use Rattle.rpc_machine.specs.declared.calls.Value.{Value}
+use Rattle.rpc_machine.specs.declared.calls.Value.TheVariants as value
+use Rattle.rpc_machine.specs.declared.command.Granted.{Granted}
+use Rattle.rpc_machine.specs.declared.entries.AnswerEntry.{AnswerEntry}
+use Rattle.rpc_machine.specs.declared.entries.Finishing.{Finishing}
+use Rattle.rpc_machine.specs.declared.entries.Finishing.TheVariants as finishing
+use Rattle.rpc_machine.specs.declared.entries.Import.{Import}
+use Rattle.rpc_machine.specs.declared.entries.Question.{Question}
+use Rattle.rpc_machine.specs.declared.entries.Reference.{Reference}
+use Rattle.rpc_machine.specs.declared.entries.Role.{Role}
+use Rattle.rpc_machine.specs.declared.entries.Role.TheVariants as role
+use Rattle.rpc_machine.specs.declared.node.Node.{Node}
+use Rattle.rpc_machine.specs.declared.node.Node.TheVariants as node
+use Rattle.rpc_machine.specs.State.{State}
+use Rattle.rpc_machine.specs.Advancing.{Embargoes}
+use Rattle.rpc_machine.specs.Commands.{counted}
+use Rattle.rpc_machine.specs.Nodes.{settle}
+use Rattle.rpc_machine.specs.Progress.{Progress, caps_of, with_state}
+use Rattle.rpc_machine.specs.Routing.{Asks}
+use Rattle.rpc_machine.specs.Settling.{ResolvesBy, ResolvesTo, SaysBack, Tells, TellsPeer, known}
+use Rattle.rpc_machine.specs.Sweeping.{IsNotSent}
 use Rattle.laws_acts.specs.Acts.{Act, Makes, Drops, AsksRoot, CallsOut, Keeps, Joins, Promises, Unsettles, Answers, Finishes, Heads, Turns, Delivers, Waits, Holds, Relays, Fails, Fixes, Settles, Reports, Resolves, NextArisen, Gone, Ends, Releases}
 use Rattle.laws_acts.specs.Sent.{Ids, Noted, asks_sent, end_sent, messages, peer_sent, releases_sent, resolved_to, sent_by, told_sent, turn_sent}
 use Rattle.laws_steps.specs.NodesThere.{Stands}

@@ -15,9 +15,9 @@ use Rattle.rpc_msg.specs.declared.message.PlainMessage.TheVariants as plain
 use Rattle.rpc_msg.specs.declared.message.Message.TheVariants as message
 use Rattle.rpc_msg.specs.Messages.{descriptors_of, descriptors_of_body, descriptors_of_resolved}
 use Rattle.rpc_msg.specs.Paths.{fields}
-use Rattle.vat_journal.specs.Sources.{Asking, OfBootstrap, OfCall}
-use Rattle.vat_journal.specs.Meaning.{History, bootstrap_meaning, root_field}
-use Rattle.vat_machine.specs.declared.entries.Export.{Export}
+use Rattle.rpc_journal.specs.Sources.{Asking, OfBootstrap, OfCall}
+use Rattle.rpc_journal.specs.Meaning.{History, bootstrap_meaning, root_field}
+use Rattle.rpc_machine.specs.declared.entries.Export.{Export}
 use Rattle.laws_routes.specs.Sayings.{Has, SaidIfThere}
 use Rattle.laws_routes.proofs.FirstCommands.{fields_again}
 use Rattle.laws_meanings.specs.NodeMeanings.{Meant, Itself, OfField, field_meant}

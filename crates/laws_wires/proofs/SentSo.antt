@@ -16,17 +16,17 @@ use Rattle.rpc_msg.specs.declared.message.ReturnBody.TheVariants as body
 use Rattle.rpc_msg.specs.declared.message.ResolvedTo.{ResolvedTo}
 use Rattle.rpc_msg.specs.declared.message.ResolvedTo.TheVariants as resolved
 use Rattle.rpc_msg.specs.Messages.{descriptors_of_body, descriptors_of_resolved}
-use Rattle.vat_journal.specs.History.{caller}
-use Rattle.vat_journal.specs.Sources.{Asking}
-use Rattle.vat_journal.specs.Meaning.{History}
-use Rattle.vat_machine.specs.Payloads.{cap_at}
-use Rattle.vat_machine.specs.declared.node.Node.{Node}
-use Rattle.vat_machine.specs.declared.node.Node.TheVariants as node
-use Rattle.vat_machine.specs.declared.node.Reason.TheVariants.{NotACapability}
-use Rattle.vat_machine.specs.declared.entries.Export.{Export}
-use Rattle.vat_machine.specs.Descriptors.{export_node}
-use Rattle.vat_machine.specs.Nodes.{settle, node_of_cap}
-use Rattle.vat_machine.specs.State.{State}
+use Rattle.rpc_journal.specs.History.{caller}
+use Rattle.rpc_journal.specs.Sources.{Asking}
+use Rattle.rpc_journal.specs.Meaning.{History}
+use Rattle.rpc_machine.specs.Payloads.{cap_at}
+use Rattle.rpc_machine.specs.declared.node.Node.{Node}
+use Rattle.rpc_machine.specs.declared.node.Node.TheVariants as node
+use Rattle.rpc_machine.specs.declared.node.Reason.TheVariants.{NotACapability}
+use Rattle.rpc_machine.specs.declared.entries.Export.{Export}
+use Rattle.rpc_machine.specs.Descriptors.{export_node}
+use Rattle.rpc_machine.specs.Nodes.{settle, node_of_cap}
+use Rattle.rpc_machine.specs.State.{State}
 use Rattle.laws_acts.specs.GoingOut.{GoesOut, Again, AsNew, AsOther, GoOut, is_own, said}
 use Rattle.laws_routes.proofs.ExportsGrown.{Grown, none_grown}
 use Rattle.laws_meanings.specs.NodeMeanings.{Meant, OfRef, field_meant}

@@ -5,9 +5,9 @@ use Rattle.rpc_msg.specs.declared.ids.Vat.{Vat}
 use Rattle.rpc_msg.specs.declared.message.Message.{Message}
 use Rattle.rpc_msg.specs.declared.message.Message.TheVariants as message
 use Rattle.rpc_msg.specs.Messages.{descriptors_of}
-use Rattle.vat_journal.specs.Meaning.{History}
-use Rattle.vat_machine.specs.declared.calls.Promise.{Promise}
-use Rattle.vat_machine.specs.declared.entries.Export.{Export}
+use Rattle.rpc_journal.specs.Meaning.{History}
+use Rattle.rpc_machine.specs.declared.calls.Promise.{Promise}
+use Rattle.rpc_machine.specs.declared.entries.Export.{Export}
 use Rattle.laws_routes.specs.Sayings.{Has, has_behind}
 use Rattle.laws_meanings.specs.NodeLabels.{Labels}
 use Rattle.laws_wires.specs.Wires.{Session, Reader, LinkMeans, export_label, past_one}

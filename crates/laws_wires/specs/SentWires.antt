@@ -11,9 +11,9 @@ use Rattle.rpc_msg.specs.declared.message.PlainMessage.{PlainMessage}
 use Rattle.rpc_msg.specs.declared.message.PlainMessage.TheVariants as plain
 use Rattle.rpc_msg.specs.declared.message.Message.TheVariants as message
 use Rattle.rpc_msg.specs.Messages.{descriptors_of}
-use Rattle.vat_journal.specs.Sources.{Asking, OfCall}
-use Rattle.vat_journal.specs.Meaning.{History, Broken}
-use Rattle.vat_machine.specs.declared.entries.Export.{Export}
+use Rattle.rpc_journal.specs.Sources.{Asking, OfCall}
+use Rattle.rpc_journal.specs.Meaning.{History, Broken}
+use Rattle.rpc_machine.specs.declared.entries.Export.{Export}
 use Rattle.laws_routes.specs.Sayings.{Has}
 use Rattle.laws_meanings.specs.NodeMeanings.{Meant, Itself}
 use Rattle.laws_meanings.specs.NodeLabels.{Labels, field_label}

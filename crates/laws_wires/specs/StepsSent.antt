@@ -6,19 +6,19 @@ use Rattle.rpc_msg.specs.declared.message.Message.{Message}
 use Rattle.rpc_msg.specs.declared.message.Message.TheVariants as message
 use Rattle.rpc_msg.specs.declared.message.PlainMessage.{PlainMessage}
 use Rattle.rpc_msg.specs.Vats.{other_vat}
-use Rattle.vat_journal.specs.Meaning.{History}
-use Rattle.vat_machine.specs.declared.calls.Caller.TheVariants as caller
-use Rattle.vat_machine.specs.declared.calls.KeptOutcome.{KeptOutcome}
-use Rattle.vat_machine.specs.declared.entries.AnswerEntry.{AnswerEntry}
-use Rattle.vat_machine.specs.declared.command.Command.{Command}
-use Rattle.vat_machine.specs.declared.command.Effects.{Effects}
-use Rattle.vat_machine.specs.declared.command.Granted.{Granted}
-use Rattle.vat_machine.specs.declared.entries.Export.{Export}
-use Rattle.vat_machine.specs.declared.entries.Question.{Question}
-use Rattle.vat_machine.specs.Faults.{fault_of, is_foreign}
-use Rattle.vat_machine.specs.Progress.{quiet}
-use Rattle.vat_machine.specs.State.{State}
-use Rattle.vat_machine.specs.Steps.{Does, Handles}
+use Rattle.rpc_journal.specs.Meaning.{History}
+use Rattle.rpc_machine.specs.declared.calls.Caller.TheVariants as caller
+use Rattle.rpc_machine.specs.declared.calls.KeptOutcome.{KeptOutcome}
+use Rattle.rpc_machine.specs.declared.entries.AnswerEntry.{AnswerEntry}
+use Rattle.rpc_machine.specs.declared.command.Command.{Command}
+use Rattle.rpc_machine.specs.declared.command.Effects.{Effects}
+use Rattle.rpc_machine.specs.declared.command.Granted.{Granted}
+use Rattle.rpc_machine.specs.declared.entries.Export.{Export}
+use Rattle.rpc_machine.specs.declared.entries.Question.{Question}
+use Rattle.rpc_machine.specs.Faults.{fault_of, is_foreign}
+use Rattle.rpc_machine.specs.Progress.{quiet}
+use Rattle.rpc_machine.specs.State.{State}
+use Rattle.rpc_machine.specs.Steps.{Does, Handles}
 use Rattle.laws_acts.specs.Moments.{Moment, beginning}
 use Rattle.laws_acts.specs.MessageActs.{Consumes}
 use Rattle.laws_routes.specs.Sayings.{IsSilentPlain}

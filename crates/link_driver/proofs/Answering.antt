@@ -7,38 +7,38 @@ use Rattle.rpc_msg.specs.declared.message.Message.{Message}
 use Rattle.rpc_msg.specs.declared.parts.Descriptor.{Descriptor}
 use Rattle.rpc_msg.specs.declared.parts.Descriptor.TheVariants as descriptor
 use Rattle.rpc_msg.specs.declared.parts.Target.{Target}
-use Rattle.vat_journal.specs.History.{if_so}
-use Rattle.vat_machine.specs.declared.calls.OwnCall.{OwnCall}
-use Rattle.vat_machine.specs.declared.calls.Value.{Value}
-use Rattle.vat_machine.specs.declared.calls.Value.TheVariants as value
-use Rattle.vat_machine.specs.declared.command.CallCommand.{CallCommand}
-use Rattle.vat_machine.specs.declared.command.Command.{Command}
-use Rattle.vat_machine.specs.declared.command.Command.TheVariants as command
-use Rattle.vat_machine.specs.declared.command.Granted.{Granted}
-use Rattle.vat_machine.specs.declared.command.Granted.TheVariants as granted
-use Rattle.vat_machine.specs.declared.command.Refusal.{Refusal}
-use Rattle.vat_machine.specs.declared.command.Refusal.TheVariants as refusal
-use Rattle.vat_machine.specs.declared.command.Effects.{Effects}
-use Rattle.vat_machine.specs.declared.entries.Reference.{Reference}
-use Rattle.vat_machine.specs.declared.node.Node.{Node}
-use Rattle.vat_machine.specs.State.{State}
-use Rattle.vat_machine.specs.Lists.{earliest}
-use Rattle.vat_machine.specs.Nodes.{settle}
-use Rattle.vat_machine.specs.Refusals.{is_shut}
-use Rattle.vat_machine.specs.Progress.{Progress, begin}
-use Rattle.vat_machine.specs.Commands.{Acts, ClonesRef, DropsRef, MakesCall, NamesField, ResolvesPromise, RejectsPromise, AnswersTask, FinishesCall, heads}
-use Rattle.vat_machine.specs.Advancing.{Known, NothingYet, IsBroken, Leads, known_of_wire, wire_target, Advances, AdvancesFrom, AdvancesTo, AdvancesBy, Embargoes}
-use Rattle.vat_machine.specs.Steps.{Obeys, Refuses, LacksMemory, GoesDown, Shuts, IsDone, MayFall}
-use Rattle.vat_machine.specs.World.{CommandTold}
+use Rattle.rpc_journal.specs.History.{if_so}
+use Rattle.rpc_machine.specs.declared.calls.OwnCall.{OwnCall}
+use Rattle.rpc_machine.specs.declared.calls.Value.{Value}
+use Rattle.rpc_machine.specs.declared.calls.Value.TheVariants as value
+use Rattle.rpc_machine.specs.declared.command.CallCommand.{CallCommand}
+use Rattle.rpc_machine.specs.declared.command.Command.{Command}
+use Rattle.rpc_machine.specs.declared.command.Command.TheVariants as command
+use Rattle.rpc_machine.specs.declared.command.Granted.{Granted}
+use Rattle.rpc_machine.specs.declared.command.Granted.TheVariants as granted
+use Rattle.rpc_machine.specs.declared.command.Refusal.{Refusal}
+use Rattle.rpc_machine.specs.declared.command.Refusal.TheVariants as refusal
+use Rattle.rpc_machine.specs.declared.command.Effects.{Effects}
+use Rattle.rpc_machine.specs.declared.entries.Reference.{Reference}
+use Rattle.rpc_machine.specs.declared.node.Node.{Node}
+use Rattle.rpc_machine.specs.State.{State}
+use Rattle.rpc_machine.specs.Lists.{earliest}
+use Rattle.rpc_machine.specs.Nodes.{settle}
+use Rattle.rpc_machine.specs.Refusals.{is_shut}
+use Rattle.rpc_machine.specs.Progress.{Progress, begin}
+use Rattle.rpc_machine.specs.Commands.{Acts, ClonesRef, DropsRef, MakesCall, NamesField, ResolvesPromise, RejectsPromise, AnswersTask, FinishesCall, heads}
+use Rattle.rpc_machine.specs.Advancing.{Known, NothingYet, IsBroken, Leads, known_of_wire, wire_target, Advances, AdvancesFrom, AdvancesTo, AdvancesBy, Embargoes}
+use Rattle.rpc_machine.specs.Steps.{Obeys, Refuses, LacksMemory, GoesDown, Shuts, IsDone, MayFall}
+use Rattle.rpc_machine.specs.World.{CommandTold}
 use Rattle.link_sides.specs.Answer.{Answer}
 use Rattle.link_sides.specs.Answer.TheVariants.{Done, Refused}
 use Rattle.link_sides.specs.Told.{given_of, without_sends}
-use Rattle.log_weave.specs.Machine as weave
+use Rattle.laws_merge.specs.Machine as weave
 use Rattle.laws_runs.specs.Sides.{TakesStep}
-use Rattle.ring_ends.specs.Parties.{IsOf}
-use Rattle.ring_ends.specs.Ends.{IsSameEnd}
-use Rattle.ring_ends.specs.Entries.{Place}
-use Rattle.ring_ends.specs.Seats.{CommandsAt}
+use Rattle.link_rings.specs.Parties.{IsOf}
+use Rattle.link_rings.specs.Ends.{IsSameEnd}
+use Rattle.link_rings.specs.Entries.{Place}
+use Rattle.link_rings.specs.Seats.{CommandsAt}
 use Rattle.link_logs.specs.declared.note.Told.{Told}
 use Rattle.link_logs.specs.declared.note.Told.TheVariants as told
 use Rattle.link_logs.specs.declared.note.Note.{Note}

@@ -1,10 +1,10 @@
 -- A new core is how its vat begins.
 use Rattle.std.proofs.Common.{◌≡◌, true, None, sym, ap, subst, ◌∙◌}
 use Rattle.rpc_msg.specs.declared.ids.Vat.{Vat}
-use Rattle.vat_machine.specs.declared.command.Level.{Level}
-use Rattle.vat_machine.specs.declared.command.Level.TheVariants.{One}
-use Rattle.vat_machine.specs.State.{State, start}
-use Rattle.vat_machine.specs.Queries.{is_new}
+use Rattle.rpc_machine.specs.declared.command.Level.{Level}
+use Rattle.rpc_machine.specs.declared.command.Level.TheVariants.{One}
+use Rattle.rpc_machine.specs.State.{State, start}
+use Rattle.rpc_machine.specs.Queries.{is_new}
 use Rattle.laws_ends.specs.NewCores.{NewIsStart}
 use Rattle.link_logs.specs.Steps.{Held}
 use Rattle.link_promises.specs.Promises.{IsBegun}

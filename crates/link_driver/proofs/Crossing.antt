@@ -4,11 +4,11 @@ use denote.Param.SendFields.{variants_send, declared_send}
 use Rattle.std.proofs.Crossing.{crosses}
 use Rattle.rpc_msg.specs.contracts.message.Message as Message
 use Rattle.rpc_msg.specs.contracts.message.PlainMessage as PlainMessage
-use Rattle.vat_machine.specs.contracts.command.Command as Command
-use Rattle.vat_machine.specs.contracts.command.Effects as Effects
+use Rattle.rpc_machine.specs.contracts.command.Command as Command
+use Rattle.rpc_machine.specs.contracts.command.Effects as Effects
 use Rattle.link_sides.specs.AnswerRow as Answer
-use Rattle.ring_ends.specs.contracts.end.End as End
-use Rattle.ring_ends.proofs.Crossing.{end_send}
+use Rattle.link_rings.specs.contracts.end.End as End
+use Rattle.link_rings.proofs.Crossing.{end_send}
 use Rattle.link_logs.specs.contracts.note.Note as Note
 use Rattle.link_sides.specs.contracts.side.VatSide as VatSide
 use Rattle.link_sides.specs.contracts.side.VatSidePartyNoteMessage.TheImpl.{ghosts}

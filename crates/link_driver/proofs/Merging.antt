@@ -1,15 +1,15 @@
 -- Two ends that were put side by side: their one journal, and what is promised of it.
 use Rattle.std.proofs.Common.{◌≡◌, List, [], ◌∷◌, ◌++◌, map, append-nil, append_assoc, refl, sym, ap, subst, ◌∙◌}
-use Rattle.vat_journal.specs.declared.entry.JournalEntry.{JournalEntry}
-use Rattle.vat_journal.specs.declared.entry.JournalEntry.TheVariants as entry
-use Rattle.vat_journal.specs.Meaning.{History}
-use Rattle.vat_machine.specs.Claims.{IsReached, IsSound}
-use Rattle.log_weave.specs.declared.merge.OneOf.{OneOf}
+use Rattle.rpc_journal.specs.declared.entry.JournalEntry.{JournalEntry}
+use Rattle.rpc_journal.specs.declared.entry.JournalEntry.TheVariants as entry
+use Rattle.rpc_journal.specs.Meaning.{History}
+use Rattle.rpc_machine.specs.Claims.{IsReached, IsSound}
+use Rattle.laws_merge.specs.declared.merge.OneOf.{OneOf}
 use Rattle.laws_sound.specs.Promised.{WorldsAreSound, BootstrapsStay, events_of, history_of}
 use Rattle.laws_verdicts.specs.Recorded.{IsRecorded, RunsAreRecorded}
 use Rattle.laws_verdicts.specs.Good.{EveryVerdictIsGood, EveryHeadedVerdictIsGood, IsGood}
-use Rattle.ring_ends.specs.declared.entry.Entry.{Entry}
-use Rattle.ring_ends.specs.Gather.{ReadsAll, order}
+use Rattle.link_rings.specs.declared.entry.Entry.{Entry}
+use Rattle.link_rings.specs.Gather.{ReadsAll, order}
 use Rattle.link_logs.specs.declared.note.Note.{Note}
 use Rattle.link_logs.specs.declared.pieces.Pieces.{Pieces}
 use Rattle.link_logs.specs.declared.pieces.Piece.{Piece}

@@ -1,10 +1,10 @@
 -- What an end may answer to a command (docs/protocol.md, "Commands of the whole machine").
 use Rattle.std.specs.Prelude.{◌≡◌, false}
-use Rattle.vat_machine.specs.declared.command.Command.{Command}
-use Rattle.vat_machine.specs.declared.command.Command.TheVariants as command
-use Rattle.vat_machine.specs.declared.command.Granted.{Granted}
-use Rattle.vat_machine.specs.declared.command.Granted.TheVariants as granted
-use Rattle.vat_machine.specs.Refusals.{is_shut}
+use Rattle.rpc_machine.specs.declared.command.Command.{Command}
+use Rattle.rpc_machine.specs.declared.command.Command.TheVariants as command
+use Rattle.rpc_machine.specs.declared.command.Granted.{Granted}
+use Rattle.rpc_machine.specs.declared.command.Granted.TheVariants as granted
+use Rattle.rpc_machine.specs.Refusals.{is_shut}
 use Rattle.link_sides.specs.Answer.{Answer}
 use Rattle.link_sides.specs.Answer.TheVariants.{Done, Refused}
 use Rattle.link_sides.specs.Sides.{IsQuiet}

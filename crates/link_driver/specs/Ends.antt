@@ -1,18 +1,18 @@
--- The ends of two vats, in the words of `ring_ends` and `link_sides` (docs/threads.md).
+-- The ends of two vats, in the words of `link_rings` and `link_sides` (docs/threads.md).
 use Rattle.std.specs.Prelude.{◌≡◌, true, []}
 use Rattle.rpc_msg.specs.declared.ids.Vat.{Vat}
 use Rattle.rpc_msg.specs.declared.ids.Vat.TheVariants.{A, B}
 use Rattle.rpc_msg.specs.declared.message.Message.{Message}
 use Rattle.rtrb.specs.Ring.{sent, received}
-use Rattle.vat_machine.specs.declared.command.Command.{Command}
-use Rattle.vat_machine.specs.declared.command.Effects.{Effects}
-use Rattle.vat_machine.specs.declared.command.Level.TheVariants.{One}
-use Rattle.vat_machine.specs.State.{State}
-use Rattle.vat_machine.specs.Queries.{is_new}
+use Rattle.rpc_machine.specs.declared.command.Command.{Command}
+use Rattle.rpc_machine.specs.declared.command.Effects.{Effects}
+use Rattle.rpc_machine.specs.declared.command.Level.TheVariants.{One}
+use Rattle.rpc_machine.specs.State.{State}
+use Rattle.rpc_machine.specs.Queries.{is_new}
 use Rattle.link_sides.specs.Answer.{Answer}
-use Rattle.ring_ends.specs.declared.turn.Turn.{Turn}
-use Rattle.ring_ends.specs.Seats.{CommandsAt}
-use Rattle.ring_ends.specs.Ends.{Ended, AreLinked, IsSameEnd, Turns, place}
+use Rattle.link_rings.specs.declared.turn.Turn.{Turn}
+use Rattle.link_rings.specs.Seats.{CommandsAt}
+use Rattle.link_rings.specs.Ends.{Ended, AreLinked, IsSameEnd, Turns, place}
 use Rattle.link_logs.specs.declared.note.Note.{Note}
 use Rattle.link_logs.specs.Steps.{Held, StepsSo, input_of, sends_of}
 use Rattle.link_sides.specs.Sides.{down_by, AnswersSo, TellsSo, when_down}

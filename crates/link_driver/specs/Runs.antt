@@ -1,6 +1,6 @@
 -- Two ends that were worked (docs/threads.md).
 use Rattle.std.specs.Prelude.{◌≡◌}
-use Rattle.ring_ends.specs.Ends.{IsSameEnd}
+use Rattle.link_rings.specs.Ends.{IsSameEnd}
 use Rattle.link_promises.specs.Promises.{Pair}
 use Rattle.link_driver.specs.Ends.{VatEnded}
 use Rattle.link_driver.specs.Gathered.{both_of}

@@ -1,13 +1,13 @@
--- The seat of a vat, in the words of `ring_ends` and `link_sides` (docs/threads.md).
+-- The seat of a vat, in the words of `link_rings` and `link_sides` (docs/threads.md).
 use Rattle.std.specs.Prelude.{◌≡◌, []}
 use Rattle.rpc_msg.specs.declared.message.Message.{Message}
-use Rattle.vat_machine.specs.declared.command.Command.{Command}
-use Rattle.vat_machine.specs.declared.command.Effects.{Effects}
-use Rattle.vat_machine.specs.State.{State}
+use Rattle.rpc_machine.specs.declared.command.Command.{Command}
+use Rattle.rpc_machine.specs.declared.command.Effects.{Effects}
+use Rattle.rpc_machine.specs.State.{State}
 use Rattle.link_sides.specs.Answer.{Answer}
-use Rattle.ring_ends.specs.declared.frame.Frame.{Frame}
-use Rattle.ring_ends.specs.declared.turn.Turn.{Turn}
-use Rattle.ring_ends.specs.Seats.{Sat, CommandsAt, TakesAt, place}
+use Rattle.link_rings.specs.declared.frame.Frame.{Frame}
+use Rattle.link_rings.specs.declared.turn.Turn.{Turn}
+use Rattle.link_rings.specs.Seats.{Sat, CommandsAt, TakesAt, place}
 use Rattle.link_logs.specs.declared.note.Note.{Note}
 use Rattle.link_logs.specs.Steps.{Held, StepsSo, input_of, sends_of}
 use Rattle.link_sides.specs.Sides.{down_by, AnswersSo, TellsSo, when_down}

@@ -1,14 +1,14 @@
 ghost use Rattle.std.specs.Prelude.{◌≡◌, IfOk, IfErr};
-ghost use Rattle.vat_machine.specs.declared.command.Command.TheVariants as command;
-ghost use Rattle.vat_machine.specs.declared.command.Granted.TheVariants as granted;
+ghost use Rattle.rpc_machine.specs.declared.command.Command.TheVariants as command;
+ghost use Rattle.rpc_machine.specs.declared.command.Granted.TheVariants as granted;
 ghost use Rattle.link_sides.specs.Answer.TheVariants as answer;
-ghost use Rattle.ring_ends.specs.Ends.{IsSameEnd};
+ghost use Rattle.link_rings.specs.Ends.{IsSameEnd};
 ghost use Rattle.link_driver.specs.Ends.{Takes};
 
 use crate::ends::VatEnd;
 use link_sides::Refused;
+use rpc_machine::{CallCommand, Command, Effects, Refusal};
 use rpc_msg::CallId;
-use vat_machine::{CallCommand, Command, Effects, Refusal};
 
 impl<V> VatEnd<V> {
     /// Asks the other vat for its bootstrap object: gives the number of the call, and what follows. Refused as `Core::bootstrap` is, or

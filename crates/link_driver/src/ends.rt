@@ -1,6 +1,6 @@
 ghost use Rattle.std.specs.Prelude.{◌≡◌};
 ghost use Rattle.rtrb.specs.Ring.{sent, received};
-ghost use Rattle.ring_ends.specs.Ends.{IsSameEnd, Flushes, Holds};
+ghost use Rattle.link_rings.specs.Ends.{IsSameEnd, Flushes, Holds};
 ghost use Rattle.link_logs.specs.Steps.{StepsSo, input_of, sends_of};
 ghost use Rattle.link_sides.specs.Sides.{down_by};
 ghost use Rattle.link_driver.specs.Commands.{IsAnswer};
@@ -8,11 +8,11 @@ ghost use Rattle.link_driver.specs.Ends.{held, Takes, TurnsSo};
 
 use crate::Turn;
 use link_logs::Note;
+use link_rings::{End, Entry, Party};
 use link_sides::{Answer, VatSide};
-use ring_ends::{End, Entry, Party};
+use rpc_machine::{Command, Effects};
 use rpc_msg::Message;
 use std::marker::PhantomData;
-use vat_machine::{Command, Effects};
 
 /// Of an end of the vat A.
 #[derive(Clone, Copy, Drop)]

@@ -1,12 +1,12 @@
 ghost use Rattle.std.specs.Prelude.{◌≡◌, ◌∷◌, [], IfOk, OnOk};
 ghost use Rattle.rpc_msg.specs.declared.ids.Vat.TheVariants.{A, B};
-ghost use Rattle.vat_journal.specs.declared.entry.JournalEntry.TheVariants as entry;
-ghost use Rattle.vat_machine.specs.World.{tables_entry};
-ghost use Rattle.vat_machine.specs.Claims.{AreNumbered, CountsAgree, EndsAreSo, IsInFull, IsInOrder, IsInTime, IsQuietWhenDown, IsSound, IsToOne, MeansOne};
+ghost use Rattle.rpc_journal.specs.declared.entry.JournalEntry.TheVariants as entry;
+ghost use Rattle.rpc_machine.specs.World.{tables_entry};
+ghost use Rattle.rpc_machine.specs.Claims.{AreNumbered, CountsAgree, EndsAreSo, IsInFull, IsInOrder, IsInTime, IsQuietWhenDown, IsSound, IsToOne, MeansOne};
 ghost use Rattle.laws_sound.specs.Promised.{AreEachAtOne, AreInFull, DownsAreKnown, DownsAreTold, MeansForGood, RefusesNothing, history_of};
 ghost use Rattle.laws_verdicts.specs.Good.{IsGood};
 ghost use Rattle.link_promises.specs.Promises.{IsBegun, IsTold, world_of, happened_in, journal_of, shut};
-ghost use Rattle.ring_ends.specs.Gather.{order, ReadsAll};
+ghost use Rattle.link_rings.specs.Gather.{order, ReadsAll};
 ghost use Rattle.link_logs.specs.Steps.{input_of, sends_of};
 ghost use Rattle.link_sides.specs.Rooms.{held_code};
 ghost use Rattle.std.specs.Coded.{Coded-set};
@@ -18,16 +18,16 @@ use laws_sound::{bootstraps_stay, worlds_are_sound};
 use laws_verdicts::{every_verdict_is_good, journals_tell_runs};
 use link_logs::{Note, Pieces, pieced};
 use link_promises::orders_keep_promises;
+use link_rings::{Entry, Reads};
 use link_sides::VatSide;
-use ring_ends::{Entry, Reads};
+use rpc_journal::JournalEntry;
 use rpc_msg::{Memory, Message};
 use std::alloc::{AllocError, Global};
-use vat_journal::JournalEntry;
 
 /// The vats and the logs of the two ends of one link. There is one order of both logs, which is a run of two vats.
 #[derive(Drop)]
 pub struct Gathered {
-    pub(crate) both: ring_ends::Gathered<VatSide, Note, Message>,
+    pub(crate) both: link_rings::Gathered<VatSide, Note, Message>,
     ghost begun_a: { IsBegun A both.start_a } by { Coded-set held_code _ _ },
     ghost begun_b: { IsBegun B both.start_b } by { Coded-set held_code _ _ },
 }
@@ -40,7 +40,7 @@ pub fn gather(a: EndA, b: EndB) -> Gathered
     let VatEnd { end: a, at: _ } = a;
     let VatEnd { end: b, at: _ } = b;
     Gathered {
-        both: ring_ends::Gathered::of(a, b),
+        both: link_rings::Gathered::of(a, b),
     }
 }
 

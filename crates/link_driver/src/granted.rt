@@ -1,19 +1,19 @@
 ghost use Rattle.std.specs.Prelude.{◌≡◌, IfOk, IfErr};
-ghost use Rattle.vat_machine.specs.declared.command.Granted.{Granted};
-ghost use Rattle.vat_machine.specs.declared.command.Granted.TheVariants as granted;
-ghost use Rattle.vat_machine.specs.declared.command.Effects.{Effects};
-ghost use Rattle.vat_machine.specs.Progress.{quiet};
+ghost use Rattle.rpc_machine.specs.declared.command.Granted.{Granted};
+ghost use Rattle.rpc_machine.specs.declared.command.Granted.TheVariants as granted;
+ghost use Rattle.rpc_machine.specs.declared.command.Effects.{Effects};
+ghost use Rattle.rpc_machine.specs.Progress.{quiet};
 ghost use Rattle.link_sides.specs.Answer.TheVariants as answer;
 ghost use Rattle.link_sides.specs.Sides.{IsQuiet};
-ghost use Rattle.ring_ends.specs.Ends.{IsSameEnd};
+ghost use Rattle.link_rings.specs.Ends.{IsSameEnd};
 ghost use Rattle.link_driver.specs.Ends.{Takes};
 ghost use Rattle.link_driver.specs.Commands.{Grants, IsAdvanced, IsCall, IsNone, IsPromise, IsReference};
 
 use crate::ends::VatEnd;
 use link_sides::{Answer, Refused};
+use rpc_journal::Advanced;
+use rpc_machine::{Command, Effects, Granted};
 use rpc_msg::{CallId, PromiseId, RefId};
-use vat_journal::Advanced;
-use vat_machine::{Command, Effects, Granted};
 
 // Commands by what they grant.
 impl<V> VatEnd<V> {

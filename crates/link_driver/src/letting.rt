@@ -1,16 +1,16 @@
 ghost use Rattle.std.specs.Prelude.{◌≡◌, IfOk, IfErr};
-ghost use Rattle.vat_machine.specs.declared.command.Command.TheVariants as command;
-ghost use Rattle.vat_machine.specs.declared.command.Granted.TheVariants as granted;
+ghost use Rattle.rpc_machine.specs.declared.command.Command.TheVariants as command;
+ghost use Rattle.rpc_machine.specs.declared.command.Granted.TheVariants as granted;
 ghost use Rattle.link_sides.specs.Answer.TheVariants as answer;
-ghost use Rattle.ring_ends.specs.Ends.{IsSameEnd};
+ghost use Rattle.link_rings.specs.Ends.{IsSameEnd};
 ghost use Rattle.link_driver.specs.Ends.{Takes};
 
 use crate::ends::VatEnd;
 use crate::granted::advanced_in;
 use link_sides::Answer;
+use rpc_journal::Advanced;
+use rpc_machine::{Command, Effects, Refusal};
 use rpc_msg::{CallId, RefId};
-use vat_journal::Advanced;
-use vat_machine::{Command, Effects, Refusal};
 
 impl<V> VatEnd<V> {
     /// Has no more use for a reference: gives what follows. Refused as `Core::drop_ref` is, or with `Down`.

@@ -23,18 +23,18 @@ mod worked;
 pub use ends::{AtA, AtB, EndA, EndB, VatEnd};
 pub use gathered::{Gathered, gather};
 pub use link_logs::Note;
+pub use link_rings::{Entry, LinkFault, MOST_PLACES, Reads};
 pub use link_sides::{Answer, Refused, VatSide};
 pub use linking::link;
-pub use ring_ends::{Entry, LinkFault, MOST_PLACES, Reads};
+pub use rpc_journal::JournalEntry;
+use rpc_machine::Effects;
 use rpc_msg::Message;
 pub use rpc_msg::Vat;
 pub use running::{PairRun, run_pair};
 pub use seat::Seat;
-pub use vat_journal::JournalEntry;
-use vat_machine::Effects;
 
 /// A message on its way from one vat to the other.
-pub type Frame = ring_ends::Frame<Message>;
+pub type Frame = link_rings::Frame<Message>;
 
 /// What comes of a turn of an end.
-pub type Turn = ring_ends::Turn<Effects>;
+pub type Turn = link_rings::Turn<Effects>;

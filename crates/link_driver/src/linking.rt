@@ -1,13 +1,13 @@
 ghost use Rattle.std.specs.Prelude.{◌≡◌, IfOk, IfErr};
 ghost use Rattle.rpc_msg.specs.declared.ids.Vat.TheVariants.{A, B};
-ghost use Rattle.ring_ends.specs.Ends.{IsNew};
-ghost use Rattle.ring_ends.specs.Links.{IsCapacity, FailsBy};
+ghost use Rattle.link_rings.specs.Ends.{IsNew};
+ghost use Rattle.link_rings.specs.Links.{IsCapacity, FailsBy};
 ghost use Rattle.link_driver.specs.Ends.{new_held, AreEnds, IsNewCore};
 
 use crate::ends::{AtA, AtB, EndA, EndB, VatEnd};
 use laws_ends::new_is_start;
+use link_rings::{LinkFault, MOST_PLACES};
 use link_sides::{Core, VatSide};
-use ring_ends::{LinkFault, MOST_PLACES};
 use std::alloc::Global;
 use std::marker::PhantomData;
 
@@ -40,7 +40,7 @@ pub fn link(
         Ok(side) => side,
         Err(core_b) => return Err((LinkFault::Memory, side_a.into_core(), core_b)),
     };
-    match ring_ends::link(alloc, side_a, side_b, capacity) {
+    match link_rings::link(alloc, side_a, side_b, capacity) {
         Ok((a, b)) => {
             let a: EndA = VatEnd {
                 end: a,

@@ -1,17 +1,17 @@
 ghost use Rattle.std.specs.Prelude.{◌≡◌, [], IfOk, IfErr};
-ghost use Rattle.vat_machine.specs.declared.command.Command.TheVariants as command;
-ghost use Rattle.vat_machine.specs.declared.command.Granted.TheVariants as granted;
-ghost use Rattle.vat_machine.specs.Progress.{quiet};
+ghost use Rattle.rpc_machine.specs.declared.command.Command.TheVariants as command;
+ghost use Rattle.rpc_machine.specs.declared.command.Granted.TheVariants as granted;
+ghost use Rattle.rpc_machine.specs.Progress.{quiet};
 ghost use Rattle.link_sides.specs.Answer.TheVariants as answer;
-ghost use Rattle.ring_ends.specs.Ends.{IsSameEnd};
+ghost use Rattle.link_rings.specs.Ends.{IsSameEnd};
 ghost use Rattle.link_driver.specs.Ends.{Takes};
 
 use crate::ends::VatEnd;
 use crate::granted::promise_in;
 use link_sides::{Answer, Refused};
+use rpc_machine::{Command, Refusal};
 use rpc_msg::{CallId, Items, ObjectId, Op, PromiseId, RefId};
 use std::alloc::Global;
-use vat_machine::{Command, Refusal};
 
 // What is refused is refused as `vat_core::Core` says, or with `Down`. One that is refused with `Down` may have taken the vat down
 // for want of room.

@@ -1,19 +1,19 @@
 ghost use Rattle.std.specs.Prelude.{◌≡◌, IfOk, IfErr};
-ghost use Rattle.ring_ends.specs.declared.fault.LinkFault.TheVariants as fault;
+ghost use Rattle.link_rings.specs.declared.fault.LinkFault.TheVariants as fault;
 ghost use Rattle.link_sides.specs.Sides.{down_by};
-ghost use Rattle.pair_workers.specs.Ending.{IsEnding};
+ghost use Rattle.link_workers.specs.Ending.{IsEnding};
 ghost use Rattle.link_driver.specs.Ends.{AreEnds};
 ghost use Rattle.link_driver.specs.Runs.{AreWorked};
 
 use crate::worked::Worked;
 use crate::{EndA, EndB, Gathered, LinkFault, gather};
-use pair_workers::{Gate, Job, Signals, WorkerEnd, work_both};
+use link_workers::{Gate, Job, Signals, WorkerEnd, work_both};
 use rpc_msg::Vat;
+use script_language::Line;
 use std::alloc::Global;
 use std::sync::Wait;
 use std::thread::Threads;
 use std::time::Clock;
-use vat_script::Line;
 
 /// How the work of both vats ended, and the two ends side by side.
 #[derive(Drop)]
@@ -24,7 +24,7 @@ pub struct PairRun {
 }
 
 /// Works both ends of one link, A's on a thread of its own and B's on this one, until each worker has ended: each plays the lines
-/// of its vat, and then takes turns in which it answers each open task, as `pair_workers::work` does. At most `max_turns` turns
+/// of its vat, and then takes turns in which it answers each open task, as `link_workers::work` does. At most `max_turns` turns
 /// in a row find no frame, and each of them sleeps by the clock. The gate is asked round each answer of a task.
 ///
 /// `NoThread` where there is no thread: both ends come back as they were.

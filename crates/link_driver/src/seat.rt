@@ -1,10 +1,10 @@
 ghost use Rattle.std.specs.Prelude.{◌≡◌, true, IfOk, IfErr};
 ghost use Rattle.rpc_msg.specs.declared.message.Message.{Message};
-ghost use Rattle.vat_machine.specs.Queries.{is_new};
-ghost use Rattle.ring_ends.specs.declared.fault.LinkFault.TheVariants as fault;
-ghost use Rattle.ring_ends.specs.Seats.{place, Sits};
-ghost use Rattle.ring_ends.specs.Logs.{log_of, framed};
-ghost use Rattle.log_weave.specs.Logs.{made_by};
+ghost use Rattle.rpc_machine.specs.Queries.{is_new};
+ghost use Rattle.link_rings.specs.declared.fault.LinkFault.TheVariants as fault;
+ghost use Rattle.link_rings.specs.Seats.{place, Sits};
+ghost use Rattle.link_rings.specs.Logs.{log_of, framed};
+ghost use Rattle.laws_merge.specs.Logs.{made_by};
 ghost use Rattle.link_logs.specs.Steps.{StepsSo, input_of, sends_of};
 ghost use Rattle.link_sides.specs.Sides.{down_by};
 ghost use Rattle.link_driver.specs.Commands.{IsAnswer};
@@ -14,16 +14,16 @@ ghost use Rattle.link_driver.specs.Seats.{new_seat, CommandsSo, TakesSo};
 use crate::{Frame, Turn};
 use laws_ends::new_is_start;
 use link_logs::Note;
+use link_rings::{Entry, LinkFault, Party};
 use link_sides::{Answer, Core, VatSide};
-use ring_ends::{Entry, LinkFault, Party};
+use rpc_machine::{Command, Effects};
 use rpc_msg::Message;
 use std::alloc::Global;
-use vat_machine::{Command, Effects};
 
 /// The core of a vat with its log, and with no rings: it keeps all frames that it makes, and those that come are handed to it.
 #[derive(Drop)]
 pub struct Seat {
-    seat: ring_ends::Seat<VatSide, Note, Message>,
+    seat: link_rings::Seat<VatSide, Note, Message>,
 }
 
 impl Seat {
@@ -39,7 +39,7 @@ impl Seat {
             Ok(side) => side,
             Err(core) => return Err((LinkFault::Memory, core)),
         };
-        match ring_ends::Seat::new(alloc, side) {
+        match link_rings::Seat::new(alloc, side) {
             Ok(seat) => return Ok(Seat { seat }),
             Err(side) => return Err((LinkFault::Memory, side.into_core())),
         }

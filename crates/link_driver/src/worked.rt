@@ -1,6 +1,6 @@
 use crate::{Answer, Turn, VatEnd};
-use pair_workers::PairEnd;
-use vat_machine::{Command, Effects, Granted, Refusal};
+use link_workers::PairEnd;
+use rpc_machine::{Command, Effects, Granted, Refusal};
 
 /// An end of a vat, as its worker uses it.
 #[derive(Drop)]
@@ -9,7 +9,7 @@ pub(crate) struct Worked<V> {
 }
 
 impl<V> PairEnd for Worked<V> {
-    ghost use Rattle.ring_ends.specs.Ends.{IsSameEnd};
+    ghost use Rattle.link_rings.specs.Ends.{IsSameEnd};
     ghost use Rattle.link_sides.specs.Sides.{down_by};
     ghost use Rattle.std.proofs.Common.{rules};
 

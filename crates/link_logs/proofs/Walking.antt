@@ -4,25 +4,25 @@ use Rattle.rpc_msg.specs.declared.ids.Vat.{Vat}
 use Rattle.rpc_msg.specs.declared.ids.Vat.TheVariants.{A, B}
 use Rattle.rpc_msg.specs.declared.ids.ObjectId.{ObjectId}
 use Rattle.rpc_msg.specs.declared.message.Message.{Message}
-use Rattle.vat_journal.specs.declared.entry.JournalEntry.{JournalEntry}
-use Rattle.vat_machine.specs.declared.command.Command.{Command}
-use Rattle.vat_machine.specs.declared.command.Effects.{Effects}
-use Rattle.vat_machine.specs.declared.command.Level.TheVariants.{One}
-use Rattle.vat_machine.specs.State.{State, start}
-use Rattle.vat_machine.specs.Laws.{OfEachStep}
-use Rattle.vat_machine.specs.World.{World, StepAnswer, Answered, Handled, Empty, Happening, Happens, Run, Tells, overflown, new_world}
-use Rattle.vat_machine.specs.Journal.{event_entries, journal_from, journal}
-use Rattle.log_weave.specs.Machine as weave
-use Rattle.log_weave.specs.Machine.{Input, Shut, Receive, Takes}
-use Rattle.log_weave.specs.Logs as logs
-use Rattle.log_weave.specs.Logs.{messages, received, made_by, IsBeginningOf}
-use Rattle.log_weave.specs.Merge.{view_by}
-use Rattle.log_weave.specs.Laws.{event_of}
-use Rattle.log_weave.specs.declared.merge.OneOf.{OneOf}
-use Rattle.log_weave.specs.declared.merge.OneOf.TheVariants.{First, Second}
-use Rattle.ring_ends.specs.declared.entry.Entry.{Entry}
-use Rattle.ring_ends.specs.Logs.{party, entry_of}
-use Rattle.ring_ends.specs.Gather.{order, IsExplained}
+use Rattle.rpc_journal.specs.declared.entry.JournalEntry.{JournalEntry}
+use Rattle.rpc_machine.specs.declared.command.Command.{Command}
+use Rattle.rpc_machine.specs.declared.command.Effects.{Effects}
+use Rattle.rpc_machine.specs.declared.command.Level.TheVariants.{One}
+use Rattle.rpc_machine.specs.State.{State, start}
+use Rattle.rpc_machine.specs.Laws.{OfEachStep}
+use Rattle.rpc_machine.specs.World.{World, StepAnswer, Answered, Handled, Empty, Happening, Happens, Run, Tells, overflown, new_world}
+use Rattle.rpc_machine.specs.Journal.{event_entries, journal_from, journal}
+use Rattle.laws_merge.specs.Machine as weave
+use Rattle.laws_merge.specs.Machine.{Input, Shut, Receive, Takes}
+use Rattle.laws_merge.specs.Logs as logs
+use Rattle.laws_merge.specs.Logs.{messages, received, made_by, IsBeginningOf}
+use Rattle.laws_merge.specs.Merge.{view_by}
+use Rattle.laws_merge.specs.Laws.{event_of}
+use Rattle.laws_merge.specs.declared.merge.OneOf.{OneOf}
+use Rattle.laws_merge.specs.declared.merge.OneOf.TheVariants.{First, Second}
+use Rattle.link_rings.specs.declared.entry.Entry.{Entry}
+use Rattle.link_rings.specs.Logs.{party, entry_of}
+use Rattle.link_rings.specs.Gather.{order, IsExplained}
 use Rattle.laws_ends.specs.Names.{KeepsNames}
 use Rattle.laws_runs.specs.MadeCalls.{NumbersItsCalls, RunsCount}
 use Rattle.laws_runs.specs.Sides.{vat_side, as_world, StepBy}

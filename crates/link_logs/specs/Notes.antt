@@ -1,12 +1,12 @@
 -- What a note says of its step (docs/threads.md, "Of two vats").
 use Rattle.std.specs.Prelude.{Bool, true, Ok, List}
 use Rattle.rpc_msg.specs.declared.message.Message.{Message}
-use Rattle.vat_machine.specs.declared.command.Command.{Command}
-use Rattle.vat_machine.specs.declared.command.Granted.TheVariants as granted
-use Rattle.vat_machine.specs.declared.command.Effects.{Effects}
-use Rattle.vat_machine.specs.World.{StepAnswer, Answered, Handled}
-use Rattle.log_weave.specs.Machine as weave
-use Rattle.log_weave.specs.Machine.{Input, Receive}
+use Rattle.rpc_machine.specs.declared.command.Command.{Command}
+use Rattle.rpc_machine.specs.declared.command.Granted.TheVariants as granted
+use Rattle.rpc_machine.specs.declared.command.Effects.{Effects}
+use Rattle.rpc_machine.specs.World.{StepAnswer, Answered, Handled}
+use Rattle.laws_merge.specs.Machine as weave
+use Rattle.laws_merge.specs.Machine.{Input, Receive}
 use Rattle.laws_runs.specs.Sides as sides
 use Rattle.link_logs.specs.declared.note.Told.{Told}
 use Rattle.link_logs.specs.declared.note.Told.TheVariants as told

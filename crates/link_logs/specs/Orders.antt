@@ -2,16 +2,16 @@
 use Rattle.std.specs.Prelude.{◌≡◌, Option, List, [], ◌++◌, map}
 use Rattle.rpc_msg.specs.declared.ids.Vat.TheVariants.{A, B}
 use Rattle.rpc_msg.specs.declared.ids.ObjectId.{ObjectId}
-use Rattle.vat_machine.specs.declared.command.Level.TheVariants.{One}
-use Rattle.vat_machine.specs.State.{start}
-use Rattle.vat_machine.specs.World.{World, Happening, Run, new_world}
-use Rattle.vat_machine.specs.Journal.{journal}
-use Rattle.log_weave.specs.Logs.{messages, received, made_by}
-use Rattle.log_weave.specs.declared.merge.OneOf.{OneOf}
-use Rattle.log_weave.specs.declared.merge.OneOf.TheVariants.{First, Second}
-use Rattle.ring_ends.specs.declared.entry.Entry.{Entry}
-use Rattle.ring_ends.specs.Logs.{log_of}
-use Rattle.ring_ends.specs.Gather.{order, IsExplained}
+use Rattle.rpc_machine.specs.declared.command.Level.TheVariants.{One}
+use Rattle.rpc_machine.specs.State.{start}
+use Rattle.rpc_machine.specs.World.{World, Happening, Run, new_world}
+use Rattle.rpc_machine.specs.Journal.{journal}
+use Rattle.laws_merge.specs.Logs.{messages, received, made_by}
+use Rattle.laws_merge.specs.declared.merge.OneOf.{OneOf}
+use Rattle.laws_merge.specs.declared.merge.OneOf.TheVariants.{First, Second}
+use Rattle.link_rings.specs.declared.entry.Entry.{Entry}
+use Rattle.link_rings.specs.Logs.{log_of}
+use Rattle.link_rings.specs.Gather.{order, IsExplained}
 use Rattle.link_logs.specs.declared.note.Note.{Note}
 use Rattle.link_logs.specs.Steps.{Held, StepsSo, input_of, sends_of, happening}
 use Rattle.link_logs.specs.Pieces.{pieced, piece_of}

@@ -2,10 +2,10 @@
 use Rattle.std.specs.Prelude.{ℕ, List, [], ◌∷◌, ◌++◌, take, drop}
 use Rattle.rpc_msg.specs.declared.ids.Vat.{Vat}
 use Rattle.rpc_msg.specs.declared.ids.Vat.TheVariants.{A, B}
-use Rattle.vat_journal.specs.declared.entry.JournalEntry.{JournalEntry}
-use Rattle.log_weave.specs.declared.merge.OneOf.{OneOf}
-use Rattle.log_weave.specs.declared.merge.OneOf.TheVariants.{First, Second}
-use Rattle.ring_ends.specs.declared.entry.Entry.{Entry}
+use Rattle.rpc_journal.specs.declared.entry.JournalEntry.{JournalEntry}
+use Rattle.laws_merge.specs.declared.merge.OneOf.{OneOf}
+use Rattle.laws_merge.specs.declared.merge.OneOf.TheVariants.{First, Second}
+use Rattle.link_rings.specs.declared.entry.Entry.{Entry}
 use Rattle.link_logs.specs.declared.note.Note.{Note}
 use Rattle.link_logs.specs.declared.pieces.Piece.{Piece}
 

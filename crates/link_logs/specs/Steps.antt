@@ -2,12 +2,12 @@
 use Rattle.std.specs.Prelude.{◌≡◌, List, ◌++◌, length}
 use Rattle.rpc_msg.specs.declared.ids.Vat.{Vat}
 use Rattle.rpc_msg.specs.declared.message.Message.{Message}
-use Rattle.vat_journal.specs.declared.entry.JournalEntry.{JournalEntry}
-use Rattle.vat_machine.specs.declared.command.Command.{Command}
-use Rattle.vat_machine.specs.State.{State}
-use Rattle.vat_machine.specs.World.{Happening}
-use Rattle.vat_machine.specs.Journal.{event_entries}
-use Rattle.log_weave.specs.Machine.{Input}
+use Rattle.rpc_journal.specs.declared.entry.JournalEntry.{JournalEntry}
+use Rattle.rpc_machine.specs.declared.command.Command.{Command}
+use Rattle.rpc_machine.specs.State.{State}
+use Rattle.rpc_machine.specs.World.{Happening}
+use Rattle.rpc_machine.specs.Journal.{event_entries}
+use Rattle.laws_merge.specs.Machine.{Input}
 use Rattle.laws_runs.specs.MadeCalls.{NumbersItsCalls}
 use Rattle.laws_runs.specs.Sides.{TakesStep, event_by}
 use Rattle.link_logs.specs.declared.note.Told.{Told}

@@ -1,10 +1,10 @@
 ghost use Rattle.std.specs.Prelude.{◌≡◌, length};
-ghost use Rattle.ring_ends.specs.Parties.{is_receipt};
+ghost use Rattle.link_rings.specs.Parties.{is_receipt};
 ghost use Rattle.link_logs.specs.Notes.{input_by, sends_by};
 
+use rpc_machine::{Command, Effects, Granted, Refusal};
 use rpc_msg::Message;
 use std::snapshot::Snapshot;
-use vat_machine::{Command, Effects, Granted, Refusal};
 
 /// What happened in a step of an end, for the proof alone: at run time no more is left of it than its kind.
 #[derive(Drop)]

@@ -1,12 +1,12 @@
 ghost use Rattle.std.specs.Prelude.{◌≡◌, ◌≤◌, ◌++◌, ◌∷◌, [], IfOk, OnOk, drop, take, length};
 ghost use Rattle.link_logs.specs.Pieces.{left_of_a, left_of_b, next_piece, piece_of, pieced};
-ghost use Rattle.log_weave.specs.declared.merge.OneOf.TheVariants.{First, Second};
+ghost use Rattle.laws_merge.specs.declared.merge.OneOf.TheVariants.{First, Second};
 
 use crate::note::Note;
-use ring_ends::{Entry, Reads};
+use link_rings::{Entry, Reads};
+use rpc_journal::JournalEntry;
 use rpc_msg::{Memory, Vat};
 use std::alloc::{AllocError, Global};
-use vat_journal::JournalEntry;
 
 /// So many entries of the journal that the end of a vat wrote.
 #[derive(Clone, Copy, Drop)]

@@ -1,22 +1,22 @@
 -- No event writes counts: a journal has none but those that were asked for.
 use Rattle.std.proofs.Common.{◌≡◌, ℕ, Bool, true, false, cond, map, Option, None, Some, Result, Ok, Err, List, [], ◌∷◌, ◌++◌, refl, ap, ◌∙◌}
 use Rattle.rpc_msg.specs.declared.ids.Vat.{Vat}
-use Rattle.vat_journal.specs.declared.entry.Origin.{Origin}
-use Rattle.vat_journal.specs.declared.entry.JournalEntry.{JournalEntry}
-use Rattle.vat_journal.specs.declared.entry.JournalEntry.TheVariants as entry
-use Rattle.vat_journal.specs.History.{in_front}
-use Rattle.vat_machine.specs.declared.command.CallCommand.{CallCommand}
-use Rattle.vat_machine.specs.declared.command.Command.{Command}
-use Rattle.vat_machine.specs.declared.command.Command.TheVariants as command
-use Rattle.vat_machine.specs.declared.command.Granted.{Granted}
-use Rattle.vat_machine.specs.declared.command.Granted.TheVariants as granted
-use Rattle.vat_machine.specs.declared.command.Refusal.{Refusal}
-use Rattle.vat_machine.specs.declared.command.Refusal.TheVariants as refusal
-use Rattle.vat_machine.specs.declared.command.Effects.{Effects}
-use Rattle.vat_machine.specs.declared.event.Event.{Event}
-use Rattle.vat_machine.specs.declared.event.Event.TheVariants as event
-use Rattle.vat_machine.specs.World.{Happening, StepAnswer, Answered, Handled, Empty}
-use Rattle.vat_machine.specs.Journal.{born, born_promise, asked_entries, made_entries, advanced_entries, refused_entries, granted_entries, own_entries, went_down, effect_entries, event_entries, journal_from}
+use Rattle.rpc_journal.specs.declared.entry.Origin.{Origin}
+use Rattle.rpc_journal.specs.declared.entry.JournalEntry.{JournalEntry}
+use Rattle.rpc_journal.specs.declared.entry.JournalEntry.TheVariants as entry
+use Rattle.rpc_journal.specs.History.{in_front}
+use Rattle.rpc_machine.specs.declared.command.CallCommand.{CallCommand}
+use Rattle.rpc_machine.specs.declared.command.Command.{Command}
+use Rattle.rpc_machine.specs.declared.command.Command.TheVariants as command
+use Rattle.rpc_machine.specs.declared.command.Granted.{Granted}
+use Rattle.rpc_machine.specs.declared.command.Granted.TheVariants as granted
+use Rattle.rpc_machine.specs.declared.command.Refusal.{Refusal}
+use Rattle.rpc_machine.specs.declared.command.Refusal.TheVariants as refusal
+use Rattle.rpc_machine.specs.declared.command.Effects.{Effects}
+use Rattle.rpc_machine.specs.declared.event.Event.{Event}
+use Rattle.rpc_machine.specs.declared.event.Event.TheVariants as event
+use Rattle.rpc_machine.specs.World.{Happening, StepAnswer, Answered, Handled, Empty}
+use Rattle.rpc_machine.specs.Journal.{born, born_promise, asked_entries, made_entries, advanced_entries, refused_entries, granted_entries, own_entries, went_down, effect_entries, event_entries, journal_from}
 use Rattle.laws_runs.proofs.Reading.{all_that-append}
 use Rattle.laws_sound.specs.Promised.{but_tables, events_of}
 

@@ -1,7 +1,7 @@
 -- Of two ends holds what holds of the world to which their run leads.
 use Rattle.std.proofs.Common.{◌≡◌, List, [], ◌∷◌, ◌++◌, length, drop, refl, sym, ap, subst, ◌∙◌}
-use Rattle.vat_machine.specs.World.{World, Run, new_world}
-use Rattle.vat_machine.specs.Journal.{journal}
+use Rattle.rpc_machine.specs.World.{World, Run, new_world}
+use Rattle.rpc_machine.specs.Journal.{journal}
 use Rattle.laws_sound.specs.Promised.{events_of, WorldsKeepPromises}
 use Rattle.link_logs.specs.Orders.{IsWhereTheyEnd, OrdersAreRuns}
 use Rattle.link_promises.specs.Promises.{Pair, world_of, happened_in, journal_of, shut, IsTold, OrdersKeepPromises}

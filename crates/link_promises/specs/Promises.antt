@@ -3,16 +3,16 @@ use Rattle.std.specs.Prelude.{◌≡◌, Bool, List, [], drop, length, map}
 use Rattle.rpc_msg.specs.declared.ids.Vat.{Vat}
 use Rattle.rpc_msg.specs.declared.ids.Vat.TheVariants.{A, B}
 use Rattle.rpc_msg.specs.declared.message.Message.{Message}
-use Rattle.vat_journal.specs.declared.entry.JournalEntry.{JournalEntry}
-use Rattle.vat_machine.specs.declared.command.Level.TheVariants.{One}
-use Rattle.vat_machine.specs.State.{start}
-use Rattle.vat_machine.specs.World.{World, Happening, Run, new_world, was_shut}
-use Rattle.vat_machine.specs.Journal.{journal}
-use Rattle.log_weave.specs.Logs.{messages, received, made_by}
+use Rattle.rpc_journal.specs.declared.entry.JournalEntry.{JournalEntry}
+use Rattle.rpc_machine.specs.declared.command.Level.TheVariants.{One}
+use Rattle.rpc_machine.specs.State.{start}
+use Rattle.rpc_machine.specs.World.{World, Happening, Run, new_world, was_shut}
+use Rattle.rpc_machine.specs.Journal.{journal}
+use Rattle.laws_merge.specs.Logs.{messages, received, made_by}
 use Rattle.laws_sound.specs.Promised.{IsPromised}
-use Rattle.ring_ends.specs.declared.entry.Entry.{Entry}
-use Rattle.ring_ends.specs.Logs.{log_of}
-use Rattle.ring_ends.specs.Gather.{Both, order, IsExplained}
+use Rattle.link_rings.specs.declared.entry.Entry.{Entry}
+use Rattle.link_rings.specs.Logs.{log_of}
+use Rattle.link_rings.specs.Gather.{Both, order, IsExplained}
 use Rattle.link_logs.specs.declared.note.Note.{Note}
 use Rattle.link_logs.specs.Steps.{Held, StepsSo, input_of, sends_of}
 use Rattle.link_logs.specs.Pieces.{pieced, piece_of}

@@ -5,20 +5,20 @@ use Rattle.rpc_msg.specs.Op.{Op}
 use Rattle.rpc_msg.specs.declared.ids.CallId.{CallId}
 use Rattle.rpc_msg.specs.declared.ids.ObjectId.{ObjectId}
 use Rattle.rpc_msg.specs.declared.ids.RefId.{RefId}
-use Rattle.vat_machine.specs.declared.command.Command.{Command}
-use Rattle.vat_machine.specs.declared.command.Command.TheVariants as command
-use Rattle.vat_machine.specs.declared.command.Granted.{Granted}
-use Rattle.vat_machine.specs.declared.command.Refusal.{Refusal}
-use Rattle.vat_machine.specs.declared.command.Refusal.TheVariants as refusal
-use Rattle.vat_machine.specs.declared.command.Effects.{Effects}
-use Rattle.vat_machine.specs.State.{State}
-use Rattle.vat_machine.specs.Down.{Falls, ShutsFrom}
-use Rattle.vat_machine.specs.Progress.{quiet}
-use Rattle.vat_machine.specs.Refusals.{is_shut}
-use Rattle.vat_telling.specs.Answer.{Answer}
-use Rattle.vat_telling.specs.Answer.TheVariants.{Done, Refused}
-use Rattle.vat_telling.specs.Answers.{HandsBack, effects_in}
-use Rattle.vat_telling.specs.Told.{given_of, without_sends}
+use Rattle.rpc_machine.specs.declared.command.Command.{Command}
+use Rattle.rpc_machine.specs.declared.command.Command.TheVariants as command
+use Rattle.rpc_machine.specs.declared.command.Granted.{Granted}
+use Rattle.rpc_machine.specs.declared.command.Refusal.{Refusal}
+use Rattle.rpc_machine.specs.declared.command.Refusal.TheVariants as refusal
+use Rattle.rpc_machine.specs.declared.command.Effects.{Effects}
+use Rattle.rpc_machine.specs.State.{State}
+use Rattle.rpc_machine.specs.Down.{Falls, ShutsFrom}
+use Rattle.rpc_machine.specs.Progress.{quiet}
+use Rattle.rpc_machine.specs.Refusals.{is_shut}
+use Rattle.core_telling.specs.Answer.{Answer}
+use Rattle.core_telling.specs.Answer.TheVariants.{Done, Refused}
+use Rattle.core_telling.specs.Answers.{HandsBack, effects_in}
+use Rattle.core_telling.specs.Told.{given_of, without_sends}
 use Rattle.link_logs.specs.declared.note.Told.{Told}
 use Rattle.link_logs.specs.declared.note.Told.TheVariants as told
 use Rattle.link_sides.specs.Sides.{AnswersBy, IsQuiet, IsShutBy, IsToldBy}

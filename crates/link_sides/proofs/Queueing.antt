@@ -1,7 +1,7 @@
 -- Messages behind the frames that wait.
 use Rattle.std.proofs.Common.{◌≡◌, ℕ, suc, ◌+◌, List, [], ◌∷◌, ◌++◌, length, length-append, append-nil, append_assoc, refl, sym, ap, subst, ◌∙◌, arith}
 use Rattle.rpc_msg.specs.declared.message.Message.{Message}
-use Rattle.ring_ends.specs.Waiting.{Held as Queue, frame, frames_from}
+use Rattle.link_rings.specs.Waiting.{Held as Queue, frame, frames_from}
 use Rattle.link_sides.specs.Rooms.{Queues}
 
 frames_more : {M : Type 0} (k r : ℕ) (ms : List M) (m : M) → frames_from k r (ms ++ m ∷ []) ≡ frames_from k r ms ++ frame (k + length ms) r m ∷ []

@@ -3,42 +3,42 @@ use Rattle.std.proofs.Common.{◌≡◌, ℕ, ◌+◌, ◌-◌, ◌<◌, Bool, t
 use Rattle.std.specs.declared.snapshot.Snapshot.{Snapshot}
 use Rattle.rpc_msg.specs.declared.ids.Vat.{Vat}
 use Rattle.rpc_msg.specs.declared.message.Message.{Message}
-use Rattle.vat_journal.specs.declared.entry.JournalEntry.{JournalEntry}
-use Rattle.vat_journal.specs.declared.entry.JournalEntry.TheVariants as entry
-use Rattle.vat_machine.specs.declared.command.Command.{Command}
-use Rattle.vat_machine.specs.declared.command.Command.TheVariants as command
-use Rattle.vat_machine.specs.declared.command.Granted.{Granted}
-use Rattle.vat_machine.specs.declared.command.Granted.TheVariants as granted
-use Rattle.vat_machine.specs.declared.command.Refusal.{Refusal}
-use Rattle.vat_machine.specs.declared.command.Effects.{Effects}
-use Rattle.vat_machine.specs.Numbers.{want_of_room}
-use Rattle.vat_machine.specs.State.{State}
-use Rattle.vat_machine.specs.Down.{ShutsFrom, Falls}
-use Rattle.vat_machine.specs.Steps as step
-use Rattle.vat_machine.specs.World.{CommandTold, MessageTold, overflow_effects, overflown}
-use Rattle.vat_machine.specs.Journal.{effect_entries, own_entries}
-use Rattle.log_weave.specs.Machine as weave
-use Rattle.log_weave.specs.Machine.{Input, Receive}
+use Rattle.rpc_journal.specs.declared.entry.JournalEntry.{JournalEntry}
+use Rattle.rpc_journal.specs.declared.entry.JournalEntry.TheVariants as entry
+use Rattle.rpc_machine.specs.declared.command.Command.{Command}
+use Rattle.rpc_machine.specs.declared.command.Command.TheVariants as command
+use Rattle.rpc_machine.specs.declared.command.Granted.{Granted}
+use Rattle.rpc_machine.specs.declared.command.Granted.TheVariants as granted
+use Rattle.rpc_machine.specs.declared.command.Refusal.{Refusal}
+use Rattle.rpc_machine.specs.declared.command.Effects.{Effects}
+use Rattle.rpc_machine.specs.Numbers.{want_of_room}
+use Rattle.rpc_machine.specs.State.{State}
+use Rattle.rpc_machine.specs.Down.{ShutsFrom, Falls}
+use Rattle.rpc_machine.specs.Steps as step
+use Rattle.rpc_machine.specs.World.{CommandTold, MessageTold, overflow_effects, overflown}
+use Rattle.rpc_machine.specs.Journal.{effect_entries, own_entries}
+use Rattle.laws_merge.specs.Machine as weave
+use Rattle.laws_merge.specs.Machine.{Input, Receive}
 use Rattle.laws_ends.specs.Overflows.{OverflowIsShut}
 use Rattle.laws_runs.specs.MadeCalls.{NumbersItsCalls}
 use Rattle.laws_runs.specs.Sides.{TakesStep}
-use Rattle.ring_ends.specs.Waiting.{Held as Queue, frames_from}
-use Rattle.ring_ends.specs.Parties as ring
-use Rattle.ring_ends.specs.Parties.{IsDown}
+use Rattle.link_rings.specs.Waiting.{Held as Queue, frames_from}
+use Rattle.link_rings.specs.Parties as ring
+use Rattle.link_rings.specs.Parties.{IsDown}
 use Rattle.link_logs.specs.declared.note.Told.{Told}
 use Rattle.link_logs.specs.declared.note.Told.TheVariants as told
 use Rattle.link_logs.specs.declared.note.Note.{Note}
 use Rattle.link_logs.specs.Notes.{input_by, sends_by, noted}
 use Rattle.link_logs.specs.Steps.{Held, StepsSo, input_of, sends_of, entries_behind}
 use Rattle.link_sides.specs.Rooms.{Queues}
-use Rattle.vat_telling.specs.declared.notes.Note as own
-use Rattle.vat_telling.specs.Notes.{back_in, index_of, note_entries, IsWholeInNote}
-use Rattle.vat_telling.specs.Told.{IsFall}
-use Rattle.vat_telling.proofs.Noting.{own_so}
-use Rattle.vat_machine.specs.Progress.{quiet}
-use Rattle.vat_telling.specs.Answer.{Answer}
-use Rattle.vat_telling.specs.Answer.TheVariants.{Done, Refused}
-use Rattle.vat_telling.specs.Answers.{AnswersTo, answer_in, effects_in}
+use Rattle.core_telling.specs.declared.notes.Note as own
+use Rattle.core_telling.specs.Notes.{back_in, index_of, note_entries, IsWholeInNote}
+use Rattle.core_telling.specs.Told.{IsFall}
+use Rattle.core_telling.proofs.Noting.{own_so}
+use Rattle.rpc_machine.specs.Progress.{quiet}
+use Rattle.core_telling.specs.Answer.{Answer}
+use Rattle.core_telling.specs.Answer.TheVariants.{Done, Refused}
+use Rattle.core_telling.specs.Answers.{AnswersTo, answer_in, effects_in}
 use Rattle.link_sides.specs.Sides.{down_by, IsOwn, IsSpare, HasBack}
 
 -- ---- What every step has

@@ -1,5 +1,5 @@
 pub mod Rooms
 pub mod Sides
-pub use Rattle.vat_telling.specs.Answer
-pub use Rattle.vat_telling.specs.Told
-pub use Rattle.vat_telling.specs.AnswerRow
+pub use Rattle.core_telling.specs.Answer
+pub use Rattle.core_telling.specs.Told
+pub use Rattle.core_telling.specs.AnswerRow

@@ -1,11 +1,11 @@
 -- What the code of an end keeps, as what it is seen as, and the room that it keeps so that its vat can go down.
 use Rattle.std.specs.Prelude.{◌≡◌, ◌≤◌, ◌+◌, true, None, List, [], ◌++◌, length, refl}
 use Rattle.std.specs.Coded.{Coded, code_by, coded×, coded_list}
-use Rattle.vat_journal.specs.contracts.entry.JournalEntry as entry_row
-use Rattle.vat_journal.specs.declared.entry.JournalEntry.{JournalEntry}
-use Rattle.vat_machine.specs.State.{State, state_code}
+use Rattle.rpc_journal.specs.contracts.entry.JournalEntry as entry_row
+use Rattle.rpc_journal.specs.declared.entry.JournalEntry.{JournalEntry}
+use Rattle.rpc_machine.specs.State.{State, state_code}
 use Rattle.rpc_msg.specs.declared.message.Message.{Message}
-use Rattle.ring_ends.specs.Waiting.{Held as Queue, frames_from}
+use Rattle.link_rings.specs.Waiting.{Held as Queue, frames_from}
 use Rattle.link_logs.specs.Steps.{Held}
 use Rattle.link_sides.specs.declared.kept.Kept.{Kept}
 

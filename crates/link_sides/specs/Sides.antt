@@ -1,21 +1,21 @@
 -- A real vat as a side of a pair on threads (docs/threads.md).
 use Rattle.std.specs.Prelude.{◌≡◌, ℕ, true, false, Option, None, Some, Result}
 use Rattle.rpc_msg.specs.declared.ids.Vat.{Vat}
-use Rattle.vat_machine.specs.declared.command.Command.{Command}
-use Rattle.vat_machine.specs.declared.command.Command.TheVariants as command
-use Rattle.vat_machine.specs.declared.command.Granted.{Granted}
-use Rattle.vat_machine.specs.declared.command.Granted.TheVariants as granted
-use Rattle.vat_machine.specs.declared.command.Refusal.{Refusal}
-use Rattle.vat_machine.specs.State.{State}
-use Rattle.vat_machine.specs.declared.command.Refusal.TheVariants as refusal
-use Rattle.vat_machine.specs.declared.command.Effects.{Effects}
-use Rattle.vat_machine.specs.Progress.{quiet}
-use Rattle.vat_machine.specs.Refusals.{is_shut}
-use Rattle.vat_telling.specs.Answer.{Answer}
-use Rattle.vat_telling.specs.Answer.TheVariants.{Done, Refused}
-use Rattle.vat_telling.specs.Told.{given_of, without_sends}
-use Rattle.vat_telling.specs.Notes.{index_of, note_entries, granted_by, back_in, IsShort, IsWholeInNote}
-use Rattle.vat_telling.specs.declared.notes.Note as own
+use Rattle.rpc_machine.specs.declared.command.Command.{Command}
+use Rattle.rpc_machine.specs.declared.command.Command.TheVariants as command
+use Rattle.rpc_machine.specs.declared.command.Granted.{Granted}
+use Rattle.rpc_machine.specs.declared.command.Granted.TheVariants as granted
+use Rattle.rpc_machine.specs.declared.command.Refusal.{Refusal}
+use Rattle.rpc_machine.specs.State.{State}
+use Rattle.rpc_machine.specs.declared.command.Refusal.TheVariants as refusal
+use Rattle.rpc_machine.specs.declared.command.Effects.{Effects}
+use Rattle.rpc_machine.specs.Progress.{quiet}
+use Rattle.rpc_machine.specs.Refusals.{is_shut}
+use Rattle.core_telling.specs.Answer.{Answer}
+use Rattle.core_telling.specs.Answer.TheVariants.{Done, Refused}
+use Rattle.core_telling.specs.Told.{given_of, without_sends}
+use Rattle.core_telling.specs.Notes.{index_of, note_entries, granted_by, back_in, IsShort, IsWholeInNote}
+use Rattle.core_telling.specs.declared.notes.Note as own
 use Rattle.link_logs.specs.declared.note.Told.{Told}
 use Rattle.link_logs.specs.declared.note.Told.TheVariants as told
 use Rattle.link_logs.specs.declared.note.Note.{Note}

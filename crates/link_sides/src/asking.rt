@@ -1,13 +1,13 @@
 ghost use Rattle.std.specs.Prelude.{◌≡◌};
-ghost use Rattle.vat_machine.specs.declared.command.Command.TheVariants as command;
-ghost use Rattle.vat_machine.specs.Progress.{quiet};
-ghost use Rattle.vat_telling.specs.Answers.{AnswersTo, effects_in};
+ghost use Rattle.rpc_machine.specs.declared.command.Command.TheVariants as command;
+ghost use Rattle.rpc_machine.specs.Progress.{quiet};
+ghost use Rattle.core_telling.specs.Answers.{AnswersTo, effects_in};
 ghost use Rattle.link_sides.specs.Sides.{IsQuiet};
 
+use core_telling::{Answer, Core, Refused};
+use rpc_machine::{Command, Effects, Granted};
 use rpc_msg::{CallId, Items, ObjectId, Op, RefId};
 use std::alloc::Global;
-use vat_machine::{Command, Effects, Granted};
-use vat_telling::{Answer, Core, Refused};
 
 /// What the core answers to a command. What only makes a reference or a promise is asked for by its name, which says that
 /// nothing follows.

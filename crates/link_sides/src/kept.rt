@@ -1,9 +1,9 @@
 ghost use Rattle.std.specs.Prelude.{◌≡◌, [], true, IfOk};
 
+use core_outbox::Outbox;
+use core_telling::{Core, Journal};
 use rpc_msg::Memory;
 use std::alloc::Global;
-use vat_outbox::Outbox;
-use vat_telling::{Core, Journal};
 
 /// The core of a vat, the memory of the copy of its Abort that goes into the journal, what the end wrote, and a list for the
 /// entries of a step while they are copied.

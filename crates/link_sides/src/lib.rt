@@ -9,5 +9,5 @@ mod sending;
 mod side;
 mod telling;
 
+pub use core_telling::{Answer, Core, Refused};
 pub use side::VatSide;
-pub use vat_telling::{Answer, Core, Refused};

@@ -1,10 +1,10 @@
 ghost use Rattle.std.specs.Prelude.{◌≡◌, ◌+◌, ◌<◌, ◌≤◌, [], length, None, Some, Ok, Err, true, false, IfOk, OnOk};
-ghost use Rattle.ring_ends.specs.Parties.{Obeys, Shuts};
-ghost use Rattle.vat_machine.specs.Journal.{effect_entries};
-ghost use Rattle.vat_machine.specs.Progress.{quiet};
-ghost use Rattle.vat_machine.specs.Steps as step;
-ghost use Rattle.vat_machine.specs.declared.command.Command.TheVariants as command;
-ghost use Rattle.vat_machine.specs.Refusals.{is_shut};
+ghost use Rattle.link_rings.specs.Parties.{Obeys, Shuts};
+ghost use Rattle.rpc_machine.specs.Journal.{effect_entries};
+ghost use Rattle.rpc_machine.specs.Progress.{quiet};
+ghost use Rattle.rpc_machine.specs.Steps as step;
+ghost use Rattle.rpc_machine.specs.declared.command.Command.TheVariants as command;
+ghost use Rattle.rpc_machine.specs.Refusals.{is_shut};
 ghost use Rattle.link_logs.specs.Steps.{StepsSo, input_of, sends_of};
 ghost use Rattle.link_sides.specs.Rooms.{held_of, IsReady};
 ghost use Rattle.link_sides.specs.Sides.{down_by, AnswersSo, HasBack, IsOwn, IsQuiet, IsShutBy, IsSpare, IsTold};
@@ -12,16 +12,16 @@ ghost use Rattle.link_sides.specs.Sides.{down_by, AnswersSo, HasBack, IsOwn, IsQ
 use crate::asking::{ask, no_effects};
 use crate::kept::Kept;
 use crate::telling::{WANT_OF_ROOM, make_room, tell_fall, tell_whole};
+use core_telling::{
+    Answer, Core, Note as Own, back_of, index_of_call, note_of, write_note, write_refused,
+};
 use laws_ends::{names_stay, overflow_is_shut};
 use link_logs::{Note, Told};
-use ring_ends::Waiting;
+use link_rings::Waiting;
+use rpc_machine::{Command, Effects, Granted, Refusal};
 use rpc_msg::{Memory, Message};
 use std::alloc::Global;
 use std::snapshot::Snapshot;
-use vat_machine::{Command, Effects, Granted, Refusal};
-use vat_telling::{
-    Answer, Core, Note as Own, back_of, index_of_call, note_of, write_note, write_refused,
-};
 
 /// A command to the end of a vat that is up: what its core answers, with its effects but for the messages. Where there is no
 /// room for all that it says, the vat is shut with fault 33 in its place, and the command is refused as that of a vat which is

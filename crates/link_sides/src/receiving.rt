@@ -1,5 +1,5 @@
 ghost use Rattle.std.specs.Prelude.{◌≡◌, ◌<◌, None, Some, OnOk, IfOk, IfErr};
-ghost use Rattle.ring_ends.specs.Parties.{Receives};
+ghost use Rattle.link_rings.specs.Parties.{Receives};
 ghost use Rattle.link_logs.specs.Steps.{StepsSo, input_of, sends_of};
 ghost use Rattle.link_sides.specs.Rooms.{held_of, IsReady};
 ghost use Rattle.link_sides.specs.Sides.{down_by, TellsSo};
@@ -7,11 +7,11 @@ ghost use Rattle.link_sides.specs.Sides.{down_by, TellsSo};
 use crate::kept::Kept;
 use crate::telling::{WANT_OF_ROOM, make_room, tell_fall, tell_whole};
 use link_logs::{Note, Told};
-use ring_ends::Waiting;
+use link_rings::Waiting;
+use rpc_journal::JournalEntry;
+use rpc_machine::Effects;
 use rpc_msg::{Memory, Message};
 use std::snapshot::Snapshot;
-use vat_journal::JournalEntry;
-use vat_machine::Effects;
 
 /// A message that the end of a vat which is up receives: its effects, but for the messages, or the number with which the vat
 /// is then down.

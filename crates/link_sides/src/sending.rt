@@ -1,12 +1,12 @@
 ghost use Rattle.std.specs.Prelude.{◌≡◌, ◌+◌, ◌≤◌, [], length};
-ghost use Rattle.vat_telling.specs.Told.{without_sends};
+ghost use Rattle.core_telling.specs.Told.{without_sends};
 ghost use Rattle.link_sides.specs.Rooms.{Queues};
 
-use ring_ends::Waiting;
+use link_rings::Waiting;
+use rpc_machine::Effects;
 use rpc_msg::{Items, Message};
 use std::alloc::Global;
 use std::mem;
-use vat_machine::Effects;
 
 /// Puts the messages of a step behind the frames that wait, where there is room; the other effects stay.
 pub(crate) fn send(alloc: Global, effects: &mut Effects, waiting: &mut Waiting<Message>)

@@ -2,14 +2,14 @@ use crate::asking::no_effects;
 use crate::kept::Kept;
 use crate::obeying::{obey, shut};
 use crate::receiving::receive;
+use core_telling::{Answer, Core};
 use link_logs::Note;
-use ring_ends::{Party, Waiting};
+use link_rings::{Party, Waiting};
+use rpc_journal::{Counts, JournalEntry};
+use rpc_machine::{Command, Effects, Granted, Refusal};
 use rpc_msg::{Memory, Message};
 use std::alloc::Global;
 use std::marker::Model;
-use vat_journal::{Counts, JournalEntry};
-use vat_machine::{Command, Effects, Granted, Refusal};
-use vat_telling::{Answer, Core};
 
 /// A real vat as a side of a pair on threads: its core, and the journal entries of its steps. Contracts see it as those two.
 pub struct VatSide {
@@ -38,7 +38,7 @@ impl Model for VatSide {
 
 impl VatSide {
     ghost use Rattle.std.specs.Prelude.{◌≡◌, [], None, IfOk, IfErr};
-    ghost use Rattle.vat_machine.specs.Queries.{counts_of};
+    ghost use Rattle.rpc_machine.specs.Queries.{counts_of};
 
     /// A side of that core, which is up, with nothing written. Where a growth is refused the core comes back.
     pub fn new(alloc: Global, core: Core) -> Result<VatSide, Core>

@@ -1,14 +1,14 @@
 ghost use Rattle.std.specs.Prelude.{◌≡◌, ◌++◌, ◌+◌, ◌≤◌, ◌<◌, [], true, length, OnOk, OnErr};
-ghost use Rattle.vat_machine.specs.Journal.{effect_entries};
-ghost use Rattle.vat_telling.specs.Told.{without_sends, IsFall};
+ghost use Rattle.rpc_machine.specs.Journal.{effect_entries};
+ghost use Rattle.core_telling.specs.Told.{without_sends, IsFall};
 ghost use Rattle.link_sides.specs.Rooms.{Queues};
 
 use crate::kept::Kept;
 use crate::sending::send;
-use ring_ends::Waiting;
+use core_telling::{count, put_effects, write_fall};
+use link_rings::Waiting;
+use rpc_machine::Effects;
 use rpc_msg::{Memory, Message, Vat};
-use vat_machine::Effects;
-use vat_telling::{count, put_effects, write_fall};
 
 /// The fault of a vat that found no room.
 pub(crate) const WANT_OF_ROOM: u16 = 33;

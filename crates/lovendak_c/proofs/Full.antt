@@ -1,7 +1,7 @@
 -- A call on a handle that has a desk.
 use Rattle.std.proofs.Common.{◌≡◌, ℕ, Option, Some, Result, refl, sym, subst}
-use Rattle.vat_desk.specs.declared.desk.Desk.{Desk}
-use Rattle.vat_desk.specs.declared.not_done.NotDone.{NotDone}
+use Rattle.lovendak_c_desk.specs.declared.desk.Desk.{Desk}
+use Rattle.lovendak_c_desk.specs.declared.not_done.NotDone.{NotDone}
 use Rattle.lovendak_c.specs.Calls.{AsksOn, GivesOn, HandsOn}
 use Rattle.lovendak_c.specs.Codes.{IsTold, code_for}
 

@@ -14,7 +14,7 @@ use denote.Struct.Owning.{shape}
 use Rattle.std.specs.declared.option.Option.{Option}
 use Rattle.std.specs.declared.option.Option.TheVariants.{None, Some}
 use Rattle.lovendak_c.specs.Held.{held, is_there}
-use Rattle.vat_desk.specs.contracts.desk.Desk as desk
+use Rattle.lovendak_c_desk.specs.contracts.desk.Desk as desk
 use Rattle.lovendak_c.specs.contracts.raw.Raw as raw
 
 -- the desk that is there

@@ -1,10 +1,10 @@
 -- What calls do to what a handle has.
 use Rattle.std.specs.Prelude.{◌≡◌, ℕ, zero, suc, List, Option, Some, None, MatchOption, Result}
 use Rattle.rpc_msg.specs.declared.ids.ObjectId.{ObjectId}
-use Rattle.vat_desk.specs.Desks.{IsNotMade, idle}
-use Rattle.vat_desk.specs.Given.{level_at}
-use Rattle.vat_desk.specs.declared.desk.Desk.{Desk}
-use Rattle.vat_desk.specs.declared.not_done.NotDone.{NotDone}
+use Rattle.lovendak_c_desk.specs.Desks.{IsNotMade, idle}
+use Rattle.lovendak_c_desk.specs.Given.{level_at}
+use Rattle.lovendak_c_desk.specs.declared.desk.Desk.{Desk}
+use Rattle.lovendak_c_desk.specs.declared.not_done.NotDone.{NotDone}
 use Rattle.lovendak_c.specs.Codes.{IsTold, code_for, code_of}
 
 -- An empty handle stays so (100); what is there does this (0).

@@ -1,8 +1,8 @@
 -- What calls answer (docs/languages.md).
 use Rattle.std.specs.Prelude.{◌≡◌, ℕ, Bool, true, false, Result, Ok, Err}
-use Rattle.vat_machine.specs.Numbers.{refusal_number}
-use Rattle.vat_desk.specs.declared.not_done.NotDone.{NotDone}
-use Rattle.vat_desk.specs.declared.not_done.NotDone.TheVariants as not_done
+use Rattle.rpc_machine.specs.Numbers.{refusal_number}
+use Rattle.lovendak_c_desk.specs.declared.not_done.NotDone.{NotDone}
+use Rattle.lovendak_c_desk.specs.declared.not_done.NotDone.TheVariants as not_done
 
 -- The numbers of refusals are those of traces.
 abbrev pub code_of : NotDone → ℕ

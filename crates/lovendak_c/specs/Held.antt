@@ -7,7 +7,7 @@ use Rattle.std.specs.Prelude.{Bool, true, false}
 use Rattle.std.specs.declared.option.Option.{Option}
 use Rattle.std.specs.declared.option.Option.TheVariants.{None, Some}
 use Rattle.std_heap.specs.contracts.GlobalAllocator.TheImpl.{ghosts}
-use Rattle.vat_desk.specs.contracts.desk.Desk.{the_row}
+use Rattle.lovendak_c_desk.specs.contracts.desk.Desk.{the_row}
 
 -- the right to free a block of the heap, whichever handle of the heap is named
 abbrev pub token : Ty → Ptr → Fml

@@ -1,8 +1,8 @@
 // Commands that give a number. What the number is put into stays as it is where a command is refused, and so does the vat.
 ghost use Rattle.std.specs.Prelude.{◌≡◌, []};
-ghost use Rattle.vat_machine.specs.declared.command.Command.TheVariants as command;
-ghost use Rattle.vat_desk.specs.Commands.{Advances, CallsWith, IsAsked, a_call, a_promise, a_reference, call_of};
-ghost use Rattle.vat_desk.specs.Given.{path};
+ghost use Rattle.rpc_machine.specs.declared.command.Command.TheVariants as command;
+ghost use Rattle.lovendak_c_desk.specs.Commands.{Advances, CallsWith, IsAsked, a_call, a_promise, a_reference, call_of};
+ghost use Rattle.lovendak_c_desk.specs.Given.{path};
 ghost use Rattle.lovendak_c.specs.Calls.{GivesOn};
 
 use crate::codes::{DONE, EMPTY, code_of, done_with};

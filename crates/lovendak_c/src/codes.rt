@@ -2,7 +2,7 @@
 ghost use Rattle.std.specs.Prelude.{◌≡◌};
 ghost use Rattle.lovendak_c.specs.Codes.{IsTold, bit, code_for, code_of};
 
-use vat_desk::NotDone;
+use lovendak_c_desk::NotDone;
 
 /// It is done.
 pub(crate) const DONE: u32 = 0;

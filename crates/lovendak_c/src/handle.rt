@@ -4,10 +4,10 @@ ghost use Rattle.lovendak_c.specs.Held.{is_there};
 ghost use Rattle.lovendak_c.specs.declared.handle.TheConstants.{MAGIC};
 
 use crate::raw::Raw;
-use loose::Loose;
+use lovendak_c_box::Loose;
+use lovendak_c_desk::Desk;
 use std::alloc::Global;
 use std::mem;
-use vat_desk::Desk;
 
 /// What stands in a handle that has a vat, and not by chance in memory that nobody wrote.
 const MAGIC: u32 = 0x4c6f_7665;

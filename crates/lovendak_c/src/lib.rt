@@ -1,7 +1,7 @@
 //! The vat for C: a static library without input and output, threads, callbacks or state of its own (docs/languages.md). The
 //! header is `bindings/c/lovendak.h`.
 //!
-//! - `raw.rt`, `handle.rt`: `Handle`, which C keeps: the address of a boxed desk (of `vat_desk`), or of none.
+//! - `raw.rt`, `handle.rt`: `Handle`, which C keeps: the address of a boxed desk (of `lovendak_c_desk`), or of none.
 //! - `life.rt`: a vat is made and let go. `streams.rt`: the bytes of both directions. `telling.rt`: events, and what is asked of
 //!   the vat.
 //! - `asks.rt`: commands that give a number. `settling.rt`: those that give nothing. `payloads.rt`: payloads made and looked

@@ -4,9 +4,9 @@ ghost use Rattle.lovendak_c.specs.Calls.{FreesOn, MakesOn, root_of};
 
 use crate::codes::{DONE, EMPTY, done};
 use crate::handle::Handle;
+use lovendak_c_desk::{Desk, NotDone};
 use rpc_msg::ObjectId;
 use std::alloc::Global;
-use vat_desk::{Desk, NotDone};
 
 /// The version of this interface.
 const VERSION: u32 = 1;

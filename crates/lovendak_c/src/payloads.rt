@@ -1,7 +1,7 @@
 // Payloads made and looked into. No vat is needed.
 ghost use Rattle.std.specs.Prelude.{◌≡◌, option_map};
-ghost use Rattle.vat_desk.specs.Contents.{Makes, NumberAt, ReferenceAt, TextAt};
-ghost use Rattle.vat_desk.specs.Given.{path};
+ghost use Rattle.lovendak_c_desk.specs.Contents.{Makes, NumberAt, ReferenceAt, TextAt};
+ghost use Rattle.lovendak_c_desk.specs.Given.{path};
 ghost use Rattle.lovendak_c.specs.Calls.{Gives, Tells, text_of};
 
 use crate::codes::{done, done_with};
@@ -23,7 +23,7 @@ pub extern "C" fn lovendak_contents(
     ensures { Tells result (λ answer. Makes numbers.now (text_of has_text text.now) caps out.old len.old answer out.new len.new) }
 {
     let text = text_of(has_text, text);
-    done(vat_desk::contents(alloc, numbers, text, caps, out, len))
+    done(lovendak_c_desk::contents(alloc, numbers, text, caps, out, len))
 }
 
 // A text, unless the number is 0.
@@ -48,7 +48,10 @@ pub extern "C" fn lovendak_number_at(
 ) -> u32
     ensures { Gives result number.old number.new (λ answer. NumberAt (record { bytes = payload.now; caps = caps }) index answer) }
 {
-    done_with(vat_desk::number_at(alloc, payload, caps, index), number)
+    done_with(
+        lovendak_c_desk::number_at(alloc, payload, caps, index),
+        number,
+    )
 }
 
 /// Hands out the text at that pointer of a payload's root, a struct: none past the end. 104 where something else stands there, 102
@@ -64,7 +67,7 @@ pub extern "C" fn lovendak_text_at(
 ) -> u32
     ensures { Tells result (λ answer. TextAt (record { bytes = payload.now; caps = caps }) pointer out.old text_len.old answer out.new text_len.new) }
 {
-    done(vat_desk::text_at(alloc, payload, caps, pointer, out, text_len))
+    done(lovendak_c_desk::text_at(alloc, payload, caps, pointer, out, text_len))
 }
 
 /// Says which of the references that came with a payload stands at that path. 104 where no capability does, 102 where the bytes are
@@ -79,5 +82,8 @@ pub extern "C" fn lovendak_ref_at(
 ) -> u32
     ensures { Gives result index.old index.new (λ answer. ReferenceAt (record { bytes = payload.now; caps = caps }) (path steps.now) answer) }
 {
-    done_with(vat_desk::reference_at(alloc, payload, caps, steps), index)
+    done_with(
+        lovendak_c_desk::reference_at(alloc, payload, caps, steps),
+        index,
+    )
 }

@@ -1,14 +1,14 @@
 // A desk that C keeps, as its address.
 ghost use Rattle.std.specs.Prelude.{◌≡◌, Option, Some, None, true};
-ghost use Rattle.vat_desk.specs.declared.desk.Desk.{Desk as DeskState};
+ghost use Rattle.lovendak_c_desk.specs.declared.desk.Desk.{Desk as DeskState};
 ghost use Rattle.std.specs.Coded.{coded_option};
-ghost use Rattle.vat_desk.specs.contracts.desk.Desk as desk_row;
+ghost use Rattle.lovendak_c_desk.specs.contracts.desk.Desk as desk_row;
 ghost use Rattle.lovendak_c.specs.Held.{is_there};
 
-use loose::Loose;
+use lovendak_c_box::Loose;
+use lovendak_c_desk::Desk;
 use std::alloc::Global;
 use std::marker::Model;
-use vat_desk::Desk;
 
 /// The address of a desk, or of none.
 #[repr(C)]

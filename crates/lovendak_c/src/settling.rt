@@ -1,7 +1,7 @@
 // Commands that give nothing. Where one is refused, the vat stays as it is.
 ghost use Rattle.std.specs.Prelude.{◌≡◌};
-ghost use Rattle.vat_machine.specs.declared.command.Command.TheVariants as command;
-ghost use Rattle.vat_desk.specs.Commands.{Answers, Fails, IsAsked, Rejects, ShutsWith, nothing};
+ghost use Rattle.rpc_machine.specs.declared.command.Command.TheVariants as command;
+ghost use Rattle.lovendak_c_desk.specs.Commands.{Answers, Fails, IsAsked, Rejects, ShutsWith, nothing};
 ghost use Rattle.lovendak_c.specs.Calls.{AsksOn};
 
 use crate::codes::{EMPTY, done};

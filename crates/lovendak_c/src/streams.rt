@@ -1,7 +1,7 @@
 // The bytes of both directions.
 ghost use Rattle.std.specs.Prelude.{◌≡◌, Bool};
 ghost use Rattle.vat_connection.specs.Connecting.{Finishes, Receives};
-ghost use Rattle.vat_desk.specs.Desks.{Awaits, HandsOut, with_connection};
+ghost use Rattle.lovendak_c_desk.specs.Desks.{Awaits, HandsOut, with_connection};
 ghost use Rattle.lovendak_c.specs.Calls.{DoesOn, HandsOn};
 ghost use Rattle.lovendak_c.specs.Codes.{bit};
 

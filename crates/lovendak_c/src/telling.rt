@@ -2,19 +2,19 @@
 ghost use Rattle.std.specs.Prelude.{◌≡◌};
 ghost use Rattle.std.specs.FinMap as map;
 ghost use Rattle.vat_core.specs.Counting.{made_of};
-ghost use Rattle.vat_machine.specs.Queries.{has_no_tables};
-ghost use Rattle.vat_machine.specs.declared.command.Refusal.TheVariants as refusal;
+ghost use Rattle.rpc_machine.specs.Queries.{has_no_tables};
+ghost use Rattle.rpc_machine.specs.declared.command.Refusal.TheVariants as refusal;
 ghost use Rattle.vat_connection.specs.Connecting.{down};
-ghost use Rattle.vat_desk.specs.declared.not_done.NotDone.TheVariants as not_done;
-ghost use Rattle.vat_desk.specs.Given.{known_or};
-ghost use Rattle.vat_desk.specs.Telling.{TellsNext};
+ghost use Rattle.lovendak_c_desk.specs.declared.not_done.NotDone.TheVariants as not_done;
+ghost use Rattle.lovendak_c_desk.specs.Given.{known_or};
+ghost use Rattle.lovendak_c_desk.specs.Telling.{TellsNext};
 ghost use Rattle.lovendak_c.specs.Calls.{AsksOn, GivesOn, HandsOn};
 ghost use Rattle.lovendak_c.specs.Codes.{bit};
 
 use crate::codes::{DONE, EMPTY, bit, done, done_with};
 use crate::handle::Handle;
+use lovendak_c_desk::Notice;
 use std::alloc::Global;
-use vat_desk::Notice;
 
 /// Hands out the next event, once: what it says in numbers, and copies of the bytes and of the references that came with it. Where
 /// there is too little room for these (103) the event says how much they need, and it stays the next one. 104 where there is none.

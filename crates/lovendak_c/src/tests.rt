@@ -14,8 +14,8 @@ use crate::streams::{lovendak_ended, lovendak_outgoing, lovendak_pending, lovend
 use crate::telling::{
     lovendak_calls_made, lovendak_down, lovendak_next_event, lovendak_shares_nothing,
 };
+use lovendak_c_desk::Notice;
 use std::alloc::Global;
-use vat_desk::Notice;
 
 /// The payload that says null.
 const NULL: [u8; 16] = [0, 0, 0, 0, 1, 0, 0, 0, 0, 0, 0, 0, 0, 0, 0, 0];

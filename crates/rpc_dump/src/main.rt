@@ -1,8 +1,8 @@
 //! Says what a captured conversation says: a line of JSON for each message (docs/messages.md).
 #![tactic(auto)]
 
-use dump_lines::{Failure, Options, dump, status, tell};
-use file_texts::unread;
+use program_files::unread;
+use rpc_dump_lib::{Failure, Options, dump, status, tell};
 use std::alloc::AllocError;
 use std::env;
 use std::env::Args;

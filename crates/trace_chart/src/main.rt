@@ -1,12 +1,12 @@
 //! Draws a trace as a sequence diagram, in SVG on standard output (`docs/trace.md`, "A picture of a trace").
 #![tactic(auto)]
 
-use file_texts::unread;
+use program_files::unread;
 use std::env;
 use std::env::Args;
 use std::fs::File;
 use std::process::ExitCode;
-use trace_picture::{Failure, Options, draw_trace, status, write_help};
+use trace_chart_lib::{Failure, Options, draw_trace, status, write_help};
 
 /// `trace_chart FILE [--ref V/N] [--from N] [--to N]`, or `trace_chart --help`; without arguments the trace is read from
 /// standard input.

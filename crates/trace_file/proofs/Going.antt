@@ -4,8 +4,8 @@ use lib.ListN.{get_or}
 use Rattle.std.specs.List.{take-map, slice_get}
 use Rattle.serde_json.specs.Read.{read}
 use Rattle.std.proofs.lemmas.List.{take_more}
-use Rattle.vat_journal.specs.declared.entry.JournalEntry.{JournalEntry}
-use Rattle.vat_journal.specs.declared.entry.JournalEntry.TheVariants as entry
+use Rattle.rpc_journal.specs.declared.entry.JournalEntry.{JournalEntry}
+use Rattle.rpc_journal.specs.declared.entry.JournalEntry.TheVariants as entry
 use Rattle.trace_write.specs.declared.version.TraceVersion.{TraceVersion}
 use Rattle.trace_write.specs.declared.version.TraceVersion.TheVariants.{Two}
 use Rattle.trace_write.specs.Values.{head_data}

@@ -5,9 +5,9 @@ use Rattle.std.specs.BTreeMap.{BTreeMap, get}
 use Rattle.rpc_msg.specs.declared.ids.Vat.{Vat}
 use Rattle.rpc_msg.specs.declared.ids.Vat.TheVariants.{A, B}
 use Rattle.rpc_msg.specs.declared.ids.Stamp.{Stamp}
-use Rattle.vat_journal.specs.declared.entry.JournalEntry.{JournalEntry}
-use Rattle.vat_journal.specs.declared.entry.JournalEntry.TheVariants as entry
-use Rattle.vat_journal.specs.History.{Ref, DeliveredAt, same_vat, stamp_of, if_so, in_front, all_that, made_stamp, delivered_one, made, deliveries}
+use Rattle.rpc_journal.specs.declared.entry.JournalEntry.{JournalEntry}
+use Rattle.rpc_journal.specs.declared.entry.JournalEntry.TheVariants as entry
+use Rattle.rpc_journal.specs.History.{Ref, DeliveredAt, same_vat, stamp_of, if_so, in_front, all_that, made_stamp, delivered_one, made, deliveries}
 use Rattle.trace_file.specs.declared.rows.Place.{Place}
 use Rattle.trace_file.specs.declared.rows.Calls.{Calls}
 use Rattle.trace_file.specs.Traces.{Follows}

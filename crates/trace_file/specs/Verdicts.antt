@@ -1,7 +1,7 @@
 -- How a verdict is said (docs/trace.md, "The verdict").
 use Rattle.std.specs.Prelude.{ℕ, List, [], ◌∷◌, ◌++◌, codes, decimal}
-use Rattle.trace_check.specs.declared.verdict.Verdict.{Verdict}
-use Rattle.trace_check.specs.declared.verdict.Verdict.TheVariants.{Good, Order, Unmatched, AfterDown, Count}
+use Rattle.rpc_check.specs.declared.verdict.Verdict.{Verdict}
+use Rattle.rpc_check.specs.declared.verdict.Verdict.TheVariants.{Good, Order, Unmatched, AfterDown, Count}
 
 abbrev pub verdict_text : Verdict → List ℕ
 verdict_text (Good n) = codes "ok: " ++ (decimal n ++ (codes " delivered" ++ 10 ∷ []))

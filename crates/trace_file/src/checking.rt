@@ -1,20 +1,20 @@
 ghost use Rattle.std.specs.Prelude.{◌≡◌, ◌++◌, ◌∷◌, [], List, IfOk, IfErr, OnOk, string_bytes};
-ghost use Rattle.vat_journal.specs.declared.entry.JournalEntry.{JournalEntry};
+ghost use Rattle.rpc_journal.specs.declared.entry.JournalEntry.{JournalEntry};
 ghost use Rattle.trace_write.specs.declared.version.TraceVersion.{TraceVersion};
-ghost use Rattle.trace_check.specs.Breaches.{verdict_of};
-ghost use Rattle.trace_check.specs.Kept.{HasTaken};
+ghost use Rattle.rpc_check.specs.Breaches.{verdict_of};
+ghost use Rattle.rpc_check.specs.Kept.{HasTaken};
 ghost use Rattle.trace_file.specs.Traces.{IsTrace};
 ghost use Rattle.trace_file.specs.Faults.{IsFileFault};
 ghost use Rattle.trace_file.specs.Verdicts.{verdict_text};
 
 use crate::fault::FileFault;
 use crate::reading::{Follower, follow};
+use rpc_check::{Checker, Verdict};
+use rpc_journal::JournalEntry;
 use rpc_msg::Memory;
 use std::alloc::Global;
 use std::fmt::Write;
 use std::mem;
-use trace_check::{Checker, Verdict};
-use vat_journal::JournalEntry;
 
 /// The verdict of a trace. Its entries are read one by one and not kept.
 ///

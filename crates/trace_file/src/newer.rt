@@ -1,5 +1,5 @@
 ghost use Rattle.std.specs.Prelude.{◌≡◌, ◌++◌, List, IfOk, IfErr, string_bytes};
-ghost use Rattle.vat_journal.specs.declared.entry.JournalEntry.{JournalEntry};
+ghost use Rattle.rpc_journal.specs.declared.entry.JournalEntry.{JournalEntry};
 ghost use Rattle.trace_write.specs.declared.version.TraceVersion.{TraceVersion};
 ghost use Rattle.trace_write.specs.declared.version.TraceVersion.TheVariants.{Two};
 ghost use Rattle.trace_file.specs.Traces.{IsTrace, line_text, trace_text};
@@ -8,10 +8,10 @@ ghost use Rattle.trace_file.specs.Faults.{IsFileFault};
 use crate::fault::FileFault;
 use crate::reading::{Follower, follow};
 use crate::write::write_entry;
+use rpc_journal::JournalEntry;
 use rpc_msg::Memory;
 use std::alloc::Global;
 use trace_json::TraceVersion;
-use vat_journal::JournalEntry;
 
 /// The trace in version 2 that a trace of either version says: compact lines, each with a newline at its end.
 ///

@@ -1,15 +1,15 @@
 ghost use Rattle.std.specs.Prelude.{◌≡◌, List, IfOk, IfErr, OnOk, map};
 ghost use Rattle.serde_json.specs.Read.{read};
-ghost use Rattle.vat_journal.specs.declared.entry.JournalEntry.{JournalEntry};
+ghost use Rattle.rpc_journal.specs.declared.entry.JournalEntry.{JournalEntry};
 ghost use Rattle.trace_file.specs.Traces.{IsEntryLine, IsTrace, AreLines, AreEntryLines, Follows};
 ghost use Rattle.trace_file.specs.Faults.{IsLaterFault, IsFileFault, IsLinesFault, IsEntriesFault};
 
 use crate::fault::FileFault;
 use crate::lines::{split, whole_lines};
+use rpc_journal::JournalEntry;
 use rpc_msg::Memory;
 use std::alloc::Global;
 use trace_json::{TraceFault, TraceVersion, entry_of, version_of};
-use vat_journal::JournalEntry;
 
 /// What goes through the entries of a trace, one after another.
 pub trait Follower {

@@ -1,5 +1,5 @@
 ghost use Rattle.std.specs.Prelude.{◌≡◌, OnOk, List, IfOk, IfErr, string_bytes};
-ghost use Rattle.vat_journal.specs.declared.entry.JournalEntry.{JournalEntry};
+ghost use Rattle.rpc_journal.specs.declared.entry.JournalEntry.{JournalEntry};
 ghost use Rattle.trace_write.specs.declared.version.TraceVersion.{TraceVersion};
 ghost use Rattle.trace_file.specs.Traces.{IsTrace};
 ghost use Rattle.trace_file.specs.Faults.{IsFileFault};
@@ -10,9 +10,9 @@ ghost use Rattle.trace_file.specs.Counting.{ChangedIf, one_made, one_delivered, 
 use crate::fault::FileFault;
 use crate::reading::{Follower, follow};
 use crate::rows::{Calls, Place, Rows};
+use rpc_journal::JournalEntry;
 use rpc_msg::{Memory, RefId, Vat};
 use std::alloc::Global;
-use vat_journal::JournalEntry;
 
 /// What a trace says of the references that made a call, a line for each, by vat and number: `a/0: made 2, delivered 2
 /// to b/0`, with the vat and object of its first delivery, or `to -` where none was.

@@ -1,10 +1,10 @@
 ghost use Rattle.std.specs.Prelude.{◌≡◌, ◌++◌, OnOk, string_bytes};
 ghost use Rattle.trace_file.specs.Traces.{trace_text, line_text};
 
+use rpc_journal::JournalEntry;
 use rpc_msg::Memory;
 use std::alloc::Global;
 use trace_json::{TraceVersion, line_of};
-use vat_journal::JournalEntry;
 
 /// The lines of these entries behind a text, each with a newline at its end. `Memory` where a growth was refused; the
 /// text may then have some of them.

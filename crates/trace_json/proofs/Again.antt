@@ -36,15 +36,15 @@ use Rattle.rpc_msg.specs.declared.message.PlainMessage.{PlainMessage}
 use Rattle.rpc_msg.specs.declared.message.PlainMessage.TheVariants as plain
 use Rattle.rpc_msg.specs.declared.message.Message.{Message}
 use Rattle.rpc_msg.specs.declared.message.Message.TheVariants as message
-use Rattle.vat_journal.specs.declared.entry.Origin.{Origin}
-use Rattle.vat_journal.specs.declared.entry.Origin.TheVariants as origin
-use Rattle.vat_journal.specs.declared.entry.Counts.{Counts}
-use Rattle.vat_journal.specs.declared.entry.JournalEntry.{JournalEntry}
-use Rattle.vat_journal.specs.declared.entry.JournalEntry.TheVariants as entry
-use Rattle.vat_journal.specs.declared.report.Outcome.{Outcome}
-use Rattle.vat_journal.specs.declared.report.Outcome.TheVariants as outcome
-use Rattle.vat_journal.specs.declared.report.Advanced.{Advanced}
-use Rattle.vat_journal.specs.declared.report.Advanced.TheVariants as advanced
+use Rattle.rpc_journal.specs.declared.entry.Origin.{Origin}
+use Rattle.rpc_journal.specs.declared.entry.Origin.TheVariants as origin
+use Rattle.rpc_journal.specs.declared.entry.Counts.{Counts}
+use Rattle.rpc_journal.specs.declared.entry.JournalEntry.{JournalEntry}
+use Rattle.rpc_journal.specs.declared.entry.JournalEntry.TheVariants as entry
+use Rattle.rpc_journal.specs.declared.report.Outcome.{Outcome}
+use Rattle.rpc_journal.specs.declared.report.Outcome.TheVariants as outcome
+use Rattle.rpc_journal.specs.declared.report.Advanced.{Advanced}
+use Rattle.rpc_journal.specs.declared.report.Advanced.TheVariants as advanced
 use Rattle.trace_write.specs.declared.version.TraceVersion.{TraceVersion}
 use Rattle.trace_write.specs.declared.version.TraceVersion.TheVariants.{One, Two}
 use Rattle.trace_write.specs.Parts.{nat, only, vat_data, reference_data, op_data, path_data, answer_data, target_data, descriptor_data, stamp_data, payload_data, kind_name, exception_data, outcome_by, origin_data, advanced_name, pair_data, counts_data}
@@ -52,9 +52,9 @@ use Rattle.trace_write.specs.Messages.{call_by, body_by, return_by, finish_data,
 use Rattle.trace_write.specs.Values.{head_of, value_by}
 use Rattle.trace_write.specs.Fits.{FitsU32, FitsFlag, FitsOp, FitsPath, FitsAnswer, FitsDescriptor, FitsTarget, FitsOrigin, FitsPair, FitsCounts, FitsCall, FitsBody, FitsReturn, FitsFinish, FitsResolved, FitsResolve, FitsRelease, FitsContext, FitsDisembargo, FitsPlain, FitsMessage, Fits}
 use Rattle.trace_json.specs.Filled.{payload_of_outcome, filled_outcome, payload_of_body, filled_body, payload_of_plain, filled_plain, payload_of_message, filled_message, payload_in, filled}
-use Rattle.trace_parts.specs.Reading.{Read, nat_at, flag_at, field_at, last_value_at, last_at, two_at, last_two_at, both_at, word_at, only_at, items_at}
-use Rattle.trace_parts.specs.ReadParts.{vat_at, reference_at, op_at, path_at, answer_at, target_at, tagged_descriptor, descriptor_at, stamp_at, raw_at, kind_at, exception_at, outcome_at, field_origin_at, origin_at, advanced_at, pair_at, counts_at}
-use Rattle.trace_parts.specs.ReadMessages.{call_rest, call_at, results_at, tagged_body, body_at, return_at, finish_at, resolved_at, resolve_at, release_at, context_at, disembargo_at, bootstrap_at, plain_at, message_at}
+use Rattle.trace_json_parts.specs.Reading.{Read, nat_at, flag_at, field_at, last_value_at, last_at, two_at, last_two_at, both_at, word_at, only_at, items_at}
+use Rattle.trace_json_parts.specs.ReadParts.{vat_at, reference_at, op_at, path_at, answer_at, target_at, tagged_descriptor, descriptor_at, stamp_at, raw_at, kind_at, exception_at, outcome_at, field_origin_at, origin_at, advanced_at, pair_at, counts_at}
+use Rattle.trace_json_parts.specs.ReadMessages.{call_rest, call_at, results_at, tagged_body, body_at, return_at, finish_at, resolved_at, resolve_at, release_at, context_at, disembargo_at, bootstrap_at, plain_at, message_at}
 use Rattle.trace_json.specs.ReadEntries.{members_of_kind, kind_and_vat, before_kind, behind_kind, around_kind, head_at, born_at, asked_at, made_rest, made_at, delivered_rest, delivered_at, answered_at, ended_at, resolved_promise_at, rejected_at, dropped_at, finished_at, entry_advanced_at, refused_at, sent_at, got_at, down_at, tables_at, entry_at}
 
 nat_again : (b n : ℕ) → n < b → nat_at b (nat n) ≡ Ok n

@@ -11,20 +11,20 @@ use Rattle.rpc_msg.specs.declared.message.PlainMessage.{PlainMessage}
 use Rattle.rpc_msg.specs.declared.message.PlainMessage.TheVariants as plain
 use Rattle.rpc_msg.specs.declared.message.Message.{Message}
 use Rattle.rpc_msg.specs.declared.message.Message.TheVariants as message
-use Rattle.vat_journal.specs.declared.entry.JournalEntry.{JournalEntry}
-use Rattle.vat_journal.specs.declared.entry.JournalEntry.TheVariants as entry
-use Rattle.vat_journal.specs.declared.report.Outcome.{Outcome}
-use Rattle.vat_journal.specs.declared.report.Outcome.TheVariants as outcome
+use Rattle.rpc_journal.specs.declared.entry.JournalEntry.{JournalEntry}
+use Rattle.rpc_journal.specs.declared.entry.JournalEntry.TheVariants as entry
+use Rattle.rpc_journal.specs.declared.report.Outcome.{Outcome}
+use Rattle.rpc_journal.specs.declared.report.Outcome.TheVariants as outcome
 use Rattle.trace_json.specs.declared.fault.TraceFault.{TraceFault}
 use Rattle.trace_json.specs.declared.fault.TraceFault.TheVariants as fault
-use Rattle.trace_parts.specs.declared.fault.Fault.TheVariants as shape
+use Rattle.trace_json_parts.specs.declared.fault.Fault.TheVariants as shape
 use Rattle.trace_write.specs.declared.version.TraceVersion.{TraceVersion}
 use Rattle.trace_write.specs.Parts.{in_base64, outcome_by}
 use Rattle.trace_write.specs.Messages.{body_by, plain_by, message_by}
 use Rattle.trace_write.specs.Values.{version_number, head_of, head_data, value_by, value}
 use Rattle.trace_write.specs.Fits.{FitsU32, FitsPayload, FitsOutcome, FitsBody, FitsPlain, FitsMessage, Fits}
 use Rattle.trace_json.specs.Filled.{payload_of_outcome, filled_outcome, payload_of_body, filled_body, payload_of_plain, filled_plain, payload_of_message, filled_message, payload_in, filled}
-use Rattle.trace_parts.specs.ReadParts.{Raw}
+use Rattle.trace_json_parts.specs.ReadParts.{Raw}
 use Rattle.trace_json.specs.ReadEntries.{head_at, entry_at}
 use Rattle.trace_json.specs.Faults.{IsShaped, IsDecoded, IsEntry, IsFault, IsShapeFault, IsTextFault, IsPayloadFault, IsRawFault, IsVersionFault}
 use Rattle.trace_json.proofs.Payloads.{null_fits, same_parts, same_bytes, same_base64}

@@ -3,10 +3,10 @@ use Rattle.std.proofs.Common.{◌≡◌, ℕ, ◌<◌, zero, suc, List, [], ◌�
 use Rattle.base64.specs.Engines.{standard}
 use Rattle.base64.specs.GeneralPurpose.{encode_of, decode_of, IsBytes}
 use Rattle.base64.proofs.EngineFacts.{decode_of-encode_of}
-use Rattle.wire_reading.specs.Segments.{little_numbers, segments_in}
-use Rattle.wire_reading.specs.Framing.{framing, segment_count, sizes}
-use Rattle.wire_reading.specs.Following.{leads}
-use Rattle.wire_reading.specs.Reading.{message_of, root_of, reading, deep}
+use Rattle.capn_reading.specs.Segments.{little_numbers, segments_in}
+use Rattle.capn_reading.specs.Framing.{framing, segment_count, sizes}
+use Rattle.capn_reading.specs.Following.{leads}
+use Rattle.capn_reading.specs.Reading.{message_of, root_of, reading, deep}
 use Rattle.rpc_msg.specs.Payloads.{Contents as Payload, IsEncoded, null_payload}
 use Rattle.trace_write.specs.Parts.{in_base64}
 use Rattle.trace_write.specs.Fits.{FitsPayload}

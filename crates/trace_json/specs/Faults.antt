@@ -4,11 +4,11 @@ use Rattle.base64.specs.Engines.{standard}
 use Rattle.base64.specs.GeneralPurpose.{encode_of, decode_of, IsBytes}
 use Rattle.serde_json.specs.Data.{Data}
 use Rattle.rpc_msg.specs.Payloads.{IsEncoded}
-use Rattle.vat_journal.specs.declared.entry.JournalEntry.{JournalEntry}
+use Rattle.rpc_journal.specs.declared.entry.JournalEntry.{JournalEntry}
 use Rattle.trace_write.specs.declared.version.TraceVersion.{TraceVersion}
 use Rattle.trace_json.specs.declared.fault.TraceFault.{TraceFault}
 use Rattle.trace_json.specs.declared.fault.TraceFault.TheVariants as fault
-use Rattle.trace_parts.specs.declared.fault.Fault.TheVariants as shape
+use Rattle.trace_json_parts.specs.declared.fault.Fault.TheVariants as shape
 use Rattle.trace_write.specs.Values.{version_number, head_of, value_by, value}
 use Rattle.trace_write.specs.Fits.{FitsU32, Fits}
 use Rattle.trace_json.specs.ReadEntries.{head_at}

@@ -12,21 +12,21 @@ use Rattle.rpc_msg.specs.declared.ids.TaskId.{TaskId}
 use Rattle.rpc_msg.specs.declared.ids.PromiseId.{PromiseId}
 use Rattle.rpc_msg.specs.declared.exception.Exception.{Exception}
 use Rattle.rpc_msg.specs.declared.message.Message.{Message}
-use Rattle.vat_journal.specs.declared.entry.Origin.{Origin}
-use Rattle.vat_journal.specs.declared.entry.Counts.{Counts}
-use Rattle.vat_journal.specs.declared.entry.MadeCall.{MadeCall}
-use Rattle.vat_journal.specs.declared.entry.JournalEntry.{JournalEntry}
-use Rattle.vat_journal.specs.declared.entry.JournalEntry.TheVariants as entry
-use Rattle.vat_journal.specs.declared.report.Outcome.{Outcome}
-use Rattle.vat_journal.specs.declared.report.Delivery.{Delivery}
-use Rattle.vat_journal.specs.declared.report.Ended.{Ended}
-use Rattle.vat_journal.specs.declared.report.Advanced.{Advanced}
-use Rattle.trace_parts.specs.declared.fault.Fault.TheVariants as fault
+use Rattle.rpc_journal.specs.declared.entry.Origin.{Origin}
+use Rattle.rpc_journal.specs.declared.entry.Counts.{Counts}
+use Rattle.rpc_journal.specs.declared.entry.MadeCall.{MadeCall}
+use Rattle.rpc_journal.specs.declared.entry.JournalEntry.{JournalEntry}
+use Rattle.rpc_journal.specs.declared.entry.JournalEntry.TheVariants as entry
+use Rattle.rpc_journal.specs.declared.report.Outcome.{Outcome}
+use Rattle.rpc_journal.specs.declared.report.Delivery.{Delivery}
+use Rattle.rpc_journal.specs.declared.report.Ended.{Ended}
+use Rattle.rpc_journal.specs.declared.report.Advanced.{Advanced}
+use Rattle.trace_json_parts.specs.declared.fault.Fault.TheVariants as fault
 use Rattle.trace_write.specs.declared.version.TraceVersion.{TraceVersion}
 use Rattle.trace_write.specs.Values.{version_number}
-use Rattle.trace_parts.specs.Reading.{Read, ◌>>=◌, members_at, nat_at, u64_at, next_at, end_at, last_at, field_at, two_at, last_two_at, word_at, list_at}
-use Rattle.trace_parts.specs.ReadParts.{Raw, vat_at, reference_at, stamp_at, raw_at, exception_at, outcome_at, origin_at, advanced_at, counts_at}
-use Rattle.trace_parts.specs.ReadMessages.{message_at}
+use Rattle.trace_json_parts.specs.Reading.{Read, ◌>>=◌, members_at, nat_at, u64_at, next_at, end_at, last_at, field_at, two_at, last_two_at, word_at, list_at}
+use Rattle.trace_json_parts.specs.ReadParts.{Raw, vat_at, reference_at, stamp_at, raw_at, exception_at, outcome_at, origin_at, advanced_at, counts_at}
+use Rattle.trace_json_parts.specs.ReadMessages.{message_at}
 
 -- the members behind the kind, which is the first of them
 unfoldable pub members_of_kind : List ℕ → Data → Read Members

@@ -1,6 +1,6 @@
 ghost use Rattle.std.specs.Prelude.{◌≡◌};
 ghost use Rattle.trace_json.specs.Faults.{number_of_fault};
-ghost use Rattle.trace_parts.specs.declared.fault.Fault.TheVariants as fault;
+ghost use Rattle.trace_json_parts.specs.declared.fault.Fault.TheVariants as fault;
 
 use thiserror::Error;
 

@@ -1,8 +1,8 @@
 ghost use Rattle.std.specs.Prelude.{◌≡◌};
 ghost use Rattle.trace_json.specs.Filled.{filled_outcome, filled_body, filled_plain, filled_message, filled};
 
+use rpc_journal::{JournalEntry, Outcome};
 use rpc_msg::{Message, Payload, PlainMessage, ReturnBody};
-use vat_journal::{JournalEntry, Outcome};
 
 fn fill_outcome(payload: Payload, outcome: &mut Outcome)
     ensures { outcome.new ≡ filled_outcome payload outcome.old }

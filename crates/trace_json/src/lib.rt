@@ -9,5 +9,5 @@ mod read_line;
 
 pub use fault::TraceFault;
 pub use read_line::{entry_of, version_of};
-pub use trace_check::{Verdict, check};
+pub use rpc_check::{Verdict, check};
 pub use trace_write::{TraceVersion, line_of};

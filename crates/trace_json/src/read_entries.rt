@@ -4,18 +4,18 @@ ghost use Rattle.serde_json.specs.View.{view, members_view};
 ghost use Rattle.trace_write.specs.Parts.{nat, list, reference_data, stamp_data, vat_data, payload_data, outcome_by};
 ghost use Rattle.trace_write.specs.Values.{head_of, value_by, value as value_of_entry};
 ghost use Rattle.trace_write.specs.Fits.{FitsU32, FitsOutcome, Fits};
-ghost use Rattle.trace_parts.specs.Reading.{Gives, field_at};
-ghost use Rattle.trace_parts.specs.ReadParts.{stands_for, FitsRaw, outcome_at};
+ghost use Rattle.trace_json_parts.specs.Reading.{Gives, field_at};
+ghost use Rattle.trace_json_parts.specs.ReadParts.{stands_for, FitsRaw, outcome_at};
 ghost use Rattle.trace_json.specs.ReadEntries.{members_of_kind, kind_and_vat, before_kind, behind_kind, around_kind, head_at, born_at, asked_at, made_rest, made_at, delivered_rest, delivered_at, answered_at, ended_at, resolved_promise_at, rejected_at, dropped_at, finished_at, entry_advanced_at, refused_at, sent_at, got_at, down_at, tables_at, command_under, bare_entry_under, entry_under, entry_at};
 
+use rpc_journal::{Delivery, Ended, JournalEntry, MadeCall, Outcome};
 use rpc_msg::{CallId, Items, ObjectId, PromiseId, RefId, Stamp, TaskId, Vat};
 use serde_json::Value;
 use std::alloc::Global;
-use trace_parts::{
+use trace_json_parts::{
     Fault, Fields, Part, RawPayload, message_of, next_payload, no_payload, outcome_of,
 };
 use trace_write::TraceVersion;
-use vat_journal::{Delivery, Ended, JournalEntry, MadeCall, Outcome};
 
 /// The members of an object behind its kind, which is the first of them.
 #[tactic(auto, unfolding(crate::specs::ReadEntries::members_of_kind))]
@@ -303,7 +303,7 @@ fn delivered_of(
 }
 
 /// The outcome that the next member is; of results the payload is null, and what stands for theirs is beside it.
-#[tactic(auto, unfolding(trace_parts::specs::Reading::field_at))]
+#[tactic(auto, unfolding(trace_json_parts::specs::Reading::field_at))]
 fn next_outcome<'v>(
     alloc: Global,
     fields: &mut Fields<'v>,

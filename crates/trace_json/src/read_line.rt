@@ -4,7 +4,7 @@ ghost use Rattle.base64.specs.GeneralPurpose.{encode_of, IsBytes};
 ghost use Rattle.rpc_msg.specs.Payloads.{Contents as Payload, IsEncoded};
 ghost use Rattle.serde_json.specs.Read.{read};
 ghost use Rattle.serde_json.specs.View.{view};
-ghost use Rattle.vat_journal.specs.declared.entry.JournalEntry.{JournalEntry};
+ghost use Rattle.rpc_journal.specs.declared.entry.JournalEntry.{JournalEntry};
 ghost use Rattle.trace_write.specs.Parts.{in_base64};
 ghost use Rattle.trace_write.specs.Values.{head_data, value as value_of_entry};
 ghost use Rattle.trace_write.specs.Fits.{FitsPayload, Fits};
@@ -16,12 +16,12 @@ use crate::fill::fill;
 use crate::read_entries::{head_number, read_entry};
 use base64::DecodeAllocError;
 use base64::engine::general_purpose::STANDARD;
+use rpc_journal::JournalEntry;
 use rpc_msg::{Payload, PayloadFault};
 use serde_json::Value;
 use std::alloc::Global;
-use trace_parts::Fault;
+use trace_json_parts::Fault;
 use trace_write::TraceVersion;
-use vat_journal::JournalEntry;
 
 fn decode(alloc: Global, text: &str) -> Result<Vec<u8>, TraceFault>
     ensures ok { IfOk result (λ v. (text.now ≡ encode_of standard v.items) × IsBytes v.items) }

@@ -22,12 +22,12 @@ use Rattle.rpc_msg.specs.declared.message.PlainMessage.{PlainMessage}
 use Rattle.rpc_msg.specs.declared.message.PlainMessage.TheVariants as plain
 use Rattle.rpc_msg.specs.declared.message.Message.{Message}
 use Rattle.rpc_msg.specs.declared.message.Message.TheVariants as message
-use Rattle.vat_journal.specs.declared.entry.Origin.{Origin}
-use Rattle.vat_journal.specs.declared.entry.Origin.TheVariants as origin
-use Rattle.vat_journal.specs.declared.entry.JournalEntry.{JournalEntry}
-use Rattle.vat_journal.specs.declared.entry.JournalEntry.TheVariants as entry
-use Rattle.vat_journal.specs.declared.report.Outcome.{Outcome}
-use Rattle.vat_journal.specs.declared.report.Outcome.TheVariants as outcome
+use Rattle.rpc_journal.specs.declared.entry.Origin.{Origin}
+use Rattle.rpc_journal.specs.declared.entry.Origin.TheVariants as origin
+use Rattle.rpc_journal.specs.declared.entry.JournalEntry.{JournalEntry}
+use Rattle.rpc_journal.specs.declared.entry.JournalEntry.TheVariants as entry
+use Rattle.rpc_journal.specs.declared.report.Outcome.{Outcome}
+use Rattle.rpc_journal.specs.declared.report.Outcome.TheVariants as outcome
 use Rattle.trace_write.specs.declared.version.TraceVersion.{TraceVersion}
 use Rattle.trace_write.specs.Parts.{reference_data, op_data, descriptor_data, target_data, outcome_by, origin_data, pair_data}
 use Rattle.trace_write.specs.Messages.{body_by, resolved_data, context_data, plain_by, message_by}

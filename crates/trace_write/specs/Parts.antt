@@ -20,13 +20,13 @@ use Rattle.rpc_msg.specs.declared.parts.Target.TheVariants.{ImportedCap, Promise
 use Rattle.rpc_msg.specs.declared.exception.ExceptionKind.{ExceptionKind}
 use Rattle.rpc_msg.specs.declared.exception.ExceptionKind.TheVariants as kind
 use Rattle.rpc_msg.specs.declared.exception.Exception.{Exception}
-use Rattle.vat_journal.specs.declared.entry.Origin.{Origin}
-use Rattle.vat_journal.specs.declared.entry.Origin.TheVariants as origin
-use Rattle.vat_journal.specs.declared.entry.Counts.{Counts}
-use Rattle.vat_journal.specs.declared.report.Outcome.{Outcome}
-use Rattle.vat_journal.specs.declared.report.Outcome.TheVariants as outcome
-use Rattle.vat_journal.specs.declared.report.Advanced.{Advanced}
-use Rattle.vat_journal.specs.declared.report.Advanced.TheVariants as advanced
+use Rattle.rpc_journal.specs.declared.entry.Origin.{Origin}
+use Rattle.rpc_journal.specs.declared.entry.Origin.TheVariants as origin
+use Rattle.rpc_journal.specs.declared.entry.Counts.{Counts}
+use Rattle.rpc_journal.specs.declared.report.Outcome.{Outcome}
+use Rattle.rpc_journal.specs.declared.report.Outcome.TheVariants as outcome
+use Rattle.rpc_journal.specs.declared.report.Advanced.{Advanced}
+use Rattle.rpc_journal.specs.declared.report.Advanced.TheVariants as advanced
 
 abbrev pub nat : ℕ → Data
 nat n = number (unsigned n)

@@ -9,15 +9,15 @@ use Rattle.rpc_msg.specs.declared.ids.TaskId.{TaskId}
 use Rattle.rpc_msg.specs.declared.ids.PromiseId.{PromiseId}
 use Rattle.rpc_msg.specs.declared.exception.Exception.{Exception}
 use Rattle.rpc_msg.specs.declared.message.Message.{Message}
-use Rattle.vat_journal.specs.declared.entry.Origin.{Origin}
-use Rattle.vat_journal.specs.declared.entry.MadeCall.{MadeCall}
-use Rattle.vat_journal.specs.declared.entry.Counts.{Counts}
-use Rattle.vat_journal.specs.declared.entry.JournalEntry.{JournalEntry}
-use Rattle.vat_journal.specs.declared.entry.JournalEntry.TheVariants as entry
-use Rattle.vat_journal.specs.declared.report.Outcome.{Outcome}
-use Rattle.vat_journal.specs.declared.report.Delivery.{Delivery}
-use Rattle.vat_journal.specs.declared.report.Ended.{Ended}
-use Rattle.vat_journal.specs.declared.report.Advanced.{Advanced}
+use Rattle.rpc_journal.specs.declared.entry.Origin.{Origin}
+use Rattle.rpc_journal.specs.declared.entry.MadeCall.{MadeCall}
+use Rattle.rpc_journal.specs.declared.entry.Counts.{Counts}
+use Rattle.rpc_journal.specs.declared.entry.JournalEntry.{JournalEntry}
+use Rattle.rpc_journal.specs.declared.entry.JournalEntry.TheVariants as entry
+use Rattle.rpc_journal.specs.declared.report.Outcome.{Outcome}
+use Rattle.rpc_journal.specs.declared.report.Delivery.{Delivery}
+use Rattle.rpc_journal.specs.declared.report.Ended.{Ended}
+use Rattle.rpc_journal.specs.declared.report.Advanced.{Advanced}
 use Rattle.trace_write.specs.declared.version.TraceVersion.{TraceVersion}
 use Rattle.trace_write.specs.declared.version.TraceVersion.TheVariants.{One, Two}
 use Rattle.trace_write.specs.Parts.{nat, list, vat_data, reference_data, in_base64, payload_data, stamp_data, exception_data, outcome_by, origin_data, advanced_name, counts_data}

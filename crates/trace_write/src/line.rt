@@ -6,9 +6,9 @@ ghost use Rattle.trace_write.specs.Fits.{Fits};
 
 use crate::version::TraceVersion;
 use crate::write_entries::write_entry;
+use rpc_journal::JournalEntry;
 use rpc_msg::Memory;
 use std::alloc::Global;
-use vat_journal::JournalEntry;
 
 /// The line of an entry in that version: compact JSON, keys in rising byte order, without the newline that ends it in
 /// a trace.

@@ -8,10 +8,10 @@ use crate::part::{add_part, put_part};
 use crate::version::TraceVersion;
 use crate::write_members::{add_member, put_text, write_event, write_flat_event, write_numbers};
 use crate::write_messages::write_message;
+use rpc_journal::{Advanced, Counts, Delivery, Ended, JournalEntry, MadeCall, Origin, Outcome};
 use rpc_msg::{CallId, Exception, Items, Message, PromiseId, RefId, TaskId, Vat};
 use serde_json::{Map, Value};
 use std::alloc::{AllocError, Global};
-use vat_journal::{Advanced, Counts, Delivery, Ended, JournalEntry, MadeCall, Origin, Outcome};
 
 fn write_head(alloc: Global, version: TraceVersion) -> Result<Value, AllocError>
     ensures { IfOk result (λ v. view v ≡ head_data version) }

@@ -7,12 +7,12 @@ ghost use Rattle.trace_write.specs.Fits.{FitsAny, FitsU32, FitsAnswer, FitsPath,
 use crate::part::{Part, add_part, put_part, write_under};
 use crate::write_members::{add_member, write_number, write_numbers, write_only};
 use base64::engine::general_purpose::STANDARD;
+use rpc_journal::{Advanced, Counts, Origin, Outcome};
 use rpc_msg::{
     CallId, Exception, ExceptionKind, Path, Payload, QuestionId, Stamp, Target, Text, Vat,
 };
 use serde_json::{Map, ToValue, Value};
 use std::alloc::{AllocError, Global};
-use vat_journal::{Advanced, Counts, Origin, Outcome};
 
 pub(crate) fn name_of_vat(vat: Vat) -> &'static str
     ensures { result.now ≡ vat_name vat }

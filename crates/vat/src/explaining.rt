@@ -1,12 +1,12 @@
 ghost use Rattle.std.specs.Prelude.{◌≡◌, ◌∷◌};
 ghost use Rattle.vat.specs.Explaining.{call_of, missing, number_in, promise_of, refs_of, task_of};
-ghost use Rattle.vat_machine.specs.declared.command.Command.TheVariants as command;
+ghost use Rattle.rpc_machine.specs.declared.command.Command.TheVariants as command;
 
+use rpc_machine::{CallCommand, Command, Refusal};
 use rpc_msg::RefId;
 use std::fmt;
 use thiserror::Error;
 use vat_host::{Core, Refused};
-use vat_machine::{CallCommand, Command, Refusal};
 
 /// A refusal with the number of the reference, call, task or promise that it speaks of. Its text has both.
 #[derive(Clone, Copy, Debug, PartialEq, Eq, Drop, Error)]

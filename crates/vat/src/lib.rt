@@ -40,14 +40,14 @@
 
 mod explaining;
 
+pub use capn_trees::{Element, Fields, Items as Elements, WriteFault};
 pub use capn_wire::{Kind, Place, View};
 pub use explaining::{Explained, explain, explain_call};
+pub use rpc_journal::{Advanced, Counts, Delivery, Ended, Outcome};
+pub use rpc_machine::{CallCommand, Command, Effects, Fault, Granted, Level, Refusal};
 pub use rpc_msg::{
     CallId, CapAt, Exception, ExceptionKind, Items, Memory, Message, ObjectId, Op, Payload,
     PayloadFault, Pointers, PromiseId, PushError, RefId, Stamp, TaskId, Text, Tree, Vat,
 };
 pub use vat_host::{Answer, Core, Host, Refused, exchange};
-pub use vat_journal::{Advanced, Counts, Delivery, Ended, Outcome};
-pub use vat_machine::{CallCommand, Command, Effects, Fault, Granted, Level, Refusal};
 pub use vat_payloads::{contents, reference_at};
-pub use wire_trees::{Element, Fields, Items as Elements, WriteFault};

@@ -2,12 +2,12 @@
 #![tactic(auto)]
 
 use anyhow::{Result, bail};
-use call_script::{Ending, Player, read_lines};
+use script_language::Line;
 use std::fs::File;
 use std::io::{BufReader, Write};
 use std::process::ExitCode;
 use std::{env, fs};
-use vat_script::Line;
+use vat_call_lib::{Ending, Player, read_lines};
 
 /// The status where the words ask for nothing, the script is at fault, or input, output or memory fails.
 const FAILED: u8 = 2;

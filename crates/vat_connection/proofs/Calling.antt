@@ -2,19 +2,19 @@
 use Rattle.std.proofs.Common.{◌≡◌, ℕ, List, Bool, Result, Ok, Err, ◌⊎◌, inl, inr, refl, ap, subst, ◌∙◌}
 use Rattle.std.specs.Prelude.{IfOk, IfErr}
 use Rattle.rpc_msg.specs.declared.ids.CallId.{CallId}
-use Rattle.vat_journal.specs.declared.report.Advanced.{Advanced}
-use Rattle.vat_machine.specs.declared.command.CallCommand.{CallCommand}
-use Rattle.vat_machine.specs.declared.command.Command.{Command}
-use Rattle.vat_machine.specs.declared.command.Command.TheVariants as command
-use Rattle.vat_machine.specs.declared.command.Granted.{Granted}
-use Rattle.vat_machine.specs.declared.command.Granted.TheVariants as granted
-use Rattle.vat_machine.specs.declared.command.Refusal.{Refusal}
-use Rattle.vat_machine.specs.declared.command.Refusal.TheVariants as refusal
-use Rattle.vat_machine.specs.Steps.{Shuts}
+use Rattle.rpc_journal.specs.declared.report.Advanced.{Advanced}
+use Rattle.rpc_machine.specs.declared.command.CallCommand.{CallCommand}
+use Rattle.rpc_machine.specs.declared.command.Command.{Command}
+use Rattle.rpc_machine.specs.declared.command.Command.TheVariants as command
+use Rattle.rpc_machine.specs.declared.command.Granted.{Granted}
+use Rattle.rpc_machine.specs.declared.command.Granted.TheVariants as granted
+use Rattle.rpc_machine.specs.declared.command.Refusal.{Refusal}
+use Rattle.rpc_machine.specs.declared.command.Refusal.TheVariants as refusal
+use Rattle.rpc_machine.specs.Steps.{Shuts}
 use Rattle.vat_host.specs.Hosting.{Hosted, Does, Refuses}
-use Rattle.rpc_peer.specs.Peering.{Peering}
-use Rattle.rpc_fits.specs.Carrying.{Carries}
-use Rattle.rpc_frames.specs.Outflows.{Outflow}
+use Rattle.peer_adapter.specs.Peering.{Peering}
+use Rattle.rpc_codec_fits.specs.Carrying.{Carries}
+use Rattle.rpc_outgoing.specs.Outflows.{Outflow}
 use Rattle.vat_connection.specs.Calling.{Calls, Fits, IsTooLarge, Obeys, ObeysToFit, answered}
 use Rattle.vat_connection.specs.Speaking.{Speaking, Shuts as IsShut}
 use Rattle.vat_connection.specs.OwnCalls.{asked}

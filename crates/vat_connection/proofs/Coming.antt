@@ -1,12 +1,12 @@
 -- What comes of bytes, by what comes of those behind a frame.
 use Rattle.std.proofs.Common.{◌≡◌, ℕ, List, [], ◌∷◌, ◌++◌, Option, Some, None, Ok, Err, Bool, true, false, is_some, IsSome, inl, inr, refl, sym, ap, subst, ◌∙◌, append_assoc}
 use Rattle.std.specs.List.{concat}
-use Rattle.wire_trees.specs.Numbers.{number_of}
-use Rattle.wire_trees.specs.declared.faults.PayloadFault.{PayloadFault}
-use Rattle.rpc_stream.specs.declared.front.Front.{Front}
-use Rattle.rpc_stream.specs.declared.front.Front.TheVariants as front
-use Rattle.rpc_stream.specs.Fronts.{front_of, IsFrame}
-use Rattle.rpc_stream.specs.Readers.{Reader}
+use Rattle.capn_trees.specs.Numbers.{number_of}
+use Rattle.capn_trees.specs.declared.faults.PayloadFault.{PayloadFault}
+use Rattle.capn_stream.specs.declared.front.Front.{Front}
+use Rattle.capn_stream.specs.declared.front.Front.TheVariants as front
+use Rattle.capn_stream.specs.Fronts.{front_of, IsFrame}
+use Rattle.capn_stream.specs.Readers.{Reader}
 use Rattle.vat_connection.specs.Speaking.{Speaking, Falls, HearsFrame, want_of_room}
 use Rattle.vat_connection.specs.Hearing.{Comes, Ends, EndsBy, IsBegun, Waits, held_of}
 use Rattle.vat_connection.proofs.Falling.{falls_down}

@@ -1,8 +1,8 @@
 -- A vat that went down.
 use Rattle.std.proofs.Common.{◌≡◌, ℕ, Option, Some, None, Bool, true, false, is_some, refl, ap}
-use Rattle.vat_machine.specs.declared.command.Effects.{Effects}
-use Rattle.vat_machine.specs.Down.{ShutsFrom}
-use Rattle.vat_machine.specs.State.{State}
+use Rattle.rpc_machine.specs.declared.command.Effects.{Effects}
+use Rattle.rpc_machine.specs.Down.{ShutsFrom}
+use Rattle.rpc_machine.specs.State.{State}
 use Rattle.vat_connection.specs.Speaking.{Speaking, Falls}
 
 shuts_by : (s new : State) (n : ℕ) (d : Option ℕ) (effects : Effects) → d ≡ None → ShutsFrom s n d effects new → new.down ≡ Some n

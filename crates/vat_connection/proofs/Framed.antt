@@ -1,14 +1,14 @@
 -- What a vat hears of a frame, by what the frame says.
 use Rattle.std.proofs.Common.{◌≡◌, ◌+◌, ℕ, Bool, true, false, List, Option, Some, None, Result, Ok, Err, is_some, inl, inr, refl, sym, subst}
 use Rattle.vat_host.specs.Hosting.{Hosted}
-use Rattle.rpc_bytes.specs.declared.envelope.Envelope.{Envelope}
-use Rattle.rpc_bytes.specs.Envelopes.{What, seen_envelope}
-use Rattle.rpc_bytes.specs.Decoding.{Came, envelope_at}
-use Rattle.rpc_adapter.specs.Adapting.{messages_in}
-use Rattle.rpc_peer.specs.declared.errors.PeerFault.{PeerFault}
-use Rattle.rpc_peer.specs.declared.told.Inbound.{Inbound}
-use Rattle.rpc_peer.specs.Peering.{Peering, Coming, comes, seen_aside}
-use Rattle.rpc_frames.specs.Outflows.{Outflow}
+use Rattle.rpc_codec.specs.declared.envelope.Envelope.{Envelope}
+use Rattle.rpc_codec.specs.Envelopes.{What, seen_envelope}
+use Rattle.rpc_codec.specs.Decoding.{Came, envelope_at}
+use Rattle.peer_tail_calls.specs.Adapting.{messages_in}
+use Rattle.peer_adapter.specs.declared.errors.PeerFault.{PeerFault}
+use Rattle.peer_adapter.specs.declared.told.Inbound.{Inbound}
+use Rattle.peer_adapter.specs.Peering.{Peering, Coming, comes, seen_aside}
+use Rattle.rpc_outgoing.specs.Outflows.{Outflow}
 use Rattle.vat_connection.specs.Speaking.{Speaking, Fails, Falls, HearsAll, HearsCame, HearsComing, HearsThen, HearsUp, IsAside, Shuts, stamp_of, tables_of, want_of_room}
 use Rattle.vat_connection.specs.Framing.{IsFault, IsRefused, Opens, Turned}
 use Rattle.vat_connection.proofs.Saying.{speaking}

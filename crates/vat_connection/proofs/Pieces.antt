@@ -1,11 +1,11 @@
 -- Two pieces are heard as one.
 use Rattle.std.proofs.Common.{◌≡◌, ℕ, List, [], ◌∷◌, ◌++◌, Option, Some, None, inl, inr, refl, sym, ap, subst, ◌∙◌, append_assoc}
 use Rattle.std.specs.List.{AllByRecursion, concat}
-use Rattle.wire_trees.specs.Numbers.{number_of}
-use Rattle.rpc_stream.specs.declared.front.Front.{Front}
-use Rattle.rpc_stream.specs.declared.front.Front.TheVariants as front
-use Rattle.rpc_stream.specs.Fronts.{front_of, IsFrame}
-use Rattle.rpc_stream.specs.Laws.{FrontsStay, Stays}
+use Rattle.capn_trees.specs.Numbers.{number_of}
+use Rattle.capn_stream.specs.declared.front.Front.{Front}
+use Rattle.capn_stream.specs.declared.front.Front.TheVariants as front
+use Rattle.capn_stream.specs.Fronts.{front_of, IsFrame}
+use Rattle.capn_stream.specs.Laws.{FrontsStay, Stays}
 use Rattle.vat_connection.specs.Speaking.{Speaking, Falls, want_of_room}
 use Rattle.vat_connection.specs.Hearing.{Follows, Comes, Ends, EndsBy, Takes}
 use Rattle.vat_connection.specs.Connecting.{Connected, Receives, down}

@@ -2,14 +2,14 @@
 use Rattle.std.proofs.Common.{◌≡◌, ℕ, ◌+◌, ◌-◌, ◌<◌, List, [], ◌++◌, length, take, drop, Option, Some, None, Result, Ok, Err, inl, inr, refl, sym, ap, subst, ◌∙◌, arith}
 use Rattle.std.proofs.lemmas.List.{append-nil, take-append-drop, drop_all}
 use Rattle.std.proofs.Math.Seq.{drop-append-add}
-use Rattle.wire_trees.specs.declared.faults.PayloadFault.{PayloadFault}
-use Rattle.rpc_stream.specs.declared.error.StreamError.{StreamError}
-use Rattle.rpc_stream.specs.declared.error.StreamError.TheVariants as error
-use Rattle.rpc_stream.specs.declared.front.Front.{Front}
-use Rattle.rpc_stream.specs.declared.front.Front.TheVariants as front
-use Rattle.rpc_stream.specs.Fronts.{front_of, IsShort}
-use Rattle.rpc_stream.specs.Laws.{FrontsStay, Stays}
-use Rattle.rpc_stream.specs.Readers.{Reader, Pushed, PushedBy, Taken, TakenBy, IsWaiting}
+use Rattle.capn_trees.specs.declared.faults.PayloadFault.{PayloadFault}
+use Rattle.capn_stream.specs.declared.error.StreamError.{StreamError}
+use Rattle.capn_stream.specs.declared.error.StreamError.TheVariants as error
+use Rattle.capn_stream.specs.declared.front.Front.{Front}
+use Rattle.capn_stream.specs.declared.front.Front.TheVariants as front
+use Rattle.capn_stream.specs.Fronts.{front_of, IsShort}
+use Rattle.capn_stream.specs.Laws.{FrontsStay, Stays}
+use Rattle.capn_stream.specs.Readers.{Reader, Pushed, PushedBy, Taken, TakenBy, IsWaiting}
 use Rattle.vat_connection.specs.Speaking.{Speaking, Falls}
 use Rattle.vat_connection.specs.Hearing.{Comes, IsBegun, Waits, held_of, number_for}
 use Rattle.vat_connection.proofs.Coming.{lacks, no_frame}

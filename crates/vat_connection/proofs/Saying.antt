@@ -2,10 +2,10 @@
 use Rattle.std.proofs.Common.{◌≡◌, ℕ, Bool, true, false, List, [], ◌∷◌, length, ◌<◌, arith, refl, sym, ap, subst, ◌∙◌}
 use Rattle.rpc_msg.specs.declared.message.Message.{Message}
 use Rattle.vat_host.specs.Hosting.{Hosted, is_abort}
-use Rattle.rpc_adapter.specs.Adapting.{messages_in}
-use Rattle.rpc_peer.specs.declared.told.Outbound.{Outbound}
-use Rattle.rpc_peer.specs.Peering.{Peering, Going, goes, seen_outbound}
-use Rattle.rpc_frames.specs.Outflows.{Outflow}
+use Rattle.peer_tail_calls.specs.Adapting.{messages_in}
+use Rattle.peer_adapter.specs.declared.told.Outbound.{Outbound}
+use Rattle.peer_adapter.specs.Peering.{Peering, Going, goes, seen_outbound}
+use Rattle.rpc_outgoing.specs.Outflows.{Outflow}
 use Rattle.vat_connection.specs.Speaking.{Speaking, Breaks, Goes, HearsAll, IsTold, Passes, PassesAll, PassesOne, Says, SaysTo, Shuts, Turns, want_of_room, without}
 use Rattle.vat_connection.specs.Speaking.SaysTo.{Nothing, Oldest, Broken}
 

@@ -3,9 +3,9 @@ use Rattle.std.proofs.Common.{◌≡◌, ℕ, List, [], ◌∷◌, ◌++◌, len
 use Rattle.std.proofs.lemmas.List.{take_at}
 use Rattle.rpc_msg.specs.Payloads.{Contents}
 use Rattle.rpc_msg.specs.declared.ids.ExportId.{ExportId}
-use Rattle.rpc_bytes.specs.Frames.{Written, message_frame}
-use Rattle.rpc_frames.specs.Outflows.{Outflow, Put, PutBy, framed}
-use Rattle.rpc_peer.specs.Peering.{release_of}
+use Rattle.rpc_codec.specs.Frames.{Written, message_frame}
+use Rattle.rpc_outgoing.specs.Outflows.{Outflow, Put, PutBy, framed}
+use Rattle.peer_adapter.specs.Peering.{release_of}
 use Rattle.vat_connection.specs.Speaking.{GivesBack}
 use Rattle.vat_connection.specs.Telling.{IsLonger}
 

@@ -4,18 +4,18 @@ use Rattle.rpc_msg.specs.Payloads.{Contents}
 use Rattle.rpc_msg.specs.declared.exception.Exception.{Exception}
 use Rattle.rpc_msg.specs.declared.ids.CallId.{CallId}
 use Rattle.rpc_msg.specs.declared.ids.RefId.{RefId}
-use Rattle.vat_journal.specs.declared.report.Advanced.{Advanced}
-use Rattle.vat_machine.specs.declared.command.CallCommand.{CallCommand}
-use Rattle.vat_machine.specs.declared.command.Command.TheVariants as command
-use Rattle.vat_machine.specs.declared.command.Command.{Command}
-use Rattle.vat_machine.specs.declared.command.Granted.TheVariants as granted
-use Rattle.vat_machine.specs.declared.command.Granted.{Granted}
-use Rattle.vat_machine.specs.declared.command.Refusal.{Refusal}
+use Rattle.rpc_journal.specs.declared.report.Advanced.{Advanced}
+use Rattle.rpc_machine.specs.declared.command.CallCommand.{CallCommand}
+use Rattle.rpc_machine.specs.declared.command.Command.TheVariants as command
+use Rattle.rpc_machine.specs.declared.command.Command.{Command}
+use Rattle.rpc_machine.specs.declared.command.Granted.TheVariants as granted
+use Rattle.rpc_machine.specs.declared.command.Granted.{Granted}
+use Rattle.rpc_machine.specs.declared.command.Refusal.{Refusal}
 use Rattle.rpc_msg.specs.declared.message.Message.{Message}
-use Rattle.vat_machine.specs.declared.command.Refusal.TheVariants as refusal
+use Rattle.rpc_machine.specs.declared.command.Refusal.TheVariants as refusal
 use Rattle.vat_host.specs.Hosting.{Hosted, Does, Refuses}
-use Rattle.rpc_bytes.specs.Frames.{message_frame}
-use Rattle.rpc_fits.specs.Carrying.{Carries}
+use Rattle.rpc_codec.specs.Frames.{message_frame}
+use Rattle.rpc_codec_fits.specs.Carrying.{Carries}
 
 -- What a command gives fits into the frame of each message that carries it.
 abbrev pub Fits : Command → Type 0

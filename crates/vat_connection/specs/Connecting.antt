@@ -5,17 +5,17 @@ use Rattle.rpc_msg.specs.contracts.ids.CallId as call_id_row
 use Rattle.rpc_msg.specs.declared.ids.CallId.{CallId}
 use Rattle.rpc_msg.specs.declared.ids.ObjectId.{ObjectId}
 use Rattle.rpc_msg.specs.declared.ids.Vat.{Vat}
-use Rattle.wire_trees.specs.Numbers.{number_of}
-use Rattle.wire_trees.specs.declared.faults.PayloadFault.TheVariants.{Short}
-use Rattle.vat_journal.specs.declared.report.Ended.{Ended}
-use Rattle.vat_machine.specs.declared.command.Command.{Command}
-use Rattle.vat_machine.specs.declared.command.Granted.{Granted}
-use Rattle.vat_machine.specs.declared.command.Level.{Level}
-use Rattle.vat_machine.specs.declared.command.Refusal.{Refusal}
-use Rattle.vat_machine.specs.State.{start}
+use Rattle.capn_trees.specs.Numbers.{number_of}
+use Rattle.capn_trees.specs.declared.faults.PayloadFault.TheVariants.{Short}
+use Rattle.rpc_journal.specs.declared.report.Ended.{Ended}
+use Rattle.rpc_machine.specs.declared.command.Command.{Command}
+use Rattle.rpc_machine.specs.declared.command.Granted.{Granted}
+use Rattle.rpc_machine.specs.declared.command.Level.{Level}
+use Rattle.rpc_machine.specs.declared.command.Refusal.{Refusal}
+use Rattle.rpc_machine.specs.State.{start}
 use Rattle.vat_host.specs.Hosting.{Hosted, idle}
-use Rattle.rpc_peer.specs.Peering.{fresh as fresh_adapter}
-use Rattle.rpc_frames.specs.Outflows.{nothing_out}
+use Rattle.peer_adapter.specs.Peering.{fresh as fresh_adapter}
+use Rattle.rpc_outgoing.specs.Outflows.{nothing_out}
 use Rattle.vat_connection.specs.declared.event.Event.{Event}
 use Rattle.vat_connection.specs.declared.event.Event.TheVariants as event
 use Rattle.vat_connection.specs.Calling.{Obeys, ObeysToFit}

@@ -1,13 +1,13 @@
 -- What is in a frame, for the function that opens it: it is given, or the number with which a vat goes down.
 use Rattle.std.specs.Prelude.{◌≡◌, ◌⊎◌, ℕ, Result, Ok, Err}
-use Rattle.rpc_parts.specs.Numbers.{number_of}
-use Rattle.rpc_bytes.specs.declared.envelope.Envelope.{Envelope}
-use Rattle.rpc_bytes.specs.Envelopes.{What, seen_envelope}
-use Rattle.rpc_bytes.specs.Decoding.{Came}
-use Rattle.rpc_peer.specs.declared.errors.PeerFault.{PeerFault}
-use Rattle.rpc_peer.specs.declared.told.Inbound.{Inbound}
-use Rattle.rpc_peer.specs.Numbers.{number_of as number_of_peer}
-use Rattle.rpc_peer.specs.Peering.{Peering, Coming, seen_inbound}
+use Rattle.rpc_codec_parts.specs.Numbers.{number_of}
+use Rattle.rpc_codec.specs.declared.envelope.Envelope.{Envelope}
+use Rattle.rpc_codec.specs.Envelopes.{What, seen_envelope}
+use Rattle.rpc_codec.specs.Decoding.{Came}
+use Rattle.peer_adapter.specs.declared.errors.PeerFault.{PeerFault}
+use Rattle.peer_adapter.specs.declared.told.Inbound.{Inbound}
+use Rattle.peer_adapter.specs.Numbers.{number_of as number_of_peer}
+use Rattle.peer_adapter.specs.Peering.{Peering, Coming, seen_inbound}
 use Rattle.vat_connection.specs.Speaking.{want_of_room}
 
 abbrev pub IsFault : Came What → ℕ → Type 0

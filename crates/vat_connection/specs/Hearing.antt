@@ -1,13 +1,13 @@
 -- Bytes that come to a vat, and what waits of them.
 use Rattle.std.specs.Prelude.{◌≡◌, ℕ, List, [], ◌∷◌, ◌++◌, Option, Some, None, Ok, Err, ◌⊎◌}
-use Rattle.wire_trees.specs.Numbers.{number_of}
-use Rattle.rpc_stream.specs.declared.error.StreamError.{StreamError}
-use Rattle.rpc_stream.specs.declared.error.StreamError.TheVariants as error
-use Rattle.rpc_stream.specs.declared.front.Front.{Front}
-use Rattle.rpc_stream.specs.declared.front.Front.TheVariants as front
-use Rattle.rpc_stream.specs.Fronts.{front_of}
-use Rattle.rpc_stream.specs.Readers.{Reader}
-use Rattle.rpc_stream.specs.Streams.{IsSplit}
+use Rattle.capn_trees.specs.Numbers.{number_of}
+use Rattle.capn_stream.specs.declared.error.StreamError.{StreamError}
+use Rattle.capn_stream.specs.declared.error.StreamError.TheVariants as error
+use Rattle.capn_stream.specs.declared.front.Front.{Front}
+use Rattle.capn_stream.specs.declared.front.Front.TheVariants as front
+use Rattle.capn_stream.specs.Fronts.{front_of}
+use Rattle.capn_stream.specs.Readers.{Reader}
+use Rattle.capn_stream.specs.Streams.{IsSplit}
 use Rattle.vat_connection.specs.Speaking.{Speaking, Falls, HearsFrame, want_of_room}
 
 -- ---- the reader between two pieces

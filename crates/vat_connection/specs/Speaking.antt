@@ -6,25 +6,25 @@ use Rattle.std.specs.FinMap as map
 use Rattle.rpc_msg.specs.Vats.{other_vat}
 use Rattle.rpc_msg.specs.declared.ids.Stamp.{Stamp}
 use Rattle.rpc_msg.specs.declared.message.Message.{Message}
-use Rattle.rpc_parts.specs.Numbers.{number_of}
-use Rattle.rpc_bytes.specs.Envelopes.{What}
-use Rattle.rpc_bytes.specs.Decoding.{Came, envelope_at}
+use Rattle.rpc_codec_parts.specs.Numbers.{number_of}
+use Rattle.rpc_codec.specs.Envelopes.{What}
+use Rattle.rpc_codec.specs.Decoding.{Came, envelope_at}
 use Rattle.rpc_msg.specs.declared.ids.ExportId.{ExportId}
-use Rattle.rpc_adapter.specs.declared.heard.Said.{Said}
-use Rattle.rpc_adapter.specs.declared.heard.Said.TheVariants as said
-use Rattle.rpc_peer.specs.declared.errors.PeerFault.{PeerFault}
-use Rattle.rpc_peer.specs.declared.told.Told.{Told}
-use Rattle.rpc_peer.specs.Numbers.{number_of as number_of_peer}
-use Rattle.rpc_peer.specs.Peering.{Peering, Tables, Coming, Going, Besides, peering_code, release_of, comes, goes}
-use Rattle.rpc_peer.specs.Peering.Besides.{Tells, Keeps}
-use Rattle.vat_machine.specs.declared.command.Effects.{Effects}
-use Rattle.vat_machine.specs.Down.{ShutsFrom}
-use Rattle.vat_machine.specs.Fullness.{has_no_room}
-use Rattle.vat_machine.specs.State.{State}
+use Rattle.peer_tail_calls.specs.declared.heard.Said.{Said}
+use Rattle.peer_tail_calls.specs.declared.heard.Said.TheVariants as said
+use Rattle.peer_adapter.specs.declared.errors.PeerFault.{PeerFault}
+use Rattle.peer_adapter.specs.declared.told.Told.{Told}
+use Rattle.peer_adapter.specs.Numbers.{number_of as number_of_peer}
+use Rattle.peer_adapter.specs.Peering.{Peering, Tables, Coming, Going, Besides, peering_code, release_of, comes, goes}
+use Rattle.peer_adapter.specs.Peering.Besides.{Tells, Keeps}
+use Rattle.rpc_machine.specs.declared.command.Effects.{Effects}
+use Rattle.rpc_machine.specs.Down.{ShutsFrom}
+use Rattle.rpc_machine.specs.Fullness.{has_no_room}
+use Rattle.rpc_machine.specs.State.{State}
 use Rattle.vat_core.specs.Foreseen.{is_broken, is_finished}
 use Rattle.vat_host.specs.Hosting.{Hosted, Hears, hosted_code, is_abort, stepped}
-use Rattle.rpc_frames.specs.contracts.outgoing.Outgoing as outgoing_row
-use Rattle.rpc_frames.specs.Outflows.{Outflow, Kept, Put, PutElsewhere}
+use Rattle.rpc_outgoing.specs.contracts.outgoing.Outgoing as outgoing_row
+use Rattle.rpc_outgoing.specs.Outflows.{Outflow, Kept, Put, PutElsewhere}
 
 -- A vat with what its steps left to do; the bytes that go out, with the frames that are kept; its adapter; and how many frames it
 -- has heard.

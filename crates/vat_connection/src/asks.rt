@@ -1,15 +1,15 @@
 //! The commands that give something, by name.
 ghost use Rattle.std.specs.Prelude.{◌≡◌, ◌⊎◌, [], Ok, Err, IfOk, IfErr};
-ghost use Rattle.vat_machine.specs.declared.command.Command.TheVariants as command;
-ghost use Rattle.vat_machine.specs.declared.command.Granted.TheVariants as granted;
+ghost use Rattle.rpc_machine.specs.declared.command.Command.TheVariants as command;
+ghost use Rattle.rpc_machine.specs.declared.command.Granted.TheVariants as granted;
 ghost use Rattle.vat_connection.specs.Calling.{Calls, Fits, IsTooLarge, answered};
 ghost use Rattle.vat_connection.specs.Connecting.{Asks, answered_by};
 
 use crate::connection::Connection;
+use rpc_journal::Advanced;
+use rpc_machine::{CallCommand, Refusal};
 use rpc_msg::{CallId, Items, ObjectId, Op, PromiseId, RefId};
 use vat_host::Refused;
-use vat_journal::Advanced;
-use vat_machine::{CallCommand, Refusal};
 
 impl Connection {
     /// Makes a call through a reference, as `Host::call` does: gives the number of the call. The reference takes the shorter

@@ -1,6 +1,6 @@
 //! A vat that speaks with another by bytes.
 ghost use Rattle.std.specs.Prelude.{◌≡◌, ◌⊎◌, false, IfOk, IfErr, not, length, ◌==◌, ◌||◌};
-ghost use Rattle.vat_machine.specs.Refusals.{is_shut};
+ghost use Rattle.rpc_machine.specs.Refusals.{is_shut};
 ghost use Rattle.vat_host.specs.Hosting.{Does, Refuses};
 ghost use Rattle.vat_connection.specs.Calling.{Fits, IsTooLarge, answered};
 ghost use Rattle.vat_connection.specs.Connecting.{Connected, Finishes, Gives, Receives, Tells, TellsNext, answered_by, fresh};
@@ -9,12 +9,12 @@ use crate::event::Event;
 use crate::hearing::hear_all;
 use crate::open_calls::{OpenCalls, cut_off, finished_by};
 use crate::speaker::Speaker;
+use capn_stream::FrameReader;
+use rpc_machine::{Command, Granted, Level, Refusal};
 use rpc_msg::{Memory, ObjectId, Vat};
-use rpc_stream::FrameReader;
 use std::alloc::Global;
 use std::marker::Model;
 use vat_host::{Core, Refused};
-use vat_machine::{Command, Granted, Level, Refusal};
 
 /// The number with which a vat goes down where the stream ends between two frames.
 const ENDED: u16 = 0;

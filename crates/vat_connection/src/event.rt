@@ -1,6 +1,6 @@
 //! What an application is told.
 
-use vat_journal::{Delivery, Ended};
+use rpc_journal::{Delivery, Ended};
 
 /// What an application is told of its vat.
 #[derive(Drop)]

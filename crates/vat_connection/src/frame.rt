@@ -1,16 +1,16 @@
 //! What a frame has a vat hear.
 ghost use Rattle.std.specs.Prelude.{◌≡◌};
-ghost use Rattle.rpc_bytes.specs.Envelopes.{seen_envelope};
-ghost use Rattle.rpc_bytes.specs.Decoding.{envelope_at};
-ghost use Rattle.rpc_peer.specs.Peering.{comes};
+ghost use Rattle.rpc_codec.specs.Envelopes.{seen_envelope};
+ghost use Rattle.rpc_codec.specs.Decoding.{envelope_at};
+ghost use Rattle.peer_adapter.specs.Peering.{comes};
 ghost use Rattle.vat_connection.specs.Speaking.{HearsFrame, HearsUp, stamp_of, tables_of};
 ghost use Rattle.vat_connection.specs.Framing.{Opens, Turned};
 
 use crate::passing::{hear_each, put_aside};
 use crate::speaker::{Speaker, WANT_OF_ROOM};
-use rpc_bytes::{DecodeError, Envelope, decode};
+use peer_adapter::{Inbound, PeerAdapter, PeerError};
+use rpc_codec::{DecodeError, Envelope, decode};
 use rpc_msg::{ExportId, QuestionId, RefId, Stamp};
-use rpc_peer::{Inbound, PeerAdapter, PeerError};
 use std::alloc::Global;
 use vat_host::Core;
 

@@ -4,7 +4,7 @@ ghost use Rattle.vat_connection.specs.Speaking.{Speaking};
 ghost use Rattle.vat_connection.specs.Hearing.{Comes, Waits, held_of, number_for};
 
 use crate::speaker::{Speaker, WANT_OF_ROOM};
-use rpc_stream::{FrameReader, StreamError, fronts_stay};
+use capn_stream::{FrameReader, StreamError, fronts_stay};
 use std::alloc::Global;
 
 /// A vat that is up takes bytes of a stream: it hears each frame that is whole, to the first with which it goes down. What is no

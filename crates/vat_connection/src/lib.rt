@@ -26,10 +26,10 @@ mod speaker;
 pub use connection::Connection;
 pub use event::Event;
 pub use laws::pieces_are_one;
+pub use rpc_journal::{Advanced, Delivery, Ended, Outcome};
+pub use rpc_machine::{CallCommand, Command, Granted, Level, Refusal};
 pub use rpc_msg::{
     CallId, Exception, ExceptionKind, Items, Memory, ObjectId, Op, Payload, PromiseId, RefId,
     TaskId, Text, Vat,
 };
 pub use vat_host::{Core, Refused};
-pub use vat_journal::{Advanced, Delivery, Ended, Outcome};
-pub use vat_machine::{CallCommand, Command, Granted, Level, Refusal};

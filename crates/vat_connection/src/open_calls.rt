@@ -2,12 +2,12 @@
 ghost use Rattle.std.specs.Prelude.{◌≡◌, ◌<◌, [], ◌∷◌, ◌++◌, IsTrue, OnOk, IfSome, IfNone};
 ghost use Rattle.vat_connection.specs.OwnCalls.{IsCutOff, IsReason, Rise, finished_by, followed, let_go, without};
 
+use rpc_journal::{Ended, Outcome};
+use rpc_machine::{Command, Granted};
 use rpc_msg::{CallId, Exception, ExceptionKind, Items, Memory, Text};
 use std::alloc::Global;
 use std::collections::VecDeque;
 use std::marker::Model;
-use vat_journal::{Ended, Outcome};
-use vat_machine::{Command, Granted};
 
 /// The own calls that are open, in the order in which they were made: seen by contracts as their numbers, and how many more have
 /// a place.

@@ -1,16 +1,16 @@
 //! What a vat has to say goes out, message by message.
 ghost use Rattle.std.specs.Prelude.{◌≡◌, true, false, IsTrue, MatchBool};
 ghost use Rattle.vat_host.specs.Hosting.{is_abort};
-ghost use Rattle.rpc_adapter.specs.Adapting.{messages_in};
-ghost use Rattle.rpc_frames.specs.Outflows.{Outflow};
-ghost use Rattle.rpc_peer.specs.Peering.{goes, release_of, seen_aside};
+ghost use Rattle.peer_tail_calls.specs.Adapting.{messages_in};
+ghost use Rattle.rpc_outgoing.specs.Outflows.{Outflow};
+ghost use Rattle.peer_adapter.specs.Peering.{goes, release_of, seen_aside};
 ghost use Rattle.vat_connection.specs.Speaking.{Breaks, GivesBack, Goes, HearsAll, IsAside, IsTold, Passes, PassesOne, Says, Sends, Turns};
 ghost use Rattle.vat_connection.specs.Telling.{IsLonger};
 
 use crate::speaker::{Speaker, WANT_OF_ROOM};
-use rpc_frames::Outgoing;
+use peer_adapter::{Aside, Heard, Outbound, Said, Told};
 use rpc_msg::{ExportId, Items, Message, PlainMessage, Release};
-use rpc_peer::{Aside, Heard, Outbound, Said, Told};
+use rpc_outgoing::Outgoing;
 use vat_host::Host;
 
 impl Speaker {

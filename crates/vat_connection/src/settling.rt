@@ -1,14 +1,14 @@
 //! The commands that give nothing, by name: tasks and promises are settled, and references and calls are let go.
 ghost use Rattle.std.specs.Prelude.{◌≡◌, Some, IsSome, IfErr};
-ghost use Rattle.vat_machine.specs.declared.command.Command.TheVariants as command;
-ghost use Rattle.vat_machine.specs.declared.command.Granted.TheVariants as granted;
+ghost use Rattle.rpc_machine.specs.declared.command.Command.TheVariants as command;
+ghost use Rattle.rpc_machine.specs.declared.command.Granted.TheVariants as granted;
 ghost use Rattle.vat_connection.specs.Calling.{answered, exception_of, results_of};
 ghost use Rattle.vat_connection.specs.Connecting.{Asks, AsksToFit, IsShut};
 
 use crate::connection::Connection;
+use rpc_machine::{Command, Refusal};
 use rpc_msg::{CallId, Exception, Items, Payload, PromiseId, RefId, TaskId};
 use vat_host::Refused;
-use vat_machine::{Command, Refusal};
 
 impl Connection {
     /// Gives a task its results, as `Core::answer` does. Refused with `Full` too, where they may be too large for the frame that

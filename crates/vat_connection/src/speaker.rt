@@ -1,22 +1,22 @@
 //! A vat with the bytes that it says, and its commands.
 ghost use Rattle.std.specs.Prelude.{◌≡◌, ◌⊎◌, Ok, Err, IfOk, IfErr, OnOk, is_some};
-ghost use Rattle.vat_machine.specs.declared.command.Command.TheVariants as command;
-ghost use Rattle.vat_machine.specs.declared.command.Refusal.TheVariants as refusal;
-ghost use Rattle.vat_machine.specs.State.{start};
+ghost use Rattle.rpc_machine.specs.declared.command.Command.TheVariants as command;
+ghost use Rattle.rpc_machine.specs.declared.command.Refusal.TheVariants as refusal;
+ghost use Rattle.rpc_machine.specs.State.{start};
 ghost use Rattle.vat_host.specs.Hosting.{Does, Refuses, idle};
-ghost use Rattle.rpc_frames.specs.Outflows.{nothing_out};
-ghost use Rattle.rpc_peer.specs.Peering.{fresh as fresh_adapter};
+ghost use Rattle.rpc_outgoing.specs.Outflows.{nothing_out};
+ghost use Rattle.peer_adapter.specs.Peering.{fresh as fresh_adapter};
 ghost use Rattle.vat_connection.specs.Calling.{Calls, Fits, IsTooLarge, Obeys, call_of};
 ghost use Rattle.vat_connection.specs.Speaking.{Falls, given};
 
-use rpc_fits::fits_envelope;
-use rpc_frames::Outgoing;
+use peer_adapter::PeerAdapter;
+use rpc_codec_fits::fits_envelope;
+use rpc_machine::{CallCommand, Command, Granted, Level, Refusal};
 use rpc_msg::{CallId, Memory, ObjectId, Vat};
-use rpc_peer::PeerAdapter;
+use rpc_outgoing::Outgoing;
 use std::alloc::Global;
 use std::marker::Model;
 use vat_host::{Host, Refused};
-use vat_machine::{CallCommand, Command, Granted, Level, Refusal};
 
 /// The fault of a vat that found no room, or no memory.
 pub(crate) const WANT_OF_ROOM: u16 = 33;

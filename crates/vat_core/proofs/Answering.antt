@@ -1,22 +1,22 @@
 -- What commands answer that are refused, and what a shut does.
 use Rattle.std.proofs.Common.{◌≡◌, ℕ, Bool, true, false, not, ◌&&◌, is_some, Option, Some, Result, Ok, Err, [], ◌∷◌, ◌++◌, refl, sym, ap, subst, ◌∙◌}
-use Rattle.vat_journal.specs.History.{if_so}
-use Rattle.vat_machine.specs.declared.command.Command.{Command}
-use Rattle.vat_machine.specs.declared.command.Command.TheVariants as command
-use Rattle.vat_machine.specs.declared.command.Granted.{Granted}
-use Rattle.vat_machine.specs.declared.command.Granted.TheVariants as granted
-use Rattle.vat_machine.specs.declared.command.Refusal.{Refusal}
-use Rattle.vat_machine.specs.declared.command.Refusal.TheVariants as refusal
-use Rattle.vat_machine.specs.declared.command.Effects.{Effects}
-use Rattle.vat_machine.specs.State.{State}
-use Rattle.vat_machine.specs.Progress.{quiet}
-use Rattle.vat_machine.specs.Lists.{earliest}
-use Rattle.vat_machine.specs.Refusals.{refused, refusals, without_room, is_shut}
-use Rattle.vat_machine.specs.Down.{ShutsFrom}
+use Rattle.rpc_journal.specs.History.{if_so}
+use Rattle.rpc_machine.specs.declared.command.Command.{Command}
+use Rattle.rpc_machine.specs.declared.command.Command.TheVariants as command
+use Rattle.rpc_machine.specs.declared.command.Granted.{Granted}
+use Rattle.rpc_machine.specs.declared.command.Granted.TheVariants as granted
+use Rattle.rpc_machine.specs.declared.command.Refusal.{Refusal}
+use Rattle.rpc_machine.specs.declared.command.Refusal.TheVariants as refusal
+use Rattle.rpc_machine.specs.declared.command.Effects.{Effects}
+use Rattle.rpc_machine.specs.State.{State}
+use Rattle.rpc_machine.specs.Progress.{quiet}
+use Rattle.rpc_machine.specs.Lists.{earliest}
+use Rattle.rpc_machine.specs.Refusals.{refused, refusals, without_room, is_shut}
+use Rattle.rpc_machine.specs.Down.{ShutsFrom}
 use Rattle.vat_core.specs.declared.obey.Answer.{Answer}
 use Rattle.vat_core.specs.declared.obey.Answer.TheVariants.{Done}
 use Rattle.vat_core.specs.Answers.{AnswersTo}
-use Rattle.vat_machine.specs.Steps.{Obeys, Refuses, Shuts}
+use Rattle.rpc_machine.specs.Steps.{Obeys, Refuses, Shuts}
 
 pub refuses : (s : State) (c : Command) (r : Refusal) → refused s c ≡ Some r → Obeys s c (Err r) quiet s
 refuses s c r why = Refuses r why refl (record { effects_are = refl; new_is = refl })

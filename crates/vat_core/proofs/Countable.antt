@@ -7,10 +7,10 @@ use Rattle.std.specs.FinMap.Entries as entries
 use Rattle.finite_maps.specs.Tally.{Map}
 use Rattle.finite_maps.proofs.Sorted.{behind, first_entry, later_entry, sorted_tail}
 use Rattle.rpc_msg.specs.declared.ids.ExportId.{ExportId}
-use Rattle.vat_machine.specs.declared.entries.Export.{Export}
-use Rattle.vat_machine.specs.declared.entries.Import.{Import}
-use Rattle.vat_machine.specs.Lists.{from_each, of_map}
-use Rattle.vat_machine.specs.Queries.{export_counts, import_counts}
+use Rattle.rpc_machine.specs.declared.entries.Export.{Export}
+use Rattle.rpc_machine.specs.declared.entries.Import.{Import}
+use Rattle.rpc_machine.specs.Lists.{from_each, of_map}
+use Rattle.rpc_machine.specs.Queries.{export_counts, import_counts}
 use Rattle.vat_tables.specs.Exports as tables
 
 -- ---- Exports

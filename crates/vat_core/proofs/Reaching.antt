@@ -3,18 +3,18 @@ use Rattle.std.proofs.Common.{◌≡◌, [], Option, Result, sym, ap, subst}
 use Rattle.rpc_msg.specs.declared.ids.Vat.{Vat}
 use Rattle.rpc_msg.specs.declared.ids.ObjectId.{ObjectId}
 use Rattle.rpc_msg.specs.declared.message.Message.{Message}
-use Rattle.vat_machine.specs.declared.command.Level.{Level}
-use Rattle.vat_machine.specs.declared.command.Command.{Command}
-use Rattle.vat_machine.specs.declared.command.Granted.{Granted}
-use Rattle.vat_machine.specs.declared.command.Refusal.{Refusal}
-use Rattle.vat_machine.specs.declared.command.Effects.{Effects}
-use Rattle.vat_machine.specs.State.{State, start}
-use Rattle.vat_machine.specs.Steps.{Obeys, Receives}
+use Rattle.rpc_machine.specs.declared.command.Level.{Level}
+use Rattle.rpc_machine.specs.declared.command.Command.{Command}
+use Rattle.rpc_machine.specs.declared.command.Granted.{Granted}
+use Rattle.rpc_machine.specs.declared.command.Refusal.{Refusal}
+use Rattle.rpc_machine.specs.declared.command.Effects.{Effects}
+use Rattle.rpc_machine.specs.State.{State, start}
+use Rattle.rpc_machine.specs.Steps.{Obeys, Receives}
 use Rattle.laws_steps.specs.NodesThere.{ComesTo, Stays, Commanded, Received, Fell, IsReached}
-use Rattle.vat_outbox.specs.Outgoing.{Outgoing, nothing_said}
-use Rattle.vat_store.specs.Holding.{state_of, IsSound}
-use Rattle.step_asks.specs.Machine.{Machine}
-use Rattle.step_asks.specs.Whole.{IsResting}
+use Rattle.core_outbox.specs.Outgoing.{Outgoing, nothing_said}
+use Rattle.core_store.specs.Holding.{state_of, IsSound}
+use Rattle.core_steps_asking.specs.Machine.{Machine}
+use Rattle.core_steps_asking.specs.Whole.{IsResting}
 use Rattle.vat_core.specs.Standing.{IsStanding}
 
 -- What leads on from the last state leads on from the first.

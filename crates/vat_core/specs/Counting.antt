@@ -1,6 +1,6 @@
 -- What is counted of a core's tables.
 use Rattle.std.specs.Prelude.{ℕ, Option, None, Some}
-use Rattle.vat_machine.specs.declared.entries.Reference.{Reference}
+use Rattle.rpc_machine.specs.declared.entries.Reference.{Reference}
 
 -- How many calls were made through a reference, if it is there.
 abbrev pub made_of : Option Reference → Option ℕ

@@ -1,15 +1,15 @@
 ghost use Rattle.std.specs.Prelude.{◌≡◌, Ok, Err, IfOk, IfErr, OnErr};
-ghost use Rattle.vat_machine.specs.declared.command.Command.TheVariants as command;
-ghost use Rattle.vat_machine.specs.declared.command.Granted.TheVariants as granted;
-ghost use Rattle.vat_machine.specs.Progress.{quiet};
-ghost use Rattle.vat_machine.specs.Steps.{Obeys};
+ghost use Rattle.rpc_machine.specs.declared.command.Command.TheVariants as command;
+ghost use Rattle.rpc_machine.specs.declared.command.Granted.TheVariants as granted;
+ghost use Rattle.rpc_machine.specs.Progress.{quiet};
+ghost use Rattle.rpc_machine.specs.Steps.{Obeys};
 
 use crate::refused::Refused;
 use crate::vat::Core;
+use core_step_checks::{check_bootstrap, check_call_whole};
+use core_steps_asking::{call_straight, straight};
+use rpc_machine::{CallCommand, Effects, Refusal};
 use rpc_msg::CallId;
-use step_asks::{call_straight, straight};
-use step_checks::{check_bootstrap, check_call_whole};
-use vat_machine::{CallCommand, Effects, Refusal};
 
 impl Core {
     /// Asks the peer for its bootstrap object: gives the number of the call, and what follows. Refused, with nothing changed:
@@ -20,7 +20,7 @@ impl Core {
         ensures refused { IfErr result (λ r. Obeys self.old command.Bootstrap (Err r) quiet self.new) }
     {
         check_bootstrap(&self.machine.step.store)?;
-        let Ok(done) = step_asks::bootstrap(&mut self.machine) else {
+        let Ok(done) = core_steps_asking::bootstrap(&mut self.machine) else {
             return Err(Refusal::Memory);
         };
         Ok(done)
@@ -69,7 +69,7 @@ impl Core {
                 back: call,
             });
         }
-        let done = match step_asks::call(&mut self.machine, call) {
+        let done = match core_steps_asking::call(&mut self.machine, call) {
             Ok(done) => done,
             Err(back) => return Err(Refused {
                 refusal: Refusal::Memory,

@@ -1,13 +1,13 @@
 ghost use Rattle.std.specs.Prelude.{◌≡◌, IfOk};
 ghost use Rattle.std.specs.FinMap as map;
-ghost use Rattle.vat_machine.specs.Lists.{of_map};
-ghost use Rattle.vat_machine.specs.Queries.{counts_of, export_counts, import_counts};
+ghost use Rattle.rpc_machine.specs.Lists.{of_map};
+ghost use Rattle.rpc_machine.specs.Queries.{counts_of, export_counts, import_counts};
 ghost use Rattle.vat_core.specs.Counting.{made_of};
 
 use crate::vat::Core;
+use rpc_journal::Counts;
 use rpc_msg::{ExportId, Items, Memory, RefId};
 use std::alloc::Global;
-use vat_journal::Counts;
 use vat_tables::{Exports, Imports};
 
 impl Core {

@@ -1,11 +1,11 @@
 ghost use Rattle.std.specs.Prelude.{◌≡◌};
 ghost use Rattle.std.specs.FinMap as map;
-ghost use Rattle.vat_machine.specs.Fullness.{has_no_room};
+ghost use Rattle.rpc_machine.specs.Fullness.{has_no_room};
 ghost use Rattle.vat_core.specs.Foreseen.{is_broken, is_exception, is_finished, is_sent};
 
 use crate::vat::Core;
+use rpc_machine::{Finishing, Resolution};
 use rpc_msg::{ExportId, QuestionId};
-use vat_machine::{Finishing, Resolution};
 use vat_tables::TABLE_LIMIT;
 
 impl Core {

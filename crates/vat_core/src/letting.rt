@@ -1,16 +1,16 @@
 ghost use Rattle.std.specs.Prelude.{◌≡◌, Ok, Err, IfOk, IfErr, OnErr};
-ghost use Rattle.vat_machine.specs.declared.command.Command.TheVariants as command;
-ghost use Rattle.vat_machine.specs.declared.command.Granted.TheVariants as granted;
-ghost use Rattle.vat_machine.specs.Progress.{quiet};
-ghost use Rattle.vat_machine.specs.Steps.{Obeys};
+ghost use Rattle.rpc_machine.specs.declared.command.Command.TheVariants as command;
+ghost use Rattle.rpc_machine.specs.declared.command.Granted.TheVariants as granted;
+ghost use Rattle.rpc_machine.specs.Progress.{quiet};
+ghost use Rattle.rpc_machine.specs.Steps.{Obeys};
 
 use crate::vat::Core;
+use core_step_checks::{check_advance, check_drop_ref, check_finish};
+use core_steps_asking::ends;
 use laws_nodes::calls_have_their_own;
+use rpc_journal::Advanced;
+use rpc_machine::{Effects, Refusal};
 use rpc_msg::{CallId, RefId};
-use step_asks::ends;
-use step_checks::{check_advance, check_drop_ref, check_finish};
-use vat_journal::Advanced;
-use vat_machine::{Effects, Refusal};
 
 impl Core {
     /// Has no more use for a reference: gives what follows. Refused, with nothing changed: `Down`; `UnknownRef`; `Memory`.

@@ -1,15 +1,15 @@
 ghost use Rattle.std.specs.Prelude.{◌≡◌, [], Ok, Err, IfOk, IfErr, OnErr};
-ghost use Rattle.vat_machine.specs.declared.command.Command.TheVariants as command;
-ghost use Rattle.vat_machine.specs.declared.command.Granted.TheVariants as granted;
-ghost use Rattle.vat_machine.specs.Progress.{quiet};
-ghost use Rattle.vat_machine.specs.Steps.{Obeys};
+ghost use Rattle.rpc_machine.specs.declared.command.Command.TheVariants as command;
+ghost use Rattle.rpc_machine.specs.declared.command.Granted.TheVariants as granted;
+ghost use Rattle.rpc_machine.specs.Progress.{quiet};
+ghost use Rattle.rpc_machine.specs.Steps.{Obeys};
 
 use crate::refused::Refused;
 use crate::vat::Core;
+use core_step_checks::{check_clone_ref, check_field, check_host, check_promise};
+use core_steps_asking::ends;
+use rpc_machine::Refusal;
 use rpc_msg::{CallId, Items, ObjectId, Op, PromiseId, RefId};
-use step_asks::ends;
-use step_checks::{check_clone_ref, check_field, check_host, check_promise};
-use vat_machine::Refusal;
 
 impl Core {
     /// Makes a reference to an object of the application: gives its number. Nothing is said. Refused, with nothing changed:
@@ -84,7 +84,7 @@ impl Core {
         ensures refused { IfErr result (λ r. Obeys self.old command.Promise (Err r) quiet self.new) }
     {
         check_promise(&self.machine.step.store)?;
-        let Ok(made) = step_asks::promise(&mut self.machine) else {
+        let Ok(made) = core_steps_asking::promise(&mut self.machine) else {
             return Err(Refusal::Memory);
         };
         Ok(made)

@@ -1,11 +1,11 @@
 ghost use Rattle.std.specs.Prelude.{◌≡◌};
-ghost use Rattle.vat_machine.specs.declared.command.Command.TheVariants as command;
-ghost use Rattle.vat_machine.specs.Progress.{quiet};
+ghost use Rattle.rpc_machine.specs.declared.command.Command.TheVariants as command;
+ghost use Rattle.rpc_machine.specs.Progress.{quiet};
 ghost use Rattle.vat_core.specs.Answers.{AnswersTo};
 
 use crate::vat::Core;
+use rpc_machine::{Command, Effects, Granted, Refusal};
 use rpc_msg::Items;
-use vat_machine::{Command, Effects, Granted, Refusal};
 
 /// What comes of a command.
 pub enum Answer {

@@ -1,11 +1,11 @@
 ghost use Rattle.std.specs.Prelude.{◌≡◌};
-ghost use Rattle.vat_machine.specs.declared.command.Command.TheVariants as command;
+ghost use Rattle.rpc_machine.specs.declared.command.Command.TheVariants as command;
 ghost use Rattle.vat_core.specs.Answers.{AnswersTo};
 
 use crate::obey::Answer;
 use crate::refused::Refused;
 use crate::vat::Core;
-use vat_machine::{CallCommand, Command, Granted};
+use rpc_machine::{CallCommand, Command, Granted};
 
 impl Core {
     pub(crate) fn obey_bootstrap(&mut self) -> Answer

@@ -1,11 +1,11 @@
 ghost use Rattle.std.specs.Prelude.{◌≡◌};
-ghost use Rattle.vat_machine.specs.declared.command.Command.TheVariants as command;
+ghost use Rattle.rpc_machine.specs.declared.command.Command.TheVariants as command;
 ghost use Rattle.vat_core.specs.Answers.{AnswersTo};
 
 use crate::obey::Answer;
 use crate::vat::Core;
+use rpc_machine::{Command, Granted};
 use rpc_msg::{CallId, RefId};
-use vat_machine::{Command, Granted};
 
 impl Core {
     pub(crate) fn obey_drop_ref(&mut self, id: RefId) -> Answer

@@ -1,10 +1,10 @@
 ghost use Rattle.std.specs.Prelude.{◌≡◌};
-ghost use Rattle.vat_machine.specs.Queries.{has_no_numbers, has_no_tables, has_nothing_else, holds, is_new};
-ghost use Rattle.vat_store.specs.Holding.{state_of};
+ghost use Rattle.rpc_machine.specs.Queries.{has_no_numbers, has_no_tables, has_nothing_else, holds, is_new};
+ghost use Rattle.core_store.specs.Holding.{state_of};
 
 use crate::vat::Core;
+use core_store::Store;
 use rpc_msg::{RefId, Vat};
-use vat_store::Store;
 
 impl Core {
     /// Whether a call that was made through that reference of that vat is held or embargoed here. Takes no memory.

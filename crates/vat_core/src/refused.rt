@@ -1,8 +1,8 @@
 ghost use Rattle.std.specs.Prelude.{◌≡◌};
 
+use rpc_machine::Refusal;
 use std::error::Error;
 use std::fmt;
-use vat_machine::Refusal;
 
 /// Why a command is refused, and what it was given, which is handed back. Nothing is changed.
 #[derive(Drop)]

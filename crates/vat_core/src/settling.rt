@@ -1,15 +1,15 @@
 ghost use Rattle.std.specs.Prelude.{◌≡◌, Ok, Err, IfOk, IfErr, OnErr};
-ghost use Rattle.vat_machine.specs.declared.command.Command.TheVariants as command;
-ghost use Rattle.vat_machine.specs.declared.command.Granted.TheVariants as granted;
-ghost use Rattle.vat_machine.specs.Progress.{quiet};
-ghost use Rattle.vat_machine.specs.Steps.{Obeys};
+ghost use Rattle.rpc_machine.specs.declared.command.Command.TheVariants as command;
+ghost use Rattle.rpc_machine.specs.declared.command.Granted.TheVariants as granted;
+ghost use Rattle.rpc_machine.specs.Progress.{quiet};
+ghost use Rattle.rpc_machine.specs.Steps.{Obeys};
 
 use crate::refused::Refused;
 use crate::vat::Core;
+use core_step_checks::{check_answer, check_fail, check_reject, check_resolve};
+use core_steps_asking::ends;
+use rpc_machine::{Effects, Refusal};
 use rpc_msg::{Exception, Items, Payload, PromiseId, RefId, TaskId};
-use step_asks::ends;
-use step_checks::{check_answer, check_fail, check_reject, check_resolve};
-use vat_machine::{Effects, Refusal};
 
 impl Core {
     /// Settles a promise to what a reference leads to: gives what follows. Refused, with nothing changed: `Down`; `Level` at

@@ -1,16 +1,16 @@
 ghost use Rattle.std.specs.Prelude.{◌≡◌, IfOk};
-ghost use Rattle.vat_machine.specs.Down.{ShutsFrom};
-ghost use Rattle.vat_machine.specs.State.{start};
-ghost use Rattle.vat_machine.specs.Steps.{Receives};
+ghost use Rattle.rpc_machine.specs.Down.{ShutsFrom};
+ghost use Rattle.rpc_machine.specs.State.{start};
+ghost use Rattle.rpc_machine.specs.Steps.{Receives};
 
+use core_outbox::Outbox;
+use core_steps_asking::ends;
+use core_steps_asking::ends::{Arisen, Machine, Step, Thought};
+use core_store::Store;
+use rpc_machine::{Effects, Level};
 use rpc_msg::{Memory, Message, ObjectId, Vat};
 use std::alloc::Global;
 use std::marker::Model;
-use step_asks::ends;
-use step_asks::ends::{Arisen, Machine, Step, Thought};
-use vat_machine::{Effects, Level};
-use vat_outbox::Outbox;
-use vat_store::Store;
 
 /// The core of a vat: all that it holds for its connection, and the memory that it keeps for its steps. Contracts see it as
 /// the state of the machine of `docs/protocol.md`, and each of its calls is a step of that machine.
@@ -26,8 +26,8 @@ impl Drop for Core {
 }
 
 impl Model for Core {
-    ghost use Rattle.vat_machine.specs.State.{State, state_code};
-    ghost use Rattle.vat_store.specs.Holding.{state_of};
+    ghost use Rattle.rpc_machine.specs.State.{State, state_code};
+    ghost use Rattle.core_store.specs.Holding.{state_of};
     ghost use Rattle.vat_core.specs.Standing.{IsStanding};
 
     ghost Value = { State };

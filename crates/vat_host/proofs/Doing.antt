@@ -1,15 +1,15 @@
 -- What a step of the core does to what is hosted.
 use Rattle.std.proofs.Common.{rules, ◌≡◌, ◌∙◌, ◌++◌, ◌⊎◌, inl, inr, List, Bool, true, false, Ok, Err, Result, refl, sym, ap, subst}
 use Rattle.rpc_msg.specs.declared.message.Message.{Message}
-use Rattle.vat_journal.specs.declared.report.Delivery.{Delivery}
-use Rattle.vat_journal.specs.declared.report.Ended.{Ended}
-use Rattle.vat_machine.specs.declared.command.Command.{Command}
-use Rattle.vat_machine.specs.declared.command.Effects.{Effects}
-use Rattle.vat_machine.specs.declared.command.Granted.{Granted}
-use Rattle.vat_machine.specs.declared.command.Refusal.{Refusal}
-use Rattle.vat_machine.specs.Progress.{quiet}
-use Rattle.vat_machine.specs.State.{State}
-use Rattle.vat_machine.specs.Steps.{Obeys, Receives}
+use Rattle.rpc_journal.specs.declared.report.Delivery.{Delivery}
+use Rattle.rpc_journal.specs.declared.report.Ended.{Ended}
+use Rattle.rpc_machine.specs.declared.command.Command.{Command}
+use Rattle.rpc_machine.specs.declared.command.Effects.{Effects}
+use Rattle.rpc_machine.specs.declared.command.Granted.{Granted}
+use Rattle.rpc_machine.specs.declared.command.Refusal.{Refusal}
+use Rattle.rpc_machine.specs.Progress.{quiet}
+use Rattle.rpc_machine.specs.State.{State}
+use Rattle.rpc_machine.specs.Steps.{Obeys, Receives}
 use Rattle.vat_host.specs.Hosting.{Hosted, Does, Refuses, Hears, stepped}
 
 abbrev pub hosted : State → List Message → List Delivery → List Ended → Hosted

@@ -3,11 +3,11 @@ use Rattle.std.proofs.Common.{◌≡◌, ℕ, Bool, true, false, Option, None, S
 use Rattle.rpc_msg.specs.declared.message.Message.{Message}
 use Rattle.rpc_msg.specs.declared.message.Message.TheVariants as message
 use Rattle.rpc_msg.specs.declared.message.PlainMessage.TheVariants as plain
-use Rattle.vat_machine.specs.declared.command.Effects.{Effects}
-use Rattle.vat_machine.specs.Down.{ShutsFrom}
-use Rattle.vat_machine.specs.Numbers.{want_of_room}
-use Rattle.vat_machine.specs.State.{State}
-use Rattle.vat_machine.specs.Steps.{Receives, MayLackRoom, WasDown, LacksRoom}
+use Rattle.rpc_machine.specs.declared.command.Effects.{Effects}
+use Rattle.rpc_machine.specs.Down.{ShutsFrom}
+use Rattle.rpc_machine.specs.Numbers.{want_of_room}
+use Rattle.rpc_machine.specs.State.{State}
+use Rattle.rpc_machine.specs.Steps.{Receives, MayLackRoom, WasDown, LacksRoom}
 use Rattle.vat_host.specs.Hosting.{is_abort}
 
 may_lack : (m : Message) → is_abort m ≡ false → MayLackRoom m

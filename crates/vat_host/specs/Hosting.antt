@@ -5,19 +5,19 @@ use Rattle.rpc_msg.specs.contracts.message.Message as message_row
 use Rattle.rpc_msg.specs.declared.message.Message.{Message}
 use Rattle.rpc_msg.specs.declared.message.Message.TheVariants as message
 use Rattle.rpc_msg.specs.declared.message.PlainMessage.TheVariants as plain
-use Rattle.vat_journal.specs.contracts.report.Delivery as delivery_row
-use Rattle.vat_journal.specs.contracts.report.Ended as ended_row
-use Rattle.vat_journal.specs.declared.report.Delivery.{Delivery}
-use Rattle.vat_journal.specs.declared.report.Ended.{Ended}
-use Rattle.vat_machine.specs.declared.command.Command.{Command}
-use Rattle.vat_machine.specs.declared.command.Effects.{Effects}
-use Rattle.vat_machine.specs.declared.command.Granted.{Granted}
-use Rattle.vat_machine.specs.declared.command.Refusal.{Refusal}
-use Rattle.vat_machine.specs.declared.command.Refusal.TheVariants as refusal
-use Rattle.vat_machine.specs.Progress.{quiet}
-use Rattle.vat_machine.specs.Refusals.{is_shut}
-use Rattle.vat_machine.specs.State.{State, state_code}
-use Rattle.vat_machine.specs.Steps.{Obeys, Receives}
+use Rattle.rpc_journal.specs.contracts.report.Delivery as delivery_row
+use Rattle.rpc_journal.specs.contracts.report.Ended as ended_row
+use Rattle.rpc_journal.specs.declared.report.Delivery.{Delivery}
+use Rattle.rpc_journal.specs.declared.report.Ended.{Ended}
+use Rattle.rpc_machine.specs.declared.command.Command.{Command}
+use Rattle.rpc_machine.specs.declared.command.Effects.{Effects}
+use Rattle.rpc_machine.specs.declared.command.Granted.{Granted}
+use Rattle.rpc_machine.specs.declared.command.Refusal.{Refusal}
+use Rattle.rpc_machine.specs.declared.command.Refusal.TheVariants as refusal
+use Rattle.rpc_machine.specs.Progress.{quiet}
+use Rattle.rpc_machine.specs.Refusals.{is_shut}
+use Rattle.rpc_machine.specs.State.{State, state_code}
+use Rattle.rpc_machine.specs.Steps.{Obeys, Receives}
 use Rattle.vat_core.specs.declared.refused.Refused.{Refused}
 
 -- The state of the core, and what is to be done, the oldest first: messages to send to the peer, calls to serve, and own

@@ -1,6 +1,6 @@
 -- Lists that wait, and the room that a step's effects need.
 use Rattle.std.specs.Prelude.{ℕ, List, [], ◌∷◌, length, ◌<◌, ◌≡◌}
-use Rattle.vat_machine.specs.declared.command.Effects.{Effects}
+use Rattle.rpc_machine.specs.declared.command.Effects.{Effects}
 
 abbrev pub NoneIsEmpty : {T : Type 0} → List (List T) → Type 0
 NoneIsEmpty [] = Unit {0}

@@ -1,13 +1,13 @@
 ghost use Rattle.std.specs.Prelude.{◌≡◌, [], IfOk, IfErr};
-ghost use Rattle.vat_machine.specs.declared.command.Command.TheVariants as command;
-ghost use Rattle.vat_machine.specs.declared.command.Granted.TheVariants as granted;
+ghost use Rattle.rpc_machine.specs.declared.command.Command.TheVariants as command;
+ghost use Rattle.rpc_machine.specs.declared.command.Granted.TheVariants as granted;
 ghost use Rattle.vat_host.specs.Hosting.{Does, Refuses};
 
 use crate::host::Host;
+use rpc_journal::Advanced;
+use rpc_machine::{CallCommand, Refusal};
 use rpc_msg::{CallId, Items, ObjectId, Op, PromiseId, RefId};
 use vat_core::Refused;
-use vat_journal::Advanced;
-use vat_machine::{CallCommand, Refusal};
 
 impl Host {
     /// Asks the peer for its bootstrap object, as `Core::bootstrap` does, and keeps what follows: gives the number of the call.

@@ -1,16 +1,16 @@
 ghost use Rattle.std.specs.Prelude.{◌≡◌, ◌==◌, not, length, [], ◌∷◌, IfOk, IfSome, IfNone, OnErr};
-ghost use Rattle.vat_machine.specs.State.{start};
-ghost use Rattle.vat_machine.specs.Down.{ShutsFrom};
-ghost use Rattle.vat_machine.specs.declared.command.Effects.{Effects};
+ghost use Rattle.rpc_machine.specs.State.{start};
+ghost use Rattle.rpc_machine.specs.Down.{ShutsFrom};
+ghost use Rattle.rpc_machine.specs.declared.command.Effects.{Effects};
 ghost use Rattle.vat_host.specs.Hosting.{Commands, Hears, idle, is_abort, is_idle, stepped};
 
 use crate::kept::Kept;
+use rpc_journal::{Delivery, Ended};
+use rpc_machine::{Command, Effects, Granted, Level, Refusal};
 use rpc_msg::{Items, Memory, Message, ObjectId, PlainMessage, Vat};
 use std::alloc::Global;
 use std::marker::Model;
 use vat_core::{Answer, Core, Refused};
-use vat_journal::{Delivery, Ended};
-use vat_machine::{Command, Effects, Granted, Level, Refusal};
 
 /// The fault of a vat that found no room.
 const WANT_OF_ROOM: u16 = 33;

@@ -2,10 +2,10 @@ ghost use Rattle.std.specs.Prelude.{◌≡◌, ◌≤◌, ◌+◌, ◌<◌, [], 
 ghost use Rattle.vat_host.specs.Queues.{HasPlace};
 
 use crate::list_queue::ListQueue;
+use rpc_journal::{Delivery, Ended};
+use rpc_machine::Effects;
 use rpc_msg::{Memory, Message};
 use std::alloc::Global;
-use vat_journal::{Delivery, Ended};
-use vat_machine::Effects;
 
 /// What the steps of a core left to do, the oldest first.
 #[derive(Drop)]

@@ -2,9 +2,9 @@
 use Rattle.std.proofs.Common.{◌≡◌, ℕ, zero, suc, ◌+◌, ◌<◌, List, [], ◌∷◌, ◌++◌, map, length, Some, refl, sym, ap, ◌∙◌, arith}
 use Rattle.std.specs.List.{range_with_len, slice_get}
 use Rattle.std.proofs.lemmas.List.FromFn.{map-range_with_len_more}
-use Rattle.wire_trees.specs.declared.tree.Tree as program
-use Rattle.wire_trees.specs.Trees.{Tree, struct, list, packed, capability, pointer_at}
-use Rattle.wire_trees.specs.Views.{view, trees_of}
+use Rattle.capn_trees.specs.declared.tree.Tree as program
+use Rattle.capn_trees.specs.Trees.{Tree, struct, list, packed, capability, pointer_at}
+use Rattle.capn_trees.specs.Views.{view, trees_of}
 use Rattle.rpc_msg.specs.Payloads.{Contents, tree_of}
 use Rattle.rpc_msg.specs.Walking.{capability_at, found_at}
 use Rattle.rpc_msg.specs.Op.TheVariants.{Field}

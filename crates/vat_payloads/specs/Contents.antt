@@ -7,11 +7,11 @@ use Rattle.rpc_msg.specs.declared.ids.RefId.{RefId}
 use Rattle.rpc_msg.specs.Op.TheVariants.{Field}
 use Rattle.rpc_msg.specs.CapAt.{CapAt}
 use Rattle.rpc_msg.specs.CapAt.TheVariants.{Cap, Null, NotCap}
-use Rattle.wire_trees.specs.Trees.{Tree, struct, list, packed, capability}
-use Rattle.wire_trees.specs.Views.{trees_of}
-use Rattle.wire_trees.specs.Writable.{refusal}
-use Rattle.wire_trees.specs.declared.faults.WriteFault.{WriteFault}
-use Rattle.wire_trees.specs.declared.faults.WriteFault.TheVariants.{TooLarge}
+use Rattle.capn_trees.specs.Trees.{Tree, struct, list, packed, capability}
+use Rattle.capn_trees.specs.Views.{trees_of}
+use Rattle.capn_trees.specs.Writable.{refusal}
+use Rattle.capn_trees.specs.declared.faults.WriteFault.{WriteFault}
+use Rattle.capn_trees.specs.declared.faults.WriteFault.TheVariants.{TooLarge}
 
 -- A struct of these numbers, with a pointer to a text, and behind it one to each of so many capabilities.
 abbrev pub said : List ℕ → List ℕ → ℕ → Tree

@@ -1,15 +1,15 @@
 ghost use Rattle.std.specs.Prelude.{◌≡◌, ◌++◌, ◌∷◌, [], ◌⊎◌, length, map, None, Some, Err, IfOk, IfErr, MatchOption, MatchResult};
 ghost use Rattle.std.specs.List.{range_with_len};
 ghost use Rattle.rpc_msg.specs.Payloads.{tree_of};
-ghost use Rattle.wire_trees.specs.Trees.{capability, list, packed, struct};
-ghost use Rattle.wire_trees.specs.Views.{view, held, trees_view};
-ghost use Rattle.wire_trees.specs.Writable.{refusal};
-ghost use Rattle.wire_trees.specs.declared.faults.WriteFault.TheVariants as write_faults;
+ghost use Rattle.capn_trees.specs.Trees.{capability, list, packed, struct};
+ghost use Rattle.capn_trees.specs.Views.{view, held, trees_view};
+ghost use Rattle.capn_trees.specs.Writable.{refusal};
+ghost use Rattle.capn_trees.specs.declared.faults.WriteFault.TheVariants as write_faults;
 ghost use Rattle.vat_payloads.specs.Contents.{AreFound, fault_of, said};
 
+use capn_trees::WriteFault;
 use rpc_msg::{Items, Payload, Pointers, RefId, Tree};
 use std::alloc::Global;
-use wire_trees::WriteFault;
 
 // So many capabilities have a pointer each beside that of the text.
 const MOST_CAPS: usize = 65_534;

@@ -5,9 +5,9 @@ use Rattle.finite_maps.specs.Tally.{tally_of}
 use Rattle.finite_maps.proofs.Tested.{equal, apart, sides}
 use Rattle.finite_maps.proofs.Gets.{get-insert_same, get-insert_other, get-remove_same, get-remove_other}
 use Rattle.finite_maps.proofs.Tallies.{tally-empty, tally-new, tally-same, tally-split}
-use Rattle.vat_machine.specs.declared.node.Node.{Node}
-use Rattle.vat_machine.specs.declared.entries.Export.{Export}
-use Rattle.vat_machine.specs.Nodes.{is_field}
+use Rattle.rpc_machine.specs.declared.node.Node.{Node}
+use Rattle.rpc_machine.specs.declared.entries.Export.{Export}
+use Rattle.rpc_machine.specs.Nodes.{is_field}
 use Rattle.vat_tables.specs.Exports.{Exported, field_of, fields_of, CountsFields}
 use Rattle.vat_tables.specs.Index.{Numbers, number_of, OneMore, OneFewer, FieldsSame, FieldsMore, FieldsFewer}
 

@@ -2,7 +2,7 @@
 use Rattle.std.proofs.Common.{◌≡◌, ℕ, zero, suc, ◌+◌, ◌<◌, ◌||◌, Bool, true, false, List, [], ◌∷◌, count_by, take, drop, get_or, length, Option, Some, None, if◌then◌else◌, refl, sym, ap, ◌∙◌, arith}
 use Rattle.std.proofs.lemmas.List.Sums.{count_by_more_yes, count_by_more_no}
 use Rattle.std.proofs.Math.Seq.{drop-cons}
-use Rattle.vat_machine.specs.declared.node.Node.{Node}
+use Rattle.rpc_machine.specs.declared.node.Node.{Node}
 use Rattle.vat_tables.specs.Exports.{node_eq, is_name_limit, size_then, one_more, counts_then, meet_limit, added}
 use Rattle.vat_tables.specs.declared.fault.TableFault.{TableFault}
 use Rattle.vat_tables.specs.declared.fault.TableFault.TheVariants.{Full, Memory}

@@ -6,10 +6,10 @@ use Rattle.std.specs.Ordering.{nat_cmp}
 use Rattle.std.specs.HashMap.{IsEmpty}
 use Rattle.std.specs.Map.{lookup}
 use Rattle.finite_maps.proofs.Gets.{get-insert_same, get-insert_other, get-remove_same, get-remove_other}
-use Rattle.vat_machine.specs.rpc_msg.specs.declared.ids.ExportId.{ExportId}
-use Rattle.vat_machine.specs.rpc_msg.specs.declared.ids.ObjectId.{ObjectId}
-use Rattle.vat_machine.specs.declared.node.Node.{Node}
-use Rattle.vat_machine.specs.declared.node.Node.TheVariants as node
+use Rattle.rpc_machine.specs.rpc_msg.specs.declared.ids.ExportId.{ExportId}
+use Rattle.rpc_machine.specs.rpc_msg.specs.declared.ids.ObjectId.{ObjectId}
+use Rattle.rpc_machine.specs.declared.node.Node.{Node}
+use Rattle.rpc_machine.specs.declared.node.Node.TheVariants as node
 use Rattle.vat_tables.specs.declared.index.NodeIndex.{NodeIndex}
 use Rattle.vat_tables.specs.Exports.{node_eq}
 use Rattle.vat_tables.specs.Index.{found, FindsNone, Refinds, Numbers}

@@ -1,6 +1,6 @@
 ghost use Rattle.std.specs.Prelude.{◌≡◌, ◌+◌, ◌≤◌, vec_len, vec_capacity, IsOk, OnOk};
 
-use vat_machine::rpc_msg::Memory;
+use rpc_machine::rpc_msg::Memory;
 
 /// How much memory a table of so many entries is made, where it needs memory for so many more: for an eighth of its entries at
 /// least, so that a large table seldom grows, and has little memory that is never used.

@@ -5,10 +5,10 @@ ghost use Rattle.vat_tables.specs.Chains.{walk};
 ghost use Rattle.finite_maps.specs.Tally.{tally};
 
 use crate::fault::TableFault;
+use rpc_machine::rpc_msg::Memory;
 use slab::Slab;
 use std::alloc::Global;
 use std::marker::Model;
-use vat_machine::rpc_msg::Memory;
 
 /// The most calls that a pool may hold, in all its lists.
 pub const POOL_LIMIT: usize = 65_536;

@@ -6,10 +6,10 @@ ghost use Rattle.vat_tables.specs.Exports.{node_eq};
 ghost use Rattle.vat_tables.specs.Index.{found, index_room, FindsNone, FindsSame, Refinds, number_of, OneMore, OneFewer, fields_found, FieldsSame, FieldsMore, FieldsFewer};
 
 use crate::numbered::Numbered;
+use rpc_machine::Node;
+use rpc_machine::rpc_msg::Memory;
 use std::alloc::Global;
 use std::collections::HashMap;
-use vat_machine::Node;
-use vat_machine::rpc_msg::Memory;
 
 /// Ids of nodes. A number is found quicker than a whole node, so the nodes that are one number are kept by it, each kind
 /// apart.

@@ -9,11 +9,11 @@ ghost use Rattle.slab.specs.Slab.{entries_from};
 ghost use Rattle.vat_tables.specs.Placed.{HasSamePlaces};
 
 use crate::growth::grow;
+use rpc_machine::rpc_msg::Memory;
 use std::alloc::{AllocError, Global};
 use std::collections::HashMap;
 use std::marker::Model;
 use std::mem;
-use vat_machine::rpc_msg::Memory;
 
 /// Entries under numbers of 64 bits, as many as memory allows: seen by contracts as the entries by number, and how
 /// many new ones need no more memory. Each call but `numbers` is constant work, but where memory grows.

@@ -4,10 +4,10 @@ ghost use Rattle.std.specs.Borrow.{sem};
 ghost use Rattle.std.specs.FinMap as map;
 
 use crate::growth::growth;
+use rpc_machine::rpc_msg::Memory;
 use slab::Slab;
 use std::alloc::Global;
 use std::marker::Model;
-use vat_machine::rpc_msg::Memory;
 
 /// The most keys that a table picks from, so that each key is an id of 32 bits.
 const KEY_LIMIT: usize = 4_294_967_296;

@@ -7,10 +7,10 @@ ghost use Rattle.std.specs.Ordering.{nat_cmp};
 ghost use Rattle.vat_tables.specs.Rising.{IsRising, IsAt, IsGapFor, IsAbsent, AllBelow, present, number_at, entry_at};
 
 use crate::growth::grow;
+use rpc_machine::rpc_msg::Memory;
 use std::alloc::Global;
 use std::marker::Model;
 use std::mem;
-use vat_machine::rpc_msg::Memory;
 
 /// Entries under numbers of 64 bits that rise as they are given out, as many as memory allows: seen by contracts as the
 /// entries by number, and how many new ones need no more memory.

@@ -1,12 +1,12 @@
 -- The fault that is told is one of the lines'.
 use Rattle.std.proofs.Common.{◌≡◌, ◌⊎◌, inl, inr, ℕ, Bool, true, false, ◌||◌, cond, nat_lt, Option, None, Some, Result, Ok, Err, List, refl, sym, ap, subst}
-use Rattle.vat_script.specs.declared.line.Line.{Line}
-use Rattle.vat_script.specs.declared.fault.NameFault.{NameFault}
-use Rattle.pair_workers.specs.declared.worker_end.WorkerEnd.{WorkerEnd}
-use Rattle.pair_workers.specs.declared.worker_end.WorkerEnd.TheVariants as ends
-use Rattle.pair_workers.specs.Ending.{IsEnding, IsFaultAt}
-use Rattle.trace_program.specs.declared.fault.ScriptFault.{ScriptFault}
-use Rattle.trace_program.specs.declared.fault.ScriptFault.TheVariants as fault
+use Rattle.script_language.specs.declared.line.Line.{Line}
+use Rattle.script_language.specs.declared.fault.NameFault.{NameFault}
+use Rattle.link_workers.specs.declared.worker_end.WorkerEnd.{WorkerEnd}
+use Rattle.link_workers.specs.declared.worker_end.WorkerEnd.TheVariants as ends
+use Rattle.link_workers.specs.Ending.{IsEnding, IsFaultAt}
+use Rattle.vat_trace_lib.specs.declared.fault.ScriptFault.{ScriptFault}
+use Rattle.vat_trace_lib.specs.declared.fault.ScriptFault.TheVariants as fault
 use Rattle.vat_trace.specs.Judged.{line_at_fault, lower_of, lacks_memory, unnamed_at, judged}
 use Rattle.vat_trace.specs.Printed.{FaultsLines}
 

@@ -1,21 +1,21 @@
 -- From two vats that were put side by side to what is printed.
 use Rattle.std.proofs.Common.{◌≡◌, ℕ, List, [], ◌∷◌, ◌++◌, append-nil, refl, sym, ap, subst, ◌∙◌}
-use Rattle.vat_journal.specs.declared.entry.JournalEntry.{JournalEntry}
-use Rattle.vat_journal.specs.declared.entry.JournalEntry.TheVariants as entry
-use Rattle.vat_machine.specs.World.{tables_entry}
-use Rattle.vat_machine.specs.Journal.{Journaled, journal}
-use Rattle.vat_script.specs.declared.line.Line.{Line}
+use Rattle.rpc_journal.specs.declared.entry.JournalEntry.{JournalEntry}
+use Rattle.rpc_journal.specs.declared.entry.JournalEntry.TheVariants as entry
+use Rattle.rpc_machine.specs.World.{tables_entry}
+use Rattle.rpc_machine.specs.Journal.{Journaled, journal}
+use Rattle.script_language.specs.declared.line.Line.{Line}
 use Rattle.trace_write.specs.declared.version.TraceVersion.TheVariants.{Two}
-use Rattle.trace_check.specs.declared.verdict.Verdict.{Verdict}
-use Rattle.trace_check.specs.declared.verdict.Verdict.TheVariants.{Good}
-use Rattle.trace_check.specs.Breaches.{verdict_of}
+use Rattle.rpc_check.specs.declared.verdict.Verdict.{Verdict}
+use Rattle.rpc_check.specs.declared.verdict.Verdict.TheVariants.{Good}
+use Rattle.rpc_check.specs.Breaches.{verdict_of}
 use Rattle.trace_file.specs.Traces.{trace_text}
 use Rattle.laws_verdicts.specs.Good.{IsGood, EveryHeadedVerdictIsGood}
 use Rattle.laws_verdicts.specs.Recorded.{IsRecorded, RunsAreRecorded, RecordedGoOn, CountsNoted}
 use Rattle.link_promises.specs.Promises.{Pair, IsTold, happened_in, world_of}
-use Rattle.trace_program.specs.declared.fault.ScriptFault.{ScriptFault}
-use Rattle.trace_program.specs.declared.fault.ScriptFault.TheVariants as fault
-use Rattle.trace_program.specs.Answers.{complaint, status_of}
+use Rattle.vat_trace_lib.specs.declared.fault.ScriptFault.{ScriptFault}
+use Rattle.vat_trace_lib.specs.declared.fault.ScriptFault.TheVariants as fault
+use Rattle.vat_trace_lib.specs.Answers.{complaint, status_of}
 use Rattle.vat_trace.specs.Pairs.{IsNoted, noted}
 use Rattle.vat_trace.specs.Printed.{entries_of, PrintsBoth, SaysLines, FaultsLines, FaultsPair, PrintsPair}
 use Rattle.vat_trace.specs.Answers.{PairsTo}

@@ -2,11 +2,11 @@
 use Rattle.std.proofs.Common.{◌≡◌, true, ap, ◌∙◌}
 use Rattle.rpc_msg.specs.declared.ids.Vat.{Vat}
 use Rattle.rpc_msg.specs.declared.ids.Vat.TheVariants.{A, B}
-use Rattle.vat_machine.specs.State.{State}
-use Rattle.vat_machine.specs.Queries.{is_new}
+use Rattle.rpc_machine.specs.State.{State}
+use Rattle.rpc_machine.specs.Queries.{is_new}
 use Rattle.link_promises.specs.Promises.{Pair}
 use Rattle.link_driver.specs.Ends.{VatEnded, IsNewCore, new_held}
-use Rattle.ring_ends.specs.Ends.{IsNew}
+use Rattle.link_rings.specs.Ends.{IsNew}
 use Rattle.link_driver.specs.Runs.{AreWorked}
 use Rattle.vat_trace.specs.Pairs.{first_state, first_held, AreFirst}
 

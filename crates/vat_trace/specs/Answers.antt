@@ -1,11 +1,11 @@
 -- What the program prints for the word `pair`, with which status, and why it doesn't (docs/trace.md, "The program").
 use Rattle.std.specs.Prelude.{ℕ, ◌≡◌, ◌⊎◌, Option, List}
-use Rattle.trace_check.specs.declared.verdict.Verdict.{Verdict}
-use Rattle.trace_program.specs.declared.fault.ScriptFault.{ScriptFault}
-use Rattle.trace_program.specs.declared.fault.Failure.{Failure}
-use Rattle.trace_program.specs.declared.fault.Failure.TheVariants as failure
-use Rattle.file_texts.specs.Texts.{IsInput}
-use Rattle.trace_program.specs.Failures.{ReadFails, of_script}
+use Rattle.rpc_check.specs.declared.verdict.Verdict.{Verdict}
+use Rattle.vat_trace_lib.specs.declared.fault.ScriptFault.{ScriptFault}
+use Rattle.vat_trace_lib.specs.declared.fault.Failure.{Failure}
+use Rattle.vat_trace_lib.specs.declared.fault.Failure.TheVariants as failure
+use Rattle.program_files.specs.Texts.{IsInput}
+use Rattle.vat_trace_lib.specs.Failures.{ReadFails, of_script}
 use Rattle.vat_trace.specs.Printed.{PrintsPair, FaultsPair}
 
 -- The trace of the script that the input is: its verdict is good, so nothing is said of it, and the status is 0.

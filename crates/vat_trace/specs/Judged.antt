@@ -1,10 +1,10 @@
 -- Which fault a script has, by how the work of both vats ended (docs/script.md, "Two threads").
 use Rattle.std.specs.Prelude.{ℕ, Bool, true, false, ◌||◌, nat_lt, cond, Option, None, Some, Result, Ok, Err}
-use Rattle.vat_script.specs.declared.fault.NameFault.{NameFault}
-use Rattle.pair_workers.specs.declared.worker_end.WorkerEnd.{WorkerEnd}
-use Rattle.pair_workers.specs.declared.worker_end.WorkerEnd.TheVariants as ends
-use Rattle.trace_program.specs.declared.fault.ScriptFault.{ScriptFault}
-use Rattle.trace_program.specs.declared.fault.ScriptFault.TheVariants as fault
+use Rattle.script_language.specs.declared.fault.NameFault.{NameFault}
+use Rattle.link_workers.specs.declared.worker_end.WorkerEnd.{WorkerEnd}
+use Rattle.link_workers.specs.declared.worker_end.WorkerEnd.TheVariants as ends
+use Rattle.vat_trace_lib.specs.declared.fault.ScriptFault.{ScriptFault}
+use Rattle.vat_trace_lib.specs.declared.fault.ScriptFault.TheVariants as fault
 
 abbrev pub lacks_memory : WorkerEnd → Bool
 lacks_memory ends.Done = false

@@ -2,14 +2,14 @@
 use Rattle.std.specs.Prelude.{◌≡◌, List, [], ◌∷◌, ◌++◌}
 use Rattle.rpc_msg.specs.declared.ids.Vat.{Vat}
 use Rattle.rpc_msg.specs.declared.ids.Vat.TheVariants.{A, B}
-use Rattle.vat_journal.specs.declared.entry.JournalEntry.{JournalEntry}
-use Rattle.vat_machine.specs.declared.command.Level.TheVariants.{One}
-use Rattle.vat_machine.specs.State.{State, start}
-use Rattle.vat_machine.specs.World.{tables_entry}
+use Rattle.rpc_journal.specs.declared.entry.JournalEntry.{JournalEntry}
+use Rattle.rpc_machine.specs.declared.command.Level.TheVariants.{One}
+use Rattle.rpc_machine.specs.State.{State, start}
+use Rattle.rpc_machine.specs.World.{tables_entry}
 use Rattle.link_logs.specs.Steps.{Held}
 use Rattle.link_promises.specs.Promises.{Pair, IsTold, world_of}
 use Rattle.link_driver.specs.Ends.{new_held}
-use Rattle.trace_program.specs.Traces.{first_object}
+use Rattle.vat_trace_lib.specs.Traces.{first_object}
 
 -- A new vat of level 1 with bootstrap object 0, of which nothing was written.
 abbrev pub first_state : Vat → State

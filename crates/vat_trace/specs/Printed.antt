@@ -1,20 +1,20 @@
 -- The trace of a script for two threads (docs/script.md, "Two threads"; docs/trace.md).
 use Rattle.std.specs.Prelude.{ℕ, ◌≡◌, Ok, Err, List, ◌∷◌}
 use Rattle.std.specs.Str.{IsUtf8}
-use Rattle.vat_journal.specs.declared.entry.JournalEntry.{JournalEntry}
-use Rattle.vat_journal.specs.declared.entry.JournalEntry.TheVariants as entry
+use Rattle.rpc_journal.specs.declared.entry.JournalEntry.{JournalEntry}
+use Rattle.rpc_journal.specs.declared.entry.JournalEntry.TheVariants as entry
 use Rattle.trace_write.specs.declared.version.TraceVersion.TheVariants.{Two}
-use Rattle.trace_check.specs.declared.verdict.Verdict.{Verdict}
-use Rattle.trace_check.specs.Breaches.{verdict_of}
+use Rattle.rpc_check.specs.declared.verdict.Verdict.{Verdict}
+use Rattle.rpc_check.specs.Breaches.{verdict_of}
 use Rattle.trace_file.specs.Traces.{trace_text}
 use Rattle.laws_verdicts.specs.Good.{IsGood}
-use Rattle.vat_script.specs.declared.line.Line.{Line}
-use Rattle.vat_script.specs.declared.line.Program.TheVariants.{Pair as OnThreads}
-use Rattle.vat_script.specs.Scripts.{texts_of, lines_from}
-use Rattle.pair_workers.specs.Ending.{IsFaultAt}
+use Rattle.script_language.specs.declared.line.Line.{Line}
+use Rattle.script_language.specs.declared.line.Program.TheVariants.{Pair as OnThreads}
+use Rattle.script_language.specs.Scripts.{texts_of, lines_from}
+use Rattle.link_workers.specs.Ending.{IsFaultAt}
 use Rattle.link_promises.specs.Promises.{Pair, IsTold}
-use Rattle.trace_program.specs.declared.fault.ScriptFault.{ScriptFault}
-use Rattle.trace_program.specs.declared.fault.ScriptFault.TheVariants as fault
+use Rattle.vat_trace_lib.specs.declared.fault.ScriptFault.{ScriptFault}
+use Rattle.vat_trace_lib.specs.declared.fault.ScriptFault.TheVariants as fault
 use Rattle.vat_trace.specs.Pairs.{AreFirst, noted}
 
 -- The entries of a trace: the head, the journal of both vats, and their counts.

@@ -1,9 +1,9 @@
 ghost use Rattle.std.specs.Prelude.{◌≡◌};
 ghost use Rattle.vat_trace.specs.Judged.{line_at_fault, lower_of, lacks_memory, judged};
 
-use pair_workers::WorkerEnd;
-use trace_program::ScriptFault;
-use vat_script::NameFault;
+use link_workers::WorkerEnd;
+use script_language::NameFault;
+use vat_trace_lib::ScriptFault;
 
 /// The fault of a script whose lines were worked by two workers, by how the work of each ended: `Memory` where one of them lacked
 /// it, or else `Unnamed` with the lower of the lines at fault.

@@ -1,6 +1,6 @@
 //! Plays scripts on two vats, in one thread or two, and prints what happens; checks, shows and upgrades traces.
 //!
-//! What it does with the word `pair` stands here, and what it does in one thread in `trace_program`:
+//! What it does with the word `pair` stands here, and what it does in one thread in `vat_trace_lib`:
 //!
 //! - `vats.rt`: two new vats at the two ends of a link. `working.rt` works them by the lines of a script; `judging.rt`: which
 //!   fault the lines have then, and `wanting.rt` whether a vat lacked memory.
@@ -17,14 +17,14 @@ mod wanting;
 mod working;
 
 use crate::program::play_pair;
-use file_texts::unread;
+use program_files::unread;
 use std::env;
 use std::fs::File;
 use std::process::ExitCode;
 use std::sync::Wait;
 use std::thread::Threads;
 use std::time::Clock;
-use trace_program::{Failure, Word, play, status};
+use vat_trace_lib::{Failure, Word, play, status};
 
 /// `vat_trace run|pair|check|show|upgrade FILE`; without arguments the script is read from standard input.
 fn main(rt: HostRuntime) -> ExitCode {

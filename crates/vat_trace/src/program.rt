@@ -1,16 +1,16 @@
 ghost use Rattle.std.specs.Prelude.{◌≡◌, ◌⊎◌, ℕ, List, IfOk, IfErr, string_bytes};
 ghost use Rattle.std.specs.Io.KnownBytes.{Appends};
-ghost use Rattle.file_texts.specs.Texts.{IsInput};
+ghost use Rattle.program_files.specs.Texts.{IsInput};
 ghost use Rattle.vat_trace.specs.Answers.{PairsTo, PairFails, Fails};
 
 use crate::trace::trace_of_pair;
-use file_texts::{read_text, write_text};
+use program_files::{read_text, write_text};
 use std::alloc::Global;
 use std::io::{Read, Write};
 use std::sync::Wait;
 use std::thread::Threads;
 use std::time::Clock;
-use trace_program::{Failure, Printed, print_checked};
+use vat_trace_lib::{Failure, Printed, print_checked};
 
 /// What the program does with the word `pair` and a file, whose bytes the reader gives: it plays the script on two threads,
 /// writes the trace to `out`, and answers the status 0. An idle thread sleeps by the clock.

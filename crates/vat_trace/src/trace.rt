@@ -1,6 +1,6 @@
 ghost use Rattle.std.specs.Prelude.{◌≡◌, IfOk, IfErr, string_bytes};
 ghost use Rattle.link_sides.specs.Sides.{down_by};
-ghost use Rattle.pair_workers.specs.Ending.{IsEnding};
+ghost use Rattle.link_workers.specs.Ending.{IsEnding};
 ghost use Rattle.vat_trace.specs.Pairs.{AreFirst, IsNoted};
 ghost use Rattle.vat_trace.specs.Printed.{PrintsBoth, PrintsLines, FaultsLines, PrintsPair, FaultsPair};
 
@@ -9,14 +9,14 @@ use crate::wanting::lacked_memory;
 use crate::working::work_lines;
 use laws_verdicts::{every_verdict_is_good, journals_tell_runs};
 use link_driver::{Gathered, JournalEntry, PairRun};
-use pair_workers::OpenGate;
+use link_workers::OpenGate;
 use rpc_msg::Memory;
+use script_language::{Line, Program, read_script};
 use std::alloc::Global;
 use std::sync::Wait;
 use std::thread::Threads;
 use std::time::Clock;
-use trace_program::{CheckedTrace, ScriptFault, checked};
-use vat_script::{Line, Program, read_script};
+use vat_trace_lib::{CheckedTrace, ScriptFault, checked};
 
 /// How many places a ring has.
 const CAPACITY: usize = 16;
@@ -42,9 +42,9 @@ pub fn trace_of_pair<R: Threads + Wait + Sync, C: Clock + Sync>(
 {
     let lines = match read_script(alloc, Program::Pair, script) {
         Ok(lines) => lines,
-        Err(vat_script::ScriptFault::Memory) => return Err(ScriptFault::Memory),
-        Err(vat_script::ScriptFault::NotText) => return Err(ScriptFault::NotText),
-        Err(vat_script::ScriptFault::Line(number, fault)) => {
+        Err(script_language::ScriptFault::Memory) => return Err(ScriptFault::Memory),
+        Err(script_language::ScriptFault::NotText) => return Err(ScriptFault::NotText),
+        Err(script_language::ScriptFault::Line(number, fault)) => {
             return Err(ScriptFault::Line(number, fault));
         }
     };

@@ -4,10 +4,10 @@ ghost use Rattle.link_driver.specs.Ends.{AreEnds, IsNewCore};
 ghost use Rattle.vat_trace.specs.Pairs.{first_state, first_held};
 
 use link_driver::{EndA, EndB, LinkFault, Vat, link};
+use rpc_machine::Level;
 use rpc_msg::{Memory, ObjectId};
 use std::alloc::Global;
 use vat_core::Core;
-use vat_machine::Level;
 
 /// The object of both vats that the other asks for.
 const FIRST_OBJECT: ObjectId = ObjectId(0);

@@ -2,12 +2,12 @@
 
 use crate::working::work_lines;
 use link_driver::PairRun;
-use pair_workers::{OpenGate, WorkerEnd};
+use link_workers::{OpenGate, WorkerEnd};
+use script_language::Line;
 use std::alloc::Global;
 use std::sync::Wait;
 use std::thread::Threads;
 use std::time::Clock;
-use vat_script::Line;
 
 /// The end of a vat that lacks memory or meets a limit within a step.
 const NO_ROOM: WorkerEnd = WorkerEnd::Down(33);

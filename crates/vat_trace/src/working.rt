@@ -1,16 +1,16 @@
 ghost use Rattle.std.specs.Prelude.{◌≡◌, IfOk};
 ghost use Rattle.link_sides.specs.Sides.{down_by};
-ghost use Rattle.pair_workers.specs.Ending.{IsEnding};
+ghost use Rattle.link_workers.specs.Ending.{IsEnding};
 ghost use Rattle.vat_trace.specs.Pairs.{AreFirst};
 
 use crate::vats::new_ends;
 use link_driver::{LinkFault, PairRun, run_pair};
-use pair_workers::Gate;
+use link_workers::Gate;
+use script_language::Line;
 use std::alloc::Global;
 use std::sync::Wait;
 use std::thread::Threads;
 use std::time::Clock;
-use vat_script::Line;
 
 /// Two new vats that both have bootstrap object 0, worked by the lines of a script, each on a thread of its own, over rings of
 /// that many places, as `link_driver::run_pair` does. `BadCapacity` where no ring may have so many, `Memory` where the vats or their

@@ -4,10 +4,10 @@ use Rattle.std.proofs.Common.{Result, Ok, Err}
 use Rattle.std.specs.Result.{IfOk, IsErrAnd}
 use Rattle.rpc_msg.specs.declared.ids.Vat.TheVariants.{A, B}
 use Rattle.rpc_msg.specs.declared.ids.ObjectId.{ObjectId}
-use Rattle.vat_journal.specs.declared.entry.JournalEntry.{JournalEntry}
-use Rattle.vat_machine.specs.declared.command.Level.TheVariants.{One}
-use Rattle.vat_machine.specs.State.{start}
-use Rattle.vat_machine.specs.World.{Side}
+use Rattle.rpc_journal.specs.declared.entry.JournalEntry.{JournalEntry}
+use Rattle.rpc_machine.specs.declared.command.Level.TheVariants.{One}
+use Rattle.rpc_machine.specs.State.{start}
+use Rattle.rpc_machine.specs.World.{Side}
 use Rattle.vat_world.specs.declared.side.Side as kept
 use Rattle.vat_world.specs.Rooms.{side_of, seen_of, CanAbort, CanFallBy, HasRoom}
 use Rattle.vat_world.specs.World.{Seen, new_seen, IsReached}

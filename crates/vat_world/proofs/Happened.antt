@@ -4,23 +4,23 @@ use Rattle.rpc_msg.specs.declared.ids.Vat.{Vat}
 use Rattle.rpc_msg.specs.declared.ids.Vat.TheVariants.{A, B}
 use Rattle.rpc_msg.specs.declared.message.Message.{Message}
 use Rattle.rpc_msg.specs.Vats.{other_vat}
-use Rattle.vat_journal.specs.declared.entry.JournalEntry.{JournalEntry}
-use Rattle.vat_journal.specs.declared.entry.JournalEntry.TheVariants as entry
-use Rattle.vat_journal.specs.History.{same_vat, if_so}
-use Rattle.vat_machine.specs.declared.command.Command.{Command}
-use Rattle.vat_machine.specs.declared.command.Command.TheVariants as command
-use Rattle.vat_machine.specs.declared.command.Granted.{Granted}
-use Rattle.vat_machine.specs.declared.command.Refusal.{Refusal}
-use Rattle.vat_machine.specs.declared.command.Effects.{Effects}
-use Rattle.vat_machine.specs.declared.event.Event.TheVariants as event
-use Rattle.vat_machine.specs.State.{State}
-use Rattle.vat_machine.specs.Progress.{quiet}
-use Rattle.vat_machine.specs.Refusals.{is_shut}
-use Rattle.vat_machine.specs.World.{World, side, core, inbox, put_inbox, after, Answered, Handled, Empty, MessageTold, CommandsAt, ReceivesAt, shut_with}
-use Rattle.vat_machine.specs.Journal.{effect_entries}
-use Rattle.vat_machine.proofs.StaysDown.{command_down}
+use Rattle.rpc_journal.specs.declared.entry.JournalEntry.{JournalEntry}
+use Rattle.rpc_journal.specs.declared.entry.JournalEntry.TheVariants as entry
+use Rattle.rpc_journal.specs.History.{same_vat, if_so}
+use Rattle.rpc_machine.specs.declared.command.Command.{Command}
+use Rattle.rpc_machine.specs.declared.command.Command.TheVariants as command
+use Rattle.rpc_machine.specs.declared.command.Granted.{Granted}
+use Rattle.rpc_machine.specs.declared.command.Refusal.{Refusal}
+use Rattle.rpc_machine.specs.declared.command.Effects.{Effects}
+use Rattle.rpc_machine.specs.declared.event.Event.TheVariants as event
+use Rattle.rpc_machine.specs.State.{State}
+use Rattle.rpc_machine.specs.Progress.{quiet}
+use Rattle.rpc_machine.specs.Refusals.{is_shut}
+use Rattle.rpc_machine.specs.World.{World, side, core, inbox, put_inbox, after, Answered, Handled, Empty, MessageTold, CommandsAt, ReceivesAt, shut_with}
+use Rattle.rpc_machine.specs.Journal.{effect_entries}
+use Rattle.rpc_machine.proofs.StaysDown.{command_down}
 use Rattle.laws_runs.proofs.QuietRuns.{commanded_tells}
-use Rattle.vat_telling.specs.Answer.{Answer}
+use Rattle.core_telling.specs.Answer.{Answer}
 use Rattle.vat_world.specs.declared.answer.StepAnswer.{StepAnswer as Given}
 use Rattle.vat_world.specs.declared.answer.StepAnswer.TheVariants as given
 use Rattle.vat_world.specs.Stages.{Stage, stepped, taken, takes_down, ObeysUp, ObeysDown, ObeysBy, HandlesUp, DeliversBy}

@@ -3,13 +3,13 @@ use Rattle.std.proofs.Common.{◌≡◌, ℕ, Bool, false, ◌||◌, Option, Non
 use Rattle.rpc_msg.specs.declared.ids.Vat.{Vat}
 use Rattle.rpc_msg.specs.declared.ids.Vat.TheVariants.{A, B}
 use Rattle.rpc_msg.specs.declared.ids.ObjectId.{ObjectId}
-use Rattle.vat_journal.specs.declared.entry.JournalEntry.{JournalEntry}
-use Rattle.vat_journal.specs.declared.entry.JournalEntry.TheVariants as entry
-use Rattle.vat_journal.specs.History.{Ref, made, or_rest}
-use Rattle.vat_machine.specs.declared.event.Event.{Event}
-use Rattle.vat_machine.specs.World.{core, Happening, shut_with, shut_number, was_shut, tables_entry}
-use Rattle.vat_machine.specs.Pending.{pending}
-use Rattle.vat_machine.specs.Journal.{event_entries, journal}
+use Rattle.rpc_journal.specs.declared.entry.JournalEntry.{JournalEntry}
+use Rattle.rpc_journal.specs.declared.entry.JournalEntry.TheVariants as entry
+use Rattle.rpc_journal.specs.History.{Ref, made, or_rest}
+use Rattle.rpc_machine.specs.declared.event.Event.{Event}
+use Rattle.rpc_machine.specs.World.{core, Happening, shut_with, shut_number, was_shut, tables_entry}
+use Rattle.rpc_machine.specs.Pending.{pending}
+use Rattle.rpc_machine.specs.Journal.{event_entries, journal}
 use Rattle.laws_runs.specs.MadeCalls.{NumbersItsCalls, RunsCount}
 use Rattle.vat_world.specs.declared.answer.StepAnswer.{StepAnswer as Given}
 use Rattle.vat_world.specs.World.{Seen, AllCame, shut, new_seen, Steps, Runs, IsReached, KeepsBootstraps, KeepsPromises}

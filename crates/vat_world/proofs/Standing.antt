@@ -2,12 +2,12 @@
 use Rattle.std.proofs.Common.{◌≡◌, ℕ, ◌≤◌, ◌||◌, Option, None, Some, List, [], ◌∷◌, ◌++◌, sym, ap, subst, ◌∙◌, arith}
 use Rattle.rpc_msg.specs.declared.ids.Vat.{Vat}
 use Rattle.rpc_msg.specs.declared.ids.Vat.TheVariants.{A, B}
-use Rattle.vat_journal.specs.declared.entry.JournalEntry.{JournalEntry}
-use Rattle.vat_machine.specs.declared.command.Command.{Command}
-use Rattle.vat_journal.specs.declared.entry.JournalEntry.TheVariants as entry
-use Rattle.vat_journal.specs.declared.entry.Counts.{Counts}
-use Rattle.vat_machine.specs.Queries.{counts_of}
-use Rattle.vat_machine.specs.declared.event.Event.TheVariants as event
+use Rattle.rpc_journal.specs.declared.entry.JournalEntry.{JournalEntry}
+use Rattle.rpc_machine.specs.declared.command.Command.{Command}
+use Rattle.rpc_journal.specs.declared.entry.JournalEntry.TheVariants as entry
+use Rattle.rpc_journal.specs.declared.entry.Counts.{Counts}
+use Rattle.rpc_machine.specs.Queries.{counts_of}
+use Rattle.rpc_machine.specs.declared.event.Event.TheVariants as event
 use Rattle.laws_runs.specs.MadeCalls.{NumbersItsCalls, RunsCount}
 use Rattle.vat_world.specs.declared.side.Side as kept
 use Rattle.vat_world.specs.declared.answer.StepAnswer.{StepAnswer as Given}

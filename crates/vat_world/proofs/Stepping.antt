@@ -5,30 +5,30 @@ use Rattle.rpc_msg.specs.declared.ids.Vat.{Vat}
 use Rattle.rpc_msg.specs.declared.message.PlainMessage.TheVariants as plain
 use Rattle.rpc_msg.specs.declared.message.Message.{Message}
 use Rattle.rpc_msg.specs.declared.message.Message.TheVariants as message
-use Rattle.vat_journal.specs.declared.entry.JournalEntry.{JournalEntry}
-use Rattle.vat_journal.specs.declared.entry.JournalEntry.TheVariants as entry
-use Rattle.vat_machine.specs.declared.command.Command.{Command}
-use Rattle.vat_machine.specs.declared.command.Granted.{Granted}
-use Rattle.vat_machine.specs.declared.command.Refusal.{Refusal}
-use Rattle.vat_machine.specs.declared.command.Effects.{Effects}
-use Rattle.vat_machine.specs.State.{State}
-use Rattle.vat_machine.specs.Progress.{quiet}
-use Rattle.vat_machine.specs.Down.{falling_by, IsUnchanged, Falls, ShutsFrom}
-use Rattle.vat_machine.specs.Steps.{Obeys, Refuses, LacksMemory, GoesDown, Shuts, IsDone, Receives, WasDown, FaultsBy, LacksRoom, IsHandled}
-use Rattle.vat_machine.specs.Refusals.{is_shut}
-use Rattle.vat_machine.specs.World.{given_up}
-use Rattle.vat_machine.specs.Journal.{own_entries, effect_entries}
-use Rattle.vat_machine.proofs.StaysDown.{command_down}
+use Rattle.rpc_journal.specs.declared.entry.JournalEntry.{JournalEntry}
+use Rattle.rpc_journal.specs.declared.entry.JournalEntry.TheVariants as entry
+use Rattle.rpc_machine.specs.declared.command.Command.{Command}
+use Rattle.rpc_machine.specs.declared.command.Granted.{Granted}
+use Rattle.rpc_machine.specs.declared.command.Refusal.{Refusal}
+use Rattle.rpc_machine.specs.declared.command.Effects.{Effects}
+use Rattle.rpc_machine.specs.State.{State}
+use Rattle.rpc_machine.specs.Progress.{quiet}
+use Rattle.rpc_machine.specs.Down.{falling_by, IsUnchanged, Falls, ShutsFrom}
+use Rattle.rpc_machine.specs.Steps.{Obeys, Refuses, LacksMemory, GoesDown, Shuts, IsDone, Receives, WasDown, FaultsBy, LacksRoom, IsHandled}
+use Rattle.rpc_machine.specs.Refusals.{is_shut}
+use Rattle.rpc_machine.specs.World.{given_up}
+use Rattle.rpc_machine.specs.Journal.{own_entries, effect_entries}
+use Rattle.rpc_machine.proofs.StaysDown.{command_down}
 use Rattle.laws_steps.proofs.UsedOnce.{command_leaves_up, message_leaves_up}
 use Rattle.laws_runs.specs.MadeCalls.{NumbersItsCalls}
-use Rattle.vat_telling.specs.Answer.{Answer}
-use Rattle.vat_telling.specs.Answer.TheVariants.{Done, Refused}
-use Rattle.vat_telling.specs.Answers.{AnswersTo, answer_in, effects_in}
-use Rattle.vat_telling.specs.declared.notes.Note.{Note}
-use Rattle.vat_telling.specs.Notes.{index_of}
-use Rattle.vat_telling.specs.Told.{without_sends, given_of, noted_entries, IsFall, HadNote}
-use Rattle.vat_telling.proofs.Noting.{IsNoteOf, own_so}
-use Rattle.vat_telling.proofs.Falling.{obeys_fall}
+use Rattle.core_telling.specs.Answer.{Answer}
+use Rattle.core_telling.specs.Answer.TheVariants.{Done, Refused}
+use Rattle.core_telling.specs.Answers.{AnswersTo, answer_in, effects_in}
+use Rattle.core_telling.specs.declared.notes.Note.{Note}
+use Rattle.core_telling.specs.Notes.{index_of}
+use Rattle.core_telling.specs.Told.{without_sends, given_of, noted_entries, IsFall, HadNote}
+use Rattle.core_telling.proofs.Noting.{IsNoteOf, own_so}
+use Rattle.core_telling.proofs.Falling.{obeys_fall}
 use Rattle.vat_world.specs.declared.answer.StepAnswer.{StepAnswer}
 use Rattle.vat_world.specs.Stages.{Stage, stepped, takes_down, Logs, TellsDone, TellsRefused, ObeysUp, ObeysUpSo, ObeysDown, ObeysBy, ObeysSo, HandlesUp}
 

@@ -3,22 +3,22 @@ use Rattle.std.proofs.Common.{◌≡◌, ℕ, Bool, true, false, cond, Option, N
 use Rattle.rpc_msg.specs.Memory.{Memory}
 use Rattle.rpc_msg.specs.declared.ids.Vat.{Vat}
 use Rattle.rpc_msg.specs.declared.message.Message.{Message}
-use Rattle.vat_journal.specs.declared.entry.JournalEntry.{JournalEntry}
-use Rattle.vat_journal.specs.declared.entry.JournalEntry.TheVariants as entry
-use Rattle.vat_journal.specs.declared.report.Delivery.{Delivery}
-use Rattle.vat_journal.specs.declared.report.Ended.{Ended}
-use Rattle.vat_machine.specs.declared.command.Effects.{Effects}
-use Rattle.vat_machine.specs.declared.command.Granted.{Granted}
-use Rattle.vat_machine.specs.declared.command.Refusal.{Refusal}
-use Rattle.vat_machine.specs.Numbers.{want_of_room}
-use Rattle.vat_machine.specs.Progress.{quiet}
-use Rattle.vat_machine.specs.State.{State}
-use Rattle.vat_machine.specs.Down.{ShutsFrom, Falls}
-use Rattle.vat_machine.specs.World.{overflow_effects, overflown, given_up}
-use Rattle.vat_machine.specs.Journal.{effect_entries, refused_entries, went_down}
-use Rattle.vat_telling.specs.declared.notes.Note.{Note}
-use Rattle.vat_telling.specs.Notes.{note_entries}
-use Rattle.vat_telling.specs.Told.{without_sends, Extends, HadNote}
+use Rattle.rpc_journal.specs.declared.entry.JournalEntry.{JournalEntry}
+use Rattle.rpc_journal.specs.declared.entry.JournalEntry.TheVariants as entry
+use Rattle.rpc_journal.specs.declared.report.Delivery.{Delivery}
+use Rattle.rpc_journal.specs.declared.report.Ended.{Ended}
+use Rattle.rpc_machine.specs.declared.command.Effects.{Effects}
+use Rattle.rpc_machine.specs.declared.command.Granted.{Granted}
+use Rattle.rpc_machine.specs.declared.command.Refusal.{Refusal}
+use Rattle.rpc_machine.specs.Numbers.{want_of_room}
+use Rattle.rpc_machine.specs.Progress.{quiet}
+use Rattle.rpc_machine.specs.State.{State}
+use Rattle.rpc_machine.specs.Down.{ShutsFrom, Falls}
+use Rattle.rpc_machine.specs.World.{overflow_effects, overflown, given_up}
+use Rattle.rpc_machine.specs.Journal.{effect_entries, refused_entries, went_down}
+use Rattle.core_telling.specs.declared.notes.Note.{Note}
+use Rattle.core_telling.specs.Notes.{note_entries}
+use Rattle.core_telling.specs.Told.{without_sends, Extends, HadNote}
 use Rattle.vat_world.specs.Stages.{Stage, stepped, Logs, Overflows, TellsDone, TellsRefused}
 
 -- ---- What is behind

@@ -1,4 +1,4 @@
 pub mod Stages
 pub mod Rooms
 pub mod World
-pub use Rattle.vat_telling.specs.Answer
+pub use Rattle.core_telling.specs.Answer

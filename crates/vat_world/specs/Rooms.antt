@@ -1,7 +1,7 @@
 -- What the world's code keeps, as what it is seen as, and the room that it keeps so that two vats can go down.
 use Rattle.std.specs.Prelude.{◌≡◌, ◌<◌, ◌≤◌, ◌+◌, ℕ, true, Option, None, Some, List}
-use Rattle.vat_journal.specs.declared.entry.JournalEntry.{JournalEntry}
-use Rattle.vat_machine.specs.World.{Side}
+use Rattle.rpc_journal.specs.declared.entry.JournalEntry.{JournalEntry}
+use Rattle.rpc_machine.specs.World.{Side}
 use Rattle.vat_world.specs.declared.side.Side as kept
 use Rattle.vat_world.specs.Stages.{Stage}
 use Rattle.vat_world.specs.World.{Seen}

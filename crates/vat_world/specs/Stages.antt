@@ -3,26 +3,26 @@ use Rattle.std.specs.Prelude.{◌≡◌, ◌⊎◌, ℕ, Bool, true, false, cond
 use Rattle.rpc_msg.specs.Memory.{Memory}
 use Rattle.rpc_msg.specs.declared.ids.Vat.{Vat}
 use Rattle.rpc_msg.specs.declared.message.Message.{Message}
-use Rattle.vat_journal.specs.declared.entry.JournalEntry.{JournalEntry}
-use Rattle.vat_journal.specs.declared.entry.JournalEntry.TheVariants as entry
-use Rattle.vat_machine.specs.declared.command.Command.{Command}
-use Rattle.vat_machine.specs.declared.command.Granted.{Granted}
-use Rattle.vat_machine.specs.declared.command.Refusal.{Refusal}
-use Rattle.vat_machine.specs.declared.command.Effects.{Effects}
-use Rattle.vat_machine.specs.State.{State}
-use Rattle.vat_machine.specs.Down.{falling, silent}
-use Rattle.vat_machine.specs.Refusals.{is_shut}
-use Rattle.vat_machine.specs.Steps.{Obeys}
-use Rattle.vat_machine.specs.World.{Side, Tells, CommandTold, MessageTold, given_up}
-use Rattle.vat_machine.specs.Progress.{quiet}
-use Rattle.vat_machine.specs.Journal.{effect_entries, own_entries, refused_entries}
-use Rattle.vat_telling.specs.Answers.{AnswersTo}
-use Rattle.vat_telling.specs.Answer.{Answer}
-use Rattle.vat_telling.specs.Answer.TheVariants.{Done, Refused}
-use Rattle.vat_telling.specs.declared.notes.Note.{Note}
+use Rattle.rpc_journal.specs.declared.entry.JournalEntry.{JournalEntry}
+use Rattle.rpc_journal.specs.declared.entry.JournalEntry.TheVariants as entry
+use Rattle.rpc_machine.specs.declared.command.Command.{Command}
+use Rattle.rpc_machine.specs.declared.command.Granted.{Granted}
+use Rattle.rpc_machine.specs.declared.command.Refusal.{Refusal}
+use Rattle.rpc_machine.specs.declared.command.Effects.{Effects}
+use Rattle.rpc_machine.specs.State.{State}
+use Rattle.rpc_machine.specs.Down.{falling, silent}
+use Rattle.rpc_machine.specs.Refusals.{is_shut}
+use Rattle.rpc_machine.specs.Steps.{Obeys}
+use Rattle.rpc_machine.specs.World.{Side, Tells, CommandTold, MessageTold, given_up}
+use Rattle.rpc_machine.specs.Progress.{quiet}
+use Rattle.rpc_machine.specs.Journal.{effect_entries, own_entries, refused_entries}
+use Rattle.core_telling.specs.Answers.{AnswersTo}
+use Rattle.core_telling.specs.Answer.{Answer}
+use Rattle.core_telling.specs.Answer.TheVariants.{Done, Refused}
+use Rattle.core_telling.specs.declared.notes.Note.{Note}
 use Rattle.vat_world.specs.declared.answer.StepAnswer.{StepAnswer}
 use Rattle.vat_world.specs.declared.answer.StepAnswer.TheVariants as step
-use Rattle.vat_telling.specs.Told.{without_sends, given_of, noted_entries, HadNote}
+use Rattle.core_telling.specs.Told.{without_sends, given_of, noted_entries, HadNote}
 
 -- What one vat's step may change.
 pub record Stage : Type 0 where

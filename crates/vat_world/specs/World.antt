@@ -6,21 +6,21 @@ use Rattle.rpc_msg.specs.declared.ids.Vat.{Vat}
 use Rattle.rpc_msg.specs.declared.ids.Vat.TheVariants.{A, B}
 use Rattle.rpc_msg.specs.declared.ids.ObjectId.{ObjectId}
 use Rattle.rpc_msg.specs.declared.message.Message.{Message}
-use Rattle.vat_journal.specs.contracts.entry.JournalEntry as entry_row
-use Rattle.vat_journal.specs.declared.entry.JournalEntry.{JournalEntry}
-use Rattle.vat_machine.specs.State.{State, state_code}
-use Rattle.vat_machine.specs.declared.event.Event.{Event}
-use Rattle.vat_machine.specs.declared.event.Event.TheVariants as event
-use Rattle.vat_machine.specs.World.{Side, World, core, new_world, HappensBy, StepAnswer, Answered, Handled, Empty, shut_with, was_shut}
-use Rattle.vat_machine.specs.Journal.{event_entries}
-use Rattle.vat_journal.specs.History.{Ref, delivered, made}
-use Rattle.vat_journal.specs.Meaning.{History, ObjectAt, StandsFor}
-use Rattle.vat_machine.specs.Claims.{BothUp, IsReached as LedTo}
+use Rattle.rpc_journal.specs.contracts.entry.JournalEntry as entry_row
+use Rattle.rpc_journal.specs.declared.entry.JournalEntry.{JournalEntry}
+use Rattle.rpc_machine.specs.State.{State, state_code}
+use Rattle.rpc_machine.specs.declared.event.Event.{Event}
+use Rattle.rpc_machine.specs.declared.event.Event.TheVariants as event
+use Rattle.rpc_machine.specs.World.{Side, World, core, new_world, HappensBy, StepAnswer, Answered, Handled, Empty, shut_with, was_shut}
+use Rattle.rpc_machine.specs.Journal.{event_entries}
+use Rattle.rpc_journal.specs.History.{Ref, delivered, made}
+use Rattle.rpc_journal.specs.Meaning.{History, ObjectAt, StandsFor}
+use Rattle.rpc_machine.specs.Claims.{BothUp, IsReached as LedTo}
 use Rattle.laws_sound.specs.Promised.{IsPromised, events_of, history_of}
 use Rattle.laws_verdicts.specs.Recorded.{IsRecorded}
 use Rattle.vat_world.specs.declared.answer.StepAnswer.{StepAnswer as Given}
 use Rattle.vat_world.specs.declared.answer.StepAnswer.TheVariants as given
-use Rattle.vat_telling.specs.Told.{given_of, without_sends}
+use Rattle.core_telling.specs.Told.{given_of, without_sends}
 
 -- What contracts see of a world: its two vats and what is on its way, the journal, and which vats a shut took down.
 pub record Seen : Type 0 where

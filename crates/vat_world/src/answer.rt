@@ -1,5 +1,5 @@
-use vat_machine::Effects;
-use vat_telling::Answer;
+use core_telling::Answer;
+use rpc_machine::Effects;
 
 /// What an event answers. The messages that its effects sent are on their way to the other vat, and their copies stand in
 /// the journal: so the effects name none. Once they were looked at they are given back (`World::give_back`), or taken apart.

@@ -1,12 +1,12 @@
 //! Two vats, the messages on their way between them, and the journal of what happens.
 //!
-//! Its events are those of the machine (`vat_machine::Event`). What contracts see of a world is the machine's world, the
+//! Its events are those of the machine (`rpc_machine::Event`). What contracts see of a world is the machine's world, the
 //! journal, and which vats a shut took down (`specs/World.Seen`); the type's invariant says that a run of two new vats
 //! leads there (`IsReached`).
 //!
 //! - `side.rt`: a vat with its inbox and the memory of the journal's copy of its Abort; `link.rt`: a list that tells contracts
 //!   its room.
-//! - `log.rt`: the core's step goes into the journal (`vat_telling`) and its messages on to the link, whole, or as going down
+//! - `log.rt`: the core's step goes into the journal (`core_telling`) and its messages on to the link, whole, or as going down
 //!   in the room that is kept.
 //! - `step.rt`: one vat's step, by a command or a message (`specs/Stages`): a call, the results of a task and the Finish of
 //!   a call go to the core's calls of these names at once, other commands to `Core::command`; `answer.rt`: what an event
@@ -21,7 +21,7 @@ mod step;
 mod world;
 
 pub use answer::StepAnswer;
-pub use vat_journal::JournalEntry;
-pub use vat_machine::Event as WorldEvent;
-pub use vat_telling::Answer;
+pub use core_telling::Answer;
+pub use rpc_journal::JournalEntry;
+pub use rpc_machine::Event as WorldEvent;
 pub use world::{World, vat_of};

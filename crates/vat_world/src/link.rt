@@ -1,7 +1,7 @@
 ghost use Rattle.std.specs.Prelude.{◌≡◌, ◌+◌, ◌<◌, ◌≤◌, [], ◌∷◌, ◌++◌, length, OnOk, IfOk, IfSome, IfNone};
 ghost use Rattle.std.specs.List.{list_any};
-ghost use Rattle.vat_machine.specs.Queries.{is_through};
-ghost use Rattle.vat_machine.specs.Pending.{in_message, in_messages};
+ghost use Rattle.rpc_machine.specs.Queries.{is_through};
+ghost use Rattle.rpc_machine.specs.Pending.{in_message, in_messages};
 
 use rpc_msg::{Items, Memory, Message, PlainMessage, RefId, Vat};
 use std::alloc::Global;

@@ -1,17 +1,17 @@
 ghost use Rattle.std.specs.Prelude.{List, ◌≡◌, ◌++◌, ◌+◌, ◌≤◌, ◌<◌, [], ◌∷◌, true, false, Some, OnOk, OnErr, IfSome, length};
-ghost use Rattle.vat_machine.specs.Journal.{effect_entries};
-ghost use Rattle.vat_journal.specs.declared.entry.JournalEntry.{JournalEntry};
+ghost use Rattle.rpc_machine.specs.Journal.{effect_entries};
+ghost use Rattle.rpc_journal.specs.declared.entry.JournalEntry.{JournalEntry};
 ghost use Rattle.vat_world.specs.Stages.{stepped, Logs, Overflows};
-ghost use Rattle.vat_telling.specs.Told.{without_sends, Extends, IsFall};
+ghost use Rattle.core_telling.specs.Told.{without_sends, Extends, IsFall};
 ghost use Rattle.vat_world.specs.Rooms.{stage_of, side_of, IsReady, HasRoom, KeepsRoom};
 
 use crate::link::Link;
 use crate::side::Side;
+use core_telling::{Journal, count, put_effects, write_fall};
+use rpc_machine::Effects;
 use rpc_msg::{Items, Memory, Vat};
 use std::alloc::Global;
 use std::mem;
-use vat_machine::Effects;
-use vat_telling::{Journal, count, put_effects, write_fall};
 
 /// The fault of a vat that found no room.
 const WANT_OF_ROOM: u16 = 33;

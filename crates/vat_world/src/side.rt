@@ -1,9 +1,9 @@
 use crate::link::Link;
+use core_outbox::Outbox;
+use core_telling::Core;
+use rpc_machine::Level;
 use rpc_msg::{Memory, ObjectId, Vat};
 use std::alloc::Global;
-use vat_machine::Level;
-use vat_outbox::Outbox;
-use vat_telling::Core;
 
 /// A vat of the world, the messages on their way to it, whether a shut took it down, and the memory of the copy of its
 /// Abort that goes into the journal.
@@ -28,8 +28,8 @@ impl Drop for Side {
 
 impl Side {
     ghost use Rattle.std.specs.Prelude.{◌≡◌, [], false, IfOk};
-    ghost use Rattle.vat_machine.specs.State.{start};
-    ghost use Rattle.vat_machine.specs.declared.command.Level.TheVariants.{One};
+    ghost use Rattle.rpc_machine.specs.State.{start};
+    ghost use Rattle.rpc_machine.specs.declared.command.Level.TheVariants.{One};
     ghost use Rattle.vat_world.specs.Rooms.{side_of, CanAbort};
 
     /// A new vat of level 1 with that bootstrap object, if it has one.

@@ -1,24 +1,24 @@
 ghost use Rattle.std.specs.Prelude.{◌≡◌, ◌≤◌, ◌+◌, ◌||◌, ◌&&◌, is_some, None, Ok, IfSome, cond, length};
-ghost use Rattle.vat_machine.specs.declared.command.Command.TheVariants as command;
+ghost use Rattle.rpc_machine.specs.declared.command.Command.TheVariants as command;
 ghost use Rattle.laws_runs.specs.MadeCalls.{NumbersItsCalls};
-ghost use Rattle.vat_machine.specs.Refusals.{is_shut};
+ghost use Rattle.rpc_machine.specs.Refusals.{is_shut};
 ghost use Rattle.vat_world.specs.Rooms.{stage_of, owed, CanAbort, CanFall, HasRoom};
 ghost use Rattle.vat_world.specs.Stages.{ObeysSo, ObeysUp, ObeysUpSo, AnswersSo, DeliversBy, HandlesUp, TellsDone, TellsRefused, takes_down};
-ghost use Rattle.vat_telling.specs.Told.{IsFall};
-ghost use Rattle.vat_machine.specs.Progress.{quiet};
-ghost use Rattle.vat_machine.specs.World.{given_up};
+ghost use Rattle.core_telling.specs.Told.{IsFall};
+ghost use Rattle.rpc_machine.specs.Progress.{quiet};
+ghost use Rattle.rpc_machine.specs.World.{given_up};
 
 use crate::answer::StepAnswer;
 use crate::log::{log_overflow, log_step};
 use crate::side::Side;
-use rpc_msg::{CallId, Items, Memory, Message, Payload, RefId, TaskId, Vat};
-use std::alloc::Global;
-use vat_journal::{Advanced, JournalEntry};
-use vat_machine::{CallCommand, Command, Effects, Granted, Refusal};
-use vat_telling::{
+use core_telling::{
     Answer, Core, Journal, Note, Refused, calls_before, index_of_call, note_answer, note_call,
     note_of, write_note, write_refused,
 };
+use rpc_journal::{Advanced, JournalEntry};
+use rpc_machine::{CallCommand, Command, Effects, Granted, Refusal};
+use rpc_msg::{CallId, Items, Memory, Message, Payload, RefId, TaskId, Vat};
+use std::alloc::Global;
 
 /// A command at a vat. Answers what its core answers, with the effects of going down where the link or the journal could
 /// not grow. The commands of a call that takes its usual course go to the core's call of their name at once.

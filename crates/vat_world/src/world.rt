@@ -1,26 +1,26 @@
 ghost use Rattle.std.specs.Prelude.{◌≡◌, ◌↔◌, true, ◌++◌, [], ◌∷◌, IfOk, OnOk, OnErr};
-ghost use Rattle.vat_journal.specs.declared.entry.JournalEntry.{JournalEntry};
-ghost use Rattle.vat_machine.specs.World.{tables_entry};
-ghost use Rattle.vat_machine.specs.Pending.{is_idle, pending};
-ghost use Rattle.vat_machine.specs.Claims.{AreNumbered, CountsAgree, EndsAreSo, IsInFull, IsInOrder, IsInTime, IsQuietWhenDown, IsSound, IsToOne, MeansOne};
-ghost use Rattle.vat_machine.specs.declared.event.Event.TheVariants as event;
+ghost use Rattle.rpc_journal.specs.declared.entry.JournalEntry.{JournalEntry};
+ghost use Rattle.rpc_machine.specs.World.{tables_entry};
+ghost use Rattle.rpc_machine.specs.Pending.{is_idle, pending};
+ghost use Rattle.rpc_machine.specs.Claims.{AreNumbered, CountsAgree, EndsAreSo, IsInFull, IsInOrder, IsInTime, IsQuietWhenDown, IsSound, IsToOne, MeansOne};
+ghost use Rattle.rpc_machine.specs.declared.event.Event.TheVariants as event;
 ghost use Rattle.laws_sound.specs.Promised.{AreEachAtOne, AreInFull, DownsAreKnown, DownsAreTold, MeansForGood, RefusesNothing, history_of};
 ghost use Rattle.laws_verdicts.specs.Good.{IsGood};
-ghost use Rattle.vat_journal.specs.declared.entry.JournalEntry.TheVariants as entry;
+ghost use Rattle.rpc_journal.specs.declared.entry.JournalEntry.TheVariants as entry;
 ghost use Rattle.vat_world.specs.World.{AllCame, IsReached, KeepsBootstraps, KeepsPromises, Steps, Runs, new_seen, shut, told, vat_of};
 
 use crate::answer::StepAnswer;
 use crate::side::Side;
 use crate::step::{deliver, obey};
+use core_telling::{Answer, Journal};
 use laws_runs::calls_are_counted;
 use laws_sound::{bootstraps_stay, worlds_are_sound, worlds_keep_promises};
 use laws_verdicts::every_verdict_is_good;
+use rpc_journal::JournalEntry;
+use rpc_machine::{Command, Effects, Event};
 use rpc_msg::{Memory, ObjectId, RefId, Vat};
 use std::alloc::Global;
 use std::marker::Model;
-use vat_journal::JournalEntry;
-use vat_machine::{Command, Effects, Event};
-use vat_telling::{Answer, Journal};
 
 /// Two vats of level 1, the messages on their way between them, and the journal of what happens. It keeps the room that both
 /// vats need to go down, so that want of memory takes a vat down and is written.

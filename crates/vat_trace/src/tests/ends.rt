@@ -1,10 +1,10 @@
 //! Runs that end by the limit of turns, and with a vat down.
 use crate::tests::worked::work;
 use crate::trace::{trace_of_gathered, trace_of_pair};
-use pair_workers::{OpenGate, WorkerEnd};
+use link_workers::{OpenGate, WorkerEnd};
+use rpc_check::Verdict;
 use rpc_msg::Memory;
 use std::alloc::{AllocError, Global};
-use trace_check::Verdict;
 
 /// A frame that never comes: the one that is later hears of the other, or has waited long enough itself.
 #[test]

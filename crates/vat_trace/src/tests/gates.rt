@@ -1,12 +1,12 @@
 //! That two threads are at work, and that a gate ends the run.
 use crate::tests::worked::work;
 use crate::trace::trace_of_gathered;
-use pair_workers::{Gate, WorkerEnd};
+use link_workers::{Gate, WorkerEnd};
+use rpc_check::Verdict;
 use rpc_msg::{Memory, Stamp, Vat};
 use std::sync::atomic::{AtomicBool, Ordering};
 use std::thread;
 use std::time::{Clock, Duration};
-use trace_check::Verdict;
 
 /// Each vat bootstraps, takes the field and makes one call.
 const BOTH_CALL: &str =

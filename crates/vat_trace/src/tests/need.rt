@@ -4,7 +4,7 @@ use std::alloc::Global;
 use std::sync::Wait;
 use std::thread::Threads;
 use std::time::Clock;
-use trace_program::Failure;
+use vat_trace_lib::Failure;
 
 /// B hands A a promise, which it resolves to an object of A's.
 const PROMISE: &[u8] =

@@ -6,7 +6,7 @@ use std::process::Abort;
 use std::sync::Wait;
 use std::thread::Threads;
 use std::time::Clock;
-use trace_program::status;
+use vat_trace_lib::status;
 
 /// The status, what is printed and what is said.
 #[derive(Drop)]

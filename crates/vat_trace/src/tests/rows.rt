@@ -1,9 +1,9 @@
 //! Worked scenes on two threads: calls keep their order while the promise that they were made through is resolved, on two trips
 //! round both vats, and where what they wait for was finished.
 use crate::trace::trace_of_pair;
+use rpc_check::Verdict;
 use rpc_msg::Memory;
 use std::process::Abort;
-use trace_check::Verdict;
 
 /// B resolves to A's object while A makes its third call: the fourth and the fifth wait for the shorter path.
 const RESOLVED_WHILE_CALLED: &str =

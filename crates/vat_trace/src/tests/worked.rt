@@ -1,13 +1,13 @@
 //! Two new vats, worked by the lines of a script.
 use crate::working::work_lines;
 use link_driver::PairRun;
-use pair_workers::Gate;
+use link_workers::Gate;
 use rpc_msg::Memory;
+use script_language::{Program, read_script};
 use std::alloc::Global;
 use std::sync::Wait;
 use std::thread::Threads;
 use std::time::Clock;
-use vat_script::{Program, read_script};
 
 /// Works a script over rings of so many places, with so many turns in a row that may find no frame. What goes wrong before the
 /// work begins is one error.

@@ -1,7 +1,7 @@
 use Rattle.std.proofs.Common.{◌≡◌, drop}
-use Rattle.wire_trees.specs.Trees.{Tree}
-use Rattle.wire_reading.specs.Reading.{root_of, tree_read}
-use Rattle.wire_reading.specs.Looking.{At}
+use Rattle.capn_trees.specs.Trees.{Tree}
+use Rattle.capn_reading.specs.Reading.{root_of, tree_read}
+use Rattle.capn_reading.specs.Looking.{At}
 use Rattle.capn_wire.specs.Walking.{capability_at}
 use Rattle.capn_wire.proofs.find.find.Given as goal
 

@@ -1,6 +1,6 @@
 use Rattle.std.proofs.lemmas.Result.{err_from_is_err_and}
-use Rattle.wire_trees.specs.Views.{view}
-use Rattle.wire_trees.specs.Writable.{refusal}
+use Rattle.capn_trees.specs.Views.{view}
+use Rattle.capn_trees.specs.Writable.{refusal}
 use Rattle.capn_wire.proofs.Saying.{read_again, tree_again, contents_are, refused_again, not_refused}
 use Rattle.capn_wire.proofs.laws.write_and_read.Goals as goal
 

@@ -1,4 +1,4 @@
-use Rattle.vat_machine.proofs.Settles.{settles_here}
+use Rattle.rpc_machine.proofs.Settles.{settles_here}
 use Rattle.laws_nodes.proofs.Stopping.{ends, again, on, followed, same, opens, begins, fixed_stops, fixed_settles}
 use Rattle.laws_nodes.proofs.Knowing.{known_stops, known_others, known_fields}
 use Rattle.laws_nodes.proofs.Collected.{collected}

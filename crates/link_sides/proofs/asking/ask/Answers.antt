@@ -1,4 +1,4 @@
-use Rattle.vat_telling.proofs.Answering.{answers_known}
+use Rattle.core_telling.proofs.Answering.{answers_known}
 use Rattle.link_sides.proofs.Answering.{loud}
 use Rattle.link_sides.proofs.asking.ask.Goals as goal
 

@@ -1,6 +1,6 @@
-use Rattle.vat_machine.specs.declared.command.Command.TheVariants as command
-use Rattle.vat_machine.specs.declared.command.Granted.TheVariants as granted
-use Rattle.vat_telling.proofs.Answering.{answers_quietly}
+use Rattle.rpc_machine.specs.declared.command.Command.TheVariants as command
+use Rattle.rpc_machine.specs.declared.command.Granted.TheVariants as granted
+use Rattle.core_telling.proofs.Answering.{answers_quietly}
 use Rattle.link_sides.proofs.asking.ask_host.Goals as goal
 
 pub returns-in-Ok-clause-answers : goal.returns-in-Ok-clause-answers

@@ -1,7 +1,7 @@
 use Rattle.std.proofs.Common.{Err, refl, ap, subst, ◌∙◌}
-use Rattle.vat_machine.specs.declared.command.Command.{Command}
-use Rattle.vat_machine.specs.Progress.{quiet}
-use Rattle.vat_machine.specs.Refusals.{is_shut}
+use Rattle.rpc_machine.specs.declared.command.Command.{Command}
+use Rattle.rpc_machine.specs.Progress.{quiet}
+use Rattle.rpc_machine.specs.Refusals.{is_shut}
 use Rattle.link_sides.specs.Sides.{IsToldBy}
 use Rattle.link_sides.proofs.Answering.{refused_so, says_at}
 use Rattle.link_sides.proofs.Stepping.{answered_done, answered_refused, obeys_at}

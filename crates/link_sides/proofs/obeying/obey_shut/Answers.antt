@@ -1,8 +1,8 @@
 use Rattle.std.proofs.Common.{refl}
 use Rattle.link_sides.specs.Rooms.{held_of}
 use Rattle.link_sides.proofs.Stepping.{shut_command_at}
-use Rattle.vat_machine.specs.declared.command.Command.TheVariants as command
-use Rattle.vat_machine.specs.declared.command.Granted.TheVariants as granted
+use Rattle.rpc_machine.specs.declared.command.Command.TheVariants as command
+use Rattle.rpc_machine.specs.declared.command.Granted.TheVariants as granted
 use Rattle.link_sides.proofs.Answering.{done_so}
 use Rattle.link_sides.proofs.obeying.obey_shut.Goals as goal
 

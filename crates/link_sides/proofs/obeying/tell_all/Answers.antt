@@ -1,8 +1,8 @@
 use Rattle.std.proofs.Common.{List, ◌++◌, Ok, refl, ap, ◌∙◌}
 use Rattle.rpc_msg.specs.declared.ids.Vat.{Vat}
-use Rattle.vat_journal.specs.declared.entry.JournalEntry.{JournalEntry}
-use Rattle.vat_machine.specs.Journal.{effect_entries}
-use Rattle.vat_telling.specs.Notes.{note_entries}
+use Rattle.rpc_journal.specs.declared.entry.JournalEntry.{JournalEntry}
+use Rattle.rpc_machine.specs.Journal.{effect_entries}
+use Rattle.core_telling.specs.Notes.{note_entries}
 use Rattle.link_sides.proofs.Stepping.{own_written, obeyed_at}
 use Rattle.link_sides.proofs.Answering.{done_so}
 use Rattle.link_sides.proofs.obeying.tell_all.Goals as goal

@@ -1,6 +1,6 @@
 use Rattle.std.proofs.Common.{Ok, sym, subst}
-use Rattle.vat_machine.specs.State.{State}
-use Rattle.vat_machine.specs.Steps as step
+use Rattle.rpc_machine.specs.State.{State}
+use Rattle.rpc_machine.specs.Steps as step
 use Rattle.link_sides.proofs.Stepping.{moved}
 use Rattle.link_sides.proofs.Answering.{refused_when_shut}
 use Rattle.link_sides.proofs.obeying.tell_done.Goals as goal

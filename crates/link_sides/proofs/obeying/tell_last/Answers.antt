@@ -1,9 +1,9 @@
 use Rattle.std.proofs.Common.{List, ◌++◌, Ok, refl, ap, ◌∙◌}
 use Rattle.rpc_msg.specs.declared.ids.Vat.{Vat}
-use Rattle.vat_journal.specs.declared.entry.JournalEntry.{JournalEntry}
-use Rattle.vat_machine.specs.Journal.{effect_entries}
-use Rattle.vat_telling.specs.Notes.{note_entries}
-use Rattle.vat_telling.proofs.Falling.{obeys_fall}
+use Rattle.rpc_journal.specs.declared.entry.JournalEntry.{JournalEntry}
+use Rattle.rpc_machine.specs.Journal.{effect_entries}
+use Rattle.core_telling.specs.Notes.{note_entries}
+use Rattle.core_telling.proofs.Falling.{obeys_fall}
 use Rattle.link_sides.proofs.Stepping.{is_fall, own_written, obeyed_at, never}
 use Rattle.link_sides.proofs.Answering.{done_so}
 use Rattle.link_sides.proofs.obeying.tell_last.Goals as goal

@@ -1,7 +1,7 @@
 use Rattle.std.proofs.Common.{Err, append-nil, refl, sym, ◌∙◌}
 use Rattle.rpc_msg.specs.declared.ids.Vat.{Vat}
-use Rattle.vat_machine.specs.Journal.{refused_entries}
-use Rattle.vat_machine.specs.Progress.{quiet}
+use Rattle.rpc_machine.specs.Journal.{refused_entries}
+use Rattle.rpc_machine.specs.Progress.{quiet}
 use Rattle.link_sides.specs.Rooms.{held_of}
 use Rattle.link_sides.proofs.Queueing.{queues_none}
 use Rattle.link_sides.proofs.Stepping.{obeyed_at}

@@ -1,5 +1,5 @@
 use Rattle.std.proofs.Common.{Ok, refl, ap, ◌∙◌}
-use Rattle.vat_machine.specs.State.{State}
+use Rattle.rpc_machine.specs.State.{State}
 use Rattle.link_sides.proofs.Answering.{shut_by}
 use Rattle.link_sides.proofs.Stepping.{overflowed_at}
 use Rattle.link_sides.proofs.obeying.tell_shut.Goals as goal

@@ -1,7 +1,7 @@
 use Rattle.std.proofs.Common.{List, ◌++◌, refl, sym, ap, ◌∙◌}
-use Rattle.vat_journal.specs.declared.entry.JournalEntry.{JournalEntry}
-use Rattle.vat_machine.specs.Journal.{effect_entries}
-use Rattle.vat_telling.proofs.Falling.{receives_fall}
+use Rattle.rpc_journal.specs.declared.entry.JournalEntry.{JournalEntry}
+use Rattle.rpc_machine.specs.Journal.{effect_entries}
+use Rattle.core_telling.proofs.Falling.{receives_fall}
 use Rattle.link_sides.specs.Rooms.{held_of}
 use Rattle.link_sides.proofs.Stepping.{is_fall, queues_from, received_falling, received_whole, received_less}
 use Rattle.link_sides.proofs.receiving.receive.Goals as goal

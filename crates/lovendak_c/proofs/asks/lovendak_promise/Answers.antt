@@ -1,7 +1,7 @@
 use Rattle.std.proofs.Common.{ℕ, Some, Result, Ok, refl, sym, subst, ap, ◌∙◌}
-use Rattle.vat_machine.specs.declared.command.Command.TheVariants as command
-use Rattle.vat_desk.specs.Commands.{IsAsked, a_promise}
-use Rattle.vat_desk.specs.declared.not_done.NotDone.{NotDone}
+use Rattle.rpc_machine.specs.declared.command.Command.TheVariants as command
+use Rattle.lovendak_c_desk.specs.Commands.{IsAsked, a_promise}
+use Rattle.lovendak_c_desk.specs.declared.not_done.NotDone.{NotDone}
 use Rattle.lovendak_c.proofs.Full.{full_gives}
 use Rattle.lovendak_c.proofs.asks.lovendak_promise.Goals as goal
 

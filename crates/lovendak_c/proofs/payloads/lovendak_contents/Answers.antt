@@ -1,5 +1,5 @@
 use Rattle.std.proofs.Common.{ℕ, List, Option, subst}
-use Rattle.vat_desk.specs.Contents.{Makes}
+use Rattle.lovendak_c_desk.specs.Contents.{Makes}
 use Rattle.lovendak_c.proofs.payloads.lovendak_contents.Goals as goal
 
 pub returns : goal.returns

@@ -1,5 +1,5 @@
 use Rattle.std.proofs.Common.{◌≡◌, Some, sym, ap, ◌∙◌}
-use Rattle.vat_desk.specs.Desks.{HandsOut}
+use Rattle.lovendak_c_desk.specs.Desks.{HandsOut}
 use Rattle.lovendak_c.proofs.Full.{full_hands}
 use Rattle.lovendak_c.proofs.streams.lovendak_outgoing.Goals as goal
 

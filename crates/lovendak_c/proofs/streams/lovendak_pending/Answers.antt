@@ -1,5 +1,5 @@
 use Rattle.std.proofs.Common.{◌≡◌, Bool, Some, sym, ap, ◌∙◌}
-use Rattle.vat_desk.specs.Desks.{Awaits}
+use Rattle.lovendak_c_desk.specs.Desks.{Awaits}
 use Rattle.lovendak_c.specs.Codes.{bit}
 use Rattle.lovendak_c.proofs.Full.{full_hands}
 use Rattle.lovendak_c.proofs.streams.lovendak_pending.Goals as goal

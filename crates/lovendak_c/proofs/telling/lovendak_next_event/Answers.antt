@@ -1,5 +1,5 @@
 use Rattle.std.proofs.Common.{◌≡◌, Some, sym, ap, ◌∙◌}
-use Rattle.vat_desk.specs.Telling.{TellsNext}
+use Rattle.lovendak_c_desk.specs.Telling.{TellsNext}
 use Rattle.lovendak_c.proofs.Full.{full_asks}
 use Rattle.lovendak_c.proofs.telling.lovendak_next_event.Goals as goal
 

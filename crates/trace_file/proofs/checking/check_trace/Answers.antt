@@ -1,5 +1,5 @@
 use Rattle.std.proofs.Common.{[]}
-use Rattle.trace_check.specs.Kept.{HasTaken}
+use Rattle.rpc_check.specs.Kept.{HasTaken}
 use Rattle.trace_file.proofs.Going.{holds_all}
 use Rattle.trace_file.proofs.checking.check_trace.Goals as goal
 

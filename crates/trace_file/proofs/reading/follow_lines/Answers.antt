@@ -1,5 +1,5 @@
 use Rattle.std.proofs.Common.{◌∷◌}
-use Rattle.vat_journal.specs.declared.entry.JournalEntry.TheVariants as entry
+use Rattle.rpc_journal.specs.declared.entry.JournalEntry.TheVariants as entry
 use Rattle.trace_file.proofs.Going.{lines_read}
 use Rattle.trace_file.proofs.reading.follow_lines.Goals as goal
 

@@ -1,8 +1,8 @@
 use Rattle.std.proofs.Common.{◌≡◌, Result, Err, inl, sym, subst, rules}
-use Rattle.rpc_bytes.specs.Envelopes.{seen_envelope}
-use Rattle.rpc_peer.specs.declared.errors.PeerError.{PeerError}
-use Rattle.rpc_peer.specs.declared.errors.PeerFault.{PeerFault}
-use Rattle.rpc_peer.specs.Peering.{Coming, Comes, comes}
+use Rattle.rpc_codec.specs.Envelopes.{seen_envelope}
+use Rattle.peer_adapter.specs.declared.errors.PeerError.{PeerError}
+use Rattle.peer_adapter.specs.declared.errors.PeerFault.{PeerFault}
+use Rattle.peer_adapter.specs.Peering.{Coming, Comes, comes}
 use Rattle.vat_connection.specs.Speaking.{tables_of}
 use Rattle.vat_connection.specs.Framing.{IsRefused}
 use Rattle.vat_connection.proofs.frame.turn.Goals as goal

@@ -1,5 +1,5 @@
 use Rattle.std.proofs.Common.{◌≡◌, ◌<◌, List, ℕ, ◌++◌, drop, sym, ap, subst, ◌∙◌}
-use Rattle.rpc_stream.specs.Readers.{Reader}
+use Rattle.capn_stream.specs.Readers.{Reader}
 use Rattle.vat_connection.specs.Speaking.{Falls, HearsFrame}
 use Rattle.vat_connection.specs.Hearing.{Comes, held_of}
 use Rattle.vat_connection.proofs.Coming.{hears}

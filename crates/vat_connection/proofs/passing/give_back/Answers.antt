@@ -1,5 +1,5 @@
 use Rattle.std.proofs.Common.{refl, sym, subst}
-use Rattle.rpc_frames.specs.Outflows.{Outflow}
+use Rattle.rpc_outgoing.specs.Outflows.{Outflow}
 use Rattle.vat_connection.specs.Telling.{IsLonger}
 use Rattle.vat_connection.proofs.Telling.{gives_back_more, longer_more, put_longer, same_longer}
 use Rattle.vat_connection.proofs.passing.give_back.Goals as goal

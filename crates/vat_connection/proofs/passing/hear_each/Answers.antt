@@ -1,6 +1,6 @@
 use Rattle.std.proofs.Common.{refl, sym, subst}
-use Rattle.rpc_adapter.specs.declared.heard.Heard.{Heard}
-use Rattle.rpc_adapter.specs.Adapting.{messages_in}
+use Rattle.peer_tail_calls.specs.declared.heard.Heard.{Heard}
+use Rattle.peer_tail_calls.specs.Adapting.{messages_in}
 use Rattle.vat_connection.specs.Speaking.{HearsAll}
 use Rattle.vat_connection.proofs.passing.hear_each.Goals as goal
 

@@ -1,5 +1,5 @@
 use Rattle.std.proofs.Common.{List, ℕ, length, take, ap, ◌∙◌}
-use Rattle.rpc_frames.specs.Outflows.{Outflow}
+use Rattle.rpc_outgoing.specs.Outflows.{Outflow}
 use Rattle.vat_connection.proofs.Telling.{cut_back}
 use Rattle.vat_connection.proofs.passing.tell.Goals as goal
 

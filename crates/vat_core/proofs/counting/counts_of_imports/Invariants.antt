@@ -1,7 +1,7 @@
 use Rattle.std.proofs.Common.{◌≡◌, ◌++◌}
 use Rattle.std.specs.Vec.Iter.{into_iter_items}
-use Rattle.vat_machine.specs.Lists.{of_map}
-use Rattle.vat_machine.specs.Queries.{import_counts}
+use Rattle.rpc_machine.specs.Lists.{of_map}
+use Rattle.rpc_machine.specs.Queries.{import_counts}
 use Rattle.vat_core.proofs.Countable.{counted}
 use Rattle.vat_core.proofs.counting.counts_of_imports.Given as goal
 

@@ -1,5 +1,5 @@
 use Rattle.std.proofs.Common.{◌∙◌}
-use Rattle.wire_trees.specs.Views.{held}
+use Rattle.capn_trees.specs.Views.{held}
 use Rattle.vat_payloads.proofs.Carrying.{as_written}
 use Rattle.vat_payloads.proofs.making.contents.Goals as goal
 

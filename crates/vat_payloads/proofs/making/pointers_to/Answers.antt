@@ -1,6 +1,6 @@
 use Rattle.std.proofs.Common.{◌∷◌, ◌++◌, []}
-use Rattle.wire_trees.specs.Trees.{list, packed}
-use Rattle.wire_trees.specs.Views.{held}
+use Rattle.capn_trees.specs.Trees.{list, packed}
+use Rattle.capn_trees.specs.Views.{held}
 use Rattle.vat_payloads.proofs.Carrying.{caps_more}
 use Rattle.vat_payloads.proofs.making.pointers_to.Goals as goal
 

@@ -1,7 +1,7 @@
 use Rattle.std.proofs.Common.{◌≡◌, ◌∷◌, ◌++◌, [], map}
 use Rattle.std.specs.List.{range_with_len}
-use Rattle.wire_trees.specs.Trees.{capability, list, packed}
-use Rattle.wire_trees.specs.Views.{view, held}
+use Rattle.capn_trees.specs.Trees.{capability, list, packed}
+use Rattle.capn_trees.specs.Views.{view, held}
 use Rattle.vat_payloads.proofs.making.pointers_to.Given as goal
 
 abbrev pub invariant-loop-index : goal.invariant-loop-index

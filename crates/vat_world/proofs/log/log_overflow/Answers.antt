@@ -1,7 +1,7 @@
 use Rattle.std.proofs.Common.{sym, subst}
-use Rattle.vat_machine.specs.declared.command.Effects.{Effects}
-use Rattle.vat_machine.specs.Numbers.{want_of_room}
-use Rattle.vat_machine.specs.Down.{ShutsFrom}
+use Rattle.rpc_machine.specs.declared.command.Effects.{Effects}
+use Rattle.rpc_machine.specs.Numbers.{want_of_room}
+use Rattle.rpc_machine.specs.Down.{ShutsFrom}
 use Rattle.vat_world.specs.Rooms.{stage_of}
 use Rattle.vat_world.proofs.Telling.{overflow_down, overflow_up}
 use Rattle.vat_world.proofs.log.log_overflow.Goals as goal

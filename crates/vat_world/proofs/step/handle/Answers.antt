@@ -1,5 +1,5 @@
 use Rattle.vat_world.specs.Rooms.{stage_of}
-use Rattle.vat_telling.proofs.Falling.{receives_fall}
+use Rattle.core_telling.proofs.Falling.{receives_fall}
 use Rattle.vat_world.proofs.Stepping.{handles_by}
 use Rattle.vat_world.proofs.step.handle.Goals as goal
 

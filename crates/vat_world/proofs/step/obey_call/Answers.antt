@@ -1,11 +1,11 @@
 use Rattle.std.proofs.Common.{refl, ap}
-use Rattle.vat_machine.specs.declared.command.Command.TheVariants as command
-use Rattle.vat_machine.specs.declared.command.Granted.TheVariants as granted
-use Rattle.vat_telling.specs.Notes.{made_of}
+use Rattle.rpc_machine.specs.declared.command.Command.TheVariants as command
+use Rattle.rpc_machine.specs.declared.command.Granted.TheVariants as granted
+use Rattle.core_telling.specs.Notes.{made_of}
 use Rattle.vat_world.specs.Rooms.{stage_of}
-use Rattle.vat_telling.specs.declared.notes.Note.TheVariants.{Made}
-use Rattle.vat_telling.proofs.Noting.{is_note}
-use Rattle.vat_telling.proofs.Falling.{obeys_fall}
+use Rattle.core_telling.specs.declared.notes.Note.TheVariants.{Made}
+use Rattle.core_telling.proofs.Noting.{is_note}
+use Rattle.core_telling.proofs.Falling.{obeys_fall}
 use Rattle.vat_world.proofs.Stepping.{refused_as, done_as}
 use Rattle.vat_world.proofs.step.obey_call.Goals as goal
 

@@ -1,8 +1,8 @@
 use Rattle.std.proofs.Common.{refl}
-use Rattle.vat_machine.specs.declared.command.Command.TheVariants as command
-use Rattle.vat_machine.specs.declared.command.Granted.TheVariants as granted
+use Rattle.rpc_machine.specs.declared.command.Command.TheVariants as command
+use Rattle.rpc_machine.specs.declared.command.Granted.TheVariants as granted
 use Rattle.vat_world.specs.Rooms.{stage_of}
-use Rattle.vat_telling.proofs.Falling.{obeys_fall}
+use Rattle.core_telling.proofs.Falling.{obeys_fall}
 use Rattle.vat_world.proofs.Stepping.{refused_as, done_as}
 use Rattle.vat_world.proofs.step.obey_finish.Goals as goal
 

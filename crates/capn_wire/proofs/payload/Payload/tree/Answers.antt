@@ -2,7 +2,7 @@ use Rattle.std.proofs.Common.{ap, ◌∙◌, ℕ}
 use Rattle.std.specs.Arc.{arc_value}
 use Rattle.std.specs.Global.{Vec}
 use Rattle.capn_wire.specs.Payloads.{tree_of}
-use Rattle.wire_reading.proofs.Rooted.{framed_read, not_unframed}
+use Rattle.capn_reading.proofs.Rooted.{framed_read, not_unframed}
 use Rattle.capn_wire.proofs.payload.Payload.tree.Goals as goal
 
 pub unreachable-requires : goal.unreachable-requires

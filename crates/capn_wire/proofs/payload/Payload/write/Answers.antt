@@ -1,11 +1,11 @@
 use Rattle.std.proofs.Common.{◌≡◌, ℕ, List, sym, ap, subst, ◌∙◌}
 use Rattle.std.proofs.lemmas.Result.{err_from_is_err_and}
-use Rattle.wire_trees.specs.Views.{view}
+use Rattle.capn_trees.specs.Views.{view}
 use Rattle.capn_wire.specs.Payloads.{Contents, IsEncoded, tree_of}
-use Rattle.wire_trees.specs.Writable.{refusal}
+use Rattle.capn_trees.specs.Writable.{refusal}
 use Rattle.capn_wire.proofs.Saying.{refused_again}
 use Rattle.capn_wire.proofs.Written.{says_written}
-use Rattle.wire_writing.proofs.Writing.{no_reason}
+use Rattle.capn_writing.proofs.Writing.{no_reason}
 use Rattle.capn_wire.proofs.payload.Payload.write.Goals as goal
 
 pub sharing-requires : goal.sharing-requires

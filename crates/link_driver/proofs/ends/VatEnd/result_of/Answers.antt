@@ -1,8 +1,8 @@
 use Rattle.std.proofs.Common.{List, subst}
 use Rattle.rpc_msg.specs.Op.{Op}
-use Rattle.vat_machine.specs.declared.command.Command.TheVariants as command
-use Rattle.vat_machine.specs.declared.command.Granted.TheVariants as granted
-use Rattle.vat_machine.specs.Progress.{quiet}
+use Rattle.rpc_machine.specs.declared.command.Command.TheVariants as command
+use Rattle.rpc_machine.specs.declared.command.Granted.TheVariants as granted
+use Rattle.rpc_machine.specs.Progress.{quiet}
 use Rattle.link_sides.specs.Answer.TheVariants as answer
 use Rattle.link_driver.specs.Ends.{Takes}
 use Rattle.link_driver.proofs.ends.VatEnd.result_of.Goals as goal

@@ -1,7 +1,7 @@
 use Rattle.std.proofs.Common.{List, ◌∷◌, sym, subst}
-use Rattle.vat_journal.specs.declared.entry.JournalEntry.{JournalEntry}
-use Rattle.vat_journal.specs.declared.entry.JournalEntry.TheVariants as entry
-use Rattle.vat_machine.specs.Claims.{AreNumbered, EndsAreSo, IsInFull, IsInOrder, IsInTime, IsQuietWhenDown, IsSound, IsToOne, MeansOne}
+use Rattle.rpc_journal.specs.declared.entry.JournalEntry.{JournalEntry}
+use Rattle.rpc_journal.specs.declared.entry.JournalEntry.TheVariants as entry
+use Rattle.rpc_machine.specs.Claims.{AreNumbered, EndsAreSo, IsInFull, IsInOrder, IsInTime, IsQuietWhenDown, IsSound, IsToOne, MeansOne}
 use Rattle.laws_sound.specs.Promised.{AreEachAtOne, AreInFull, DownsAreKnown, DownsAreTold, MeansForGood, history_of}
 use Rattle.laws_verdicts.specs.Good.{IsGood}
 use Rattle.link_promises.specs.Promises.{IsTold, happened_in, shut, world_of}

@@ -11,8 +11,8 @@ use Rattle.std.proofs.Crossing.{frees}
 use Rattle.std.specs.declared.option.Option.{Option}
 use Rattle.std.specs.declared.option.Option.TheVariants.{None, Some}
 use Rattle.std_alloc.proofs.SendSync.{quiet, lies}
-use Rattle.vat_desk.specs.contracts.desk.Desk as desk
-use Rattle.vat_desk.proofs.desk.Desk.TheSendSync as desk_sent
+use Rattle.lovendak_c_desk.specs.contracts.desk.Desk as desk
+use Rattle.lovendak_c_desk.proofs.desk.Desk.TheSendSync as desk_sent
 use Rattle.lovendak_c.specs.Held.{held}
 use Rattle.lovendak_c.specs.contracts.raw.Raw.{the_row, the_type}
 

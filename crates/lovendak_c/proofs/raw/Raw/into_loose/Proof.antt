@@ -30,8 +30,8 @@ use Rattle.std_heap.specs.contracts.Global as heap
 use Rattle.std_heap.proofs.Global.TheLaws as heap_laws
 use Rattle.std_heap.specs.contracts.GlobalAllocator.TheImpl.{ghosts}
 use Rattle.std.proofs.raw_atomic.Walks.{proved_at, leaves}
-use Rattle.loose.proofs.Values.{both, loose_good, loose_in}
-use Rattle.vat_desk.specs.contracts.desk.Desk as desk
+use Rattle.lovendak_c_box.proofs.Values.{both, loose_good, loose_in}
+use Rattle.lovendak_c_desk.specs.contracts.desk.Desk as desk
 use Rattle.lovendak_c.specs.Held.{held, is_there, token}
 use Rattle.lovendak_c.proofs.Raws.{word, is_inside}
 use Rattle.lovendak_c.specs.contracts.raw.Raw as raws

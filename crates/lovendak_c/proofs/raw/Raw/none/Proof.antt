@@ -13,7 +13,7 @@ use denote.Triple.Walked.{Stays}
 use Rattle.std.specs.declared.option.Option.{Option}
 use Rattle.std.specs.declared.option.Option.TheVariants.{None}
 use Rattle.std.proofs.raw_atomic.Walks.{proved, leaves}
-use Rattle.vat_desk.specs.contracts.desk.Desk as desk
+use Rattle.lovendak_c_desk.specs.contracts.desk.Desk as desk
 use Rattle.lovendak_c.proofs.Raws.{word, raw_in}
 use Rattle.lovendak_c.specs.contracts.raw.Raw.none.{ended, clauses}
 use Rattle.lovendak_c.specs.contracts.raw.Raw.none.Key.{name as #self}

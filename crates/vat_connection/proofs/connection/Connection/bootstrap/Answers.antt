@@ -1,8 +1,8 @@
 use Rattle.std.proofs.Common.{List, [], ◌∷◌, ◌++◌, Ok, Err, inr, refl, ap, ◌∙◌}
 use Rattle.rpc_msg.specs.declared.ids.CallId.{CallId}
-use Rattle.vat_machine.specs.declared.command.Command.TheVariants as command
-use Rattle.vat_machine.specs.declared.command.Granted.TheVariants as granted
-use Rattle.vat_machine.specs.declared.command.Refusal.TheVariants as refusal
+use Rattle.rpc_machine.specs.declared.command.Command.TheVariants as command
+use Rattle.rpc_machine.specs.declared.command.Granted.TheVariants as granted
+use Rattle.rpc_machine.specs.declared.command.Refusal.TheVariants as refusal
 use Rattle.vat_connection.specs.Hearing.{held_of}
 use Rattle.vat_connection.specs.declared.connection.Connection.TheInside.{Inside}
 use Rattle.vat_connection.proofs.Calling.{asks_as, connection}

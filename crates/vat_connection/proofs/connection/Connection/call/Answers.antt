@@ -1,8 +1,8 @@
 use Rattle.std.proofs.Common.{List, [], ◌∷◌, ◌++◌, Ok, Err, ◌⊎◌, inl, refl, ap, subst, ◌∙◌}
 use Rattle.rpc_msg.specs.declared.ids.CallId.{CallId}
-use Rattle.vat_machine.specs.declared.command.Command.TheVariants as command
-use Rattle.vat_machine.specs.declared.command.Granted.TheVariants as granted
-use Rattle.vat_machine.specs.declared.command.Refusal.TheVariants as refusal
+use Rattle.rpc_machine.specs.declared.command.Command.TheVariants as command
+use Rattle.rpc_machine.specs.declared.command.Granted.TheVariants as granted
+use Rattle.rpc_machine.specs.declared.command.Refusal.TheVariants as refusal
 use Rattle.vat_connection.specs.Calling.{Calls, Fits, IsTooLarge}
 use Rattle.vat_connection.specs.Connecting.{Connected}
 use Rattle.vat_connection.specs.Hearing.{held_of}

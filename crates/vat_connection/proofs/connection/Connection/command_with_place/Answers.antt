@@ -1,6 +1,6 @@
 use Rattle.std.proofs.Common.{List, Option, Ok, Err, ◌⊎◌, inl, inr, refl, ap, subst, ◌∙◌}
 use Rattle.rpc_msg.specs.declared.ids.CallId.{CallId}
-use Rattle.vat_machine.specs.declared.command.Refusal.TheVariants as refusal
+use Rattle.rpc_machine.specs.declared.command.Refusal.TheVariants as refusal
 use Rattle.vat_host.specs.Hosting.{Does, Refuses}
 use Rattle.vat_connection.specs.Calling.{Fits, IsTooLarge}
 use Rattle.vat_connection.specs.Connecting.{Connected}

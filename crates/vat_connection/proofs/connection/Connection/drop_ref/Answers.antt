@@ -1,6 +1,6 @@
 use Rattle.std.proofs.Common.{Ok, Err, refl}
-use Rattle.vat_machine.specs.declared.command.Command.TheVariants as command
-use Rattle.vat_machine.specs.declared.command.Granted.TheVariants as granted
+use Rattle.rpc_machine.specs.declared.command.Command.TheVariants as command
+use Rattle.rpc_machine.specs.declared.command.Granted.TheVariants as granted
 use Rattle.vat_connection.specs.Hearing.{held_of}
 use Rattle.vat_connection.proofs.Calling.{spoken}
 use Rattle.vat_connection.proofs.Giving.{gives_nothing}

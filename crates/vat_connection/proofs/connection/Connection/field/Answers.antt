@@ -1,6 +1,6 @@
 use Rattle.std.proofs.Common.{refl, ap, ◌∙◌}
-use Rattle.vat_machine.specs.declared.command.Command.TheVariants as command
-use Rattle.vat_machine.specs.declared.command.Granted.TheVariants as granted
+use Rattle.rpc_machine.specs.declared.command.Command.TheVariants as command
+use Rattle.rpc_machine.specs.declared.command.Granted.TheVariants as granted
 use Rattle.vat_connection.specs.Hearing.{held_of}
 use Rattle.vat_connection.specs.declared.connection.Connection.TheInside.{Inside}
 use Rattle.vat_connection.proofs.Calling.{asks, connection}

@@ -1,10 +1,10 @@
 use Rattle.std.proofs.Common.{◌≡◌, Ok, Err, sym, ap, subst, ◌∙◌}
 use Rattle.rpc_msg.specs.declared.ids.Stamp.{Stamp}
-use Rattle.rpc_bytes.specs.Decoding.{envelope_at}
-use Rattle.rpc_frames.specs.Outflows.{Outflow}
-use Rattle.vat_machine.specs.State.{State}
-use Rattle.rpc_bytes.specs.Envelopes.{seen_envelope}
-use Rattle.rpc_peer.specs.Peering.{comes}
+use Rattle.rpc_codec.specs.Decoding.{envelope_at}
+use Rattle.rpc_outgoing.specs.Outflows.{Outflow}
+use Rattle.rpc_machine.specs.State.{State}
+use Rattle.rpc_codec.specs.Envelopes.{seen_envelope}
+use Rattle.peer_adapter.specs.Peering.{comes}
 use Rattle.vat_connection.specs.Speaking.{Speaking, HearsUp, stamp_of, tables_of}
 use Rattle.vat_connection.specs.Framing.{Opens, Turned}
 use Rattle.vat_connection.proofs.Saying.{speaking}

@@ -1,8 +1,8 @@
 use Rattle.std.proofs.Common.{Ok, refl}
-use Rattle.vat_machine.specs.declared.command.Command.TheVariants as command
-use Rattle.vat_machine.specs.declared.command.Granted.TheVariants as granted
-use Rattle.vat_machine.specs.declared.command.Refusal.TheVariants as refusal
-use Rattle.vat_store.specs.Holding.{state_of}
+use Rattle.rpc_machine.specs.declared.command.Command.TheVariants as command
+use Rattle.rpc_machine.specs.declared.command.Granted.TheVariants as granted
+use Rattle.rpc_machine.specs.declared.command.Refusal.TheVariants as refusal
+use Rattle.core_store.specs.Holding.{state_of}
 use Rattle.vat_core.proofs.Answering.{refuses_at, obeys_at, down_refuses}
 use Rattle.vat_core.proofs.Reaching.{stands}
 use Rattle.vat_core.proofs.vat.Core.call_any.Goals as goal

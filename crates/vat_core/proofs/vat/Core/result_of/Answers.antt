@@ -1,9 +1,9 @@
 use Rattle.std.proofs.Common.{Ok, List, subst}
 use Rattle.rpc_msg.specs.Op.{Op}
-use Rattle.vat_machine.specs.declared.command.Command.TheVariants as command
-use Rattle.vat_machine.specs.declared.command.Granted.TheVariants as granted
-use Rattle.vat_machine.specs.Progress.{quiet}
-use Rattle.vat_machine.specs.Steps.{Obeys}
+use Rattle.rpc_machine.specs.declared.command.Command.TheVariants as command
+use Rattle.rpc_machine.specs.declared.command.Granted.TheVariants as granted
+use Rattle.rpc_machine.specs.Progress.{quiet}
+use Rattle.rpc_machine.specs.Steps.{Obeys}
 use Rattle.vat_core.proofs.vat.Core.result_of.Goals as goal
 
 pub returns-clause-done : goal.returns-clause-done

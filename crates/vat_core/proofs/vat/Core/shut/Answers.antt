@@ -1,7 +1,7 @@
 use Rattle.std.proofs.Common.{Ok}
-use Rattle.vat_machine.specs.declared.command.Command.TheVariants as command
-use Rattle.vat_machine.specs.declared.command.Granted.TheVariants as granted
-use Rattle.vat_store.specs.Holding.{state_of}
+use Rattle.rpc_machine.specs.declared.command.Command.TheVariants as command
+use Rattle.rpc_machine.specs.declared.command.Granted.TheVariants as granted
+use Rattle.core_store.specs.Holding.{state_of}
 use Rattle.vat_core.proofs.Answering.{shuts}
 use Rattle.vat_core.proofs.Reaching.{stands}
 use Rattle.vat_core.proofs.vat.Core.shut.Goals as goal

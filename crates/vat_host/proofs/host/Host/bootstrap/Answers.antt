@@ -1,5 +1,5 @@
-use Rattle.vat_machine.specs.declared.command.Command.TheVariants as command
-use Rattle.vat_machine.specs.declared.command.Granted.TheVariants as granted
+use Rattle.rpc_machine.specs.declared.command.Command.TheVariants as command
+use Rattle.rpc_machine.specs.declared.command.Granted.TheVariants as granted
 use Rattle.vat_host.proofs.Doing.{kept, obeyed, refuses}
 use Rattle.vat_host.proofs.host.Host.bootstrap.Goals as goal
 

@@ -1,5 +1,5 @@
 use Rattle.std.proofs.Common.{refl}
-use Rattle.vat_machine.specs.Steps.{Shuts}
+use Rattle.rpc_machine.specs.Steps.{Shuts}
 use Rattle.vat_host.proofs.Doing.{kept, obeyed, refuses}
 use Rattle.vat_host.proofs.host.Host.command.Goals as goal
 

@@ -1,5 +1,5 @@
 use Rattle.std.proofs.Common.{ap, ◌∙◌}
-use Rattle.vat_machine.specs.declared.entries.Export.{Export}
+use Rattle.rpc_machine.specs.declared.entries.Export.{Export}
 use Rattle.vat_tables.specs.Exports.{fields_of}
 use Rattle.vat_tables.specs.Table.{Table}
 use Rattle.vat_tables.proofs.exports.Exports.fields_of.Goals as goal

@@ -1,5 +1,5 @@
 use Rattle.std.proofs.Common.{subst}
-use Rattle.vat_machine.specs.declared.entries.Export.{Export}
+use Rattle.rpc_machine.specs.declared.entries.Export.{Export}
 use Rattle.vat_tables.specs.Exports.{IsOneEach}
 use Rattle.vat_tables.specs.Table.{Table}
 use Rattle.vat_tables.specs.Index.{found}

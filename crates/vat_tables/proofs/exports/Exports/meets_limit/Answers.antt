@@ -1,5 +1,5 @@
 use Rattle.std.proofs.Common.{◌≡◌, ℕ, true, List, count_by, take, sym, subst, ◌∙◌}
-use Rattle.vat_machine.specs.declared.node.Node.{Node}
+use Rattle.rpc_machine.specs.declared.node.Node.{Node}
 use Rattle.vat_tables.specs.Exports.{node_eq, is_name_limit, added, Passes}
 use Rattle.vat_tables.proofs.Foreseeing.{foresee_next, foresee_met}
 use Rattle.vat_tables.proofs.exports.Exports.meets_limit.Goals as goal

@@ -1,6 +1,6 @@
 use Rattle.std.proofs.Common.{◌≡◌, ℕ, ◌≤◌, Option, take, drop}
 use Rattle.std.specs.FinMap as map
-use Rattle.vat_machine.specs.declared.node.Node.{Node}
+use Rattle.rpc_machine.specs.declared.node.Node.{Node}
 use Rattle.vat_tables.specs.Exports.{Tells, meet_limit}
 use Rattle.vat_tables.proofs.Foreseeing.{counts_at}
 use Rattle.vat_tables.proofs.exports.Exports.meets_limit.Given as goal

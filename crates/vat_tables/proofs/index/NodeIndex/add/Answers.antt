@@ -3,7 +3,7 @@ use Rattle.std.proofs.lemmas.Result.{on_ok_weaker}
 use Rattle.vat_tables.proofs.Indexing.{numbered, refound_object, refound_promise, refound_import}
 use Rattle.vat_tables.proofs.FieldCounts.{none_more, field_more}
 use Rattle.vat_tables.specs.Index.{fields_found}
-use Rattle.vat_machine.specs.declared.node.Node.TheVariants as node
+use Rattle.rpc_machine.specs.declared.node.Node.TheVariants as node
 use Rattle.vat_tables.proofs.index.NodeIndex.add.Goals as goal
 
 pub returns-in-Object-clause-ok : goal.returns-in-Object-clause-ok

@@ -2,7 +2,7 @@ use Rattle.std.proofs.Common.{None, refl}
 use Rattle.vat_tables.proofs.Indexing.{unnumbered, refound_object, refound_promise, refound_import}
 use Rattle.vat_tables.proofs.FieldCounts.{none_fewer_of, field_fewer}
 use Rattle.vat_tables.specs.Index.{fields_found}
-use Rattle.vat_machine.specs.declared.node.Node.TheVariants as node
+use Rattle.rpc_machine.specs.declared.node.Node.TheVariants as node
 use Rattle.vat_tables.proofs.index.NodeIndex.remove.Goals as goal
 
 pub returns-in-Object-clause-removed : goal.returns-in-Object-clause-removed

@@ -1,8 +1,8 @@
 use Rattle.std.proofs.Common.{◌≡◌}
 use Rattle.std.specs.List.{list_any}
 use Rattle.std.specs.VecDeque.Iter.{deque_iter_rest}
-use Rattle.vat_machine.specs.Queries.{is_through}
-use Rattle.vat_machine.specs.Pending.{in_messages}
+use Rattle.rpc_machine.specs.Queries.{is_through}
+use Rattle.rpc_machine.specs.Pending.{in_messages}
 use Rattle.vat_world.proofs.link.Link.has_call.Given as goal
 
 abbrev pub invariant-loop-message : goal.invariant-loop-message

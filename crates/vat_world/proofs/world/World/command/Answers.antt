@@ -1,5 +1,5 @@
 use Rattle.std.proofs.Common.{subst}
-use Rattle.vat_machine.specs.declared.event.Event.TheVariants as event
+use Rattle.rpc_machine.specs.declared.event.Event.TheVariants as event
 use Rattle.vat_world.specs.World.{Seen, Steps}
 use Rattle.vat_world.specs.Rooms.{seen_of}
 use Rattle.vat_world.proofs.Reaching.{reached_more, promised}

@@ -1,6 +1,6 @@
 use Rattle.std.proofs.Common.{subst}
-use Rattle.vat_journal.specs.Meaning.{History}
-use Rattle.vat_machine.specs.Claims.{IsSound}
+use Rattle.rpc_journal.specs.Meaning.{History}
+use Rattle.rpc_machine.specs.Claims.{IsSound}
 use Rattle.vat_world.proofs.world.World.is_sound.Goals as goal
 
 pub returns : goal.returns

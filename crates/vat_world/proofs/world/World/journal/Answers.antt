@@ -1,9 +1,9 @@
 use Rattle.std.proofs.Common.{List, ◌∷◌, sym, ap, subst, ◌∙◌}
-use Rattle.vat_journal.specs.declared.entry.JournalEntry.{JournalEntry}
-use Rattle.vat_machine.specs.Claims.{AreNumbered, EndsAreSo, IsInFull, IsInOrder, IsInTime, IsSound, IsToOne, MeansOne}
+use Rattle.rpc_journal.specs.declared.entry.JournalEntry.{JournalEntry}
+use Rattle.rpc_machine.specs.Claims.{AreNumbered, EndsAreSo, IsInFull, IsInOrder, IsInTime, IsSound, IsToOne, MeansOne}
 use Rattle.laws_sound.specs.Promised.{AreEachAtOne, MeansForGood, history_of}
 use Rattle.laws_verdicts.specs.Good.{IsGood}
-use Rattle.vat_journal.specs.declared.entry.JournalEntry.TheVariants as entry
+use Rattle.rpc_journal.specs.declared.entry.JournalEntry.TheVariants as entry
 use Rattle.vat_world.specs.World.{Seen}
 use Rattle.vat_world.proofs.world.World.journal.Goals as goal
 

@@ -1,6 +1,6 @@
 use Rattle.std.proofs.Common.{◌∷◌, subst}
 use Rattle.laws_verdicts.specs.Good.{IsGood}
-use Rattle.vat_journal.specs.declared.entry.JournalEntry.TheVariants as entry
+use Rattle.rpc_journal.specs.declared.entry.JournalEntry.TheVariants as entry
 use Rattle.vat_world.specs.World.{Seen}
 use Rattle.vat_world.proofs.Reaching.{good, headed}
 use Rattle.vat_world.proofs.world.World.passes_the_check.Goals as goal

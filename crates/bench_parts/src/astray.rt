@@ -1,0 +1,30 @@
+//! Why a measurement is given up.
+
+use rpc_machine::Refusal;
+use rpc_msg::Memory;
+use thiserror::Error;
+
+/// A step did not do what is measured.
+#[derive(Clone, Copy, Debug, PartialEq, Eq, Drop, Error)]
+pub enum Astray {
+    #[error("out of memory")]
+    Memory,
+    #[error("a command was refused: {0}")]
+    Refused(Refusal),
+    #[error("a vat went down: {0}")]
+    Down(u16),
+    #[error("a step did something else")]
+    Otherwise,
+}
+
+impl From<Memory> for Astray {
+    fn from(_refused: Memory) -> Astray {
+        Astray::Memory
+    }
+}
+
+impl From<Refusal> for Astray {
+    fn from(refusal: Refusal) -> Astray {
+        Astray::Refused(refusal)
+    }
+}

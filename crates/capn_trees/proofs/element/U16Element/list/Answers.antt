@@ -1,0 +1,8 @@
+use Rattle.std.proofs.Common.{sym, ap, ◌∙◌}
+use Rattle.std.proofs.lemmas.List.{map-id}
+use Rattle.capn_trees.specs.Trees.{packed}
+use Rattle.capn_trees.proofs.Viewed.{view_twos}
+use Rattle.capn_trees.proofs.element.U16Element.list.Goals as goal
+
+pub returns : goal.returns
+returns c = view_twos c.args.elements ∙ ap (packed 16) (sym (map-id c.args.elements.items))

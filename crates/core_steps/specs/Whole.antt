@@ -1,0 +1,55 @@
+-- Whole steps: a vat between them, and what a command answers.
+use Rattle.std.specs.Prelude.{◌≡◌, ℕ, true, None, Some, Result, Ok, Err, []}
+use Rattle.rpc_machine.specs.declared.command.Command.{Command}
+use Rattle.rpc_machine.specs.declared.command.Granted.{Granted}
+use Rattle.rpc_machine.specs.declared.command.Refusal.{Refusal}
+use Rattle.rpc_machine.specs.declared.command.Refusal.TheVariants as refusal
+use Rattle.rpc_msg.specs.declared.message.Message.{Message}
+use Rattle.rpc_machine.specs.declared.command.Effects.{Effects}
+use Rattle.rpc_machine.specs.State.{State, start}
+use Rattle.rpc_machine.specs.Progress.{Progress, begin, quiet}
+use Rattle.rpc_machine.specs.Commands.{Acts}
+use Rattle.rpc_machine.specs.Messages.{Takes}
+use Rattle.rpc_machine.specs.Settling.{Drains}
+use Rattle.rpc_machine.specs.Steps.{Obeys}
+use Rattle.core_store.specs.Holding.{state_of, IsSound}
+use Rattle.core_step.specs.InProgress.{IsIdle}
+use Rattle.core_steps.specs.declared.machine.Machine.{Machine}
+use Rattle.core_steps.specs.declared.machine.Named.{Named}
+
+-- A vat that is up: no step is in progress, no call is taken out to be routed, and the memory of an Abort is there.
+pub record IsUp (x : Machine) : Type 0 where
+  pub idle : IsIdle x.step
+  pub none_taken : x.step.store.waits.taken ≡ []
+  pub can_abort : x.spare.can_abort ≡ true
+
+-- A vat between its steps.
+pub record IsResting (x : Machine) : Type 0 where
+  pub sound : IsSound x.step.store
+  pub up : x.step.store.down ≡ None → IsUp x
+
+-- Nothing is left but its names, and the number with which it went down.
+abbrev pub fallen_as : Named → ℕ → State
+fallen_as x n = record (start x.vat x.level x.bootstrap) { down = Some n }
+
+-- What a command answers, where it isn't refused: what it gives, or that it is refused for want of memory.
+abbrev pub given : {A E : Type 0} → (A → Granted) → Result A E → Result Granted Refusal
+given granted_by (Ok x) = Ok (granted_by x)
+given granted_by (Err e) = Err refusal.Memory
+
+-- What it says: nothing where it is refused.
+abbrev pub said : {A E : Type 0} → (A → Effects) → Result A E → Effects
+said effects_by (Ok x) = effects_by x
+said effects_by (Err e) = quiet
+
+-- A command that is not refused is done, or is refused for want of memory, and does nothing then.
+abbrev pub Tries : {A E : Type 0} → Machine → Command → (A → Granted) → (A → Effects) → Result A E → Machine → Type 0
+Tries old c granted_by effects_by result new = Obeys (state_of old.step.store) c (given granted_by result) (said effects_by result) (state_of new.step.store)
+
+-- The first act of a command is done, and what arose is settled.
+abbrev pub WasDone : State → Command → Granted → Progress → Type 0
+WasDone s c g now = (acted : Progress) × Acts (begin s) c g acted × Drains now acted
+
+-- A message is taken, and what arose is settled.
+abbrev pub WasTaken : State → Message → Progress → Type 0
+WasTaken s m now = (taken : Progress) × Takes (begin s) m taken × Drains now taken

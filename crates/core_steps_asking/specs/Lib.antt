@@ -1,0 +1,3 @@
+pub mod Calling
+pub use Rattle.core_steps.specs.Whole
+pub use Rattle.core_steps.specs.declared.machine.Machine

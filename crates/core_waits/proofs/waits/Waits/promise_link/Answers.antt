@@ -1,0 +1,12 @@
+use Rattle.std.proofs.Common.{sym, ap, ◌∙◌}
+use Rattle.core_waits.specs.Links.{to_of}
+use Rattle.core_waits.proofs.Seen.{link_seen}
+use Rattle.core_waits.proofs.waits.Waits.promise_link.Goals as goal
+
+pub returns-in_err-get : goal.returns-in_err-get
+returns-in_err-get c =
+    rw (← c.self.view_is) (c.from_residual.ensures ∙ ap to_of c.in_err-get.ensures ∙ sym (link_seen c.self.inside.pool.lists c.self.inside.promises.entries c.args.key))
+
+pub returns : goal.returns
+returns c =
+    rw (← c.self.view_is) (ap to_of c.in_ok-get.ensures ∙ sym (link_seen c.self.inside.pool.lists c.self.inside.promises.entries c.args.key))

@@ -1,9 +1,0 @@
-use Rattle.std.proofs.Common.{length}
-use Rattle.dump_lines.specs.Conversations.{Said, IsLines, digits_line}
-use Rattle.dump_lines.proofs.hexadecimal.say_lines.Given as goal
-
-abbrev pub invariant-lines : goal.invariant-lines
-invariant-lines g l = Said (IsLines l.input) (digits_line l.payloads) l.rest l.number (g.W.Write.contents l.fn.out) (g.W.Write.contents l.out)
-
-abbrev pub decreases-lines : goal.decreases-lines
-decreases-lines g l = length l.rest

@@ -1,0 +1,38 @@
+ghost use Rattle.std.specs.Prelude.{◌≡◌, ℕ, Option, Some, IfErr};
+
+use rpc_machine::{Command, Effects, Granted, Refusal};
+
+/// One end of a pair, as its worker uses it. No call waits.
+pub trait PairEnd: Drop {
+    /// The second is the first, later.
+    ghost same: { Self → Self → Type 0 };
+
+    /// The number with which its vat is down.
+    ghost down_by: { Self → Option ℕ };
+
+    /// The number with which its vat is down, where it is down.
+    fn down(&self) -> Option<u16>
+        ensures { result ≡ down_by self.now };
+
+    /// Has the vat obey a command: what it grants and what followed, or why it is refused.
+    fn command(&mut self, command: Command) -> Result<(Granted, Effects), Refusal>
+        ensures { same self.old self.new };
+
+    /// Takes a frame, where there is one: what came of it, or the number with which the vat is down then.
+    fn turn(&mut self) -> Result<Option<Effects>, u16>
+        ensures end { same self.old self.new }
+        ensures down { IfErr result (λ number. down_by self.new ≡ Some number) };
+
+    /// Sends frames that wait, while there is room for them.
+    fn flush(&mut self)
+        ensures end { same self.old self.new }
+        ensures down { down_by self.new ≡ down_by self.old };
+
+    /// Takes back the memory of effects that were looked at.
+    fn recycle(&mut self, effects: Effects)
+        ensures { self.new ≡ self.old };
+
+    ghost same_self: { (x : Self) → same x x };
+
+    ghost same_through: { (x y z : Self) → same x y → same y z → same x z };
+}

@@ -1,6 +1,0 @@
-use Rattle.log_weave.specs.Machine.{side}
-use Rattle.log_weave.proofs.Views as views
-use Rattle.log_weave.proofs.laws.merge_of_views.Goals as goal
-
-pub returns : goal.returns
-returns g c = views.merge_of_views g.row.P.Denot g.row.Q.Denot (side g.A.Steps.step) (side g.B.Steps.step)

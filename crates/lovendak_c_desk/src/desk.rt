@@ -1,0 +1,119 @@
+//! A connection with what was taken out of it and not handed on.
+ghost use Rattle.std.specs.Prelude.{◌≡◌, IfOk, IfErr, MatchOption};
+ghost use Rattle.vat_connection.specs.Connecting.{Finishes, Receives};
+ghost use Rattle.lovendak_c_desk.specs.Desks.{Awaits, HandsOut, IsNotMade, Looks, Says, idle, with_connection};
+ghost use Rattle.lovendak_c_desk.specs.Given.{level_at};
+
+use crate::given::level_of;
+use crate::not_done::NotDone;
+use crate::waiting::Waiting;
+use std::alloc::Global;
+use vat_connection::{Connection, Event, Level, Memory, ObjectId, Vat};
+
+/// Which of the two vats it is says nothing over bytes.
+const VAT: Vat = Vat::A;
+
+/// A connection, with the bytes that are to be sent and were not taken, and the oldest event, where it was looked at and not
+/// taken. What is done to the connection itself changes neither.
+pub struct Desk {
+    pub connection: Connection,
+    pub waiting: Waiting,
+    pub event: Option<Event>,
+}
+
+// By hand, as that of a core.
+impl Drop for Desk {
+    fn drop(self) {
+        let Desk {
+            connection: _,
+            waiting: _,
+            event: _,
+        } = self;
+    }
+}
+
+impl Desk {
+    /// A new vat in a box, of the level of that number and with that bootstrap object if it has one. `NoSuchNumber` where the level is
+    /// neither 0 nor 1, `Memory`.
+    pub fn boxed(
+        alloc: Global,
+        level: u32,
+        bootstrap: Option<ObjectId>,
+    ) -> Result<Box<Desk>, NotDone>
+        ensures made { IfOk result (λ made. MatchOption (level_at level) ⊥ (λ known. made.value ≡ idle known bootstrap)) }
+        ensures refused { IfErr result (λ why. IsNotMade (level_at level) why) }
+    {
+        let level = level_of(level)?;
+        let desk = Desk::new(alloc, level, bootstrap)?;
+        match Box::new(alloc, desk) {
+            Ok(boxed) => Ok(boxed),
+            Err(_refused) => Err(NotDone::from(Memory)),
+        }
+    }
+
+    /// A new vat, of that level and with that bootstrap object if it has one, of whose stream nothing has come. `Memory` where
+    /// the memory of its Abort was refused.
+    pub fn new(alloc: Global, level: Level, bootstrap: Option<ObjectId>) -> Result<Desk, Memory>
+        ensures { IfOk result (λ desk. desk ≡ idle level bootstrap) }
+    {
+        let connection = Connection::new(alloc, VAT, level, bootstrap)?;
+        Ok(Desk {
+            connection,
+            waiting: Waiting::new(Vec::new(alloc)),
+            event: None,
+        })
+    }
+
+    /// Where no bytes wait, what the vat has said by now becomes bytes, as `Connection::outgoing` hands them out, and they wait.
+    pub fn say(&mut self)
+        ensures { Says self.old self.new }
+    {
+        if !self.waiting.is_empty() {
+            return;
+        }
+        self.waiting = Waiting::new(self.connection.outgoing());
+    }
+
+    /// Where no event was looked at, the oldest is, if there is one: it is that which `Connection::next_event` tells.
+    pub fn look(&mut self)
+        ensures { Looks self.old self.new }
+    {
+        if self.event.is_some() {
+            return;
+        }
+        self.event = self.connection.next_event();
+    }
+    /// Takes bytes of the peer, in any pieces, as `Connection::received` does.
+    pub fn received(&mut self, bytes: &[u8])
+        ensures receives { Receives self.old.connection bytes.now self.new.connection }
+        ensures rest { self.new ≡ with_connection self.old self.new.connection }
+    {
+        self.connection.received(bytes);
+    }
+
+    /// The peer's stream has ended.
+    pub fn ended(&mut self)
+        ensures finishes { Finishes self.old.connection self.new.connection }
+        ensures rest { self.new ≡ with_connection self.old self.new.connection }
+    {
+        self.connection.ended();
+    }
+
+    /// Hands out bytes that are to be sent, once, as many as wait and there is room for, and gives how many: none only where none
+    /// are to be sent, or there is no room.
+    pub fn outgoing(&mut self, out: &mut [u8]) -> usize
+        ensures { HandsOut self.old out.old result out.new self.new }
+    {
+        self.say();
+        self.waiting.take(out)
+    }
+
+    /// How many bytes wait to be sent, none only where none are to be; and whether there is an event.
+    pub fn pending(&mut self) -> (usize, bool)
+        ensures { Awaits self.old result.0 result.1 self.new }
+    {
+        self.say();
+        self.look();
+        (self.waiting.len(), self.event.is_some())
+    }
+}

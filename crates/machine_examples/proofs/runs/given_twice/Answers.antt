@@ -1,5 +1,0 @@
-use Rattle.machine_examples.proofs.GivenTwice.{is_given_twice}
-use Rattle.machine_examples.proofs.runs.given_twice.Goals as goal
-
-pub returns : goal.returns
-returns c = is_given_twice

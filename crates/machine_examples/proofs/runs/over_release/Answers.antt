@@ -1,5 +1,0 @@
-use Rattle.machine_examples.proofs.OverRelease.{over_release}
-use Rattle.machine_examples.proofs.runs.over_release.Goals as goal
-
-pub returns : goal.returns
-returns c = over_release

@@ -1,5 +1,0 @@
-use Rattle.machine_examples.proofs.Relayed.{relayed}
-use Rattle.machine_examples.proofs.runs.relayed_back.Goals as goal
-
-pub returns : goal.returns
-returns c = relayed

@@ -1,5 +1,0 @@
-use Rattle.machine_examples.proofs.Across.{resolves_across}
-use Rattle.machine_examples.proofs.runs.resolved_across.Goals as goal
-
-pub returns : goal.returns
-returns c = resolves_across

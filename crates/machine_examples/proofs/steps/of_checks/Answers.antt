@@ -1,5 +1,0 @@
-use Rattle.machine_examples.proofs.CheckedMessages.{of_checks}
-use Rattle.machine_examples.proofs.steps.of_checks.Goals as goal
-
-pub returns : goal.returns
-returns c = of_checks

@@ -1,5 +1,0 @@
-use Rattle.machine_examples.proofs.SingleSteps.{of_commands}
-use Rattle.machine_examples.proofs.steps.of_commands.Goals as goal
-
-pub returns : goal.returns
-returns c = of_commands

@@ -1,5 +1,0 @@
-use Rattle.machine_examples.proofs.ReceivedSteps.{of_messages}
-use Rattle.machine_examples.proofs.steps.of_messages.Goals as goal
-
-pub returns : goal.returns
-returns c = of_messages

@@ -1,9 +1,0 @@
-use Rattle.std.proofs.Common.{◌≡◌, take, length}
-use Rattle.rpc_adapter.proofs.paths.with_field.Given as goal
-
--- the first steps are there
-abbrev pub invariant-loop-index : goal.invariant-loop-index
-invariant-loop-index l = record {
-  same : take l.index l.ops ≡ take l.index l.taken;
-  whole : length l.ops ≡ 16;
-}

@@ -1,6 +1,0 @@
-use Rattle.std.proofs.Common.{◌∙◌}
-use Rattle.finite_maps.proofs.Trees.{seen-get}
-use Rattle.rpc_adapter.proofs.tails.Tails.get.Goals as goal
-
-pub returns : goal.returns
-returns c = c.get.ensures.value ∙ seen-get c.self.inside.by_id _ c.self.view_is c.args.id.0

@@ -1,5 +1,0 @@
-use Rattle.rpc_bytes.proofs.KeptBack.{kept_back}
-use Rattle.rpc_bytes.proofs.laws.kept_reads_back.Goals as goal
-
-pub returns : goal.returns
-returns c = kept_back

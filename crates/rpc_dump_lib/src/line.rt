@@ -1,0 +1,29 @@
+//! The line of a message.
+ghost use Rattle.std.specs.Prelude.{◌≡◌, IfOk, string_bytes};
+ghost use Rattle.serde_json.specs.Written.{compact_text};
+ghost use Rattle.rpc_codec.specs.Envelopes.{seen_envelope};
+ghost use Rattle.rpc_dump_lib.specs.Lines.{fault_data, line_text};
+
+use crate::write::write_envelope;
+use rpc_codec::Envelope;
+use std::alloc::{AllocError, Global};
+use trace_write::write_number;
+
+/// The line of what a frame says, without a newline, as traces have messages; with `trees` each payload has its tree, too.
+/// It fails only where memory is refused.
+pub fn line_of(alloc: Global, envelope: &Envelope, trees: bool) -> Result<String, AllocError>
+    ensures { IfOk result (λ line. string_bytes line ≡ line_text trees (seen_envelope envelope.now)) }
+{
+    let value = write_envelope(alloc, envelope, trees)?;
+    let line = value.to_string(alloc)?;
+    Ok(line)
+}
+
+/// The line of a frame that says nothing, with the number of its fault.
+pub fn fault_line(alloc: Global, fault: u32) -> Result<String, AllocError>
+    ensures { IfOk result (λ line. string_bytes line ≡ compact_text (fault_data fault)) }
+{
+    let value = write_number(alloc, "fault", fault)?;
+    let line = value.to_string(alloc)?;
+    Ok(line)
+}

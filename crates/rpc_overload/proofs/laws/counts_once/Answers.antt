@@ -1,6 +1,0 @@
-use Rattle.std.proofs.Common.{refl}
-use Rattle.rpc_overload.proofs.Counting.{came}
-use Rattle.rpc_overload.proofs.laws.counts_once.Goals as goal
-
-pub returns : goal.returns
-returns c = record { came = λ s is_full w e. came s e is_full w; refused = λ q. refl }

@@ -1,5 +1,0 @@
-use Rattle.rpc_overload.proofs.Aside.{heard}
-use Rattle.rpc_overload.proofs.laws.stands_aside.Goals as goal
-
-pub returns : goal.returns
-returns c = heard

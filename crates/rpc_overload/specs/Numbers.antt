@@ -1,8 +1,0 @@
--- The numbers of the faults (docs/messages.md): that of a question in use is a vat's own.
-use Rattle.std.specs.Prelude.{ℕ}
-use Rattle.rpc_overload.specs.declared.errors.OverloadFault.{OverloadFault}
-use Rattle.rpc_overload.specs.declared.errors.OverloadFault.TheVariants as fault
-
-abbrev pub number_of : OverloadFault → ℕ
-number_of fault.QuestionInUse = 20
-number_of fault.TooManyRefused = 68

@@ -1,3 +1,0 @@
-pub mod Calling
-pub use Rattle.step_ends.specs.Whole
-pub use Rattle.step_ends.specs.declared.machine.Machine

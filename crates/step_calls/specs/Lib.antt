@@ -1,5 +1,0 @@
-pub mod Ways
-pub mod AtOnce
-pub mod Straight
-pub use Rattle.step_routes.specs.Prepared
-pub use Rattle.step_routes.specs.Fitting

@@ -1,5 +1,0 @@
-use Rattle.step_checks.proofs.CallParts.{calls_are_refused}
-use Rattle.step_checks.proofs.laws.calls_are_refused.Goals as goal
-
-pub returns : goal.returns
-returns c = calls_are_refused

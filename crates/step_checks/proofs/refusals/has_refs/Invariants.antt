@@ -1,8 +1,0 @@
-use Rattle.std.proofs.Common.{◌≡◌, drop}
-use Rattle.std.specs.List.{list_all}
-use Rattle.vat_machine.specs.Refusals.{is_known_ref}
-use Rattle.vat_store.specs.Holding.{state_of}
-use Rattle.step_checks.proofs.refusals.has_refs.Given as goal
-
-abbrev pub invariant-loop-id : goal.invariant-loop-id
-invariant-loop-id l = list_all (is_known_ref (state_of l.store)) (drop l.id-index l.ids) ≡ list_all (is_known_ref (state_of l.store)) l.ids

@@ -1,6 +1,0 @@
-use Rattle.std.proofs.Common.{◌≡◌, length, take}
-use Rattle.vat_machine.specs.Progress.{numbers}
-use Rattle.step_collects.proofs.flags.copy_ids.Given as goal
-
-abbrev pub invariant-loop-at : goal.invariant-loop-at
-invariant-loop-at l = (length l.copied ≡ length l.fn.copied) × (take l.at l.copied ≡ numbers (take l.at l.ids))

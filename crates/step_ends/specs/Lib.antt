@@ -1,4 +1,0 @@
-pub mod Aborts
-pub mod Undoing
-pub mod Whole
-pub use Rattle.step_sweeps.specs.Thinking

@@ -1,8 +1,0 @@
-use Rattle.std.proofs.Common.{ℕ, ap, ◌∙◌}
-use Rattle.std.specs.Ordering.{nat_cmp}
-use Rattle.std.specs.FinMap as map
-use Rattle.finite_maps.specs.Tally.{Map}
-use Rattle.step_sweeps.proofs.tally.Tally.new.Goals as goal
-
-pub invariant_of-result : goal.invariant_of-result
-invariant_of-result c = λ k none. ap (λ (m : Map ℕ). map.get m k) c.new.ensures ∙ map.get-empty nat_cmp k

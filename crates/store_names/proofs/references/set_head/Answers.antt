@@ -1,7 +1,0 @@
-use Rattle.std.proofs.Common.{refl}
-use Rattle.store_names.proofs.Numbered.{sound_led}
-use Rattle.store_names.proofs.references.set_head.Goals as goal
-
-pub returns-clause-sound : goal.returns-clause-sound
-returns-clause-sound c =
-    sound_led c.args.store.now c.args.id.0 c.in-Some.reference.now (record (c.in-Some.reference.now) { head = c.args.node }) c.add.new.self c.sub.new.self c.requires.sound c.requires.slack c.in-Some.ensures.value refl c.in-Ok.ensures.ok c.sub.ensures

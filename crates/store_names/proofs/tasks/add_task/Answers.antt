@@ -1,6 +1,0 @@
-use Rattle.store_names.proofs.Numbered.{sound_task}
-use Rattle.store_names.proofs.tasks.add_task.Goals as goal
-
-pub returns-clause-sound : goal.returns-clause-sound
-returns-clause-sound c =
-    sound_task c.args.store.now c.add.new.self c.args.outcome c.requires.sound c.requires.slack c.requires.number c.in-Ok.ensures.ok c.add.ensures.room

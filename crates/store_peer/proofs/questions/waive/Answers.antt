@@ -1,7 +1,0 @@
-use Rattle.std.proofs.Common.{sym}
-use Rattle.store_peer.proofs.Asking.{sound_waived}
-use Rattle.store_peer.proofs.questions.waive.Goals as goal
-
-pub returns-clause-sound : goal.returns-clause-sound
-returns-clause-sound c =
-    sound_waived c.args.store.now c.args.q.0 c.in-Some.question.now c.without_finish-question.result c.requires (sym c.in-Some.ensures.value) c.without_finish-question.ensures

@@ -1,0 +1,80 @@
+//! Want of memory: to be run with each allocation refused, by `rt try --test --fail-alloc`.
+use crate::tests::traces::PROMISE;
+use rpc_check::Verdict;
+use std::alloc::Global;
+use std::process::Abort;
+use trace_chart_lib::{Options, draw_trace};
+use vat_trace_lib::{Failure, ScriptFault, play, trace_of_script};
+
+/// Calls wait for a promise, and for an embargo.
+const EMBARGO: &[u8] =
+    b"a bootstrap boot\na field root boot -\na host mine 5\na call give root 7 1 mine\ndeliver b\ndeliver b\nb take f 0 0\nb promise p x\nb answer 0 x\ndeliver a\ndeliver a\na got r give 0\na finish give\ndeliver b\na call one r 7 2 -\na call two r 7 3 -\ndeliver b\ndeliver b\nb resolve p f\na call three r 7 4 -\ndeliver a\ndeliver a\ndeliver a\na advance r\na call four r 7 5 -\na call five r 7 6 -\ndeliver b\ndeliver b\ndeliver b\ndeliver a\ndeliver a\n";
+
+/// A growth that is refused, in a vat too, is want of memory.
+#[test]
+fn a_refused_growth_is_told(rt: HostRuntime) {
+    match trace_of_script(rt.alloc(), EMBARGO) {
+        Ok(trace) => assert!(rt; matches!(trace.verdict, Verdict::Good(_))),
+        Err(fault) => assert!(rt; matches!(fault, ScriptFault::Memory)),
+    }
+}
+
+/// A trace with lists, paths and a payload.
+const SENT: &[u8] =
+    b"{\"k\":\"head\",\"version\":2}\n{\"k\":\"sent\",\"message\":{\"call\":{\"caps\":[\"none\",{\"receiverAnswer\":{\"path\":[1,null],\"question\":6}}],\"interface\":7,\"method\":1,\"payload\":{\"bytes\":\"AAAAAAEAAAAAAAAAAAAAAA==\",\"caps\":0},\"question\":1,\"stamp\":{\"index\":0,\"ref\":0,\"vat\":\"a\"},\"target\":{\"answer\":{\"path\":[],\"question\":0}}}},\"vat\":\"a\"}\n";
+
+/// The word, and what it writes of that trace.
+const WRITTEN: [(&str, &[u8]); 3] = [
+    ("check", b"ok: 0 delivered\n"),
+    ("show", b""),
+    ("upgrade", SENT),
+];
+
+fn write(alloc: Global, word: &str, out: &mut Vec<u8>) -> Option<Failure> {
+    let mut reader = SENT;
+    play(alloc, word, &mut reader, out).err()
+}
+
+/// Where a growth is refused, as a line is read or written or in the output, that is told and nothing is written; all is
+/// at the next try.
+fn is_written_at_last(rt: &impl Abort, alloc: Global, word: &str, wanted: &[u8]) {
+    let mut out = Vec::new(alloc);
+    if let Some(failure) = write(alloc, word, &mut out) {
+        assert!(rt;
+            matches!(failure, Failure::Memory | Failure::Unwritten),
+            "{word}"
+        );
+        assert!(rt; out.is_empty(), "{word}");
+        assert!(rt; write(alloc, word, &mut out).is_none(), "{word}");
+    }
+    assert!(rt; out.as_slice() == wanted, "{word}");
+}
+
+#[test]
+fn a_refused_growth_is_told_of_a_trace(rt: HostRuntime) {
+    for (word, wanted) in WRITTEN {
+        is_written_at_last(&rt, rt.alloc(), word, wanted);
+    }
+}
+
+fn draw(alloc: Global, out: &mut Vec<u8>) -> Option<trace_chart_lib::Failure> {
+    let mut reader = PROMISE.as_bytes();
+    draw_trace(alloc, Options::new(), &mut reader, out).err()
+}
+
+/// Where a growth is refused while a trace is drawn, nothing is written; all is at the next try.
+#[test]
+fn a_refused_growth_is_told_of_a_picture(rt: HostRuntime) {
+    let mut out = Vec::new(rt.alloc());
+    if let Some(failure) = draw(rt.alloc(), &mut out) {
+        assert!(rt;
+            matches!(
+                failure,
+                trace_chart_lib::Failure::Memory | trace_chart_lib::Failure::Unwritten
+            )
+        );
+        assert!(rt; out.is_empty());
+        assert!(rt; draw(rt.alloc(), &mut out).is_none());
+    }
+    assert!(rt; out.ends_with(b"</svg>\n"));
+}

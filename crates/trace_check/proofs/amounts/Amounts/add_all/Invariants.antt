@@ -1,7 +1,0 @@
-use Rattle.std.proofs.Common.{ℕ, ◌≡◌, ◌+◌, take}
-use Rattle.trace_check.specs.Counts.{count_of}
-use Rattle.trace_check.specs.Kept.{amount}
-use Rattle.trace_check.proofs.amounts.Amounts.add_all.Given as goal
-
-abbrev pub invariant-loop-id : goal.invariant-loop-id
-invariant-loop-id l = (e : ℕ) → amount l.self e ≡ amount l.fn.self e + count_of e (take l.id-index l.counts)

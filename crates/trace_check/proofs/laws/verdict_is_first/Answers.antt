@@ -1,5 +1,0 @@
-use Rattle.trace_check.proofs.First.{verdict_first}
-use Rattle.trace_check.proofs.laws.verdict_is_first.Goals as goal
-
-pub returns : goal.returns
-returns c = verdict_first

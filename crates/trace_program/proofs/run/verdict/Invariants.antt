@@ -1,7 +1,0 @@
-use Rattle.std.proofs.Common.{◌∷◌, take}
-use Rattle.vat_journal.specs.declared.entry.JournalEntry.TheVariants as entry
-use Rattle.trace_check.specs.Kept.{HasTaken}
-use Rattle.trace_program.proofs.run.verdict.Given as goal
-
-abbrev pub invariant-loop-entry : goal.invariant-loop-entry
-invariant-loop-entry l = HasTaken l.checker (entry.Head ∷ take l.entry-index l.journal)

@@ -1,6 +1,0 @@
-use Rattle.vat_machine.proofs.StepCounts.{command_counts}
-use Rattle.vat_machine.proofs.MessageCounts.{message_counts}
-use Rattle.vat_machine.proofs.laws.sends_raise_counts.Goals as goal
-
-pub returns : goal.returns
-returns c = record { commands = command_counts; messages = message_counts }

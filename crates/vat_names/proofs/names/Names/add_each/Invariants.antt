@@ -1,9 +1,0 @@
-use Rattle.std.proofs.Common.{◌≡◌, ◌-◌, take, length}
-use Rattle.vat_names.specs.Names.{named_all, all_roomier, HasRoom}
-use Rattle.vat_names.proofs.names.Names.add_each.Given as goal
-
-abbrev pub invariant-loop-node : goal.invariant-loop-node
-invariant-loop-node l = record {
-  named : l.self ≡ named_all (all_roomier (length l.nodes) l.fn.self) (take l.node-index l.nodes);
-  room : HasRoom (length l.nodes - l.node-index) l.self;
-}

@@ -1,8 +1,0 @@
-use Rattle.std.proofs.Common.{◌≡◌, drop}
-use Rattle.vat_script.specs.Bindings.{references_at}
-use Rattle.vat_script.proofs.Going.{refs_behind}
-use Rattle.vat_script.proofs.names.VatNames.references_at.Given as goal
-
--- the references so far, and those of the names that are left, are all references
-abbrev pub invariant-loop-name : goal.invariant-loop-name
-invariant-loop-name l = refs_behind l.refs (references_at l.self (drop l.name-index l.names)) ≡ references_at l.self l.names

@@ -1,8 +1,0 @@
-use Rattle.std.proofs.Common.{◌≡◌, drop, map}
-use Rattle.vat_script.specs.Words.{each_of, field_number}
-use Rattle.vat_script.proofs.Each.{after}
-use Rattle.vat_script.proofs.words.read_fields.Given as goal
-
--- the fields so far, and those of the parts that are left, are all fields
-abbrev pub invariant-loop-part : goal.invariant-loop-part
-invariant-loop-part l = after l.path (each_of field_number (map (λ part. part.now) (drop l.part-index l.parts))) ≡ each_of field_number (map (λ part. part.now) l.parts)

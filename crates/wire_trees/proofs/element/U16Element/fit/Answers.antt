@@ -1,6 +1,0 @@
-use Rattle.std.proofs.Common.{ℕ, ◌^◌, ◌<◌, List, slice_index_or, sym, subst, arith}
-use Rattle.std.proofs.lemmas.List.{map-id}
-use Rattle.wire_trees.proofs.element.U16Element.fit.Goals as goal
-
-pub returns : goal.returns
-returns c = λ i. subst (λ (xs : List ℕ). slice_index_or xs i 0 < 2 ^ 16) (sym (map-id c.args._elements.now)) (omega (arith, c.type_inv._elements i))

@@ -1,6 +1,0 @@
-use Rattle.std.proofs.Common.{ap, ◌∙◌}
-use Rattle.wire_trees.specs.Measuring.{together}
-use Rattle.wire_trees.proofs.measure.Measure.and_packed.Goals as goal
-
-pub returns : goal.returns
-returns c = λ caps xs counted. c.and.ensures ∙ ap (together c.args.self) (c.packed_measure.ensures caps xs counted)
