@@ -2,7 +2,7 @@
  *
  * An application hands over the bytes that came from the peer (`lovendak_received`), serves what it is told
  * (`lovendak_next_event`), commands its vat, and sends the bytes that go out (`lovendak_outgoing`). What references, calls, tasks
- * and promises are, and what has to be given back, stands in docs/embedding.md.
+ * and promises are, and what has to be given back, stands in docs/embedding.md; docs/numbers.md says of each number what to do.
  *
  * Each function but `lovendak_version` answers a code. What a pointer is to get is written where the code is LOVENDAK_OK, and else
  * only where that is said. A command that is refused changes nothing. Of several codes EMPTY_HANDLE comes first.
