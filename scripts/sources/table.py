@@ -27,5 +27,6 @@ def draw():
     parts = []
     for group in crates.read()[0]:
         rows = "\n".join(f"| `{name}` | {first_sentence(name)} |" for name in group.crates)
-        parts.append(f"### {group.words}: {group.about}\n\n| Crate | What it has |\n|---|---|\n{rows}\n")
+        title = f"{group.words}: {group.about}" if group.about else group.words
+        parts.append(f"### {title}\n\n| Crate | What it has |\n|---|---|\n{rows}\n")
     return "\n".join(parts)
