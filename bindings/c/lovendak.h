@@ -109,7 +109,8 @@ uint32_t lovendak_pending(lovendak *vat, size_t *bytes, uint32_t *has_event);
 /* Takes the oldest event: calls to serve, then own calls that ended; of a vat that is down then each own call that is open, as one that
  * failed with LOVENDAK_DISCONNECTED, and once that the vat is down. Its payload (framed segments, as Cap'n Proto writes a message) and
  * its references are copied into the rooms given. NOTHING where there is none; ROOM where one of the rooms is too small: the event is
- * filled in, and stays. Ask until there is none, send what goes out, and ask once more, since what can't be sent takes the vat down. */
+ * filled in, and stays. Ask until there is none, and then send what goes out: in this order no event is missed. After bytes were sent
+ * first, ask again, since what can't be sent takes the vat down. */
 uint32_t lovendak_next_event(lovendak *vat, lovendak_event *event, uint8_t *payload, size_t room, uint64_t *refs, size_t refs_room);
 
 /* The number with which the vat went down; NOTHING while it is up. */

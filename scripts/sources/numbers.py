@@ -13,7 +13,9 @@ SECTIONS = [
         """A vat goes down once, with one number: `Down` of a connection or a host tells it, `lovendak_down` in C, and a `down` entry
 in a trace. The Abort that the vat sends says `fault N` (kind `failed`). An application that shuts its vat chooses the number itself;
 0 is usual, and is also the number if the peer's stream ends between two messages. Numbers 2 to 12 and 60 to 68 come only over bytes.
-After any of them the vat is of no more use: let it go, and connect again with a new one.""",
+After any of them the vat is of no more use: let it go, and connect again with a new one.
+If it is the peer's Abort that says `fault N`, your own vat went down with 34, and row N says what the peer found wrong with what it got
+from this side: read it with the roles exchanged.""",
         "Fault",
         ["capn_trees::PayloadFault", "rpc_machine::Fault", "rpc_codec_parts::EnvelopeFault", "peer_tail_calls::AdapterFault", "peer_overload::OverloadFault"],
         {
