@@ -30,22 +30,16 @@ def read():
 
 
 def below(edges):
-    """Of each node all that a way leads to."""
+    """Of each node all to which a way leads; itself too, if it is in a circle."""
     known = {}
-
-    def reach(node, path):
-        if node not in known:
-            found = set()
-            for it in edges[node]:
-                if it not in path:
-                    found |= {it} | reach(it, path | {it})
-            if path != {node}:
-                return found  # a circle may have cut it short
-            known[node] = found
-        return known[node]
-
     for node in edges:
-        reach(node, {node})
+        seen, left = set(), list(edges[node])
+        while left:
+            it = left.pop()
+            if it not in seen:
+                seen.add(it)
+                left += edges[it]
+        known[node] = seen
     return known
 
 
@@ -55,7 +49,7 @@ def direct(edges, all_below):
 
 
 def levels(edges):
-    """A node is one level above the highest that it depends on."""
+    """A node is one level above the highest that it depends on. There must be no circle."""
     known = {}
 
     def level(node):

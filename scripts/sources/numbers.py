@@ -19,7 +19,7 @@ from this side: read it with the roles exchanged.""",
         "Fault",
         ["capn_trees::PayloadFault", "rpc_machine::Fault", "rpc_codec_parts::EnvelopeFault", "peer_tail_calls::AdapterFault", "peer_overload::OverloadFault"],
         {
-            "PayloadFault::Memory": None,
+            "PayloadFault::Memory": None,  # a vat that lacks memory goes down with 33
             "PayloadFault::Short": "The peer's stream ended inside a message: it was cut off. Connect again.",
             "PayloadFault::TooManySegments": "Have the peer build messages with a larger first segment.",
             "PayloadFault::TooLarge": "Have the peer split what it sends over several calls: a message has at most 512 KiB.",
@@ -46,7 +46,6 @@ from this side: read it with the roles exchanged.""",
             "Fault::UnimplementedAnswer": "The peer doesn't know a message that every vat has to know. It can't be served.",
             "Fault::WantOfRoom": "Look at the limits ([protocol.md](protocol.md)): finish calls that have ended, drop references, answer tasks. If no table is near its limit, the process lacked memory.",
             "Fault::PeerAbort": "The Abort says why: `rpc_dump` prints its reason, if the conversation was captured.",
-            "EnvelopeFault::Encoding": None,
             "EnvelopeFault::WrongKind": BYTES,
             "EnvelopeFault::BadText": BYTES,
             "EnvelopeFault::TooManyDescriptors": "Have the peer send fewer capabilities in one message.",
@@ -167,10 +166,9 @@ def of_header(path):
 
 def rows(sources, advice):
     numbers = [it for source in sources for it in (of_enum(source) if "::" in source else of_header(source))]
-    unknown = {it.key for it in numbers} ^ advice.keys() - {it for it, what in advice.items() if what is None}
-    unknown -= {it for it, what in advice.items() if what is None}
-    if unknown:
-        raise SystemExit(f"numbers: what is to be done about {', '.join(sorted(unknown))}? (scripts/sources/numbers.py)")
+    unsaid = {it.key for it in numbers} ^ advice.keys()
+    if unsaid:
+        raise SystemExit(f"numbers: what is to be done about {', '.join(sorted(unsaid))}? (scripts/sources/numbers.py)")
     for it in sorted(numbers, key=lambda number: number.value):
         if advice[it.key]:
             name = it.key.split("::")[-1]
