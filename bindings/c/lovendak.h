@@ -49,7 +49,7 @@ enum {
   LOVENDAK_CAP_COUNT = 9,       /* the payload has another number of capabilities than references were given */
   LOVENDAK_LONG_PATH = 10,      /* a path has more than 16 steps */
   LOVENDAK_LEVEL = 11,          /* a vat of level 0 has no promises and sends no references */
-  LOVENDAK_EMPTY_HANDLE = 100,
+  LOVENDAK_EMPTY_HANDLE = 100,  /* the handle has no vat */
   LOVENDAK_IN_USE = 101,        /* the handle has a vat */
   LOVENDAK_NO_PAYLOAD = 102,    /* the bytes are no payload, or the text is no UTF-8 */
   LOVENDAK_ROOM = 103,          /* too little room: nothing was taken, and the lengths are said */

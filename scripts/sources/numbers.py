@@ -159,9 +159,9 @@ def of_enum(path):
 
 
 def of_header(path):
-    """The constants of the header from 100 on, and their comments; of one without, what its name says."""
-    found = re.findall(r"  LOVENDAK_(\w+) = (1\d\d),?(?: +/\* (.*?) \*/)?", (crates.ROOT / path).read_text())
-    return [Number(int(value), f"LOVENDAK_{name}", said[:1].upper() + said[1:] or "The handle has no vat") for name, value, said in found]
+    """The constants of the header from 100 on, and their comments."""
+    found = re.findall(r"  LOVENDAK_(\w+) = (1\d\d),? +/\* (.*?) \*/", (crates.ROOT / path).read_text())
+    return [Number(int(value), f"LOVENDAK_{name}", said[:1].upper() + said[1:]) for name, value, said in found]
 
 
 def rows(sources, advice):
