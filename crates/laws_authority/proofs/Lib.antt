@@ -1,0 +1,15 @@
+pub mod Covers
+pub mod Going
+pub mod Acting
+pub mod Settled
+pub mod Leaving
+pub mod First
+pub mod Roots
+pub mod Stepping
+pub mod Waiting
+pub mod Running
+pub mod Whose
+pub mod Targets
+pub mod Ending
+pub mod Once
+pub mod Tasks
