@@ -1,0 +1,17 @@
+mod Contents
+mod Settles
+mod Named
+mod Going
+mod Described
+mod Routed
+mod Untangled
+mod Collected
+mod Settled
+mod Swept
+mod Advanced
+mod Commanded
+mod Faulted
+mod Heard
+mod Refused
+mod Stepping
+mod Wiring
