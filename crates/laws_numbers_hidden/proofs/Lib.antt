@@ -1,0 +1,15 @@
+mod Settles
+mod Named
+mod Going
+mod Described
+mod Routed
+mod Untangled
+mod Collected
+mod Settled
+mod Swept
+mod Advanced
+mod Commanded
+mod Heard
+mod Faulted
+mod Refused
+mod Stepping
