@@ -1,9 +1,12 @@
 ghost use Rattle.std.specs.Prelude.{◌≡◌};
 ghost use Rattle.rpc_machine.specs.declared.command.Command.TheVariants as command;
 ghost use Rattle.rpc_machine.specs.Progress.{quiet};
-ghost use Rattle.vat_core.specs.Answers.{AnswersTo};
+ghost use Rattle.laws_authority.specs.Authority.{GivesNoMore};
+ghost use Rattle.vat_core.specs.Answers.{AnswersTo, effects_in};
+ghost use Rattle.vat_core.specs.Given.{ObeysGiven};
 
 use crate::vat::Core;
+use laws_authority::{authority_is_given, authority_is_kept};
 use rpc_machine::{Command, Effects, Granted, Refusal};
 use rpc_msg::Items;
 
@@ -18,7 +21,20 @@ pub enum Answer {
 impl Core {
     /// Takes a command of any kind, and answers what the call of its name does. A command that is refused, as the call of its
     /// name says, changes nothing and is handed back whole.
+    ///
+    /// The peer may reach what it could reach before and what the command gives, and calls of the peer are delivered to these
+    /// objects alone. In each run that leads here, they were given to the peer (docs/laws/authority.md).
     pub fn command(&mut self, command: Command) -> Answer
+        ensures answers { AnswersTo self.old command result self.new }
+        ensures authority { GivesNoMore self.old command (effects_in result) self.new }
+        ensures given { ObeysGiven self.old command result self.new }
+    {
+        authority_is_kept();
+        authority_is_given();
+        self.obey(command)
+    }
+
+    fn obey(&mut self, command: Command) -> Answer
         ensures { AnswersTo self.old command result self.new }
     {
         match command {

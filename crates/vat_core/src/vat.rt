@@ -2,11 +2,14 @@ ghost use Rattle.std.specs.Prelude.{◌≡◌, IfOk};
 ghost use Rattle.rpc_machine.specs.Down.{ShutsFrom};
 ghost use Rattle.rpc_machine.specs.State.{start};
 ghost use Rattle.rpc_machine.specs.Steps.{Receives};
+ghost use Rattle.laws_authority.specs.Authority.{TakesNothing};
+ghost use Rattle.vat_core.specs.Given.{HearsGiven};
 
 use core_outbox::Outbox;
 use core_steps_asking::ends;
 use core_steps_asking::ends::{Arisen, Machine, Step, Thought};
 use core_store::Store;
+use laws_authority::{authority_is_given, authority_is_kept};
 use rpc_machine::{Effects, Level};
 use rpc_msg::{Memory, Message, ObjectId, Vat};
 use std::alloc::Global;
@@ -90,9 +93,17 @@ impl Core {
 
     /// Takes a message of the other vat, and gives what follows. A vat that is down does nothing. A message that is a fault
     /// takes the vat down with the fault's number, and so does want of room or of memory (33), which an Abort never needs.
+    ///
+    /// Whatever the message is, calls of the peer are delivered to those objects alone that it could reach before, and the peer may
+    /// reach no more than before; a Bootstrap alone opens the bootstrap object. In each run that leads here, these objects were
+    /// given to the peer (docs/laws/authority.md).
     pub fn receive(&mut self, message: Message) -> Effects
-        ensures { Receives self.old message result self.new }
+        ensures steps { Receives self.old message result self.new }
+        ensures authority { TakesNothing self.old message result self.new }
+        ensures given { HearsGiven self.old message result self.new }
     {
+        authority_is_kept();
+        authority_is_given();
         ends::receive(&mut self.machine, message)
     }
 
