@@ -13,7 +13,8 @@ use std::marker::Model;
 
 /// A real vat as a side of a pair on threads: its core, and the journal entries of its steps. Contracts see it as those two.
 pub struct VatSide {
-    kept: Kept,
+    // On the heap, so that a side moves as a pointer: clang takes minutes for a `link` whose sides have 5,000 bytes.
+    kept: Box<Kept>,
 }
 
 // By hand, as that of a core.
@@ -31,9 +32,9 @@ impl Model for VatSide {
 
     ghost coded = { held_code };
 
-    ghost view = { λ a. held_of a.kept };
+    ghost view = { λ a. held_of a.kept.value };
 
-    ghost invariant = { λ a. IsReady a.kept };
+    ghost invariant = { λ a. IsReady a.kept.value };
 }
 
 impl VatSide {
@@ -45,8 +46,10 @@ impl VatSide {
         ensures side { IfOk result (λ side. side ≡ record { core = core; journal = [] }) }
         ensures back { IfErr result (λ back. back ≡ core) }
     {
-        let kept = Kept::new(alloc, core)?;
-        Ok(VatSide { kept })
+        match Box::new(alloc, Kept::new(alloc, core)?) {
+            Ok(kept) => Ok(VatSide { kept }),
+            Err(failed) => Err(failed.value.into_core()),
+        }
     }
 
     /// Its core.
@@ -54,7 +57,7 @@ impl VatSide {
         ensures { result ≡ self.core }
     {
         let VatSide { kept } = self;
-        kept.into_core()
+        Box::into_inner(kept).into_core()
     }
 
     /// The entries of its steps, the oldest first.

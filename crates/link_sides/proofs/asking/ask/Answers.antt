@@ -16,6 +16,6 @@ returns-in-Promise-clause-answers c = answers_known _ _ _ _ _ c.in-Promise.is c.
 
 pub returns-in_default : goal.returns-in_default
 returns-in_default c = record {
-  answers = c.command.ensures;
+  answers = c.command.ensures.answers;
   says = loud c.args.command _ c.in_default.not-Host c.in_default.not-CloneRef c.in_default.not-Field c.in_default.not-Promise;
 }

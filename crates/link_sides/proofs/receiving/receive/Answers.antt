@@ -7,13 +7,13 @@ use Rattle.link_sides.proofs.Stepping.{is_fall, queues_from, received_falling, r
 use Rattle.link_sides.proofs.receiving.receive.Goals as goal
 
 pub tell_fall-requires-clause-fall : goal.tell_fall-requires-clause-fall
-tell_fall-requires-clause-fall c = is_fall _ c.in-Some.number c.receive-effects.result (sym c.in-Some.ensures) (receives_fall _ _ _ _ c.requires.up c.receive-effects.ensures)
+tell_fall-requires-clause-fall c = is_fall _ c.in-Some.number c.receive-effects.result (sym c.in-Some.ensures) (receives_fall _ _ _ _ c.requires.up c.receive-effects.ensures.steps)
 
 pub returns-in-Some-clause-receives : goal.returns-in-Some-clause-receives
 returns-in-Some-clause-receives c =
     received_falling (held_of c.args.kept.now) c.vat-vat.result c.tell_fall.new.kept.journal.0 c.len.result c.len-start.result _ c.of.result c.receive-effects.result _ _
     (record { value = c.of.ensures; vat_is = c.vat-vat.ensures; entries = refl; len = c.len.ensures; start = c.len-start.ensures; queued = c.tell_fall.ensures.queued })
-    c.receive-effects.new.self c.recycle.new.self c.args.message c.args.room c.in-Some.number c.of-heard.result refl c.of-heard.ensures c.requires.up c.receive-effects.ensures
+    c.receive-effects.new.self c.recycle.new.self c.args.message c.args.room c.in-Some.number c.of-heard.result refl c.of-heard.ensures c.requires.up c.receive-effects.ensures.steps
     (c.recycle.ensures ∙ c.tell_fall.ensures.core) (sym c.in-Some.ensures)
     (c.tell_fall.ensures.journal ∙ ap (λ (l : List JournalEntry). l ++ effect_entries c.vat-vat.result c.receive-effects.result) c.push.ensures.entries)
 
@@ -28,7 +28,7 @@ returns-in-Ok-clause-receives c =
       start = c.len-start.ensures;
       queued = queues_from _ _ _ _ c.make_room.ensures.frames c.make_room.ensures.made c.make_room.ensures.heard c.tell_whole.ensures.queued;
     })
-    c.receive-effects.new.self c.tell_whole.new.kept.core c.args.message c.args.room c.of-heard.result refl c.of-heard.ensures c.requires.up c.receive-effects.ensures
+    c.receive-effects.new.self c.tell_whole.new.kept.core c.args.message c.args.room c.of-heard.result refl c.of-heard.ensures c.requires.up c.receive-effects.ensures.steps
     (c.tell_whole.ensures.core ∙ c.make_room.ensures.core) c.in-Ok.ensures.had_room c.tell_whole.ensures.free
     (c.tell_whole.ensures.journal ∙ ap (λ (l : List JournalEntry). l ++ effect_entries c.vat-vat.result c.receive-effects.result) (c.make_room.ensures.journal ∙ c.push.ensures.entries))
 
@@ -44,5 +44,5 @@ returns-clause-receives c =
       queued = queues_from _ _ _ _ c.make_room.ensures.frames c.make_room.ensures.made c.make_room.ensures.heard c.tell_fall-2.ensures.queued;
     })
     c.receive-effects.new.self c.recycle-2.new.self c.shut-fallen.new.self c.recycle-3.new.self c.args.message c.args.room c.receive-effects.result c.of-heard.result refl c.of-heard.ensures c.requires.up
-    c.receive-effects.ensures (sym c.in_default.ensures) (c.recycle-2.ensures ∙ c.make_room.ensures.core) c.shut-fallen.ensures (c.recycle-3.ensures ∙ c.tell_fall-2.ensures.core)
+    c.receive-effects.ensures.steps (sym c.in_default.ensures) (c.recycle-2.ensures ∙ c.make_room.ensures.core) c.shut-fallen.ensures (c.recycle-3.ensures ∙ c.tell_fall-2.ensures.core)
     (c.tell_fall-2.ensures.journal ∙ ap (λ (l : List JournalEntry). l ++ effect_entries c.vat-vat.result c.shut-fallen.result) (c.make_room.ensures.journal ∙ c.push.ensures.entries))
