@@ -5,8 +5,8 @@
 use anyhow::{Result, bail};
 use std::alloc::Global;
 use vat::{
-    CallCommand, CallId, Command, Delivery, Elements, Ended, Exception, ExceptionKind, Host, Items,
-    Level, ObjectId, Op, Outcome, Payload, Place, Pointers, RefId, TaskId, Text, Tree, Vat,
+    CallCommand, CallId, Command, Delivery, Elements, Ended, Event, Exception, ExceptionKind, Host,
+    Items, Level, ObjectId, Op, Outcome, Payload, Place, Pointers, RefId, TaskId, Text, Tree, Vat,
     contents, exchange, explain, reference_at,
 };
 
@@ -67,12 +67,12 @@ fn settle(rt: &HostRuntime, client: &mut Host, service: &mut Service) -> Result<
         if !exchange(client, &mut service.host, 9) {
             return Ok(());
         }
-        if let Some(task) = service.host.next_delivery() {
+        if let Some(Event::Served(task)) = service.host.next_event() {
             service.serve(rt.alloc(), &task)?;
         }
-        if let Some(ended) = client.next_ended() {
+        if let Some(Event::Ended(ended)) = client.next_event() {
             tell(rt, &ended)?;
-            client.command(Command::Finish(ended.call))?;
+            client.finish(ended.call)?;
             let_go(client, &ended.refs)?;
         }
     }
@@ -156,8 +156,7 @@ impl Service {
         if task.object.0 == 0 && task.method == MAKE {
             let counter = self.make(alloc, number, text)?;
             let (payload, refs) = contents(alloc, &[], "", &[counter])?;
-            self.host
-                .command(Command::Answer(task.task, payload, refs))?;
+            self.host.answer(task.task, payload, refs)?;
             let_go(&mut self.host, &[counter])?;
         } else {
             let command = self.count(alloc, task, number)?;
@@ -194,7 +193,7 @@ fn failed(alloc: Global, task: TaskId, kind: ExceptionKind, reason: &str) -> Res
 
 fn let_go(host: &mut Host, refs: &[RefId]) -> Result<()> {
     for reference in refs {
-        host.command(Command::DropRef(*reference))?;
+        host.drop_ref(*reference)?;
     }
     Ok(())
 }

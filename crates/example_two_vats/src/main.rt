@@ -5,7 +5,8 @@
 
 use anyhow::{Result, bail};
 use vat::{
-    CallCommand, CallId, Command, Delivery, Host, Level, ObjectId, PromiseId, RefId, Vat, exchange,
+    CallCommand, CallId, Delivery, Ended, Event, Host, Level, ObjectId, PromiseId, RefId, Vat,
+    exchange,
 };
 
 // The methods of the registry, which is object 0 of vat b, and that of a printer.
@@ -97,22 +98,24 @@ impl Side {
 
     fn let_go(&mut self, refs: &[RefId]) -> Result<()> {
         for reference in refs {
-            self.host.command(Command::DropRef(*reference))?;
+            self.host.drop_ref(*reference)?;
         }
         Ok(())
     }
 
-    /// Serves a call, if one came, and finishes an own one, if one has ended.
+    /// Looks at the next event, if there is one: serves a call that came, finishes an own one that has ended.
     fn work(&mut self, rt: &HostRuntime) -> Result<()> {
-        if let Some(task) = self.host.next_delivery() {
-            self.serve(rt, task)?;
+        match self.host.next_event() {
+            Some(Event::Served(task)) => self.serve(rt, task),
+            Some(Event::Ended(ended)) => self.finish(rt, &ended),
+            Some(Event::Down(_)) | None => Ok(()),
         }
-        if let Some(ended) = self.host.next_ended() {
-            println!(rt; "  call {} has ended", ended.call.0)?;
-            self.host.command(Command::Finish(ended.call))?;
-            self.let_go(&ended.refs)?;
-        }
-        Ok(())
+    }
+
+    fn finish(&mut self, rt: &HostRuntime, ended: &Ended) -> Result<()> {
+        println!(rt; "  call {} has ended", ended.call.0)?;
+        self.host.finish(ended.call)?;
+        self.let_go(&ended.refs)
     }
 
     /// Does what a method does, answers, and lets go of what came with the call and what it gave.
@@ -124,11 +127,10 @@ impl Side {
             let (promise, printer) = self.host.promise()?;
             (self.promised, given) = (Some(promise), Some(printer));
         } else if let (PUBLISH, Some(promise), [printer]) = (method, self.promised, taken) {
-            self.host.command(Command::Resolve(promise, *printer))?;
+            self.host.resolve(promise, *printer)?;
         }
         let (payload, refs) = self.host.core().contents(given)?;
-        self.host
-            .command(Command::Answer(task.task, payload, refs))?;
+        self.host.answer(task.task, payload, refs)?;
         self.let_go(taken)?;
         self.let_go(given.as_slice())
     }

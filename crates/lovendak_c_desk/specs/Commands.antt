@@ -96,7 +96,7 @@ CallsWith old c (Ok n) new =
     Calls old.connection.speaker.host c (Ok (record { 0 = n })) new.connection.speaker.host × Fits (command.Call c)
     × (new ≡ with_connection old (answered_by old.connection (command.Call c) (Ok (a_call n)) new.connection.speaker.host))
 CallsWith old c (Err (not_done.Refused r)) new =
-    (Calls old.connection.speaker.host c (Err r) new.connection.speaker.host ⊎ IsTooLarge old.connection.speaker.host r new.connection.speaker.host)
+    (Calls old.connection.speaker.host c (Err r) new.connection.speaker.host ⊎ IsTooLarge old.connection.speaker.host (command.Call c) r new.connection.speaker.host)
     × (new ≡ with_connection old (answered_by old.connection (command.Call c) (Err r) new.connection.speaker.host))
 CallsWith old c (Err e) new = IsNoPayload c.payload e × (new ≡ old)
 

@@ -3,7 +3,7 @@ use Rattle.std.specs.Prelude.{◌≡◌, ℕ, Bool, List, [], ◌∷◌, ◌++�
 use Rattle.rpc_msg.specs.declared.ids.ObjectId.{ObjectId}
 use Rattle.rpc_msg.specs.declared.ids.Vat.TheVariants.{A}
 use Rattle.rpc_machine.specs.declared.command.Level.{Level}
-use Rattle.vat_connection.specs.declared.event.Event.{Event}
+use Rattle.vat_host.specs.declared.event.Event.{Event}
 use Rattle.vat_connection.specs.Connecting.{Connected, Gives, Tells, fresh}
 use Rattle.lovendak_c_desk.specs.declared.desk.Desk.{Desk}
 use Rattle.lovendak_c_desk.specs.declared.not_done.NotDone.{NotDone}

@@ -1,3 +1,11 @@
+-- The definitions:
+-- - `Given`: what numbers and bytes that are given stand for.
+-- - `Copies`: what is copied out.
+-- - `Desks`: a desk: what each of its calls does, in terms of the connection.
+-- - `Notices`: what an event says in numbers, and the bytes and references that come with it.
+-- - `Telling`: the next event is handed out.
+-- - `Commands`: commands by numbers and bytes: what comes of each is what comes of the connection's.
+-- - `Contents`: payloads made of numbers, a text and capabilities, and looked into.
 pub mod Given
 pub mod Copies
 pub mod Desks

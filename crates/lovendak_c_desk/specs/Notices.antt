@@ -5,8 +5,8 @@ use Rattle.rpc_msg.specs.declared.exception.ExceptionKind.{ExceptionKind}
 use Rattle.rpc_msg.specs.declared.exception.ExceptionKind.TheVariants as kind
 use Rattle.rpc_journal.specs.declared.report.Outcome.{Outcome}
 use Rattle.rpc_journal.specs.declared.report.Outcome.TheVariants as outcome
-use Rattle.vat_connection.specs.declared.event.Event.{Event}
-use Rattle.vat_connection.specs.declared.event.Event.TheVariants as event
+use Rattle.vat_host.specs.declared.event.Event.{Event}
+use Rattle.vat_host.specs.declared.event.Event.TheVariants as event
 use Rattle.lovendak_c_desk.specs.declared.notice.Notice.{Notice}
 
 -- as `Exception.Type` of rpc.capnp counts them

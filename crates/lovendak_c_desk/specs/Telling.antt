@@ -1,6 +1,6 @@
 -- The next event is handed out.
 use Rattle.std.specs.Prelude.{◌≡◌, ◌<◌, ◌≤◌, ◌⊎◌, ℕ, Bool, true, false, List, length, Option, Some, None, Result, Ok, Err}
-use Rattle.vat_connection.specs.declared.event.Event.{Event}
+use Rattle.vat_host.specs.declared.event.Event.{Event}
 use Rattle.lovendak_c_desk.specs.declared.desk.Desk.{Desk}
 use Rattle.lovendak_c_desk.specs.declared.notice.Notice.{Notice}
 use Rattle.lovendak_c_desk.specs.declared.not_done.NotDone.{NotDone}

@@ -1,6 +1,6 @@
 // What an event says in numbers.
 ghost use Rattle.std.specs.Prelude.{◌≡◌};
-ghost use Rattle.vat_connection.specs.declared.event.Event.TheVariants as event;
+ghost use Rattle.vat_host.specs.declared.event.Event.TheVariants as event;
 ghost use Rattle.lovendak_c_desk.specs.Notices.{bytes_of, bytes_of_outcome, notice_of, number_of_kind, refs_of, silent};
 
 use rpc_msg::{ExceptionKind, RefId};

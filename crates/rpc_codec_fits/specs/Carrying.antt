@@ -59,6 +59,14 @@ Carries (command.Finish call) m = ⊥
 Carries (command.Advance r) m = ⊥
 Carries (command.Shut number) m = ⊥
 
+-- The command gives contents or a reason, which may be too large.
+abbrev pub GivesContents : Command → Type 0
+GivesContents (command.Call c) = ⊤
+GivesContents (command.Answer task p refs) = ⊤
+GivesContents (command.Fail task e) = ⊤
+GivesContents (command.Reject promise e) = ⊤
+GivesContents c = ⊥
+
 -- The messages that carry on what a message brought: its content to any target, its results, or its exception.
 abbrev pub BodyGoesOn : ReturnBody → Message → Type 0
 BodyGoesOn (body.Results p ds) m = Returns p m

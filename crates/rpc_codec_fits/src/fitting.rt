@@ -1,8 +1,8 @@
 //! The room that is left for contents and reasons in the frames that carry them.
-ghost use Rattle.std.specs.Prelude.{◌≡◌, ◌≤◌, ◌<◌, ◌^◌, true, IsOk};
+ghost use Rattle.std.specs.Prelude.{◌≡◌, ◌≤◌, ◌<◌, ◌^◌, true, false, IsOk};
 ghost use Rattle.rpc_msg.specs.declared.message.Message.{Message as SpecMessage};
 ghost use Rattle.rpc_codec.specs.Frames.{message_frame};
-ghost use Rattle.rpc_codec_fits.specs.Carrying.{Carries, GoesOn, StandsAlone, HasRoom, table_room, reason_room};
+ghost use Rattle.rpc_codec_fits.specs.Carrying.{Carries, GivesContents, GoesOn, StandsAlone, HasRoom, table_room, reason_room};
 
 use rpc_machine::Command;
 use rpc_msg::{Exception, Message, Payload, PlainMessage, ResolvedTo, ReturnBody};
@@ -70,6 +70,7 @@ pub fn fits_envelope(command: &Command) -> bool
     ensures carried { result ≡ true → (m : SpecMessage) → Carries command.now m → IsOk (message_frame m) }
     // and what is carried can be read as it was
     ensures alone { result ≡ true → StandsAlone command.now }
+    ensures others { result ≡ false → GivesContents command.now }
 {
     match command {
         Command::Call(call) => content_fits(&call.payload, CALL_WORDS),

@@ -6,8 +6,8 @@
 //!
 //! The life of a call. The caller takes the peer's bootstrap object (`bootstrap`, `result_of`), or any reference that it
 //! was given, and calls it (`call`); `field` and `result_of` refer to what the results will have, at once. At the other
-//! vat `next_delivery` gives the call, which is served by `Answer` or `Fail`, now or later. Then `next_ended` gives it to the
-//! caller with its outcome, and the caller finishes it.
+//! vat `next_event` gives the call, which is served by `answer` or `fail`, now or later. Then `next_event` gives it to the caller
+//! with its outcome, and the caller finishes it.
 //!
 //! ```text
 //! let bootstrap = host.bootstrap()?;
@@ -18,11 +18,11 @@
 //!
 //! What must be given back, or it stays at both vats:
 //!
-//! - each reference, by `DropRef`: those that were made, and those in `Delivery.refs` and `Ended.refs`;
-//! - each call, by `Finish`, once it has ended or before; each task, by `Answer` or `Fail`; each promise, by `Resolve` or
-//!   `Reject`.
+//! - each reference, by `drop_ref`: those that were made, and those in `Delivery.refs` and `Ended.refs`;
+//! - each call, by `finish`, once it has ended or before; each task, by `answer` or `fail`; each promise, by `resolve` or
+//!   `reject`.
 //!
-//! What is to be done: all messages of `next_message` go to the peer in this order, each once; calls of `next_delivery` are
+//! What is to be done: all messages of `next_message` go to the peer in this order, each once; calls of `next_event` are
 //! served in this order by whoever wants an object's calls in order. [`exchange`] carries the messages of two hosts in one
 //! process.
 //!
@@ -49,5 +49,5 @@ pub use rpc_msg::{
     CallId, CapAt, Exception, ExceptionKind, Items, Memory, Message, ObjectId, Op, Payload,
     PayloadFault, Pointers, PromiseId, PushError, RefId, Stamp, TaskId, Text, Tree, Vat,
 };
-pub use vat_host::{Answer, Core, Host, Refused, exchange};
+pub use vat_host::{Answer, Core, Event, Host, Refused, exchange};
 pub use vat_payloads::{contents, reference_at};

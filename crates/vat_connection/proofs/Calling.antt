@@ -1,5 +1,5 @@
 -- What a call of a command's name answers, and what comes of the command.
-use Rattle.std.proofs.Common.{◌≡◌, ℕ, List, Bool, Result, Ok, Err, ◌⊎◌, inl, inr, refl, ap, subst, ◌∙◌}
+use Rattle.std.proofs.Common.{◌≡◌, ℕ, List, Result, Ok, Err, ◌⊎◌, inl, inr, refl, ap, subst, ◌∙◌}
 use Rattle.std.specs.Prelude.{IfOk, IfErr}
 use Rattle.rpc_msg.specs.declared.ids.CallId.{CallId}
 use Rattle.rpc_journal.specs.declared.report.Advanced.{Advanced}
@@ -32,7 +32,7 @@ module _ {X : Type 0} (refusal_of : X → Refusal) (old mid new : Hosted) (c : C
   done (Err e) short fits does = tt
 
   pub refused : (result : Result CallId X) → Obeys old (command.Advance c.reference) (answered became granted.Advanced (λ r. r)) mid
-      → IfErr result (λ e. Refuses mid (command.Call c) (refusal_of e) new) → IfErr result (λ e. Calls old c (Err (refusal_of e)) new ⊎ IsTooLarge old (refusal_of e) new)
+      → IfErr result (λ e. Refuses mid (command.Call c) (refusal_of e) new) → IfErr result (λ e. Calls old c (Err (refusal_of e)) new ⊎ IsTooLarge old (command.Call c) (refusal_of e) new)
   refused (Ok id) short refuses = tt
   refused (Err e) short refuses = inl (mid, became, short, refuses)
 
@@ -46,16 +46,15 @@ shuts old new c n is falls = ((falls.0, Shuts n is refl falls.1, falls.2), λ m 
 
 -- ---- of a connection
 
-abbrev pub connected : Hosted → Outflow → Peering → ℕ → List ℕ → Bool → List CallId → Connected
-connected host out adapter heard waiting told calls = record {
+abbrev pub connected : Hosted → Outflow → Peering → ℕ → List ℕ → List CallId → Connected
+connected host out adapter heard waiting calls = record {
   speaker = record { host = host; out = out; adapter = adapter; heard = heard };
   waiting = waiting;
-  told = told;
   open_calls = calls;
 }
 
-abbrev pub connection : Speaking → List ℕ → Bool → List CallId → Connected
-connection s waiting told calls = record { speaker = s; waiting = waiting; told = told; open_calls = calls }
+abbrev pub connection : Speaking → List ℕ → List CallId → Connected
+connection s waiting calls = record { speaker = s; waiting = waiting; open_calls = calls }
 
 -- What makes no call and lets none go leaves the same ones open.
 same_calls : {A E : Type 0} (result : Result A E) (gives : A → Granted) (why : E → Refusal) (calls : List CallId) (c : Command)
@@ -63,24 +62,24 @@ same_calls : {A E : Type 0} (result : Result A E) (gives : A → Granted) (why :
 same_calls (Ok x) gives why calls c same = same x
 same_calls (Err e) gives why calls c same = refl
 
-module _ (before after : Hosted) (out : Outflow) (adapter : Peering) (heard : ℕ) (waiting : List ℕ) (told : Bool) (calls : List CallId) (old : Connected) (c : Command) (is : connected before out adapter heard waiting told calls ≡ old) where
+module _ (before after : Hosted) (out : Outflow) (adapter : Peering) (heard : ℕ) (waiting : List ℕ) (calls : List CallId) (old : Connected) (c : Command) (is : connected before out adapter heard waiting calls ≡ old) where
   -- What comes of the vat is what comes of the connection.
-  pub asks_as : (answer : Result Granted Refusal) (left : List CallId) → left ≡ asked calls c answer → Obeys before c answer after → Asks old c answer (connected after out adapter heard waiting told left)
+  pub asks_as : (answer : Result Granted Refusal) (left : List CallId) → left ≡ asked calls c answer → Obeys before c answer after → Asks old c answer (connected after out adapter heard waiting left)
   asks_as answer left follows obeys =
-      subst (λ (o : Connected). Asks o c answer (connected after out adapter heard waiting told left)) is (obeys, ap (λ (cs : List CallId). connected after out adapter heard waiting told cs) follows)
+      subst (λ (o : Connected). Asks o c answer (connected after out adapter heard waiting left)) is (obeys, ap (λ (cs : List CallId). connected after out adapter heard waiting cs) follows)
 
   pub asks : {A E : Type 0} (result : Result A E) (gives : A → Granted) (why : E → Refusal) → ((x : A) → calls ≡ asked calls c (Ok (gives x))) → IfOk result (λ x. Does before c (gives x) after)
-      → IfErr result (λ e. Refuses before c (why e) after) → Asks old c (answered result gives why) (connected after out adapter heard waiting told calls)
+      → IfErr result (λ e. Refuses before c (why e) after) → Asks old c (answered result gives why) (connected after out adapter heard waiting calls)
   asks result gives why same done refused = asks_as (answered result gives why) calls (same_calls result gives why calls c same) (obeyed result gives why before after c done refused)
 
-module _ (before after : Speaking) (waiting : List ℕ) (told : Bool) (calls : List CallId) (old : Connected) (c : Command) (is : connection before waiting told calls ≡ old) (rest : after ≡ record before { host = after.host }) where
-  pub leaves : (answer : Result Granted Refusal) (left : List CallId) → left ≡ asked calls c answer → connection after waiting told left ≡ answered_by old c answer after.host
+module _ (before after : Speaking) (waiting : List ℕ) (calls : List CallId) (old : Connected) (c : Command) (is : connection before waiting calls ≡ old) (rest : after ≡ record before { host = after.host }) where
+  pub leaves : (answer : Result Granted Refusal) (left : List CallId) → left ≡ asked calls c answer → connection after waiting left ≡ answered_by old c answer after.host
   leaves answer left follows =
-      subst (λ (o : Connected). connection after waiting told left ≡ answered_by o c answer after.host) is
-      (ap (λ (s : Speaking). connection s waiting told left) rest ∙ ap (λ (cs : List CallId). connection (record before { host = after.host }) waiting told cs) follows)
+      subst (λ (o : Connected). connection after waiting left ≡ answered_by o c answer after.host) is
+      (ap (λ (s : Speaking). connection s waiting left) rest ∙ ap (λ (cs : List CallId). connection (record before { host = after.host }) waiting cs) follows)
 
-  pub spoken : (answer : Result Granted Refusal) (left : List CallId) → left ≡ asked calls c answer → Obeys before.host c answer after.host → Asks old c answer (connection after waiting told left)
+  pub spoken : (answer : Result Granted Refusal) (left : List CallId) → left ≡ asked calls c answer → Obeys before.host c answer after.host → Asks old c answer (connection after waiting left)
   spoken answer left follows obeys = (subst (λ (o : Connected). Obeys o.speaker.host c answer after.host) is obeys, leaves answer left follows)
 
-  pub spoken_to_fit : (answer : Result Granted Refusal) (left : List CallId) → left ≡ asked calls c answer → ObeysToFit before.host c answer after.host → AsksToFit old c answer (connection after waiting told left)
+  pub spoken_to_fit : (answer : Result Granted Refusal) (left : List CallId) → left ≡ asked calls c answer → ObeysToFit before.host c answer after.host → AsksToFit old c answer (connection after waiting left)
   spoken_to_fit answer left follows obeys = (subst (λ (o : Connected). ObeysToFit o.speaker.host c answer after.host) is obeys, leaves answer left follows)

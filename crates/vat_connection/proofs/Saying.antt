@@ -1,5 +1,6 @@
 -- What a vat has to say goes out, message by message.
-use Rattle.std.proofs.Common.{◌≡◌, ℕ, Bool, true, false, List, [], ◌∷◌, length, ◌<◌, arith, refl, sym, ap, subst, ◌∙◌}
+use Rattle.std.proofs.Common.{◌≡◌, ℕ, Bool, true, false, List, [], ◌∷◌, length, ◌<◌, ◌==◌, not, arith, refl, sym, ap, subst, ◌∙◌}
+use Rattle.std.proofs.Math.Dec.{eqb-suc-zero}
 use Rattle.rpc_msg.specs.declared.message.Message.{Message}
 use Rattle.vat_host.specs.Hosting.{Hosted, is_abort}
 use Rattle.peer_tail_calls.specs.Adapting.{messages_in}
@@ -35,6 +36,11 @@ none_passes host next out adapter heard none same = (
 
 pub fewer : (host next : Hosted) (m : Message) → host ≡ record next { messages = m ∷ next.messages } → length next.messages < length host.messages
 fewer host next m is = let e = ap (λ (h : Hosted). length h.messages) is in omega (arith, e)
+
+-- No message is there.
+pub none_there : (ms : List Message) (b : Bool) → b ≡ not (length ms == 0) → b ≡ false → ms ≡ []
+none_there [] b is none = refl
+none_there (m ∷ ms) b is none = absurd (let k : ◌≡◌ {A = Bool} true false = sym (ap not (eqb-suc-zero (length ms))) ∙ sym is ∙ none in cc)
 
 -- ---- all
 

@@ -15,15 +15,15 @@ use Rattle.rpc_msg.specs.declared.message.Message.{Message}
 use Rattle.rpc_machine.specs.declared.command.Refusal.TheVariants as refusal
 use Rattle.vat_host.specs.Hosting.{Hosted, Does, Refuses}
 use Rattle.rpc_codec.specs.Frames.{message_frame}
-use Rattle.rpc_codec_fits.specs.Carrying.{Carries}
+use Rattle.rpc_codec_fits.specs.Carrying.{Carries, GivesContents}
 
 -- What a command gives fits into the frame of each message that carries it.
 abbrev pub Fits : Command → Type 0
 Fits c = (m : Message) → Carries c m → IsOk (message_frame m)
 
--- It may be too large for that, and nothing is changed.
-abbrev pub IsTooLarge : Hosted → Refusal → Hosted → Type 0
-IsTooLarge old r new = (r ≡ refusal.Full) × (new ≡ old)
+-- A command that gives contents or a reason, which may be too large for that, and nothing is changed.
+abbrev pub IsTooLarge : Hosted → Command → Refusal → Hosted → Type 0
+IsTooLarge old c r new = (r ≡ refusal.Full) × GivesContents c × (new ≡ old)
 
 abbrev pub call_of : Command → Option CallCommand
 call_of (command.Call c) = Some c
@@ -48,7 +48,7 @@ Obeys old c (Err r) new = Refuses old c r new
 -- What comes of a command whose contents may be too large: where it is done, what it gives fits.
 abbrev pub ObeysToFit : Hosted → Command → Result Granted Refusal → Hosted → Type 0
 ObeysToFit old c (Ok granted) new = Does old c granted new × Fits c
-ObeysToFit old c (Err r) new = Refuses old c r new ⊎ IsTooLarge old r new
+ObeysToFit old c (Err r) new = Refuses old c r new ⊎ IsTooLarge old c r new
 
 -- What a command answers, told by what the call of its name answers: what that gives, or why it is refused.
 abbrev pub answered : {A E : Type 0} → Result A E → (A → Granted) → (E → Refusal) → Result Granted Refusal

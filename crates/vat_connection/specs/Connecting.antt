@@ -1,42 +1,40 @@
 -- A connection: what each call of it does.
-use Rattle.std.specs.Prelude.{◌≡◌, ℕ, Bool, true, false, List, [], ◌∷◌, Option, Some, None, IsSome, Result, ◌⊎◌, refl}
-use Rattle.std.specs.Coded.{Coded, code_by, coded×, coded_ℕ, coded_list, coded_bool}
+use Rattle.std.specs.Prelude.{◌≡◌, ℕ, true, List, [], ◌∷◌, Option, Some, None, Result, ◌⊎◌, refl}
+use Rattle.std.specs.Coded.{Coded, code_by, coded×, coded_ℕ, coded_list}
 use Rattle.rpc_msg.specs.contracts.ids.CallId as call_id_row
 use Rattle.rpc_msg.specs.declared.ids.CallId.{CallId}
 use Rattle.rpc_msg.specs.declared.ids.ObjectId.{ObjectId}
 use Rattle.rpc_msg.specs.declared.ids.Vat.{Vat}
 use Rattle.capn_trees.specs.Numbers.{number_of}
 use Rattle.capn_trees.specs.declared.faults.PayloadFault.TheVariants.{Short}
-use Rattle.rpc_journal.specs.declared.report.Ended.{Ended}
 use Rattle.rpc_machine.specs.declared.command.Command.{Command}
 use Rattle.rpc_machine.specs.declared.command.Granted.{Granted}
 use Rattle.rpc_machine.specs.declared.command.Level.{Level}
 use Rattle.rpc_machine.specs.declared.command.Refusal.{Refusal}
 use Rattle.rpc_machine.specs.State.{start}
-use Rattle.vat_host.specs.Hosting.{Hosted, idle}
+use Rattle.vat_host.specs.declared.event.Event.{Event}
+use Rattle.vat_host.specs.declared.event.Event.TheVariants as event
+use Rattle.vat_host.specs.Hosting.{Hosted, TellsDown as HostTellsDown, TellsNothing, TellsOldest as HostTellsOldest, has_only_down, idle}
 use Rattle.peer_adapter.specs.Peering.{fresh as fresh_adapter}
 use Rattle.rpc_outgoing.specs.Outflows.{nothing_out}
-use Rattle.vat_connection.specs.declared.event.Event.{Event}
-use Rattle.vat_connection.specs.declared.event.Event.TheVariants as event
 use Rattle.vat_connection.specs.Calling.{Obeys, ObeysToFit}
 use Rattle.vat_connection.specs.Speaking.{Speaking, Falls, Says, given, speaking_code}
 use Rattle.vat_connection.specs.Hearing.{Follows}
 use Rattle.vat_connection.specs.OwnCalls.{IsCutOff, asked, without}
 
--- A vat with the bytes that it says; the bytes that wait for the rest of their frame; whether the application was told that the
--- vat is down; and the own calls that are open, in the order in which they were made.
+-- A vat with the bytes that it says; the bytes that wait for the rest of their frame; and the own calls that are open, in the order
+-- in which they were made.
 pub record Connected : Type 0 where
   pub speaker : Speaking
   pub waiting : List ℕ
-  pub told : Bool
   pub open_calls : List CallId
 
 abbrev pub connected_code : Coded Connected
 connected_code =
-    code_by (Speaking × (List ℕ × (Bool × List CallId)))
-    (coded× speaking_code (coded× (coded_list coded_ℕ) (coded× coded_bool (coded_list call_id_row.the_row.coded))))
-    (λ c. (c.speaker, (c.waiting, (c.told, c.open_calls))))
-    (λ p. record { speaker = p.0; waiting = p.1.0; told = p.1.1.0; open_calls = p.1.1.1 })
+    code_by (Speaking × (List ℕ × List CallId))
+    (coded× speaking_code (coded× (coded_list coded_ℕ) (coded_list call_id_row.the_row.coded)))
+    (λ c. (c.speaker, (c.waiting, c.open_calls)))
+    (λ p. record { speaker = p.0; waiting = p.1.0; open_calls = p.1.1 })
     (λ _. refl)
 
 -- Nothing has come, and nothing was said.
@@ -44,7 +42,6 @@ abbrev pub fresh : Vat → Level → Option ObjectId → Connected
 fresh vat level bootstrap = record {
   speaker = record { host = idle (start vat level bootstrap); out = nothing_out; adapter = fresh_adapter; heard = 0 };
   waiting = [];
-  told = false;
   open_calls = [];
 }
 
@@ -89,27 +86,31 @@ Asks old c answer new = Obeys old.speaker.host c answer new.speaker.host × (new
 abbrev pub AsksToFit : Connected → Command → Result Granted Refusal → Connected → Type 0
 AsksToFit old c answer new = ObeysToFit old.speaker.host c answer new.speaker.host × (new ≡ answered_by old c answer new.speaker.host)
 
--- The oldest call that ended is told, and is open no more.
-abbrev pub TellsEnded : Connected → Ended → Connected → Type 0
-TellsEnded old call new =
-    (old.speaker.host.deliveries ≡ []) × (new.open_calls ≡ without call.call old.open_calls)
-    × (old ≡ record (with_host new (record (new.speaker.host) { ended = call ∷ new.speaker.host.ended })) { open_calls = old.open_calls })
+-- ---- what is told
 
--- The vat is down, all else was told, and the oldest call that is open ends with that.
-abbrev pub CutsOff : Connected → Ended → Connected → Type 0
-CutsOff old call new =
-    (old.speaker.host.deliveries ≡ []) × (old.speaker.host.ended ≡ []) × (old.told ≡ false) × IsSome (down old) × IsCutOff call
-    × (old ≡ record new { open_calls = call.call ∷ new.open_calls })
+-- the calls that are open once that was told: one that ended is open no more
+abbrev pub open_behind : Event → List CallId → List CallId
+open_behind (event.Ended call) calls = without call.call calls
+open_behind e calls = calls
 
--- What is told: the oldest call to be served, then the oldest that ended. Once the vat is down: then the oldest that is open, as
--- cut off, and once that the vat is down.
+-- The oldest event that a step left is told.
+abbrev pub TellsOldest : Connected → Event → Connected → Type 0
+TellsOldest old e new = HostTellsOldest old.speaker.host e new.speaker.host × (new ≡ record (with_host old new.speaker.host) { open_calls = open_behind e old.open_calls })
+
+-- The vat is down, all that its steps left was told, and the oldest call that is open ends with that.
+abbrev pub CutsOff : Connected → Event → Connected → Type 0
+CutsOff old (event.Ended call) new = (has_only_down old.speaker.host ≡ true) × IsCutOff call × (old ≡ record new { open_calls = call.call ∷ new.open_calls })
+CutsOff old e new = ⊥
+
+-- All else was told, and now that the vat is down.
+abbrev pub TellsDown : Connected → Event → Connected → Type 0
+TellsDown old e new = HostTellsDown old.speaker.host e new.speaker.host × (old.open_calls ≡ []) × (new ≡ with_host old new.speaker.host)
+
+-- What is told: the oldest event that a step left. Behind them, once the vat is down: each own call that is open, the oldest first, as
+-- cut off; and then, once, that the vat is down.
 abbrev pub TellsNext : Connected → Option Event → Connected → Type 0
-TellsNext old (Some (event.Served delivery)) new = old ≡ with_host new (record (new.speaker.host) { deliveries = delivery ∷ new.speaker.host.deliveries })
-TellsNext old (Some (event.Ended call)) new = TellsEnded old call new ⊎ CutsOff old call new
-TellsNext old (Some (event.Down number)) new =
-    (old.speaker.host.deliveries ≡ []) × (old.speaker.host.ended ≡ []) × (old.told ≡ false) × (down old ≡ Some number) × (old.open_calls ≡ []) × (new ≡ record old { told = true })
-TellsNext old None new =
-    (old.speaker.host.deliveries ≡ []) × (old.speaker.host.ended ≡ []) × ((old.told ≡ true) ⊎ (down old ≡ None)) × (new ≡ old)
+TellsNext old (Some e) new = TellsOldest old e new ⊎ (CutsOff old e new ⊎ TellsDown old e new)
+TellsNext old None new = TellsNothing old.speaker.host old.speaker.host × (new ≡ old)
 
 -- Something is told, once all went out that the vat has to say.
 abbrev pub Tells : Connected → Option Event → Connected → Type 0

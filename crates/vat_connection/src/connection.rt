@@ -3,9 +3,8 @@ ghost use Rattle.std.specs.Prelude.{◌≡◌, ◌⊎◌, false, IfOk, IfErr, no
 ghost use Rattle.rpc_machine.specs.Refusals.{is_shut};
 ghost use Rattle.vat_host.specs.Hosting.{Does, Refuses};
 ghost use Rattle.vat_connection.specs.Calling.{Fits, IsTooLarge, answered};
-ghost use Rattle.vat_connection.specs.Connecting.{Connected, Finishes, Gives, Receives, Tells, TellsNext, answered_by, fresh};
+ghost use Rattle.vat_connection.specs.Connecting.{Connected, Finishes, Gives, Receives, Tells, TellsNext, answered_by, fresh, IsShut};
 
-use crate::event::Event;
 use crate::hearing::hear_all;
 use crate::open_calls::{OpenCalls, cut_off, finished_by};
 use crate::speaker::Speaker;
@@ -14,7 +13,7 @@ use rpc_machine::{Command, Granted, Level, Refusal};
 use rpc_msg::{Memory, ObjectId, Vat};
 use std::alloc::Global;
 use std::marker::Model;
-use vat_host::{Core, Refused};
+use vat_host::{Core, Event, Refused};
 
 /// The number with which a vat goes down where the stream ends between two frames.
 const ENDED: u16 = 0;
@@ -25,7 +24,6 @@ const ENDED: u16 = 0;
 pub struct Connection {
     pub(crate) speaker: Speaker,
     reader: FrameReader,
-    told: bool,
     pub(crate) open_calls: OpenCalls,
     alloc: Global,
 }
@@ -38,7 +36,7 @@ impl Model for Connection {
 
     ghost coded = { connected_code };
 
-    ghost view = { λ a. record { speaker = a.speaker; waiting = held_of a.reader; told = a.told; open_calls = a.open_calls.0 } };
+    ghost view = { λ a. record { speaker = a.speaker; waiting = held_of a.reader; open_calls = a.open_calls.0 } };
 
     ghost invariant = { λ a. Waits a.reader };
 }
@@ -58,7 +56,6 @@ impl Connection {
         Ok(Connection {
             speaker,
             reader: FrameReader::new(alloc),
-            told: false,
             open_calls: OpenCalls::new(alloc),
             alloc,
         })
@@ -94,6 +91,13 @@ impl Connection {
         self.speaker.fall(number);
     }
 
+    /// Takes a vat that is up down with that number. Its Abort is to be sent.
+    pub fn shut(&mut self, number: u16)
+        ensures { IsShut self.old number self.new }
+    {
+        self.speaker.fall(number);
+    }
+
     /// Whether anything is to be sent.
     pub fn has_outgoing(&self) -> bool
         ensures { result ≡ (not (length self.now.speaker.host.messages == 0) || not (length self.now.speaker.out.bytes == 0)) }
@@ -111,9 +115,9 @@ impl Connection {
         self.speaker.take_bytes()
     }
 
-    /// What there is to tell, the oldest first: the calls to be served, then the own calls that ended. Of a vat that is down
-    /// then each own call that is open, as one that ended with `Disconnected`, and once that the vat is down. What the vat has to
-    /// say becomes frames before, as by `outgoing`, since the vat may hear something of it.
+    /// What there is to tell, the oldest first, as `Host::next_event`. Of a vat that is down, before that is told, each own call that
+    /// is open, as one that ended with `Disconnected`. What the vat has to say becomes frames before, as by `outgoing`, since the
+    /// vat may hear something of it.
     pub fn next_event(&mut self) -> Option<Event>
         ensures { Tells self.old result self.new }
     {
@@ -124,22 +128,16 @@ impl Connection {
     fn tell_next(&mut self) -> Option<Event>
         ensures { TellsNext self.old result self.new }
     {
-        if let Some(delivery) = self.speaker.host.next_delivery() {
-            return Some(Event::Served(delivery));
+        if self.speaker.host.has_only_down() {
+            if let Some(call) = self.open_calls.pop() {
+                return Some(Event::Ended(cut_off(self.alloc, call)));
+            }
         }
-        if let Some(ended) = self.speaker.host.next_ended() {
+        let event = self.speaker.host.next_event()?;
+        if let Event::Ended(ended) = &event {
             self.open_calls.remove(ended.call);
-            return Some(Event::Ended(ended));
         }
-        if self.told {
-            return None;
-        }
-        let number = self.speaker.host.core().down()?;
-        if let Some(call) = self.open_calls.pop() {
-            return Some(Event::Ended(cut_off(self.alloc, call)));
-        }
-        self.told = true;
-        Some(Event::Down(number))
+        Some(event)
     }
 
     /// Takes a command of any kind, as `Host::command` does. Refused with `Full` too, where what it gives may be too large for
@@ -147,7 +145,7 @@ impl Connection {
     /// call that it may make. A command that is refused is handed back.
     pub fn command(&mut self, command: Command) -> Result<Granted, Refused<Command>>
         ensures done { IfOk result (λ granted. Does self.old.speaker.host command granted self.new.speaker.host × Fits command) }
-        ensures refused { IfErr result (λ e. Refuses self.old.speaker.host command e.refusal self.new.speaker.host ⊎ IsTooLarge self.old.speaker.host e.refusal self.new.speaker.host) }
+        ensures refused { IfErr result (λ e. Refuses self.old.speaker.host command e.refusal self.new.speaker.host ⊎ IsTooLarge self.old.speaker.host command e.refusal self.new.speaker.host) }
         ensures handed_back { IfErr result (λ e. e.back ≡ command) }
         ensures rest { self.new ≡ answered_by self.old command (answered result (λ granted. granted) (λ e. e.refusal)) self.new.speaker.host }
     {
@@ -162,7 +160,7 @@ impl Connection {
     fn command_with_place(&mut self, command: Command) -> Result<Granted, Refused<Command>>
         requires { is_shut command ≡ false }
         ensures done { IfOk result (λ granted. Does self.old.speaker.host command granted self.new.speaker.host × Fits command) }
-        ensures refused { IfErr result (λ e. Refuses self.old.speaker.host command e.refusal self.new.speaker.host ⊎ IsTooLarge self.old.speaker.host e.refusal self.new.speaker.host) }
+        ensures refused { IfErr result (λ e. Refuses self.old.speaker.host command e.refusal self.new.speaker.host ⊎ IsTooLarge self.old.speaker.host command e.refusal self.new.speaker.host) }
         ensures handed_back { IfErr result (λ e. e.back ≡ command) }
         ensures rest { self.new ≡ answered_by self.old command (answered result (λ granted. granted) (λ e. e.refusal)) self.new.speaker.host }
     {

@@ -7,9 +7,10 @@ ghost use Rattle.vat_connection.specs.Speaking.{HearsFrame, HearsUp, stamp_of, t
 ghost use Rattle.vat_connection.specs.Framing.{Opens, Turned};
 
 use crate::passing::{hear_each, put_aside};
-use crate::speaker::{Speaker, WANT_OF_ROOM};
+use crate::speaker::{Speaker, lack_room};
 use peer_adapter::{Inbound, PeerAdapter, PeerError};
 use rpc_codec::{DecodeError, Envelope, decode};
+use rpc_machine::Fault;
 use rpc_msg::{ExportId, QuestionId, RefId, Stamp};
 use std::alloc::Global;
 use vat_host::Core;
@@ -32,7 +33,7 @@ impl Speaker {
     {
         let stamp = self.next_stamp();
         let Some(count) = self.heard.checked_add(1) else {
-            return self.host.shut(WANT_OF_ROOM);
+            return lack_room(&mut self.host);
         };
         let came = match open(self.alloc, frame, stamp) {
             Ok(came) => came,
@@ -44,7 +45,7 @@ impl Speaker {
         };
         let Inbound { aside, heard } = inbound;
         if !put_aside(&mut self.out, aside) {
-            return self.host.shut(WANT_OF_ROOM);
+            return lack_room(&mut self.host);
         }
         self.heard = count;
         hear_each(&mut self.host, heard);
@@ -68,7 +69,7 @@ fn open(alloc: Global, frame: &[u8], stamp: Stamp) -> Result<Envelope, u16>
 {
     match decode(alloc, frame, stamp) {
         Ok(came) => Ok(came),
-        Err(DecodeError::Memory) => Err(WANT_OF_ROOM),
+        Err(DecodeError::Memory) => Err(Fault::WantOfRoom.code()),
         Err(DecodeError::Fault(fault)) => Err(fault.code()),
     }
 }
@@ -81,7 +82,7 @@ fn turn(adapter: &mut PeerAdapter, core: &Core, came: Envelope) -> Result<Inboun
     let is_finished = |question: QuestionId| core.is_finished(question);
     match adapter.inbound(came, core.has_all_answers(), is_broken, is_finished) {
         Ok(inbound) => Ok(inbound),
-        Err(PeerError::Memory) => Err(WANT_OF_ROOM),
+        Err(PeerError::Memory) => Err(Fault::WantOfRoom.code()),
         Err(PeerError::Fault(fault)) => Err(fault.code()),
     }
 }

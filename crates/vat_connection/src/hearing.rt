@@ -3,8 +3,9 @@ ghost use Rattle.std.specs.Prelude.{◌≡◌, ℕ, List, ◌++◌, ◌<◌, ◌
 ghost use Rattle.vat_connection.specs.Speaking.{Speaking};
 ghost use Rattle.vat_connection.specs.Hearing.{Comes, Waits, held_of, number_for};
 
-use crate::speaker::{Speaker, WANT_OF_ROOM};
+use crate::speaker::Speaker;
 use capn_stream::{FrameReader, StreamError, fronts_stay};
+use rpc_machine::Fault;
 use std::alloc::Global;
 
 /// A vat that is up takes bytes of a stream: it hears each frame that is whole, to the first with which it goes down. What is no
@@ -56,7 +57,7 @@ fn number_of(error: StreamError) -> u16
     ensures { result ≡ number_for error }
 {
     match error {
-        StreamError::Memory => WANT_OF_ROOM,
+        StreamError::Memory => Fault::WantOfRoom.code(),
         StreamError::Fault(fault) => fault.code(),
     }
 }

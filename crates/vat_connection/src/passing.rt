@@ -7,7 +7,7 @@ ghost use Rattle.peer_adapter.specs.Peering.{goes, release_of, seen_aside};
 ghost use Rattle.vat_connection.specs.Speaking.{Breaks, GivesBack, Goes, HearsAll, IsAside, IsTold, Passes, PassesOne, Says, Sends, Turns};
 ghost use Rattle.vat_connection.specs.Telling.{IsLonger};
 
-use crate::speaker::{Speaker, WANT_OF_ROOM};
+use crate::speaker::{Speaker, lack_room};
 use peer_adapter::{Aside, Heard, Outbound, Said, Told};
 use rpc_msg::{ExportId, Items, Message, PlainMessage, Release};
 use rpc_outgoing::Outgoing;
@@ -18,6 +18,16 @@ impl Speaker {
     /// no more to say. Where a message has no frame, or memory is wanting for it, the vat goes down with 33, and of those behind
     /// it none is put but an Abort.
     pub(crate) fn say(&mut self)
+        ensures { Says self.old self.new }
+    {
+        if !self.host.has_messages() {
+            return;
+        }
+        self.say_all();
+    }
+
+    #[inline(never)]
+    fn say_all(&mut self)
         ensures { Says self.old self.new }
     {
         // What the vat hears of its own messages is bounded by the peer's tail calls that are open.
@@ -55,7 +65,7 @@ impl Speaker {
     fn break_off(&mut self)
         ensures { Breaks self.old self.new }
     {
-        self.host.shut(WANT_OF_ROOM);
+        lack_room(&mut self.host);
         self.say_abort();
     }
 

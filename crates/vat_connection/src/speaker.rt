@@ -6,20 +6,17 @@ ghost use Rattle.rpc_machine.specs.State.{start};
 ghost use Rattle.vat_host.specs.Hosting.{Does, Refuses, idle};
 ghost use Rattle.rpc_outgoing.specs.Outflows.{nothing_out};
 ghost use Rattle.peer_adapter.specs.Peering.{fresh as fresh_adapter};
-ghost use Rattle.vat_connection.specs.Calling.{Calls, Fits, IsTooLarge, Obeys, call_of};
-ghost use Rattle.vat_connection.specs.Speaking.{Falls, given};
+ghost use Rattle.vat_connection.specs.Calling.{Calls, Fits, IsTooLarge, call_of};
+ghost use Rattle.vat_connection.specs.Speaking.{Falls, Shuts, given, want_of_room};
 
 use peer_adapter::PeerAdapter;
 use rpc_codec_fits::fits_envelope;
-use rpc_machine::{CallCommand, Command, Granted, Level, Refusal};
+use rpc_machine::{CallCommand, Command, Fault, Granted, Level, Refusal};
 use rpc_msg::{CallId, Memory, ObjectId, Vat};
 use rpc_outgoing::Outgoing;
 use std::alloc::Global;
 use std::marker::Model;
 use vat_host::{Host, Refused};
-
-/// The fault of a vat that found no room, or no memory.
-pub(crate) const WANT_OF_ROOM: u16 = 33;
 
 /// A vat, the bytes that it says, its adapter, and how many frames it has heard.
 #[derive(Drop)]
@@ -77,7 +74,7 @@ impl Speaker {
     /// Takes a command of any kind, unless what it gives may be too large for the frames that carry it.
     pub(crate) fn command(&mut self, command: Command) -> Result<Granted, Refused<Command>>
         ensures done { IfOk result (λ granted. Does self.old.host command granted self.new.host × Fits command) }
-        ensures refused { IfErr result (λ e. Refuses self.old.host command e.refusal self.new.host ⊎ IsTooLarge self.old.host e.refusal self.new.host) }
+        ensures refused { IfErr result (λ e. Refuses self.old.host command e.refusal self.new.host ⊎ IsTooLarge self.old.host command e.refusal self.new.host) }
         ensures handed_back { IfErr result (λ e. e.back ≡ command) }
         ensures rest { self.new ≡ record self.old { host = self.new.host } }
     {
@@ -93,22 +90,11 @@ impl Speaker {
         }
     }
 
-    /// Takes a command that carries neither a payload nor a text.
-    pub(crate) fn obey(&mut self, command: Command) -> Result<Granted, Refusal>
-        ensures obeys { Obeys self.old.host command result self.new.host }
-        ensures rest { self.new ≡ record self.old { host = self.new.host } }
-    {
-        match self.host.command(command) {
-            Ok(granted) => return Ok(granted),
-            Err(refused) => return Err(refused.refusal),
-        }
-    }
-
     /// Makes a call, unless what it gives may be too large for the frames that carry it. Its reference takes the shorter path
     /// before, if one is known.
     pub(crate) fn call(&mut self, call: CallCommand) -> Result<CallId, Refused<CallCommand>>
         ensures done { IfOk result (λ id. Calls self.old.host call (Ok id) self.new.host × Fits (command.Call call)) }
-        ensures refused { IfErr result (λ e. Calls self.old.host call (Err e.refusal) self.new.host ⊎ IsTooLarge self.old.host e.refusal self.new.host) }
+        ensures refused { IfErr result (λ e. Calls self.old.host call (Err e.refusal) self.new.host ⊎ IsTooLarge self.old.host (command.Call call) e.refusal self.new.host) }
         ensures handed_back { IfErr result (λ e. e.back ≡ call) }
         ensures rest { self.new ≡ record self.old { host = self.new.host } }
     {
@@ -157,4 +143,11 @@ fn fitting(call: CallCommand) -> Result<CallCommand, Refused<CallCommand>>
         refusal: Refusal::Full,
         back: call,
     })
+}
+
+/// Takes the vat down for want of room, or of memory, if it is up.
+pub(crate) fn lack_room(host: &mut Host)
+    ensures { Shuts host.old want_of_room host.new }
+{
+    host.shut(Fault::WantOfRoom.code());
 }

@@ -1,14 +1,10 @@
 -- A core with what its steps left to do, and what each call does to both.
-use Rattle.std.specs.Prelude.{◌≡◌, Bool, ◌&&◌, ◌==◌, length, List, [], ◌++◌, Ok, Err, Result, ◌⊎◌, true, false, refl}
-use Rattle.std.specs.Coded.{Coded, code_by, coded×, coded_list}
+use Rattle.std.specs.Prelude.{◌≡◌, Bool, ◌&&◌, ◌==◌, length, not, is_some, List, [], ◌∷◌, ◌++◌, Option, Some, None, Ok, Err, Result, ◌⊎◌, true, false, refl}
+use Rattle.std.specs.Coded.{Coded, code_by, coded×, coded_bool, coded_list}
 use Rattle.rpc_msg.specs.contracts.message.Message as message_row
 use Rattle.rpc_msg.specs.declared.message.Message.{Message}
 use Rattle.rpc_msg.specs.declared.message.Message.TheVariants as message
 use Rattle.rpc_msg.specs.declared.message.PlainMessage.TheVariants as plain
-use Rattle.rpc_journal.specs.contracts.report.Delivery as delivery_row
-use Rattle.rpc_journal.specs.contracts.report.Ended as ended_row
-use Rattle.rpc_journal.specs.declared.report.Delivery.{Delivery}
-use Rattle.rpc_journal.specs.declared.report.Ended.{Ended}
 use Rattle.rpc_machine.specs.declared.command.Command.{Command}
 use Rattle.rpc_machine.specs.declared.command.Effects.{Effects}
 use Rattle.rpc_machine.specs.declared.command.Granted.{Granted}
@@ -19,37 +15,45 @@ use Rattle.rpc_machine.specs.Refusals.{is_shut}
 use Rattle.rpc_machine.specs.State.{State, state_code}
 use Rattle.rpc_machine.specs.Steps.{Obeys, Receives}
 use Rattle.vat_core.specs.declared.refused.Refused.{Refused}
+use Rattle.vat_host.specs.contracts.event.Event as event_row
+use Rattle.vat_host.specs.declared.event.Event.{Event}
+use Rattle.vat_host.specs.declared.event.Event.TheVariants as event
+use Rattle.vat_host.specs.Queues.{told}
 
--- The state of the core, and what is to be done, the oldest first: messages to send to the peer, calls to serve, and own
--- calls that ended.
+-- The state of the core, and what is to be done, the oldest first: messages to send to the peer, and what its steps left to tell;
+-- and whether the application was told that the vat is down.
 pub record Hosted : Type 0 where
   pub core : State
   pub messages : List Message
-  pub deliveries : List Delivery
-  pub ended : List Ended
+  pub events : List Event
+  pub told_down : Bool
 
 abbrev pub hosted_code : Coded Hosted
 hosted_code =
-    code_by ((State × List Message) × (List Delivery × List Ended))
-    (coded× (coded× state_code (coded_list message_row.the_row.coded)) (coded× (coded_list delivery_row.the_row.coded) (coded_list ended_row.the_row.coded)))
-    (λ h. ((h.core, h.messages), (h.deliveries, h.ended)))
-    (λ p. record { core = p.0.0; messages = p.0.1; deliveries = p.1.0; ended = p.1.1 })
+    code_by ((State × List Message) × (List Event × Bool))
+    (coded× (coded× state_code (coded_list message_row.the_row.coded)) (coded× (coded_list event_row.the_row.coded) coded_bool))
+    (λ h. ((h.core, h.messages), (h.events, h.told_down)))
+    (λ p. record { core = p.0.0; messages = p.0.1; events = p.1.0; told_down = p.1.1 })
     (λ _. refl)
 
 -- Nothing is to be done.
 abbrev pub idle : State → Hosted
-idle s = record { core = s; messages = []; deliveries = []; ended = [] }
+idle s = record { core = s; messages = []; events = []; told_down = false }
+
+-- All that the steps left was told; that the vat is down was not, and it is.
+abbrev pub has_only_down : Hosted → Bool
+has_only_down h = (length h.events == 0) && is_some h.core.down && not h.told_down
 
 abbrev pub is_idle : Hosted → Bool
-is_idle h = (length h.messages == 0) && (length h.deliveries == 0) && (length h.ended == 0)
+is_idle h = (length h.messages == 0) && (length h.events == 0) && not (has_only_down h)
 
 -- The core took a step: what follows of it stands behind what was to be done.
 abbrev pub stepped : Hosted → Effects → State → Hosted
 stepped old effects s = record {
   core = s;
   messages = old.messages ++ effects.sends;
-  deliveries = old.deliveries ++ effects.deliveries;
-  ended = old.ended ++ effects.answers;
+  events = old.events ++ told effects;
+  told_down = old.told_down;
 }
 
 -- A command is done, as the core does it.
@@ -72,3 +76,23 @@ is_abort m = false
 -- A message comes, as the core receives it.
 abbrev pub Hears : Hosted → Message → Hosted → Type 0
 Hears old m new = (effects : Effects) × Receives old.core m effects new.core × (new ≡ stepped old effects new.core)
+
+-- ---- what is told
+
+-- The oldest event is told.
+abbrev pub TellsOldest : Hosted → Event → Hosted → Type 0
+TellsOldest old e new = old ≡ record new { events = e ∷ new.events }
+
+-- All else was told, and now that the vat is down with that number.
+abbrev pub TellsDown : Hosted → Event → Hosted → Type 0
+TellsDown old (event.Down number) new = (old.events ≡ []) × (old.told_down ≡ false) × (old.core.down ≡ Some number) × (new ≡ record old { told_down = true })
+TellsDown old e new = ⊥
+
+-- Nothing is to be told.
+abbrev pub TellsNothing : Hosted → Hosted → Type 0
+TellsNothing old new = (old.events ≡ []) × ((old.told_down ≡ true) ⊎ (old.core.down ≡ None)) × (new ≡ old)
+
+-- What is told: the oldest event that a step left; behind them once that the vat is down, if it is.
+abbrev pub Tells : Hosted → Option Event → Hosted → Type 0
+Tells old (Some e) new = TellsOldest old e new ⊎ TellsDown old e new
+Tells old None new = TellsNothing old new

@@ -1,24 +1,23 @@
-ghost use Rattle.std.specs.Prelude.{◌≡◌, ◌==◌, not, length, [], ◌∷◌, IfOk, IfSome, IfNone, OnErr};
+ghost use Rattle.std.specs.Prelude.{◌≡◌, ◌==◌, not, length, [], ◌∷◌, IfOk, IfSome, IfNone};
 ghost use Rattle.rpc_machine.specs.State.{start};
 ghost use Rattle.rpc_machine.specs.Down.{ShutsFrom};
 ghost use Rattle.rpc_machine.specs.declared.command.Effects.{Effects};
-ghost use Rattle.vat_host.specs.Hosting.{Commands, Hears, idle, is_abort, is_idle, stepped};
+ghost use Rattle.vat_host.specs.Hosting.{Commands, Hears, Tells, has_only_down, idle, is_abort, is_idle, stepped};
 
+use crate::event::Event;
 use crate::kept::Kept;
-use rpc_journal::{Delivery, Ended};
-use rpc_machine::{Command, Effects, Granted, Level, Refusal};
+use rpc_machine::{Command, Effects, Fault, Granted, Level, Refusal};
 use rpc_msg::{Items, Memory, Message, ObjectId, PlainMessage, Vat};
 use std::alloc::Global;
 use std::marker::Model;
 use vat_core::{Answer, Core, Refused};
 
-/// The fault of a vat that found no room.
-const WANT_OF_ROOM: u16 = 33;
-
-/// A vat with what its steps left to do: messages to send to the peer, calls to serve, and own calls that ended.
+/// A vat with what its steps left to do: messages to send to the peer, and events to tell its application.
 pub struct Host {
     pub(crate) core: Core,
     pub(crate) kept: Kept,
+    // Whether the application was told that the vat is down.
+    told_down: bool,
     alloc: Global,
 }
 
@@ -28,6 +27,7 @@ impl Drop for Host {
         let Host {
             core: _,
             kept: _,
+            told_down: _,
             alloc: _,
         } = self;
     }
@@ -41,7 +41,7 @@ impl Model for Host {
 
     ghost coded = { hosted_code };
 
-    ghost view = { λ a. record { core = a.core; messages = a.kept.messages.0; deliveries = a.kept.deliveries.0; ended = a.kept.ended.0 } };
+    ghost view = { λ a. record { core = a.core; messages = a.kept.messages.0; events = a.kept.events.0; told_down = a.told_down } };
 
     ghost invariant = { λ a. a.core.down ≡ None → 0 < a.kept.messages.1 };
 }
@@ -59,7 +59,12 @@ impl Host {
     {
         let kept = Kept::new(alloc)?;
         let core = Core::new(alloc, vat, level, bootstrap)?;
-        Ok(Host { core, kept, alloc })
+        Ok(Host {
+            core,
+            kept,
+            told_down: false,
+            alloc,
+        })
     }
 
     /// Its core, to be asked.
@@ -69,13 +74,11 @@ impl Host {
         &self.core
     }
 
-    /// Whether nothing is to be done: no message to send, no call to serve, no ended call to look at.
+    /// Whether nothing is to be done: no message to send, and no event to tell.
     pub fn is_idle(&self) -> bool
         ensures { result ≡ is_idle self.now }
     {
-        self.kept.messages.is_empty()
-            && self.kept.deliveries.is_empty()
-            && self.kept.ended.is_empty()
+        self.kept.messages.is_empty() && self.kept.events.is_empty() && !self.has_only_down()
     }
 
     /// Whether a message is to be sent.
@@ -132,7 +135,7 @@ impl Host {
             self.kept.keep(effects);
             return;
         }
-        self.shut(WANT_OF_ROOM);
+        self.shut(Fault::WantOfRoom.code());
     }
 
     /// Takes a vat that is up down with that number, and keeps its Abort, which is to be sent. Takes no memory.
@@ -148,50 +151,56 @@ impl Host {
         ensures oldest { IfSome result (λ message. self.old ≡ record self.new { messages = message ∷ self.new.messages }) }
         ensures none { IfNone result ((self.old.messages ≡ []) × (self.new ≡ self.old)) }
     {
-        if let Some(message) = self.kept.messages.pop() {
-            return Some(message);
+        let message = self.kept.messages.pop()?;
+        if let Some(spent) = self.kept.messages.spent(self.alloc) {
+            self.core.recycle(Effects {
+                sends: spent,
+                deliveries: Items::new(self.alloc),
+                answers: Items::new(self.alloc),
+                down: None,
+            });
         }
-        self.core.recycle(Effects {
-            sends: self.kept.messages.spare(self.alloc),
-            deliveries: Items::new(self.alloc),
-            answers: Items::new(self.alloc),
-            down: None,
-        });
-        None
+        Some(message)
     }
 
-    /// Takes out the oldest call that is to be served.
-    pub fn next_delivery(&mut self) -> Option<Delivery>
-        ensures oldest { IfSome result (λ delivery. self.old ≡ record self.new { deliveries = delivery ∷ self.new.deliveries }) }
-        ensures none { IfNone result ((self.old.deliveries ≡ []) × (self.new ≡ self.old)) }
+    /// Takes out the oldest event that is to be told: those of one step behind those of the steps before; of one step the calls to
+    /// be served, in their order, and then the own calls that ended. Behind them all, once, that the vat is down, if it is.
+    pub fn next_event(&mut self) -> Option<Event>
+        ensures { Tells self.old result self.new }
     {
-        if let Some(delivery) = self.kept.deliveries.pop() {
-            return Some(delivery);
+        if let Some(event) = self.next_of_steps() {
+            return Some(event);
         }
-        self.core.recycle(Effects {
-            sends: Items::new(self.alloc),
-            deliveries: self.kept.deliveries.spare(self.alloc),
-            answers: Items::new(self.alloc),
-            down: None,
-        });
-        None
+        if self.told_down {
+            return None;
+        }
+        let number = self.core.down()?;
+        self.told_down = true;
+        Some(Event::Down(number))
     }
 
-    /// Takes out the oldest call of this vat's application that ended.
-    pub fn next_ended(&mut self) -> Option<Ended>
-        ensures oldest { IfSome result (λ call. self.old ≡ record self.new { ended = call ∷ self.new.ended }) }
-        ensures none { IfNone result ((self.old.ended ≡ []) × (self.new ≡ self.old)) }
+    // Takes out the oldest event that a step left.
+    fn next_of_steps(&mut self) -> Option<Event>
+        ensures oldest { IfSome result (λ event. self.old ≡ record self.new { events = event ∷ self.new.events }) }
+        ensures none { IfNone result ((self.old.events ≡ []) × (self.new ≡ self.old)) }
     {
-        if let Some(call) = self.kept.ended.pop() {
-            return Some(call);
+        let event = self.kept.events.pop()?;
+        if let Some((deliveries, answers)) = self.kept.events.spent(self.alloc) {
+            self.core.recycle(Effects {
+                sends: Items::new(self.alloc),
+                deliveries,
+                answers,
+                down: None,
+            });
         }
-        self.core.recycle(Effects {
-            sends: Items::new(self.alloc),
-            deliveries: Items::new(self.alloc),
-            answers: self.kept.ended.spare(self.alloc),
-            down: None,
-        });
-        None
+        Some(event)
+    }
+
+    /// Whether all that the steps left was told, and the vat is down, which is to be told next.
+    pub fn has_only_down(&self) -> bool
+        ensures { result ≡ has_only_down self.now }
+    {
+        self.kept.events.is_empty() && self.core.down().is_some() && !self.told_down
     }
 }
 

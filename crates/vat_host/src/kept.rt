@@ -1,61 +1,53 @@
-ghost use Rattle.std.specs.Prelude.{◌≡◌, ◌≤◌, ◌+◌, ◌<◌, [], ◌++◌, ◌==◌, ◌&&◌, length, OnOk, IfOk};
-ghost use Rattle.vat_host.specs.Queues.{HasPlace};
+ghost use Rattle.std.specs.Prelude.{◌≡◌, ◌≤◌, ◌+◌, ◌<◌, [], ◌++◌, length, OnOk, IfOk};
+ghost use Rattle.vat_host.specs.Queues.{HasPlace, told};
 
+use crate::event_queue::EventQueue;
 use crate::list_queue::ListQueue;
-use rpc_journal::{Delivery, Ended};
 use rpc_machine::Effects;
 use rpc_msg::{Memory, Message};
 use std::alloc::Global;
 
-/// What the steps of a core left to do, the oldest first.
+/// What the steps of a core left to do, the oldest first: messages to send, and events to tell.
 #[derive(Drop)]
 pub(crate) struct Kept {
     pub(crate) messages: ListQueue<Message>,
-    pub(crate) deliveries: ListQueue<Delivery>,
-    pub(crate) ended: ListQueue<Ended>,
+    pub(crate) events: EventQueue,
 }
 
 impl Kept {
     /// Nothing, with the place for an Abort.
     pub(crate) fn new(alloc: Global) -> Result<Self, Memory>
         ensures messages { IfOk result (λ kept. kept.messages.0 ≡ []) }
-        ensures deliveries { IfOk result (λ kept. kept.deliveries.0 ≡ []) }
-        ensures ended { IfOk result (λ kept. kept.ended.0 ≡ []) }
+        ensures events { IfOk result (λ kept. kept.events.0 ≡ []) }
         ensures room { IfOk result (λ kept. 0 < kept.messages.1) }
     {
         let mut messages = ListQueue::new(alloc);
         messages.reserve(1)?;
         Ok(Kept {
             messages,
-            deliveries: ListQueue::new(alloc),
-            ended: ListQueue::new(alloc),
+            events: EventQueue::new(alloc),
         })
     }
 
     /// Makes a place for the effects of a step, beside the one for an Abort.
     pub(crate) fn make_place(&mut self) -> Result<(), Memory>
         ensures messages { self.new.messages.0 ≡ self.old.messages.0 }
-        ensures deliveries { self.new.deliveries.0 ≡ self.old.deliveries.0 }
-        ensures ended { self.new.ended.0 ≡ self.old.ended.0 }
+        ensures events { self.new.events.0 ≡ self.old.events.0 }
         ensures messages_place { OnOk result (2 ≤ self.new.messages.1) }
-        ensures deliveries_place { OnOk result (0 < self.new.deliveries.1) }
-        ensures ended_place { OnOk result (0 < self.new.ended.1) }
+        ensures events_place { OnOk result (0 < self.new.events.1) }
         ensures room { self.old.messages.1 ≤ self.new.messages.1 }
     {
         self.messages.reserve(2)?;
-        self.deliveries.reserve(1)?;
-        self.ended.reserve(1)?;
+        self.events.reserve()?;
         Ok(())
     }
 
     /// Keeps what a step left to do, where there is a place for it. Takes no memory.
     pub(crate) fn keep(&mut self, effects: Effects)
         requires messages_place { HasPlace effects.sends self.old.messages.1 }
-        requires deliveries_place { HasPlace effects.deliveries self.old.deliveries.1 }
-        requires ended_place { HasPlace effects.answers self.old.ended.1 }
+        requires events_place { HasPlace (told effects) self.old.events.1 }
         ensures messages { self.new.messages.0 ≡ self.old.messages.0 ++ effects.sends }
-        ensures deliveries { self.new.deliveries.0 ≡ self.old.deliveries.0 ++ effects.deliveries }
-        ensures ended { self.new.ended.0 ≡ self.old.ended.0 ++ effects.answers }
+        ensures events { self.new.events.0 ≡ self.old.events.0 ++ told effects }
         ensures room { self.old.messages.1 ≤ self.new.messages.1 + 1 }
         ensures kept { effects.sends ≡ [] → self.old.messages.1 ≤ self.new.messages.1 }
     {
@@ -66,7 +58,6 @@ impl Kept {
             down: _,
         } = effects;
         self.messages.append(sends);
-        self.deliveries.append(deliveries);
-        self.ended.append(answers);
+        self.events.append(deliveries, answers);
     }
 }

@@ -1,22 +1,30 @@
 //! A vat with what its steps leave to do: what an application would else keep itself (`docs/embedding.md`).
 //!
-//! - `host.rt`: `Host`, a core with what is to be done; commands of any kind, received messages, and taking out what is to be
-//!   done. `asks.rt`: the commands that give something, by name.
-//! - `kept.rt`: three queues, of messages to send, calls to serve and own calls that ended. A place for the effects of a
-//!   step is made before the step, and one for an Abort is kept from the beginning on, so nothing that a step says is lost.
-//! - `list_queue.rt`: a queue that takes in whole lists, each in one place, and gives out single items. Memory of a list whose
-//!   items were all taken out goes back to the core.
+//! - `host.rt`: `Host`, a core with what is to be done: commands of any kind, messages that come, and taking out what is to be
+//!   done. The commands by name: `calls.rt`, `refs.rt`, `promises.rt`, `tasks.rt`.
+//! - `event.rt`: what an application is told.
+//! - `kept.rt`: two queues, of messages to send and of events to tell. A place for the effects of a step is made before the step,
+//!   and one for an Abort is kept from the beginning on, so nothing that a step says is lost.
+//! - `list_queue.rt`, `event_queue.rt`: queues that take in whole lists, each in one place, and give out single items. Memory of
+//!   lists whose items were all taken out goes back to the core.
 //! - `exchanging.rt`: two hosts hand their messages to each other.
 //!
-//! Contracts see a host as `Hosted` (`specs/Hosting`): the state of its core, and three lists.
+//! Contracts see a host as `Hosted` (`specs/Hosting`): the state of its core, its two queues, and whether the application was told
+//! that the vat is down.
 #![tactic(auto)]
 
-mod asks;
+mod calls;
+mod event;
+mod event_queue;
 mod exchanging;
 mod host;
 mod kept;
 mod list_queue;
+mod promises;
+mod refs;
+mod tasks;
 
+pub use event::Event;
 pub use exchanging::exchange;
 pub use host::Host;
 pub use vat_core::{Answer, Core, Refused};

@@ -85,15 +85,14 @@ impl<T: Drop> ListQueue<T> {
         self.oldest.is_empty() && self.later.is_empty()
     }
 
-    /// The memory of a list whose items were all taken out, to be used again.
-    pub(crate) fn spare(&mut self, alloc: Global) -> Items<T>
-        ensures empty { result ≡ [] }
+    /// The memory of a list whose items were all taken out, if there is one, to be used again.
+    pub(crate) fn spent(&mut self, alloc: Global) -> Option<Items<T>>
         ensures same { self.new ≡ self.old }
     {
         if !self.oldest.is_empty() {
-            return Items::new(alloc);
+            return None;
         }
         let emptied = mem::replace(&mut self.oldest, VecDeque::new(alloc));
-        Items::from_vec(Vec::from(emptied))
+        Some(Items::from_vec(Vec::from(emptied)))
     }
 }

@@ -15,4 +15,4 @@ returns-in-Err-Fault c =
     let coming = comes (tables_of c.args.core.now) c.args.adapter.now (seen_envelope c.args.came) in
     let refused : coming ≡ Err c.in-Err-Fault.fault =
     subst (λ (e : PeerError). Comes coming (Err e) c.inbound.new.self) c.in-Err-Fault.field-0-is (c.in-Err-Fault.ensures (tables_of c.args.core.now) c.has_all_answers.ensures (λ e r told. search rules) (λ q r told. search rules)) in
-    inl (subst (λ (r : Result Coming PeerFault). IsRefused r c.code.result) (sym refused) c.code.ensures)
+    inl (subst (λ (r : Result Coming PeerFault). IsRefused r c.code-in-Err-Fault.result) (sym refused) c.code-in-Err-Fault.ensures)

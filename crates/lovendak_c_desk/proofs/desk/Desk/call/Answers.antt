@@ -30,6 +30,6 @@ pub returns-in-Err : goal.returns-in-Err
 returns-in-Err c =
     let old = c.args.self.now.connection in let new = c.call.new.self in
     let e = same_call (reference c.args.reference) c.args.method.0 c.args.method.1 c.in_ok-payload.payload (with_refs c.args.payload.now c.args.refs.now) c.in_ok-refs.refs (references c.args.refs.now) c.in_ok-payload.ensures.read.0 c.in_ok-refs.ensures in (
-      subst (λ (k : CallCommand). Calls old.speaker.host k (Err c.in-Err.refused.refusal) new.speaker.host ⊎ IsTooLarge old.speaker.host c.in-Err.refused.refusal new.speaker.host) e c.in-Err.ensures.refused,
+      subst (λ (k : CallCommand). Calls old.speaker.host k (Err c.in-Err.refused.refusal) new.speaker.host ⊎ IsTooLarge old.speaker.host (command.Call k) c.in-Err.refused.refusal new.speaker.host) e c.in-Err.ensures.refused,
       ap (λ (k : Connected). record c.args.self.now { connection = k }) c.in-Err.ensures.rest,
     )

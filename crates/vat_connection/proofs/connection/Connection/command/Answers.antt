@@ -14,5 +14,5 @@ returns-in-Shut-clause-done c = subst (λ (o : Connected). Does o.speaker.host c
 
 pub returns-in-Shut-clause-rest : goal.returns-in-Shut-clause-rest
 returns-in-Shut-clause-rest c =
-    leaves c.self.inside.speaker c.fall.new.self (held_of c.self.inside.reader) c.self.inside.told c.self.inside.open_calls.0 c.args.self.now c.args.command c.self.view_is c.fall.ensures.1 (Ok granted.Done) c.self.inside.open_calls.0
+    leaves c.self.inside.speaker c.fall.new.self (held_of c.self.inside.reader) c.self.inside.open_calls.0 c.args.self.now c.args.command c.self.view_is c.fall.ensures.1 (Ok granted.Done) c.self.inside.open_calls.0
     (subst (λ (k : Command). c.self.inside.open_calls.0 ≡ asked c.self.inside.open_calls.0 k (Ok granted.Done)) (sym c.in-Shut.is) refl)

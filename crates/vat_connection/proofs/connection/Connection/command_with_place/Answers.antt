@@ -10,25 +10,25 @@ use Rattle.vat_connection.proofs.Calling.{leaves}
 use Rattle.vat_connection.proofs.connection.Connection.command_with_place.Goals as goal
 
 pub returns-in_default-clause-refused : goal.returns-in_default-clause-refused
-returns-in_default-clause-refused c = subst (λ (o : Connected). Refuses o.speaker.host c.args.command refusal.Memory c.self.inside.speaker.host ⊎ IsTooLarge o.speaker.host refusal.Memory c.self.inside.speaker.host) c.self.view_is (inl (inr (refl, c.requires), refl))
+returns-in_default-clause-refused c = subst (λ (o : Connected). Refuses o.speaker.host c.args.command refusal.Memory c.self.inside.speaker.host ⊎ IsTooLarge o.speaker.host c.args.command refusal.Memory c.self.inside.speaker.host) c.self.view_is (inl (inr (refl, c.requires), refl))
 
 pub returns-in_default-clause-rest : goal.returns-in_default-clause-rest
 returns-in_default-clause-rest c =
-    leaves c.self.inside.speaker c.self.inside.speaker (held_of c.self.inside.reader) c.self.inside.told c.self.inside.open_calls.0 c.args.self.now c.args.command c.self.view_is refl (Err refusal.Memory) c.reserve.new.self.0 c.reserve.ensures.same
+    leaves c.self.inside.speaker c.self.inside.speaker (held_of c.self.inside.reader) c.self.inside.open_calls.0 c.args.self.now c.args.command c.self.view_is refl (Err refusal.Memory) c.reserve.new.self.0 c.reserve.ensures.same
 
 pub returns-in-Ok-command-clause-done : goal.returns-in-Ok-command-clause-done
 returns-in-Ok-command-clause-done c = subst (λ (o : Connected). Does o.speaker.host c.args.command c.in-Ok-command.granted c.command.new.self.host × Fits c.args.command) c.self.view_is c.in-Ok-command.ensures.done
 
 pub returns-in-Ok-command-clause-rest : goal.returns-in-Ok-command-clause-rest
 returns-in-Ok-command-clause-rest c =
-    leaves c.self.inside.speaker c.command.new.self (held_of c.self.inside.reader) c.self.inside.told c.self.inside.open_calls.0 c.args.self.now c.args.command c.self.view_is c.command.ensures.rest (Ok c.in-Ok-command.granted) c.follow.new.self.0
+    leaves c.self.inside.speaker c.command.new.self (held_of c.self.inside.reader) c.self.inside.open_calls.0 c.args.self.now c.args.command c.self.view_is c.command.ensures.rest (Ok c.in-Ok-command.granted) c.follow.new.self.0
     (c.follow.ensures
     ∙ ap (λ (calls : List CallId). followed calls c.finished_by-finished.result c.in-Ok-command.granted) c.reserve.ensures.same
     ∙ ap (λ (finished : Option CallId). followed c.self.inside.open_calls.0 finished c.in-Ok-command.granted) c.finished_by-finished.ensures)
 
 pub returns-in-Err-clause-refused : goal.returns-in-Err-clause-refused
-returns-in-Err-clause-refused c = subst (λ (o : Connected). Refuses o.speaker.host c.args.command c.in-Err.refused.refusal c.command.new.self.host ⊎ IsTooLarge o.speaker.host c.in-Err.refused.refusal c.command.new.self.host) c.self.view_is c.in-Err.ensures.refused
+returns-in-Err-clause-refused c = subst (λ (o : Connected). Refuses o.speaker.host c.args.command c.in-Err.refused.refusal c.command.new.self.host ⊎ IsTooLarge o.speaker.host c.args.command c.in-Err.refused.refusal c.command.new.self.host) c.self.view_is c.in-Err.ensures.refused
 
 pub returns-in-Err-clause-rest : goal.returns-in-Err-clause-rest
 returns-in-Err-clause-rest c =
-    leaves c.self.inside.speaker c.command.new.self (held_of c.self.inside.reader) c.self.inside.told c.self.inside.open_calls.0 c.args.self.now c.args.command c.self.view_is c.command.ensures.rest (Err c.in-Err.refused.refusal) c.reserve.new.self.0 c.reserve.ensures.same
+    leaves c.self.inside.speaker c.command.new.self (held_of c.self.inside.reader) c.self.inside.open_calls.0 c.args.self.now c.args.command c.self.view_is c.command.ensures.rest (Err c.in-Err.refused.refusal) c.reserve.new.self.0 c.reserve.ensures.same

@@ -1,16 +1,12 @@
-use Rattle.std.proofs.Common.{Ok, Err, refl}
+use Rattle.std.proofs.Common.{refl, ap, ◌∙◌}
 use Rattle.rpc_machine.specs.declared.command.Command.TheVariants as command
 use Rattle.rpc_machine.specs.declared.command.Granted.TheVariants as granted
 use Rattle.vat_connection.specs.Hearing.{held_of}
-use Rattle.vat_connection.proofs.Calling.{spoken}
-use Rattle.vat_connection.proofs.Giving.{gives_nothing}
+use Rattle.vat_connection.specs.declared.connection.Connection.TheInside.{Inside}
+use Rattle.vat_connection.proofs.Calling.{asks, connection}
 use Rattle.vat_connection.proofs.connection.Connection.drop_ref.Goals as goal
 
-pub returns-in-Ok : goal.returns-in-Ok
-returns-in-Ok c =
-    spoken c.self.inside.speaker c.obey.new.self (held_of c.self.inside.reader) c.self.inside.told c.self.inside.open_calls.0 c.args.self.now (command.DropRef c.args.id) c.self.view_is c.obey.ensures.rest (Ok granted.Done) c.self.inside.open_calls.0 refl
-    (gives_nothing c.self.inside.speaker.host c.obey.new.self.host (command.DropRef c.args.id) c.in-Ok._granted tt c.in-Ok.ensures.obeys)
-
-pub returns-in-Err : goal.returns-in-Err
-returns-in-Err c =
-    spoken c.self.inside.speaker c.obey.new.self (held_of c.self.inside.reader) c.self.inside.told c.self.inside.open_calls.0 c.args.self.now (command.DropRef c.args.id) c.self.view_is c.obey.ensures.rest (Err c.in-Err.refusal) c.self.inside.open_calls.0 refl c.in-Err.ensures.obeys
+pub returns : goal.returns
+returns c =
+    asks c.self-inside.inside.0.0.host c.drop_ref.new.self c.self-inside.inside.0.0.out c.self-inside.inside.0.0.adapter c.self-inside.inside.0.0.heard (held_of c.self-inside.inside.0.1.0) c.self-inside.inside.0.1.1.0.0 c.args.self.now (command.DropRef c.args.id) (ap (λ (i : Inside). connection i.speaker (held_of i.reader) i.open_calls.0) c.self-inside.view_is ∙ c.self.view_is)
+    c.drop_ref.result (λ _. granted.Done) (λ r. r) (λ _. refl) c.drop_ref.ensures.done c.drop_ref.ensures.refused

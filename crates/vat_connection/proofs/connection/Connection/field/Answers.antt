@@ -8,5 +8,5 @@ use Rattle.vat_connection.proofs.connection.Connection.field.Goals as goal
 
 pub returns-clause-asks : goal.returns-clause-asks
 returns-clause-asks c =
-    asks c.self-inside.inside.0.0.host c.field.new.self c.self-inside.inside.0.0.out c.self-inside.inside.0.0.adapter c.self-inside.inside.0.0.heard (held_of c.self-inside.inside.0.1.0) c.self-inside.inside.0.1.1.0 c.self-inside.inside.0.1.1.1.0.0 c.args.self.now (command.Field c.args.id c.args.path) (ap (λ (i : Inside). connection i.speaker (held_of i.reader) i.told i.open_calls.0) c.self-inside.view_is ∙ c.self.view_is)
+    asks c.self-inside.inside.0.0.host c.field.new.self c.self-inside.inside.0.0.out c.self-inside.inside.0.0.adapter c.self-inside.inside.0.0.heard (held_of c.self-inside.inside.0.1.0) c.self-inside.inside.0.1.1.0.0 c.args.self.now (command.Field c.args.id c.args.path) (ap (λ (i : Inside). connection i.speaker (held_of i.reader) i.open_calls.0) c.self-inside.view_is ∙ c.self.view_is)
     c.field.result granted.Reference (λ e. e.refusal) (λ _. refl) c.field.ensures.done c.field.ensures.refused

@@ -8,5 +8,5 @@ use Rattle.vat_connection.proofs.connection.Connection.host.Goals as goal
 
 pub returns : goal.returns
 returns c =
-    asks c.self-inside.inside.0.0.host c.host.new.self c.self-inside.inside.0.0.out c.self-inside.inside.0.0.adapter c.self-inside.inside.0.0.heard (held_of c.self-inside.inside.0.1.0) c.self-inside.inside.0.1.1.0 c.self-inside.inside.0.1.1.1.0.0 c.args.self.now (command.Host c.args.object) (ap (λ (i : Inside). connection i.speaker (held_of i.reader) i.told i.open_calls.0) c.self-inside.view_is ∙ c.self.view_is)
+    asks c.self-inside.inside.0.0.host c.host.new.self c.self-inside.inside.0.0.out c.self-inside.inside.0.0.adapter c.self-inside.inside.0.0.heard (held_of c.self-inside.inside.0.1.0) c.self-inside.inside.0.1.1.0.0 c.args.self.now (command.Host c.args.object) (ap (λ (i : Inside). connection i.speaker (held_of i.reader) i.open_calls.0) c.self-inside.view_is ∙ c.self.view_is)
     c.host.result granted.Reference (λ r. r) (λ _. refl) c.host.ensures.done c.host.ensures.refused

@@ -6,7 +6,7 @@ use Rattle.vat_connection.proofs.connection.Connection.outgoing.Goals as goal
 
 pub returns : goal.returns
 returns c =
-    let now : Speaking → Connected = λ s. record { speaker = s; waiting = held_of c.self.inside.reader; told = c.self.inside.told; open_calls = c.self.inside.open_calls.0 } in (
+    let now : Speaking → Connected = λ s. record { speaker = s; waiting = held_of c.self.inside.reader; open_calls = c.self.inside.open_calls.0 } in (
       c.say.new.self,
       subst (λ (o : Connected). Says o.speaker c.say.new.self) c.self.view_is c.say.ensures,
       c.take_bytes.ensures.taken,

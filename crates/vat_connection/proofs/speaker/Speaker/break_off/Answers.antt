@@ -6,4 +6,4 @@ use Rattle.vat_connection.proofs.speaker.Speaker.break_off.Goals as goal
 pub returns : goal.returns
 returns c =
     subst (λ (s : Speaking). Breaks s c.say_abort.new.self) c.self.view_is
-    (broken_off c.self.inside.host c.shut.new.self c.self.inside.out c.self.inside.adapter c.self.inside.heard c.say_abort.new.self c.shut.ensures c.say_abort.ensures)
+    (broken_off c.self.inside.host c.lack_room.new.host c.self.inside.out c.self.inside.adapter c.self.inside.heard c.say_abort.new.self c.lack_room.ensures c.say_abort.ensures)

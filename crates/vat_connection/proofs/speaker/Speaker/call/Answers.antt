@@ -20,8 +20,8 @@ returns-clause-done c =
 pub returns-clause-refused : goal.returns-clause-refused
 returns-clause-refused c =
     let short = obeyed c.advance.result granted.Advanced (λ r. r) c.self.inside.host c.advance.new.self (command.Advance c.in-Ok.call.reference) c.advance.ensures.done c.advance.ensures.refused in
-    subst (λ (call : CallCommand). IfErr c.call.result (λ e. Calls c.args.self.now.host call (Err e.refusal) c.call.new.self ⊎ IsTooLarge c.args.self.now.host e.refusal c.call.new.self)) c.in-Ok.ensures.same
-    (subst (λ (host : Hosted). IfErr c.call.result (λ e. Calls host c.in-Ok.call (Err e.refusal) c.call.new.self ⊎ IsTooLarge host e.refusal c.call.new.self)) (ap (λ (s : Speaking). s.host) c.self.view_is)
+    subst (λ (call : CallCommand). IfErr c.call.result (λ e. Calls c.args.self.now.host call (Err e.refusal) c.call.new.self ⊎ IsTooLarge c.args.self.now.host (command.Call call) e.refusal c.call.new.self)) c.in-Ok.ensures.same
+    (subst (λ (host : Hosted). IfErr c.call.result (λ e. Calls host c.in-Ok.call (Err e.refusal) c.call.new.self ⊎ IsTooLarge host (command.Call c.in-Ok.call) e.refusal c.call.new.self)) (ap (λ (s : Speaking). s.host) c.self.view_is)
     (refused (λ e. e.refusal) c.self.inside.host c.advance.new.self c.call.new.self c.in-Ok.call c.advance.result c.call.result short c.call.ensures.refused))
 
 pub returns-clause-handed_back : goal.returns-clause-handed_back

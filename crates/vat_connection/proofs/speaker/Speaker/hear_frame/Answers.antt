@@ -13,15 +13,15 @@ use Rattle.vat_connection.proofs.speaker.Speaker.hear_frame.Goals as goal
 
 pub returns-in_default : goal.returns-in_default
 returns-in_default c =
-    subst (λ (s : Speaking). HearsUp s c.args.frame.now (speaking c.shut.new.self c.self.inside.out c.self.inside.adapter c.self.inside.heard)) c.self.view_is
-    (lacks c.self.inside.host c.self.inside.out c.self.inside.adapter c.self.inside.heard c.args.frame.now c.self.inside.adapter c.shut.new.self c.shut.ensures)
+    subst (λ (s : Speaking). HearsUp s c.args.frame.now (speaking c.lack_room.new.host c.self.inside.out c.self.inside.adapter c.self.inside.heard)) c.self.view_is
+    (lacks c.self.inside.host c.self.inside.out c.self.inside.adapter c.self.inside.heard c.args.frame.now c.self.inside.adapter c.lack_room.new.host c.lack_room.ensures)
 
 pub returns-in-Err : goal.returns-in-Err
 returns-in-Err c =
     let start : Speaking = speaking c.self.inside.host c.self.inside.out c.self.inside.adapter c.self.inside.heard in
     let stamped : c.next_stamp-stamp.result ≡ stamp_of start = c.next_stamp-stamp.ensures ∙ ap stamp_of (sym c.self.view_is) in
-    subst (λ (s : Speaking). HearsUp s c.args.frame.now (speaking c.shut-in-Err.new.self c.self.inside.out c.self.inside.adapter c.self.inside.heard)) c.self.view_is
-    (not_opened c.self.inside.host c.self.inside.out c.self.inside.adapter c.self.inside.heard c.args.frame.now c.in-Err.number c.shut-in-Err.new.self (subst (λ (st : Stamp). Opens (envelope_at st c.args.frame.now) (Err c.in-Err.number)) stamped c.in-Err.ensures) c.shut-in-Err.ensures)
+    subst (λ (s : Speaking). HearsUp s c.args.frame.now (speaking c.shut.new.self c.self.inside.out c.self.inside.adapter c.self.inside.heard)) c.self.view_is
+    (not_opened c.self.inside.host c.self.inside.out c.self.inside.adapter c.self.inside.heard c.args.frame.now c.in-Err.number c.shut.new.self (subst (λ (st : Stamp). Opens (envelope_at st c.args.frame.now) (Err c.in-Err.number)) stamped c.in-Err.ensures) c.shut.ensures)
 
 pub returns-in-Err-turn : goal.returns-in-Err-turn
 returns-in-Err-turn c =
@@ -33,9 +33,9 @@ returns-in-Err-turn c =
 
 pub returns-then-not-put_aside : goal.returns-then-not-put_aside
 returns-then-not-put_aside c =
-    subst (λ (s : Speaking). HearsUp s c.args.frame.now (speaking c.shut-then-not-put_aside.new.self c.put_aside.new.out c.turn.new.adapter c.self.inside.heard)) c.self.view_is
-    (subst (λ (o : Outflow). HearsUp (speaking c.self.inside.host c.self.inside.out c.self.inside.adapter c.self.inside.heard) c.args.frame.now (speaking c.shut-then-not-put_aside.new.self o c.turn.new.adapter c.self.inside.heard)) (sym c.if-not-put_aside.ensures)
-    (lacks c.self.inside.host c.self.inside.out c.self.inside.adapter c.self.inside.heard c.args.frame.now c.turn.new.adapter c.shut-then-not-put_aside.new.self c.shut-then-not-put_aside.ensures))
+    subst (λ (s : Speaking). HearsUp s c.args.frame.now (speaking c.lack_room-then-not-put_aside.new.host c.put_aside.new.out c.turn.new.adapter c.self.inside.heard)) c.self.view_is
+    (subst (λ (o : Outflow). HearsUp (speaking c.self.inside.host c.self.inside.out c.self.inside.adapter c.self.inside.heard) c.args.frame.now (speaking c.lack_room-then-not-put_aside.new.host o c.turn.new.adapter c.self.inside.heard)) (sym c.if-not-put_aside.ensures)
+    (lacks c.self.inside.host c.self.inside.out c.self.inside.adapter c.self.inside.heard c.args.frame.now c.turn.new.adapter c.lack_room-then-not-put_aside.new.host c.lack_room-then-not-put_aside.ensures))
 
 pub returns : goal.returns
 returns c =

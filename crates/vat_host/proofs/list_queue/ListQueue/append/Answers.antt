@@ -1,4 +1,4 @@
-use Rattle.std.proofs.Common.{rules, ◌∙◌, sym}
+use Rattle.std.proofs.Common.{◌∙◌, sym}
 use Rattle.vat_host.proofs.Waiting.{one_more}
 use Rattle.vat_host.proofs.list_queue.ListQueue.append.Goals as goal
 

@@ -1,4 +1,4 @@
-use Rattle.std.proofs.Common.{rules, ◌≡◌, ◌∙◌, sym, true-eqb}
+use Rattle.std.proofs.Common.{◌∙◌, sym, true-eqb}
 use Rattle.vat_host.proofs.Waiting.{nothing_left}
 use Rattle.vat_host.proofs.list_queue.ListQueue.is_empty.Goals as goal
 

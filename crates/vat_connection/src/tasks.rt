@@ -1,13 +1,13 @@
-//! The commands that give nothing, by name: tasks and promises are settled, and references and calls are let go.
+//! Tasks, which are delivered calls, are settled.
 ghost use Rattle.std.specs.Prelude.{◌≡◌, Some, IsSome, IfErr};
 ghost use Rattle.rpc_machine.specs.declared.command.Command.TheVariants as command;
 ghost use Rattle.rpc_machine.specs.declared.command.Granted.TheVariants as granted;
 ghost use Rattle.vat_connection.specs.Calling.{answered, exception_of, results_of};
-ghost use Rattle.vat_connection.specs.Connecting.{Asks, AsksToFit, IsShut};
+ghost use Rattle.vat_connection.specs.Connecting.{AsksToFit};
 
 use crate::connection::Connection;
-use rpc_machine::{Command, Refusal};
-use rpc_msg::{CallId, Exception, Items, Payload, PromiseId, RefId, TaskId};
+use rpc_machine::Command;
+use rpc_msg::{Exception, Items, Payload, RefId, TaskId};
 use vat_host::Refused;
 
 impl Connection {
@@ -38,62 +38,6 @@ impl Connection {
             Ok(_granted) => return Ok(()),
             Err(refused) => return Err(exception_back(refused)),
         }
-    }
-
-    /// Breaks a promise, as `Core::reject` does. Refused with `Full` too, where the exception's reason may be too long for the
-    /// frames that carry it. A refusal changes nothing, and the exception is handed back.
-    pub fn reject(
-        &mut self,
-        promise: PromiseId,
-        exception: Exception,
-    ) -> Result<(), Refused<Exception>>
-        ensures asks { AsksToFit self.old (command.Reject promise exception) (answered result (λ _. granted.Done) (λ e. e.refusal)) self.new }
-        ensures handed_back { IfErr result (λ e. e.back ≡ exception) }
-    {
-        match self.speaker.command(Command::Reject(promise, exception)) {
-            Ok(_granted) => return Ok(()),
-            Err(refused) => return Err(exception_back(refused)),
-        }
-    }
-
-    /// Settles a promise to what a reference leads to, as `Core::resolve` does. A refusal changes nothing.
-    pub fn resolve(&mut self, promise: PromiseId, reference: RefId) -> Result<(), Refusal>
-        ensures { Asks self.old (command.Resolve promise reference) (answered result (λ _. granted.Done) (λ r. r)) self.new }
-    {
-        match self.speaker.obey(Command::Resolve(promise, reference)) {
-            Ok(_granted) => return Ok(()),
-            Err(refusal) => return Err(refusal),
-        }
-    }
-
-    /// Has no more use for a reference, as `Core::drop_ref` does. A refusal changes nothing.
-    pub fn drop_ref(&mut self, id: RefId) -> Result<(), Refusal>
-        ensures { Asks self.old (command.DropRef id) (answered result (λ _. granted.Done) (λ r. r)) self.new }
-    {
-        match self.speaker.obey(Command::DropRef(id)) {
-            Ok(_granted) => return Ok(()),
-            Err(refusal) => return Err(refusal),
-        }
-    }
-
-    /// Has no more use for a call, as `Core::finish` does. A refusal changes nothing.
-    pub fn finish(&mut self, id: CallId) -> Result<(), Refusal>
-        ensures { Asks self.old (command.Finish id) (answered result (λ _. granted.Done) (λ r. r)) self.new }
-    {
-        match self.speaker.obey(Command::Finish(id)) {
-            Ok(_granted) => {
-                self.open_calls.remove(id);
-                return Ok(());
-            }
-            Err(refusal) => return Err(refusal),
-        }
-    }
-
-    /// Takes a vat that is up down with that number. Its Abort is to be sent.
-    pub fn shut(&mut self, number: u16)
-        ensures { IsShut self.old number self.new }
-    {
-        self.speaker.fall(number);
     }
 }
 
@@ -130,7 +74,7 @@ fn results_back(refused: Refused<Command>) -> Refused<(Payload, Items<RefId>)>
 }
 
 // What a refused `Fail` or `Reject` was given.
-fn exception_back(refused: Refused<Command>) -> Refused<Exception>
+pub(crate) fn exception_back(refused: Refused<Command>) -> Refused<Exception>
     requires { IsSome (exception_of refused.back) }
     ensures refusal { result.refusal ≡ refused.refusal }
     ensures back { exception_of refused.back ≡ Some result.back }

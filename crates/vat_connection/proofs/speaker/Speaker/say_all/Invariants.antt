@@ -1,5 +1,5 @@
 use Rattle.vat_connection.specs.Speaking.{Speaking, Says}
-use Rattle.vat_connection.proofs.speaker.Speaker.say.Given as goal
+use Rattle.vat_connection.proofs.speaker.Speaker.say_all.Given as goal
 
 abbrev pub invariant-loop-message : goal.invariant-loop-message
 invariant-loop-message l = (new : Speaking) → Says l.self new → Says l.fn.self new

@@ -9,6 +9,6 @@ pub enum Event {
     Served(Delivery),
     /// An own call has ended.
     Ended(Ended),
-    /// The vat went down, with that number. Each own call has ended before, those that were open with `Disconnected`.
+    /// The vat went down, with that number. Nothing is told after it.
     Down(u16),
 }
