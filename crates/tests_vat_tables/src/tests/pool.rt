@@ -1,126 +1,108 @@
 //! The pool of waiting calls: lists that are filled, emptied and put together.
-use std::alloc::Global;
 use std::process::Abort;
 use vat_tables::{HeldPool, ListKey, POOL_LIMIT, TableFault};
 
-fn start(pool: &mut HeldPool<usize>, call: usize) -> Result<ListKey, TableFault> {
+// Where a growth is refused, the call has to come back and the pool to be as it was.
+fn starts(pool: &mut HeldPool<usize>, call: usize) -> Option<ListKey> {
+    let before = pool.len();
     match pool.start(call) {
-        Ok(list) => Ok(list),
-        Err((fault, _)) => Err(fault),
+        Ok(list) => Some(list),
+        Err(refused) if refused == (TableFault::Memory, call) && pool.len() == before => {
+            pool.start(call).ok()
+        }
+        Err(_) => None,
     }
 }
 
-fn push(pool: &mut HeldPool<usize>, list: ListKey, call: usize) -> Result<(), TableFault> {
+// As `starts`.
+fn pushes(pool: &mut HeldPool<usize>, list: ListKey, call: usize) -> bool {
+    let before = pool.len();
     if !pool.contains(list) {
-        return Ok(());
+        return false;
     }
     match pool.push(list, call) {
-        Ok(()) => Ok(()),
-        Err((fault, _)) => Err(fault),
+        Ok(()) => true,
+        Err(refused) => {
+            refused == (TableFault::Memory, call)
+                && pool.len() == before
+                && pool.contains(list)
+                && pool.push(list, call).is_ok()
+        }
     }
 }
 
-fn pop(pool: &mut HeldPool<usize>, list: ListKey) -> Option<(usize, bool)> {
-    pool.pop(list)
+fn pops(pool: &mut HeldPool<usize>, list: ListKey, wanted: Option<(usize, bool)>) -> bool {
+    pool.pop(list) == wanted
 }
 
-fn start_three(pool: &mut HeldPool<usize>) -> Result<[ListKey; 3], TableFault> {
-    let a = start(pool, 0)?;
-    let b = start(pool, 1)?;
-    let c = start(pool, 2)?;
-    Ok([a, b, c])
+fn appends(pool: &mut HeldPool<usize>, to: ListKey, from: ListKey) -> bool {
+    if to.0 == from.0 || !pool.contains(to) || !pool.contains(from) {
+        return false;
+    }
+    pool.append(to, from);
+    !pool.contains(from)
 }
 
-// Fills the pool with the numbers below its limit, pushed on three lists in turn.
-fn push_in_turn(pool: &mut HeldPool<usize>) -> Result<[ListKey; 3], TableFault> {
-    let lists = start_three(pool)?;
+// Fills the pool with the numbers below its limit, on three lists in turn.
+fn fill(pool: &mut HeldPool<usize>) -> Option<[ListKey; 3]> {
+    let lists = [starts(pool, 0)?, starts(pool, 1)?, starts(pool, 2)?];
     for i in 3..POOL_LIMIT {
-        push(pool, lists[i % 3], i)?;
+        if !pushes(pool, lists[i % 3], i) {
+            return None;
+        }
     }
-    Ok(lists)
+    Some(lists)
 }
 
-fn popped_in_order(pool: &mut HeldPool<usize>, lists: [ListKey; 3]) -> bool {
+fn is_full(pool: &HeldPool<usize>) -> bool {
+    pool.len() == POOL_LIMIT
+        && pool.is_full()
+        && has(pool, POOL_LIMIT - 1)
+        && !has(pool, POOL_LIMIT)
+}
+
+fn has(pool: &HeldPool<usize>, wanted: usize) -> bool {
+    pool.any(|call| *call == wanted)
+}
+
+fn is_emptied_in_order(pool: &mut HeldPool<usize>, lists: [ListKey; 3]) -> bool {
     for i in 0..POOL_LIMIT {
-        if pop(pool, lists[i % 3]) != Some((i, i + 3 < POOL_LIMIT)) {
+        if !pops(pool, lists[i % 3], Some((i, i + 3 < POOL_LIMIT))) {
             return false;
         }
     }
     pool.len() == 0
 }
 
-/// A full pool is popped in order, twice, and a list is put behind another.
+/// A full pool is popped in order, twice.
 #[test]
-fn waiting_calls_are_popped_in_order(rt: HostRuntime) -> Result<(), TableFault> {
+fn waiting_calls_are_popped_in_order(rt: HostRuntime) {
     let mut pool = HeldPool::new(rt.alloc());
-    pool.reserve(1)?;
-    is_filled_and_emptied(&rt, &mut pool)?;
-    is_filled_and_emptied(&rt, &mut pool)?;
-    are_one_list(&rt, rt.alloc())
-}
-
-fn is_filled_and_emptied(rt: &impl Abort, pool: &mut HeldPool<usize>) -> Result<(), TableFault> {
-    let lists = push_in_turn(pool)?;
-    assert!(rt; is_full(pool));
-    assert!(rt; has_below_its_limit(pool));
-    assert!(rt; popped_in_order(pool, lists));
-    Ok(())
-}
-
-fn is_full(pool: &mut HeldPool<usize>) -> bool {
-    pool.len() == POOL_LIMIT && pool.is_full()
-}
-
-fn has_below_its_limit(pool: &HeldPool<usize>) -> bool {
-    pool.any(|call| *call == POOL_LIMIT - 1) && !pool.any(|call| *call == POOL_LIMIT)
-}
-
-fn append(pool: &mut HeldPool<usize>, to: ListKey, from: ListKey) {
-    if to.0 != from.0 && pool.contains(to) && pool.contains(from) {
-        pool.append(to, from);
+    assert!(rt; pool.reserve(1).is_ok());
+    for _ in 0..2 {
+        let Some(lists) = fill(&mut pool) else {
+            panic!(rt; "refused");
+        };
+        assert!(rt; is_full(&pool));
+        assert!(rt; is_emptied_in_order(&mut pool, lists));
     }
 }
 
-fn are_one_list(rt: &impl Abort, alloc: Global) -> Result<(), TableFault> {
-    let mut pool = HeldPool::new(alloc);
-    let to = start(&mut pool, 1)?;
-    let from = start(&mut pool, 3)?;
-    push(&mut pool, to, 2)?;
-    append(&mut pool, to, from);
-    is_one_list(rt, &mut pool, to, from);
-    Ok(())
+/// A list is put behind another.
+#[test]
+fn two_lists_are_one(rt: HostRuntime) {
+    let mut pool = HeldPool::new(rt.alloc());
+    are_one(&rt, &mut pool);
 }
 
-fn is_one_list(rt: &impl Abort, pool: &mut HeldPool<usize>, to: ListKey, from: ListKey) {
-    assert!(rt; !pool.contains(from));
-    assert_eq!(rt; pop(pool, to), Some((1, true)));
-    assert_eq!(rt; pop(pool, to), Some((2, true)));
-    assert_eq!(rt; pop(pool, to), Some((3, false)));
-    assert_eq!(rt; pop(pool, to), None);
-}
-
-// Pushes a call. Where a growth is refused, the call has to come back and the pool to be as it was; it is then pushed
-// once more.
-fn pushed_at_last(pool: &mut HeldPool<usize>, list: ListKey, call: usize) -> bool {
-    if !pool.contains(list) || pool.len() != call {
-        return false;
-    }
-    let Err(refused) = pool.push(list, call) else {
-        return true;
+fn are_one(rt: &impl Abort, pool: &mut HeldPool<usize>) {
+    let (Some(to), Some(from)) = (starts(pool, 1), starts(pool, 3)) else {
+        panic!(rt; "refused");
     };
-    refused == (TableFault::Memory, call)
-        && pool.len() == call
-        && pool.contains(list)
-        && pool.push(list, call).is_ok()
-}
-
-// Starts a list. Where a growth is refused, the call has to come back and the pool to be empty; it is then started once
-// more.
-fn started_at_last(pool: &mut HeldPool<usize>) -> Option<ListKey> {
-    match pool.start(0) {
-        Ok(list) => Some(list),
-        Err((TableFault::Memory, 0)) if pool.len() == 0 => pool.start(0).ok(),
-        Err(_) => None,
+    assert!(rt; pushes(pool, to, 2));
+    assert!(rt; appends(pool, to, from));
+    for wanted in [Some((1, true)), Some((2, true)), Some((3, false)), None] {
+        assert!(rt; pops(pool, to, wanted));
     }
 }
 
@@ -132,11 +114,13 @@ fn a_refused_call_comes_back(rt: HostRuntime) {
 }
 
 fn comes_back(rt: &impl Abort, pool: &mut HeldPool<usize>) {
-    let list = started_at_last(pool).expect(rt, "a list");
+    let Some(list) = starts(pool, 0) else {
+        panic!(rt; "refused");
+    };
     for call in 1..40 {
-        assert!(rt; pushed_at_last(pool, list, call));
+        assert!(rt; pushes(pool, list, call));
     }
     for call in 0..40 {
-        assert_eq!(rt; pop(pool, list), Some((call, call < 39)));
+        assert!(rt; pops(pool, list, Some((call, call < 39))));
     }
 }
