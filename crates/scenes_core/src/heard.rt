@@ -20,7 +20,11 @@ pub fn message(alloc: Global, text: &str) -> Result<Message> {
     for word in text.split_whitespace() {
         words.push(word)?;
     }
-    match words.as_slice() {
+    said(alloc, &words)
+}
+
+fn said(alloc: Global, words: &[&str]) -> Result<Message> {
+    match words {
         ["unimplemented", words @ ..] => Ok(Message::Unimplemented(plain(alloc, words)?)),
         words => Ok(Message::Plain(plain(alloc, words)?)),
     }
@@ -30,18 +34,16 @@ fn plain(alloc: Global, words: &[&str]) -> Result<PlainMessage> {
     match words {
         ["abort"] => Ok(PlainMessage::Abort(exception(alloc)?)),
         ["call", id, "to", kind, number, caps @ ..] => {
+            let (id, target) = (id.parse()?, target(kind, number)?);
             let (payload, descriptors) = contents(alloc, caps)?;
-            let target = target(kind, number)?;
-            Ok(PlainMessage::Call(call(id.parse()?, target, payload, descriptors)))
+            Ok(PlainMessage::Call(call(id, target, payload, descriptors)))
         }
         ["return", id, "release", body @ ..] => returned(alloc, id, true, body),
         ["return", id, body @ ..] => returned(alloc, id, false, body),
         ["resolve", id, to @ ..] => {
+            let promise = ExportId(id.parse()?);
             let to = resolved(alloc, to)?;
-            Ok(PlainMessage::Resolve(Resolve {
-                promise: ExportId(id.parse()?),
-                to,
-            }))
+            Ok(PlainMessage::Resolve(Resolve { promise, to }))
         }
         _ => small(words),
     }
@@ -100,6 +102,7 @@ fn call(id: u32, target: Target, payload: Payload, descriptors: Items<Descriptor
 }
 
 fn returned(alloc: Global, id: &str, releases: bool, words: &[&str]) -> Result<PlainMessage> {
+    let answer = QuestionId(id.parse()?);
     let body = match words {
         ["canceled"] => ReturnBody::Canceled,
         caps => {
@@ -108,7 +111,7 @@ fn returned(alloc: Global, id: &str, releases: bool, words: &[&str]) -> Result<P
         }
     };
     Ok(PlainMessage::Return(Return {
-        answer: QuestionId(id.parse()?),
+        answer,
         release_param_caps: releases,
         body,
     }))
@@ -117,8 +120,7 @@ fn returned(alloc: Global, id: &str, releases: bool, words: &[&str]) -> Result<P
 fn resolved(alloc: Global, words: &[&str]) -> Result<ResolvedTo> {
     match words {
         ["exception"] => Ok(ResolvedTo::Exception(exception(alloc)?)),
-        [kind, number] => Ok(ResolvedTo::Cap(descriptor(kind, number)?)),
-        _ => bail!("no descriptor"),
+        words => Ok(ResolvedTo::Cap(descriptor_of(words)?)),
     }
 }
 
@@ -131,8 +133,9 @@ fn contents(alloc: Global, words: &[&str]) -> Result<(Payload, Items<Descriptor>
             Ok((Payload::null(alloc)?, Items::from_vec(descriptors)))
         }
         words => {
+            let count = u32::try_from(words.len() / 2)?;
+            let payload = Payload::read(alloc, &GIVEN, count)?;
             let descriptors = descriptors(alloc, words)?;
-            let payload = Payload::read(alloc, &GIVEN, u32::try_from(descriptors.len())?)?;
             Ok((payload, Items::from_vec(descriptors)))
         }
     }
@@ -141,12 +144,16 @@ fn contents(alloc: Global, words: &[&str]) -> Result<(Payload, Items<Descriptor>
 fn descriptors(alloc: Global, words: &[&str]) -> Result<Vec<Descriptor>> {
     let mut read = Vec::new(alloc);
     for pair in words.chunks(2) {
-        let [kind, number] = pair else {
-            bail!("no descriptor");
-        };
-        read.push(descriptor(kind, number)?)?;
+        read.push(descriptor_of(pair)?)?;
     }
     Ok(read)
+}
+
+fn descriptor_of(words: &[&str]) -> Result<Descriptor> {
+    match words {
+        [kind, number] => descriptor(kind, number),
+        _ => bail!("no descriptor"),
+    }
 }
 
 fn descriptor(kind: &str, number: &str) -> Result<Descriptor> {

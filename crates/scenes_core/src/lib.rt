@@ -23,10 +23,14 @@ const SHOWN: usize = 12;
 
 pub fn play(rt: &impl Print, alloc: Global, lines: &str) -> Result<()> {
     let mut scene = Scene::new(alloc, "")?;
+    play_lines(rt, alloc, &mut scene, lines)
+}
+
+fn play_lines(rt: &impl Print, alloc: Global, scene: &mut Scene, lines: &str) -> Result<()> {
     for line in lines.lines() {
         println!(rt; "{line}")?;
         if line.starts_with("scene ") {
-            scene = Scene::new(alloc, line)?;
+            scene.begin(alloc, line)?;
         } else if !line.is_empty() {
             scene.play(alloc, line)?;
             tell(rt, scene.said.as_str())?;

@@ -4,7 +4,7 @@ use crate::heard::message;
 use crate::told::write_effects;
 use anyhow::{Result, bail};
 use rpc_machine::{Command, Effects, Event, Granted, Level};
-use rpc_msg::{Exception, ExceptionKind, Message, ObjectId, Payload, RefId, Text, Vat};
+use rpc_msg::{Exception, ExceptionKind, Items, Message, ObjectId, Payload, RefId, Text, Vat};
 use scenes_words::{letter, write_counts};
 use script_language::{Act, Line, LineCommand, Name, Names, Program};
 use std::alloc::Global;
@@ -41,17 +41,26 @@ impl Scene {
         })
     }
 
+    pub fn begin(&mut self, alloc: Global, title: &str) -> Result<()> {
+        *self = Scene::new(alloc, title)?;
+        Ok(())
+    }
+
     pub fn play(&mut self, alloc: Global, line: &str) -> Result<()> {
         let Some((turns, line)) = line.split_once(" times ") else {
             return self.happen(alloc, line);
         };
         let turns: u32 = turns.parse()?;
         for turn in 0..turns {
-            let number = format!(in alloc; "{turn}")?;
-            let line = line.replace(alloc, "$", number.as_str())?;
-            self.happen(alloc, line.as_str())?;
+            self.happen_in(alloc, line, turn)?;
         }
         Ok(())
+    }
+
+    fn happen_in(&mut self, alloc: Global, line: &str, turn: u32) -> Result<()> {
+        let number = format!(in alloc; "{turn}")?;
+        let line = line.replace(alloc, "$", number.as_str())?;
+        self.happen(alloc, line.as_str())
     }
 
     fn happen(&mut self, alloc: Global, line: &str) -> Result<()> {
@@ -79,20 +88,27 @@ impl Scene {
         reason: &str,
     ) -> Result<()> {
         let line = Line::read(alloc, Program::Run, text)?;
-        let null = Payload::null(alloc)?;
-        let act = self.names.act(alloc, &null, &line)?;
         let reason = Text::new(alloc, reason)?;
-        let exception = Exception { kind, reason };
-        let command = match act {
+        let command = self.failing(alloc, &line, Exception { kind, reason })?;
+        self.obey(alloc, &line, command)
+    }
+
+    fn failing(&mut self, alloc: Global, line: &Line, exception: Exception) -> Result<Command> {
+        match self.act(alloc, line)? {
             Act::Happens(Event::Command(_, Command::Reject(promise, _))) => {
-                Command::Reject(promise, exception)
+                Ok(Command::Reject(promise, exception))
             }
             Act::Happens(Event::Command(_, Command::Fail(task, _))) => {
-                Command::Fail(task, exception)
+                Ok(Command::Fail(task, exception))
             }
             _ => bail!("nothing fails"),
-        };
-        self.obey(alloc, &line, command)
+        }
+    }
+
+    fn act(&mut self, alloc: Global, line: &Line) -> Result<Act> {
+        let null = Payload::null(alloc)?;
+        let act = self.names.act(alloc, &null, line)?;
+        Ok(act)
     }
 
     fn play_line(&mut self, alloc: Global, text: &str) -> Result<()> {
@@ -101,9 +117,7 @@ impl Scene {
     }
 
     fn follow_line(&mut self, alloc: Global, line: &Line) -> Result<()> {
-        let null = Payload::null(alloc)?;
-        let act = self.names.act(alloc, &null, line)?;
-        match act {
+        match self.act(alloc, line)? {
             Act::Nothing => Ok(()),
             Act::Turn(_) => Ok(()),
             Act::Tables => self.tell_counts(),
@@ -168,16 +182,26 @@ impl Scene {
     }
 
     fn follow(&mut self, alloc: Global, vat: Vat, effects: Effects) -> Result<()> {
-        let told = write_effects(&mut self.said, vat, &effects);
+        let told = self.tell(alloc, vat, &effects);
         let Effects {
             sends,
-            deliveries,
-            answers,
+            deliveries: _deliveries,
+            answers: _answers,
             down: _,
         } = effects;
         told?;
-        self.names.note_deliveries(alloc, vat, &deliveries)?;
-        self.names.note_outcomes(alloc, vat, &answers)?;
+        self.send(vat, sends)
+    }
+
+    // Writes what a vat says, and keeps what its names may lead to.
+    fn tell(&mut self, alloc: Global, vat: Vat, effects: &Effects) -> Result<()> {
+        write_effects(&mut self.said, vat, effects)?;
+        self.names.note_deliveries(alloc, vat, &effects.deliveries)?;
+        self.names.note_outcomes(alloc, vat, &effects.answers)?;
+        Ok(())
+    }
+
+    fn send(&mut self, vat: Vat, sends: Items<Message>) -> Result<()> {
         let mut sends = VecDeque::from(sends.into_vec());
         match vat {
             Vat::A => self.to_b.append(&mut sends)?,
