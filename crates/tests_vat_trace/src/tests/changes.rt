@@ -3,6 +3,7 @@ use crate::tests::playing::{Output, check};
 use std::alloc::Global;
 use std::fmt::Write;
 use std::process::Abort;
+use std::str;
 use vat_trace_lib::play;
 
 const SCRIPT: &[u8] =
@@ -177,39 +178,38 @@ fn a_trace_that_is_cut(rt: HostRuntime) {
 /// Each beginning of whole lines is good, with so many deliveries as it has lines that say one; and one that ends inside a line is
 /// at fault there: behind the line's first byte, in its middle, and where its last brace is gone.
 fn each_cut(rt: &impl Abort, alloc: Global, text: &[u8]) {
+    let Ok(text) = str::from_utf8(text) else {
+        panic!(rt; "no text");
+    };
     let mut delivered: usize = 0;
     let mut number: usize = 0;
     let mut whole = Vec::new(alloc);
-    for line in text.split(|byte| *byte == b'\n') {
-        if line.is_empty() {
-            break;
-        }
+    for line in text.lines() {
         number = number.saturating_add(1);
-        for length in [1, line.len() / 2, line.len().saturating_sub(1)] {
-            is_at_fault_in(
-                rt,
-                alloc,
-                &whole,
-                line.get(0..length).unwrap_or_default(),
-                number,
-            );
-        }
-        if line
-            .windows(DELIVERED.len())
-            .any(|piece| piece == DELIVERED)
-        {
+        is_cut_in(rt, alloc, &whole, line.as_bytes(), number);
+        if line.contains("\"k\":\"delivered\"") {
             delivered = delivered.saturating_add(1);
         }
-        let _room = whole.extend_from_slice(line);
+        let _room = whole.extend_from_slice(line.as_bytes());
         let _room = whole.push(b'\n');
-        let mut said = String::new(alloc);
-        let _said = writeln!(said, "ok: {delivered} delivered");
-        check(rt, alloc, "check", &whole, (0, said.as_str(), ""));
+        is_good(rt, alloc, &whole, delivered);
     }
     assert!(rt; number > 20);
 }
 
-const DELIVERED: &[u8] = b"\"k\":\"delivered\"";
+fn is_good(rt: &impl Abort, alloc: Global, whole: &[u8], delivered: usize) {
+    let mut said = String::new(alloc);
+    let _said = writeln!(said, "ok: {delivered} delivered");
+    check(rt, alloc, "check", whole, (0, said.as_str(), ""));
+}
+
+fn is_cut_in(rt: &impl Abort, alloc: Global, whole: &[u8], line: &[u8], number: usize) {
+    let length = line.len();
+    for length in [1, length / 2, length.saturating_sub(1)] {
+        let part = line.get(0..length).unwrap_or_default();
+        is_at_fault_in(rt, alloc, whole, part, number);
+    }
+}
 
 /// Behind whole lines a part of the one with that number is no JSON.
 fn is_at_fault_in(rt: &impl Abort, alloc: Global, whole: &[u8], part: &[u8], number: usize) {

@@ -2,19 +2,28 @@
 use crate::tests::streams::Cut;
 use crate::tests::traces::ONE_CALL;
 use std::alloc::Global;
-use std::process::Abort;
 use std::str;
 use trace_chart_lib::{Failure, Options, draw_trace, status, write_help};
 
-/// Nothing is drawn of an input, and that is said.
-fn check(rt: &impl Abort, alloc: Global, input: &[u8], said: &str) {
+// No clause says what the small functions here do: a test is proved quicker where nothing is known of what it compares.
+pub(super) fn draw(
+    alloc: Global,
+    options: Options,
+    input: &[u8],
+    out: &mut Vec<u8>,
+) -> Result<(), Failure> {
     let mut reader = input;
-    let mut out = Vec::new(alloc);
-    let mut err = Vec::new(alloc);
-    let drawn = draw_trace(alloc, Options::new(), &mut reader, &mut out);
-    assert_eq!(rt; status(drawn, "-", &mut err), 2, "{said}");
-    assert!(rt; out.is_empty(), "{said}");
-    assert!(rt; err.as_slice() == said.as_bytes(), "{said}");
+    draw_trace(alloc, options, &mut reader, out)
+}
+
+fn ends(drawn: Result<(), Failure>, name: &str, err: &mut Vec<u8>) -> u8 {
+    status(drawn, name, err)
+}
+
+fn says(alloc: Global, input: &[u8], said: &str) -> bool {
+    let (mut out, mut err) = (Vec::new(alloc), Vec::new(alloc));
+    let drawn = draw(alloc, Options::new(), input, &mut out);
+    ends(drawn, "-", &mut err) == 2 && out.is_empty() && err.as_slice() == said.as_bytes()
 }
 
 /// Inputs of which nothing is drawn, and what is said.
@@ -35,42 +44,54 @@ const FAULTS: [(&[u8], &str); 5] = [
 #[test]
 fn faults_and_misuse_are_said(rt: HostRuntime) {
     for (input, said) in FAULTS {
-        check(&rt, rt.alloc(), input, said);
+        assert!(rt; says(rt.alloc(), input, said), "{said}");
     }
     let mut err = Vec::new(rt.alloc());
-    assert_eq!(rt; status(Err(Failure::Usage), "-", &mut err), 2);
-    assert_eq!(rt; status(Err(Failure::Unreadable), "one", &mut err), 2);
+    assert!(rt; ends(Err(Failure::Usage), "-", &mut err) == 2);
+    assert!(rt; ends(Err(Failure::Unreadable), "one", &mut err) == 2);
     let said = "usage: trace_chart FILE [--ref V/N] [--from N] [--to N]\ncannot read one\n";
     assert!(rt; err.as_slice() == said.as_bytes());
 }
 
+fn draw_to(alloc: Global, out: &mut Cut) -> Result<(), Failure> {
+    let mut reader = ONE_CALL.as_bytes();
+    draw_trace(alloc, Options::new(), &mut reader, out)
+}
+
 #[test]
 fn nothing_is_said_where_the_picture_breaks_off(rt: HostRuntime) {
-    let mut reader = ONE_CALL.as_bytes();
     let mut out = Cut { left: 3 };
     let mut err = Vec::new(rt.alloc());
-    let drawn = draw_trace(rt.alloc(), Options::new(), &mut reader, &mut out);
-    assert_eq!(rt; status(drawn, "-", &mut err), 2);
+    let drawn = draw_to(rt.alloc(), &mut out);
+    assert!(rt; ends(drawn, "-", &mut err) == 2);
     assert!(rt; err.is_empty());
+}
+
+const EACH_OPTION: [&str; 4] = [
+    "usage: trace_chart FILE",
+    "--ref V/N ",
+    "--from N ",
+    "--to N ",
+];
+
+fn help(out: &mut Vec<u8>) -> Result<(), Failure> {
+    write_help(out)
+}
+
+fn cut_help(out: &mut Cut) -> Result<(), Failure> {
+    write_help(out)
 }
 
 #[test]
 fn help_says_each_option(rt: HostRuntime) {
-    let mut out = Vec::new(rt.alloc());
-    let mut err = Vec::new(rt.alloc());
-    assert_eq!(rt; status(write_help(&mut out), "-", &mut err), 0);
-    assert!(rt; err.is_empty());
-    let Ok(help) = str::from_utf8(out.as_slice()) else {
+    let (mut out, mut err) = (Vec::new(rt.alloc()), Vec::new(rt.alloc()));
+    let written = help(&mut out);
+    assert!(rt; ends(written, "-", &mut err) == 0 && err.is_empty());
+    let Ok(text) = str::from_utf8(out.as_slice()) else {
         panic!(rt; "no text");
     };
-    for said in [
-        "usage: trace_chart FILE",
-        "--ref V/N ",
-        "--from N ",
-        "--to N ",
-    ] {
-        assert!(rt; help.contains(said), "{said}");
+    for said in EACH_OPTION {
+        assert!(rt; text.contains(said), "{said}");
     }
-    let mut cut = Cut { left: 3 };
-    assert_eq!(rt; write_help(&mut cut), Err(Failure::Unwritten));
+    assert!(rt; cut_help(&mut Cut { left: 3 }) == Err(Failure::Unwritten));
 }

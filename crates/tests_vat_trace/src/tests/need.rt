@@ -1,9 +1,9 @@
 //! Want of memory: to be run with each allocation refused, by `rt try --test --fail-alloc`.
+use crate::tests::drawing::draw;
 use crate::tests::traces::PROMISE;
 use rpc_check::Verdict;
 use std::alloc::Global;
-use std::process::Abort;
-use trace_chart_lib::{Options, draw_trace};
+use trace_chart_lib::Options;
 use vat_trace_lib::{Failure, ScriptFault, play, trace_of_script};
 
 /// Calls wait for a promise, and for an embargo.
@@ -37,44 +37,44 @@ fn write(alloc: Global, word: &str, out: &mut Vec<u8>) -> Option<Failure> {
 
 /// Where a growth is refused, as a line is read or written or in the output, that is told and nothing is written; all is
 /// at the next try.
-fn is_written_at_last(rt: &impl Abort, alloc: Global, word: &str, wanted: &[u8]) {
+fn is_written_at_last(alloc: Global, word: &str, wanted: &[u8]) -> bool {
     let mut out = Vec::new(alloc);
-    if let Some(failure) = write(alloc, word, &mut out) {
-        assert!(rt;
-            matches!(failure, Failure::Memory | Failure::Unwritten),
-            "{word}"
-        );
-        assert!(rt; out.is_empty(), "{word}");
-        assert!(rt; write(alloc, word, &mut out).is_none(), "{word}");
+    match write(alloc, word, &mut out) {
+        None => {}
+        Some(Failure::Memory | Failure::Unwritten) if out.is_empty() => {
+            if write(alloc, word, &mut out).is_some() {
+                return false;
+            }
+        }
+        Some(_) => return false,
     }
-    assert!(rt; out.as_slice() == wanted, "{word}");
+    out.as_slice() == wanted
 }
 
 #[test]
 fn a_refused_growth_is_told_of_a_trace(rt: HostRuntime) {
     for (word, wanted) in WRITTEN {
-        is_written_at_last(&rt, rt.alloc(), word, wanted);
+        assert!(rt; is_written_at_last(rt.alloc(), word, wanted), "{word}");
     }
-}
-
-fn draw(alloc: Global, out: &mut Vec<u8>) -> Option<trace_chart_lib::Failure> {
-    let mut reader = PROMISE.as_bytes();
-    draw_trace(alloc, Options::new(), &mut reader, out).err()
 }
 
 /// Where a growth is refused while a trace is drawn, nothing is written; all is at the next try.
+fn is_drawn_at_last(alloc: Global) -> bool {
+    let mut out = Vec::new(alloc);
+    match draw(alloc, Options::new(), PROMISE.as_bytes(), &mut out) {
+        Ok(()) => {}
+        Err(trace_chart_lib::Failure::Memory | trace_chart_lib::Failure::Unwritten)
+            if out.is_empty() => {
+            if draw(alloc, Options::new(), PROMISE.as_bytes(), &mut out).is_err() {
+                return false;
+            }
+        }
+        Err(_) => return false,
+    }
+    out.ends_with(b"</svg>\n")
+}
+
 #[test]
 fn a_refused_growth_is_told_of_a_picture(rt: HostRuntime) {
-    let mut out = Vec::new(rt.alloc());
-    if let Some(failure) = draw(rt.alloc(), &mut out) {
-        assert!(rt;
-            matches!(
-                failure,
-                trace_chart_lib::Failure::Memory | trace_chart_lib::Failure::Unwritten
-            )
-        );
-        assert!(rt; out.is_empty());
-        assert!(rt; draw(rt.alloc(), &mut out).is_none());
-    }
-    assert!(rt; out.ends_with(b"</svg>\n"));
+    assert!(rt; is_drawn_at_last(rt.alloc()));
 }

@@ -1,10 +1,11 @@
 //! What a picture has of a trace.
+use crate::tests::drawing::draw;
 use crate::tests::traces::{EMBARGO, FAR, ONE_CALL, PASSED, PROMISE, REUSED, WAITING};
 use std::alloc::{AllocError, Global};
 use std::fmt::Write;
 use std::process::Abort;
 use std::str;
-use trace_chart_lib::{Options, draw_trace};
+use trace_chart_lib::Options;
 
 /// The options with one or two more.
 fn chosen(rt: &impl Abort, words: &[(&str, &str)]) -> Options {
@@ -18,6 +19,10 @@ fn chosen(rt: &impl Abort, words: &[(&str, &str)]) -> Options {
     options
 }
 
+fn count(svg: &str, text: &str) -> usize {
+    svg.matches(text).count()
+}
+
 /// How often each text stands in the picture of a trace.
 fn check(
     rt: &impl Abort,
@@ -26,16 +31,14 @@ fn check(
     words: &[(&str, &str)],
     wanted: &[(&str, usize)],
 ) {
-    let mut reader = trace.as_bytes();
     let mut out = Vec::new(alloc);
     let options = chosen(rt, words);
-    let drawn = draw_trace(alloc, options, &mut reader, &mut out);
-    assert_eq!(rt; drawn, Ok(()));
+    assert!(rt; draw(alloc, options, trace.as_bytes(), &mut out).is_ok());
     let Ok(svg) = str::from_utf8(out.as_slice()) else {
         panic!(rt; "no text");
     };
     for (text, times) in wanted {
-        assert_eq!(rt; svg.matches(*text).count(), *times, "{text}");
+        assert!(rt; count(svg, text) == *times, "{text}");
     }
 }
 
@@ -397,41 +400,50 @@ const FAULTS: [(u16, &str); 16] = [
     (34, ">goes down: the other vat sent an Abort (34)</text>"),
 ];
 
+fn trace_of_fault(alloc: Global, number: u16) -> Result<String, AllocError> {
+    let mut trace = String::from_str(alloc, "{\"k\":\"head\",\"version\":2}\n")?;
+    writeln!(trace, "{{\"fault\":{number},\"k\":\"down\",\"vat\":\"b\"}}")?;
+    Ok(trace)
+}
+
 #[test]
-fn faults_are_said_in_words(rt: HostRuntime) -> Result<(), AllocError> {
+fn faults_are_said_in_words(rt: HostRuntime) {
     for (number, wanted) in FAULTS {
-        let mut trace = String::from_str(rt.alloc(), "{\"k\":\"head\",\"version\":2}\n")?;
-        writeln!(trace, "{{\"fault\":{number},\"k\":\"down\",\"vat\":\"b\"}}")?;
-        check(&rt, rt.alloc(), trace.as_str(), &[], &[(wanted, 1)]);
+        match trace_of_fault(rt.alloc(), number) {
+            Ok(trace) => check(&rt, rt.alloc(), trace.as_str(), &[], &[(wanted, 1)]),
+            Err(_) => panic!(rt; "no memory"),
+        }
     }
-    Ok(())
 }
 
 /// Rows stand 24 apart, and 28 more behind each thirtieth, where the vats' heads stand again.
-#[test]
-fn long_pictures_repeat_the_heads(rt: HostRuntime) -> Result<(), AllocError> {
-    let alloc = rt.alloc();
+fn trace_of_sixty(alloc: Global) -> Result<String, AllocError> {
     let mut trace = String::from_str(alloc, "{\"k\":\"head\",\"version\":2}\n")?;
     for _ in 0..60 {
         trace.push_str("{\"k\":\"dropped\",\"ref\":1,\"vat\":\"a\"}\n")?;
     }
-    for (last, heads) in [("31", 1), ("32", 2), ("61", 2)] {
-        check(
-            &rt,
-            alloc,
-            trace.as_str(),
-            &[("--to", last)],
-            &[(">vat A</text>", heads), (">vat B</text>", heads)],
-        );
-    }
-    check(
-        &rt,
-        alloc,
-        trace.as_str(),
-        &[("--to", "32")],
+    Ok(trace)
+}
+
+/// The last entry that is drawn, and how often each text stands in the picture.
+const LONG: [(&str, &[(&str, usize)]); 4] = [
+    ("31", &[(">vat A</text>", 1), (">vat B</text>", 1)]),
+    ("32", &[(">vat A</text>", 2), (">vat B</text>", 2)]),
+    ("61", &[(">vat A</text>", 2), (">vat B</text>", 2)]),
+    (
+        "32",
         &[("cx=\"560\" cy=\"800\"", 1), ("cx=\"560\" cy=\"852\"", 1)],
-    );
-    Ok(())
+    ),
+];
+
+#[test]
+fn long_pictures_repeat_the_heads(rt: HostRuntime) {
+    let Ok(trace) = trace_of_sixty(rt.alloc()) else {
+        panic!(rt; "no memory");
+    };
+    for (last, wanted) in LONG {
+        check(&rt, rt.alloc(), trace.as_str(), &[("--to", last)], wanted);
+    }
 }
 
 fn check_all(rt: &impl Abort, alloc: Global, pictures: &[Picture]) {

@@ -6,6 +6,20 @@ use vat_trace_lib::{play, status};
 /// The status, what is printed and what is said.
 pub(super) type Output = (u8, &'static str, &'static str);
 
+// No clause says what this does: a test is proved quicker where nothing is known of what it compares.
+fn status_of(alloc: Global, word: &str, input: &[u8], out: &mut Vec<u8>, err: &mut Vec<u8>) -> u8 {
+    let mut reader = input;
+    let played = play(alloc, word, &mut reader, out);
+    status(played, "-", err)
+}
+
+fn has_output(alloc: Global, word: &str, input: &[u8], wanted: (u8, &str, &str)) -> bool {
+    let (mut out, mut err) = (Vec::new(alloc), Vec::new(alloc));
+    let status = status_of(alloc, word, input, &mut out, &mut err);
+    let (wanted, printed, said) = wanted;
+    status == wanted && out.as_slice() == printed.as_bytes() && err.as_slice() == said.as_bytes()
+}
+
 /// Plays an input and compares the status, what is printed and what is said.
 pub(super) fn check(
     rt: &impl Abort,
@@ -14,15 +28,12 @@ pub(super) fn check(
     input: &[u8],
     wanted: (u8, &str, &str),
 ) {
-    let mut reader = input;
-    let mut out = Vec::new(alloc);
-    let mut err = Vec::new(alloc);
-    let played = play(alloc, word, &mut reader, &mut out);
-    let status = status(played, "-", &mut err);
-    let (wanted_status, printed, said) = wanted;
-    assert_eq!(rt; status, wanted_status, "{word}: {printed}{said}");
-    assert!(rt; out.as_slice() == printed.as_bytes(), "{word}: {printed}");
-    assert!(rt; err.as_slice() == said.as_bytes(), "{word}: {said}");
+    assert!(rt;
+        has_output(alloc, word, input, wanted),
+        "{word}: {}{}",
+        wanted.1,
+        wanted.2
+    );
 }
 
 const EMPTY: &str =
