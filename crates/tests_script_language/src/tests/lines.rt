@@ -275,10 +275,9 @@ fn name_of(word: &str) -> Option<Name> {
 fn says(alloc: Global, wanted: Wanted) -> bool {
     let (program, text, word, vat, names, numbers) = wanted;
     let [first, second] = names;
-    match Line::read(alloc, program, text) {
-        Ok(line) => {
-            outline(&line) == brief(word, vat, [name_of(first), name_of(second)], numbers)
-        }
+    let wanted = brief(word, vat, [name_of(first), name_of(second)], numbers);
+    match &Line::read(alloc, program, text) {
+        Ok(line) => outline(line) == wanted,
         Err(_) => false,
     }
 }
@@ -392,8 +391,8 @@ const FAULTS: &[(Program, &str, LineFault)] = &[
 
 fn is_at_fault(alloc: Global, program: Program, text: &str, fault: LineFault) -> bool {
     match Line::read(alloc, program, text) {
-        Err(ReadFault::Line(found)) => found == fault,
-        _ => false,
+        Ok(_) => false,
+        Err(found) => found == ReadFault::Line(fault),
     }
 }
 
@@ -427,14 +426,20 @@ const NO_SCRIPTS: &[(&[u8], ScriptFault)] = &[
     ),
 ];
 
+/// How many lines it has, or what is wrong with it.
+fn count(alloc: Global, text: &[u8]) -> Result<usize, ScriptFault> {
+    match read_script(alloc, Program::Run, text) {
+        Ok(lines) => Ok(lines.len()),
+        Err(fault) => Err(fault),
+    }
+}
+
 #[test]
 fn scripts_are_read_whole(rt: HostRuntime) {
     for (text, lines) in SCRIPTS {
-        let read = read_script(rt.alloc(), Program::Run, text);
-        assert!(rt; read.is_ok_and(|read| read.len() == *lines), "{lines}");
+        assert!(rt; count(rt.alloc(), text) == Ok(*lines), "{lines}");
     }
     for (text, fault) in NO_SCRIPTS {
-        let read = read_script(rt.alloc(), Program::Run, text);
-        assert!(rt; read.is_err_and(|found| found == *fault), "{fault}");
+        assert!(rt; count(rt.alloc(), text) == Err(*fault), "{fault}");
     }
 }

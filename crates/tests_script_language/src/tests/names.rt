@@ -2,28 +2,48 @@
 
 use rpc_machine::{Command, Event, Granted};
 use rpc_msg::{CallId, Payload, PromiseId, RefId, Vat};
-use script_language::{Act, GiveFault, Line, LineCommand, Name, NameFault, Names, Program};
+use script_language::{Act, GiveFault, Line, Name, NameFault, Names, Program};
 use std::alloc::Global;
 use std::process::Abort;
 
-fn line(rt: &impl Abort, alloc: Global, text: &str) -> Line {
-    Line::read(alloc, Program::Run, text).expect(rt, "a line")
+/// What a line does by these names. One that is not read is taken for want of memory.
+pub(super) fn act_of(
+    alloc: Global,
+    names: &Names,
+    program: Program,
+    text: &str,
+) -> Result<Act, GiveFault> {
+    match Line::read(alloc, program, text) {
+        Ok(line) => act(alloc, names, &line),
+        Err(_) => Err(GiveFault::Memory),
+    }
 }
 
-fn said(rt: &impl Abort, alloc: Global, text: &str) -> (Vat, LineCommand) {
-    let Line::Command(vat, said) = line(rt, alloc, text) else {
-        return rt.abort();
-    };
-    (vat, said)
+fn act(alloc: Global, names: &Names, line: &Line) -> Result<Act, GiveFault> {
+    let null = Payload::null(alloc)?;
+    names.act(alloc, &null, line)
 }
 
-/// The names after these lines were granted so.
-fn bound(rt: &impl Abort, alloc: Global, lines: &[(&str, Granted)]) -> Names {
+pub(super) fn name(names: &mut Names, vat: Vat, word: &str, reference: RefId) -> bool {
+    match Name::read(word) {
+        Ok(word) => names.name(vat, word, reference).is_ok(),
+        Err(_) => false,
+    }
+}
+
+/// Whether the line is of a vat, and what it is granted can be bound.
+fn bind(alloc: Global, names: &mut Names, text: &str, granted: Granted) -> bool {
+    match &Line::read(alloc, Program::Run, text) {
+        Ok(Line::Command(vat, said)) => names.bind(*vat, said, granted).is_ok(),
+        _ => false,
+    }
+}
+
+/// The names after `LINES` were granted so.
+fn bound(rt: &impl Abort, alloc: Global) -> Names {
     let mut names = Names::new(alloc);
-    for (text, granted) in lines {
-        let (vat, said) = said(rt, alloc, text);
-        let bound = names.bind(vat, &said, *granted);
-        assert!(rt; bound.is_ok(), "{text}");
+    for (text, granted) in LINES {
+        assert!(rt; bind(alloc, &mut names, text, *granted), "{text}");
     }
     names
 }
@@ -39,17 +59,29 @@ const LINES: &[(&str, Granted)] = &[
     ("a drop f", Granted::Done),
 ];
 
-/// The number that a line's command is about.
-fn about(names: &Names, rt: &impl Abort, alloc: Global, text: &str) -> Result<u64, GiveFault> {
-    let null = Payload::null(alloc)?;
-    match names.act(alloc, &null, &line(rt, alloc, text))? {
-        Act::Happens(Event::Command(_, Command::Finish(call))) => Ok(call.0),
-        Act::Happens(Event::Command(_, Command::DropRef(reference))) => Ok(reference.0),
-        Act::Happens(Event::Command(_, Command::Advance(reference))) => Ok(reference.0),
-        Act::Happens(Event::Command(_, Command::CloneRef(reference))) => Ok(reference.0),
-        Act::Happens(Event::Command(_, Command::Reject(promise, _))) => Ok(promise.0),
-        Act::Name(_, _, reference) => Ok(reference.0),
-        _ => Ok(0),
+/// The number that it is about.
+fn number_of(act: &Act) -> u64 {
+    match act {
+        Act::Happens(Event::Command(_, command)) => number_in(command),
+        Act::Name(_, _, reference) => reference.0,
+        _ => 0,
+    }
+}
+
+fn number_in(command: &Command) -> u64 {
+    match command {
+        Command::Finish(call) => call.0,
+        Command::DropRef(reference) | Command::Advance(reference) | Command::CloneRef(reference) =>
+            reference.0,
+        Command::Reject(promise, _) => promise.0,
+        _ => 0,
+    }
+}
+
+fn about(alloc: Global, names: &Names, text: &str) -> Result<u64, GiveFault> {
+    match act_of(alloc, names, Program::Run, text) {
+        Ok(act) => Ok(number_of(&act)),
+        Err(fault) => Err(fault),
     }
 }
 
@@ -78,10 +110,9 @@ const ABOUT: &[(&str, Result<u64, GiveFault>)] = &[
 
 #[test]
 fn names_stand_for_what_was_granted(rt: HostRuntime) {
-    let names = bound(&rt, rt.alloc(), LINES);
+    let names = bound(&rt, rt.alloc());
     for (text, wanted) in ABOUT {
-        let found = about(&names, &rt, rt.alloc(), text);
-        assert!(rt; found == *wanted, "{text}");
+        assert!(rt; about(rt.alloc(), &names, text) == *wanted, "{text}");
     }
 }
 
@@ -92,21 +123,23 @@ const ONE_CAP: [u8; 24] = [
     3, 0, 0, 0, 0, 0, 0, 0,
 ];
 
+/// Whether it is a call of A with that payload, and of that reference.
+fn is_call(act: &Act) -> bool {
+    match act {
+        Act::Happens(Event::Command(Vat::A, Command::Call(made))) => {
+            made.payload.bytes() == ONE_CAP.as_slice()
+                && made.payload.caps() == 1
+                && made.refs.as_slice() == [RefId(12)].as_slice()
+        }
+        _ => false,
+    }
+}
+
 #[test]
-fn a_call_carries_the_named_references(rt: HostRuntime) {
-    let mut names = bound(&rt, rt.alloc(), LINES);
-    let named = Name::read("n").expect(&rt, "a name");
-    assert!(rt; names.name(Vat::A, named, RefId(12)).is_ok());
-    let call = line(&rt, rt.alloc(), "a call w x 7 1 n");
-    let null = Payload::null(rt.alloc()).expect(&rt, "memory");
-    let Ok(Act::Happens(Event::Command(Vat::A, Command::Call(made)))) = names.act(
-        rt.alloc(),
-        &null,
-        &call,
-    ) else {
-        return rt.abort();
-    };
-    assert!(rt; made.payload.bytes() == ONE_CAP.as_slice());
-    assert_eq!(rt; made.payload.caps(), 1);
-    assert!(rt; made.refs.as_slice() == [RefId(12)].as_slice());
+fn a_call_carries_the_named_references(rt: HostRuntime) -> Result<(), GiveFault> {
+    let mut names = bound(&rt, rt.alloc());
+    assert!(rt; name(&mut names, Vat::A, "n", RefId(12)));
+    let act = act_of(rt.alloc(), &names, Program::Run, "a call w x 7 1 n")?;
+    assert!(rt; is_call(&act));
+    Ok(())
 }
