@@ -1,5 +1,5 @@
 //! Calls through a promise that is resolved to the caller's own object, on two cores: they wait, go the long way, are under
-//! an embargo, and at last all is let go. To be run with each allocation refused too, by `rt try --test --fail-alloc`.
+//! an embargo, and at last all is let go. To be run with each allocation refused too (`scripts/refused`).
 use crate::tests::events::null;
 use crate::tests::need::is_abort;
 use rpc_journal::{Counts, Delivery};
@@ -7,7 +7,6 @@ use rpc_machine::{CallCommand, Command, Effects, Level, Refusal};
 use rpc_msg::{CallId, Items, Memory, Message, ObjectId, Payload, PromiseId, RefId, TaskId, Vat};
 use std::alloc::Global;
 use std::collections::VecDeque;
-use std::process::Abort;
 use vat_core::{Answer, Core};
 
 /// What happens at a vat. Its references, calls, tasks and promises are counted from 0.
@@ -106,36 +105,6 @@ const ENDS: &[(Vat, Act)] = &[
 /// Where the calls are delivered, in order: the object and the method.
 const DELIVERED: &[(u64, u16)] = &[(0, 1), (5, 2), (5, 3), (5, 4), (5, 5), (5, 6)];
 
-/// Two vats, what is on its way to each, and how many calls were delivered.
-#[derive(Drop)]
-struct Pair {
-    a: Core,
-    b: Core,
-    to_a: VecDeque<Message>,
-    to_b: VecDeque<Message>,
-    delivered: usize,
-}
-
-/// A pair of new vats. A refused allocation is tried again, as in all that the test itself takes memory for.
-fn start(alloc: Global) -> Result<Pair, Memory> {
-    match new_pair(alloc) {
-        Ok(pair) => Ok(pair),
-        Err(Memory) => new_pair(alloc),
-    }
-}
-
-fn new_pair(alloc: Global) -> Result<Pair, Memory> {
-    let a = Core::new(alloc, Vat::A, Level::One, None)?;
-    let b = Core::new(alloc, Vat::B, Level::One, Some(ObjectId(0)))?;
-    Ok(Pair {
-        a,
-        b,
-        to_a: VecDeque::new(alloc),
-        to_b: VecDeque::new(alloc),
-        delivered: 0,
-    })
-}
-
 fn one(alloc: Global, reference: u64) -> Result<Items<RefId>, Memory> {
     match Items::one(alloc, RefId(reference)) {
         Ok(refs) => Ok(refs),
@@ -211,6 +180,37 @@ fn bare_command(alloc: Global, act: Act) -> Option<Command> {
     }
 }
 
+/// A vat, and what is on its way to it.
+#[derive(Drop)]
+struct Seat {
+    core: Core,
+    coming: VecDeque<Message>,
+}
+
+/// What is seen of it: it is done; a vat goes down by it for want of memory; or it is not as it should be.
+#[derive(Clone, Copy, Debug, PartialEq, Eq, Drop)]
+enum Seen {
+    Done,
+    Fallen,
+    Wrong,
+}
+
+fn done_if(is_so: bool) -> Seen {
+    if is_so { Seen::Done } else { Seen::Wrong }
+}
+
+/// A new vat. A refused allocation is tried again, as in all that the test itself takes memory for.
+fn new_seat(alloc: Global, vat: Vat, root: Option<ObjectId>) -> Result<Seat, Memory> {
+    let coming = VecDeque::new(alloc);
+    match Core::new(alloc, vat, Level::One, root) {
+        Ok(core) => Ok(Seat { core, coming }),
+        Err(Memory) => {
+            let core = Core::new(alloc, vat, Level::One, root)?;
+            Ok(Seat { core, coming })
+        }
+    }
+}
+
 fn counts(core: &Core) -> Result<Counts, Memory> {
     match core.counts() {
         Ok(counts) => Ok(counts),
@@ -218,14 +218,21 @@ fn counts(core: &Core) -> Result<Counts, Memory> {
     }
 }
 
-fn is_same(one: &Counts, other: &Counts) -> bool {
-    one.exports.as_slice() == other.exports.as_slice()
-        && one.imports.as_slice() == other.imports.as_slice()
+fn is_as_before(core: &Core, before: &Counts) -> bool {
+    match counts(core) {
+        Ok(after) => {
+            after.exports.as_slice() == before.exports.as_slice()
+                && after.imports.as_slice() == before.imports.as_slice()
+        }
+        Err(Memory) => false,
+    }
 }
 
-fn is_without(core: &Core) -> Result<bool, Memory> {
-    let counts = counts(core)?;
-    Ok(counts.exports.is_empty() && counts.imports.is_empty())
+fn is_without(core: &Core) -> bool {
+    match counts(core) {
+        Ok(counts) => counts.exports.is_empty() && counts.imports.is_empty(),
+        Err(Memory) => false,
+    }
 }
 
 // No clause says what these do: a test is proved quicker where nothing is known of the cores that it compares.
@@ -237,26 +244,26 @@ fn hears(core: &mut Core, message: Message) -> Effects {
     core.receive(message)
 }
 
-/// What follows from a command. One that is refused for want of memory leaves the counts as they were, and is taken the
-/// second time.
-fn obey(rt: &impl Abort, core: &mut Core, command: Command) -> Result<Effects, Memory> {
-    let before = counts(core)?;
+/// What follows from a command, if it is not refused for another reason than want of memory. One that is refused for that leaves
+/// the counts as they were, and is taken the second time.
+fn obey(core: &mut Core, command: Command) -> Option<Effects> {
+    let Ok(before) = counts(core) else {
+        return None;
+    };
     match asks(core, command) {
-        Answer::Done(_, effects) => Ok(effects),
-        Answer::Refused(refusal, command) => {
-            assert_eq!(rt; refusal, Refusal::Memory);
-            assert!(rt; !goes_down(&command));
-            let after = counts(core)?;
-            assert!(rt; is_same(&before, &after));
-            Ok(taken(rt, asks(core, command)))
-        }
+        Answer::Done(_, effects) => Some(effects),
+        Answer::Refused(Refusal::Memory, command) => again(core, command, &before),
+        Answer::Refused(_, _) => None,
     }
 }
 
-fn taken(rt: &impl Abort, answer: Answer) -> Effects {
-    match answer {
-        Answer::Done(_, effects) => effects,
-        Answer::Refused(refusal, _) => panic!(rt; "refused twice: {refusal:?}"),
+fn again(core: &mut Core, command: Command, before: &Counts) -> Option<Effects> {
+    if goes_down(&command) || !is_as_before(core, before) {
+        return None;
+    }
+    match asks(core, command) {
+        Answer::Done(_, effects) => Some(effects),
+        Answer::Refused(_, _) => None,
     }
 }
 
@@ -278,115 +285,105 @@ fn is_overflown(effects: &Effects) -> bool {
     }
 }
 
-impl Pair {
-    /// Whether the vat is up behind it.
-    fn happen(
-        &mut self,
-        rt: &impl Abort,
-        alloc: Global,
-        vat: Vat,
-        act: Act,
-    ) -> Result<bool, Memory> {
-        let Some(command) = command(alloc, act)? else {
-            let effects = self.receive(rt, vat);
-            return self.follow(rt, vat, effects, true);
-        };
-        let may_go_down = goes_down(&command);
-        let effects = match vat {
-            Vat::A => obey(rt, &mut self.a, command)?,
-            Vat::B => obey(rt, &mut self.b, command)?,
-        };
-        self.follow(rt, vat, effects, may_go_down)
-    }
-
-    fn receive(&mut self, rt: &impl Abort, vat: Vat) -> Effects {
-        let oldest = match vat {
-            Vat::A => self.to_a.pop_front(),
-            Vat::B => self.to_b.pop_front(),
-        };
-        let Some(message) = oldest else {
-            panic!(rt; "no message is on its way");
-        };
-        match vat {
-            Vat::A => hears(&mut self.a, message),
-            Vat::B => hears(&mut self.b, message),
-        }
-    }
-
-    fn follow(
-        &mut self,
-        rt: &impl Abort,
-        vat: Vat,
-        effects: Effects,
-        may_go_down: bool,
-    ) -> Result<bool, Memory> {
-        let overflown = is_overflown(&effects);
-        let Effects {
-            sends,
-            deliveries,
-            answers: _,
-            down,
-        } = effects;
-        if down.is_some() {
-            assert!(rt; may_go_down && overflown);
-            return Ok(false);
-        }
-        self.note(rt, &deliveries);
-        let mut sends = VecDeque::from(sends.into_vec());
-        match vat {
-            Vat::A => append(&mut self.to_b, &mut sends)?,
-            Vat::B => append(&mut self.to_a, &mut sends)?,
-        }
-        Ok(true)
-    }
-
-    fn note(&mut self, rt: &impl Abort, deliveries: &[Delivery]) {
-        for delivery in deliveries {
-            let wanted = DELIVERED.get(self.delivered).copied();
-            assert_eq!(rt; Some((delivery.object.0, delivery.method)), wanted);
-            self.delivered = self.delivered.wrapping_add(1);
-        }
-    }
-
-    /// Whether both vats are up behind all that.
-    fn play(
-        &mut self,
-        rt: &impl Abort,
-        alloc: Global,
-        acts: &[(Vat, Act)],
-    ) -> Result<bool, Memory> {
-        for (vat, act) in acts {
-            if !self.happen(rt, alloc, *vat, *act)? {
-                return Ok(false);
-            }
-        }
-        Ok(true)
+/// Lets an act happen at a vat.
+fn happen(alloc: Global, at: &mut Seat, other: &mut Seat, act: Act, delivered: &mut usize) -> Seen {
+    match command(alloc, act) {
+        Ok(None) => receive(at, other, delivered),
+        Ok(Some(command)) => let_obey(at, other, command, delivered),
+        Err(Memory) => Seen::Wrong,
     }
 }
 
-fn append(to: &mut VecDeque<Message>, more: &mut VecDeque<Message>) -> Result<(), Memory> {
-    if let Ok(()) = to.append(more) {
-        return Ok(());
-    }
-    match to.append(more) {
-        Ok(()) => Ok(()),
-        Err(_) => Err(Memory),
+fn receive(at: &mut Seat, other: &mut Seat, delivered: &mut usize) -> Seen {
+    match at.coming.pop_front() {
+        Some(message) => follow(hears(&mut at.core, message), other, true, delivered),
+        None => Seen::Wrong,
     }
 }
 
-/// Whether no vat went down. Then all calls were delivered, and nothing is left.
-fn plays(rt: &impl Abort, alloc: Global) -> Result<bool, Memory> {
-    let mut pair = start(alloc)?;
-    if !pair.play(rt, alloc, CALLS)? {
-        return Ok(false);
+fn let_obey(at: &mut Seat, other: &mut Seat, command: Command, delivered: &mut usize) -> Seen {
+    let may_go_down = goes_down(&command);
+    match obey(&mut at.core, command) {
+        Some(effects) => follow(effects, other, may_go_down, delivered),
+        None => Seen::Wrong,
     }
-    assert_eq!(rt; pair.delivered, DELIVERED.len());
-    if !pair.play(rt, alloc, ENDS)? {
-        return Ok(false);
+}
+
+/// What was done, and what it sends is on its way.
+fn follow(effects: Effects, other: &mut Seat, may_go_down: bool, delivered: &mut usize) -> Seen {
+    let is_overflown = is_overflown(&effects);
+    let Effects {
+        sends,
+        deliveries,
+        answers: _,
+        down,
+    } = effects;
+    if down.is_some() {
+        return if may_go_down && is_overflown {
+            Seen::Fallen
+        } else {
+            Seen::Wrong
+        };
     }
-    assert!(rt; pair.to_a.is_empty() && pair.to_b.is_empty());
-    assert!(rt; is_without(&pair.a)? && is_without(&pair.b)?);
-    Ok(true)
+    done_if(note(&deliveries, delivered) && send(sends, other))
+}
+
+fn send(sends: Items<Message>, other: &mut Seat) -> bool {
+    let mut sends = VecDeque::from(sends.into_vec());
+    other.coming.append(&mut sends).is_ok() || other.coming.append(&mut sends).is_ok()
+}
+
+/// Whether they are the next of `DELIVERED`.
+fn note(deliveries: &[Delivery], delivered: &mut usize) -> bool {
+    for delivery in deliveries {
+        let wanted = DELIVERED.get(*delivered).copied();
+        if wanted != Some((delivery.object.0, delivery.method)) {
+            return false;
+        }
+        *delivered = delivered.wrapping_add(1);
+    }
+    true
+}
+
+fn happen_all(
+    alloc: Global,
+    a: &mut Seat,
+    b: &mut Seat,
+    acts: &[(Vat, Act)],
+    delivered: &mut usize,
+) -> Seen {
+    for (vat, act) in acts {
+        let seen = match vat {
+            Vat::A => happen(alloc, a, b, *act, delivered),
+            Vat::B => happen(alloc, b, a, *act, delivered),
+        };
+        if seen != Seen::Done {
+            return seen;
+        }
+    }
+    done_if(*delivered == DELIVERED.len())
+}
+
+fn is_over(at: &Seat) -> bool {
+    at.coming.is_empty() && is_without(&at.core)
+}
+
+/// All calls are delivered, and then nothing is left.
+fn play(alloc: Global, a: &mut Seat, b: &mut Seat) -> Seen {
+    let mut delivered = 0;
+    for acts in [CALLS, ENDS] {
+        let seen = happen_all(alloc, a, b, acts, &mut delivered);
+        if seen != Seen::Done {
+            return seen;
+        }
+    }
+    done_if(is_over(a) && is_over(b))
+}
+
+fn plays(alloc: Global) -> Result<Seen, Memory> {
+    let mut a = new_seat(alloc, Vat::A, None)?;
+    let mut b = new_seat(alloc, Vat::B, Some(ObjectId(0)))?;
+    Ok(play(alloc, &mut a, &mut b))
 }
 
 /// At most one allocation is refused: where that took a vat down, two new ones come to the end.
@@ -394,9 +391,10 @@ fn plays(rt: &impl Abort, alloc: Global) -> Result<bool, Memory> {
 fn calls_come_behind_an_embargo_whichever_allocation_is_refused(
     rt: HostRuntime,
 ) -> Result<(), Memory> {
-    let alloc = rt.alloc();
-    if !plays(&rt, alloc)? {
-        assert!(rt; plays(&rt, alloc)?);
+    let mut seen = plays(rt.alloc())?;
+    if seen == Seen::Fallen {
+        seen = plays(rt.alloc())?;
     }
+    assert!(rt; seen == Seen::Done);
     Ok(())
 }

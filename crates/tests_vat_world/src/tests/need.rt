@@ -1,10 +1,9 @@
-//! Want of memory: to be run with each allocation refused, by `rt try --test --fail-alloc`.
+//! Want of memory: to be run with each allocation refused, by `scripts/refused`.
 use crate::tests::events::{Brief, EVENTS, entries, event, take, told, vat_of, world};
 use rpc_journal::JournalEntry;
 use rpc_machine::Refusal;
 use rpc_msg::{ExceptionKind, Memory, Message, PlainMessage, Vat};
 use std::alloc::Global;
-use std::process::Abort;
 use vat_world::World;
 
 /// Whether it is the Abort of a vat that goes down for want of memory.
@@ -42,33 +41,52 @@ fn take_number(alloc: Global, world: &mut World, number: u32) -> Brief {
     }
 }
 
+/// What is seen of an event: its vat is up behind it, or is down for want of memory; or it is not as it should be.
+enum Seen {
+    Up,
+    Fallen,
+    Wrong,
+}
+
 /// An event that is refused for want of memory is written as that, and is taken the second time; all else that is refused
-/// takes the vat down, with its Abort and that in the journal. Answers whether its vat is up.
-fn takes(rt: &impl Abort, alloc: Global, world: &mut World, number: u32) -> bool {
+/// takes the vat down, with its Abort and that in the journal.
+fn take_again(alloc: Global, world: &mut World, number: u32) -> Seen {
     let vat = vat_of(number);
     let said = take_number(alloc, world, number);
     if ends_overflown(entries(world), vat) {
-        return false;
+        return Seen::Fallen;
     }
-    if said == Brief::Refused(Refusal::Memory) {
-        assert!(rt; ends_refused(entries(world), vat));
-        assert!(rt; take_number(alloc, world, number) != said);
+    if said != Brief::Refused(Refusal::Memory) {
+        return Seen::Up;
     }
-    true
+    if ends_refused(entries(world), vat) && take_number(alloc, world, number) != said {
+        return Seen::Up;
+    }
+    Seen::Wrong
+}
+
+/// To the first vat that falls.
+fn take_all(alloc: Global, world: &mut World) -> bool {
+    for number in 0..EVENTS {
+        match take_again(alloc, world, number) {
+            Seen::Up => {}
+            Seen::Fallen => return true,
+            Seen::Wrong => return false,
+        }
+    }
+    entries(world).len() >= 25
+}
+
+fn world_again(alloc: Global) -> Result<World, Memory> {
+    match world(alloc) {
+        Ok(world) => Ok(world),
+        Err(Memory) => world(alloc),
+    }
 }
 
 #[test]
 fn a_refused_allocation_is_answered(rt: HostRuntime) -> Result<(), Memory> {
-    let alloc = rt.alloc();
-    let mut world = match world(alloc) {
-        Ok(world) => world,
-        Err(Memory) => world(alloc)?,
-    };
-    for number in 0..EVENTS {
-        if !takes(&rt, alloc, &mut world, number) {
-            return Ok(());
-        }
-    }
-    assert!(rt; entries(&world).len() >= 25);
+    let mut world = world_again(rt.alloc())?;
+    assert!(rt; take_all(rt.alloc(), &mut world));
     Ok(())
 }
