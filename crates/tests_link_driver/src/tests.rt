@@ -1,7 +1,9 @@
 //! What no clause says: the numbers of frames, what two vats say to each other over rings of any size, frames that are handed to a
 //! seat, want of memory, and that each call of an end or a seat can succeed.
 mod acts;
+mod by_name;
 mod commands;
+mod cores;
 mod first;
 mod flags;
 mod long;

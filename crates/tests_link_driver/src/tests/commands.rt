@@ -1,8 +1,14 @@
-//! The acts of an application as commands, for where what comes back is looked at.
-use crate::tests::acts::{Act, capability, failed};
+//! The acts of an application as commands, and what they carry.
+use crate::tests::acts::Act;
 use rpc_machine::{CallCommand, Command};
-use rpc_msg::{CallId, Items, Memory, ObjectId, Payload, PromiseId, RefId, TaskId};
+use rpc_msg::{
+    CallId, Exception, ExceptionKind, Items, Memory, ObjectId, Payload, PromiseId, RefId, TaskId,
+    Text,
+};
 use std::alloc::Global;
+
+/// What a call or an answer carries.
+pub(super) type Contents = (Payload, Items<RefId>);
 
 /// The command that an act is, and none for a turn; made again where one allocation was refused.
 pub(super) fn command(alloc: Global, act: Act) -> Result<Option<Command>, Memory> {
@@ -15,17 +21,16 @@ pub(super) fn command(alloc: Global, act: Act) -> Result<Option<Command>, Memory
 fn made(alloc: Global, act: Act) -> Result<Option<Command>, Memory> {
     match act {
         Act::Call(reference, method) => {
-            let payload = Payload::null(alloc)?;
-            Ok(Some(call(reference, method, payload, Items::new(alloc))))
+            let contents = null(alloc)?;
+            Ok(Some(Command::Call(call(reference, method, contents))))
         }
         Act::Give(reference, method, given) => {
-            let (payload, refs) = capability(alloc, given)?;
-            Ok(Some(call(reference, method, payload, refs)))
+            let contents = capability(alloc, given)?;
+            Ok(Some(Command::Call(call(reference, method, contents))))
         }
         Act::Answer(task) => {
-            let payload = Payload::null(alloc)?;
-            let answer = Command::Answer(TaskId(task), payload, Items::new(alloc));
-            Ok(Some(answer))
+            let (payload, refs) = null(alloc)?;
+            Ok(Some(Command::Answer(TaskId(task), payload, refs)))
         }
         Act::AnswerBy(task, given) => {
             let (payload, refs) = capability(alloc, given)?;
@@ -43,16 +48,6 @@ fn made(alloc: Global, act: Act) -> Result<Option<Command>, Memory> {
     }
 }
 
-fn call(reference: u64, method: u16, payload: Payload, refs: Items<RefId>) -> Command {
-    Command::Call(CallCommand {
-        reference: RefId(reference),
-        interface: 7,
-        method,
-        payload,
-        refs,
-    })
-}
-
 /// Without contents.
 fn bare(alloc: Global, act: Act) -> Option<Command> {
     match act {
@@ -67,5 +62,40 @@ fn bare(alloc: Global, act: Act) -> Option<Command> {
         Act::LetGo(reference) => Some(Command::DropRef(RefId(reference))),
         Act::Shut(number) => Some(Command::Shut(number)),
         _ => None,
+    }
+}
+
+pub(super) fn call(reference: u64, method: u16, (payload, refs): Contents) -> CallCommand {
+    CallCommand {
+        reference: RefId(reference),
+        interface: 7,
+        method,
+        payload,
+        refs,
+    }
+}
+
+pub(super) fn null(alloc: Global) -> Result<Contents, Memory> {
+    match Payload::null(alloc) {
+        Ok(payload) => Ok((payload, Items::new(alloc))),
+        Err(Memory) => Err(Memory),
+    }
+}
+
+pub(super) fn capability(alloc: Global, given: u64) -> Result<Contents, Memory> {
+    let payload = Payload::root_capability(alloc)?;
+    match Items::one(alloc, RefId(given)) {
+        Ok(refs) => Ok((payload, refs)),
+        Err(_) => Err(Memory),
+    }
+}
+
+pub(super) fn failed(alloc: Global) -> Result<Exception, Memory> {
+    match Text::new(alloc, "no") {
+        Ok(reason) => Ok(Exception {
+            kind: ExceptionKind::Failed,
+            reason,
+        }),
+        Err(Memory) => Err(Memory),
     }
 }

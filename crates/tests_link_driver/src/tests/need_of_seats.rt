@@ -1,13 +1,14 @@
 //! Want of memory at a seat: to be run with each allocation refused (`scripts/refused`).
 use crate::tests::acts::Act;
 use crate::tests::commands::command;
-use crate::tests::need::{is_fall, new_cores};
+use crate::tests::cores::seat;
+use crate::tests::need::{Asked, is_fall};
 use crate::tests::said::{Said, message};
-use link_driver::{Answer, Frame, LinkFault, Seat, Turn};
+use crate::tests::seated::{ask, take};
+use link_driver::Seat;
 use rpc_machine::{Command, Refusal};
-use rpc_msg::{Memory, Message};
+use rpc_msg::{Memory, Message, ObjectId, Vat};
 use std::alloc::Global;
-use std::process::Abort;
 
 /// What happens at the seat: it takes a frame, or is asked.
 #[derive(Clone, Copy, Drop)]
@@ -33,118 +34,86 @@ const STEPS: &[Step] = &[
     Step::Ask(Act::LetGo(1)),
 ];
 
-/// Where memory is refused the core comes back, and can be seated the second time.
-fn seat_again(rt: &impl Abort, alloc: Global) -> Result<Seat, Memory> {
-    let (_, core) = new_cores(alloc)?;
-    match Seat::new(alloc, core) {
-        Ok(seat) => Ok(seat),
-        Err((fault, core)) => {
-            assert!(rt; fault == LinkFault::Memory && core.is_new());
-            match Seat::new(alloc, core) {
-                Ok(seat) => Ok(seat),
-                Err((_, _)) => Err(Memory),
-            }
-        }
-    }
-}
-
 /// Whether it is down with 33 by its last step, of a frame or of none: all that it made by that is its last frame.
 fn has_fallen(seat: &Seat, received: bool) -> bool {
-    let made_before = match seat.log().last() {
-        Some(entry) => entry.first,
-        None => return false,
+    let Some(entry) = seat.log().last() else {
+        return false;
     };
     seat.down() == Some(33)
         && is_fall(seat.log(), seat.side().journal(), received)
-        && seat.made().len() as u64 == made_before.wrapping_add(1)
+        && seat.made().len() as u64 == entry.first.wrapping_add(1)
 }
 
 /// A frame for which memory is refused is logged, and takes the vat down.
-fn takes(rt: &impl Abort, seat: &mut Seat, seq: u64, message: Message) {
+fn takes(seat: &mut Seat, seq: u64, message: Message) -> bool {
     let was_up = seat.down().is_none();
-    let frame = Frame {
-        seq,
-        ack: 0,
-        message,
+    let logged = seat.log().len();
+    let down = take(seat, seq, 0, message);
+    let more = seat.log().len().wrapping_sub(logged);
+    let is_so = match down {
+        None => was_up,
+        Some(number) => number == 33 && (!was_up || has_fallen(seat, true)),
     };
-    match seat.take(frame) {
-        Turn::Handled(effects) => {
-            seat.recycle(effects);
-            assert!(rt; was_up);
-        }
-        Turn::Down(number) => {
-            assert!(rt; number == 33);
-            assert!(rt; !was_up || has_fallen(seat, true));
-        }
-        Turn::Idle => assert!(rt; false),
-    }
+    is_so && more == usize::from(was_up)
 }
 
 /// A command for which memory is refused comes back: refused by the core, and then it is done the second time; or the vat is down
 /// by it.
-fn obeys(rt: &impl Abort, seat: &mut Seat, command: Command) {
+fn obeys(seat: &mut Seat, command: Command) -> bool {
     let was_up = seat.down().is_none();
-    match seat.command(command) {
-        Answer::Done(_, effects) => {
-            seat.recycle(effects);
-            assert!(rt; was_up);
-        }
-        Answer::Refused(Refusal::Memory, back) => match seat.command(back) {
-            Answer::Done(_, effects) => seat.recycle(effects),
-            Answer::Refused(refusal, _) => panic!(rt; "refused twice: {refusal:?}"),
-        },
-        Answer::Refused(refusal, _) => {
-            assert!(rt; refusal == Refusal::Down, "refused: {refusal:?}");
-            assert!(rt; !was_up || has_fallen(seat, false));
+    let logged = seat.log().len();
+    let asked = ask(seat, command);
+    let more = seat.log().len().wrapping_sub(logged);
+    match asked {
+        Asked::Done => was_up && more == 1,
+        Asked::DoneAgain => was_up && more == 2,
+        Asked::RefusedAgain => false,
+        Asked::Refused(refusal) => {
+            refusal == Refusal::Down
+                && (!was_up || has_fallen(seat, false))
+                && more == usize::from(was_up)
         }
     }
 }
 
 /// The message; made again where one allocation was refused.
-fn said(alloc: Global, said: Said) -> Result<Option<Message>, Memory> {
+fn said(alloc: Global, said: Said) -> Result<Message, Memory> {
     match message(alloc, said) {
         Err(Memory) => message(alloc, said),
         made => made,
     }
 }
 
-/// Does it, and answers whether it is a frame.
-fn happens(
-    rt: &impl Abort,
-    alloc: Global,
-    seat: &mut Seat,
-    seq: u64,
-    step: Step,
-) -> Result<bool, Memory> {
+/// Whether it happens as it should, after so many frames.
+fn happens(alloc: Global, seat: &mut Seat, seq: u64, step: Step) -> bool {
     match step {
-        Step::Take(what) => {
-            let Some(message) = said(alloc, what)? else {
-                return Ok(false);
-            };
-            takes(rt, seat, seq, message);
-            Ok(true)
+        Step::Take(what) => match said(alloc, what) {
+            Ok(message) => takes(seat, seq, message),
+            Err(Memory) => false,
+        },
+        Step::Ask(act) => match command(alloc, act) {
+            Ok(Some(command)) => obeys(seat, command),
+            _ => false,
+        },
+    }
+}
+
+fn happen(alloc: Global, seat: &mut Seat) -> bool {
+    let mut seq = 0_u64;
+    for step in STEPS {
+        if !happens(alloc, seat, seq, *step) {
+            return false;
         }
-        Step::Ask(act) => {
-            let Some(command) = command(alloc, act)? else {
-                return Ok(false);
-            };
-            obeys(rt, seat, command);
-            Ok(false)
+        if matches!(step, Step::Take(_)) {
+            seq = seq.wrapping_add(1);
         }
     }
+    true
 }
 
 #[test]
 fn a_refused_allocation_comes_back_or_shuts_a_seat(rt: HostRuntime) -> Result<(), Memory> {
-    let mut seat = seat_again(&rt, rt.alloc())?;
-    let mut seq = 0_u64;
-    for step in STEPS {
-        let logged = seat.log().len();
-        let was_up = seat.down().is_none();
-        let is_frame = happens(&rt, rt.alloc(), &mut seat, seq, *step)?;
-        let more = seat.log().len().wrapping_sub(logged);
-        assert!(rt; more == usize::from(was_up) || (was_up && !is_frame && more == 2));
-        seq = seq.wrapping_add(u64::from(is_frame));
-    }
+    let mut seat = seat(&rt, rt.alloc(), Vat::B, Some(ObjectId(0)))?;
+    assert!(rt; happen(rt.alloc(), &mut seat));
     Ok(())
 }

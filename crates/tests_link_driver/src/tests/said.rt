@@ -1,12 +1,13 @@
-//! The messages of rows of frames, as a peer has them.
+//! The messages of frames that are handed to a seat, as a peer has them.
+use crate::tests::commands::failed;
 use rpc_msg::{
-    Call, Descriptor, Disembargo, DisembargoContext, Exception, ExceptionKind, ExportId, Finish,
-    Items, Memory, Message, Path, Payload, PlainMessage, QuestionId, RefId, Release, Resolve,
-    ResolvedTo, Return, ReturnBody, Stamp, Target, Text, Vat,
+    Call, Descriptor, Disembargo, DisembargoContext, ExportId, Finish, Items, Memory, Message,
+    Path, Payload, PlainMessage, QuestionId, RefId, Release, Resolve, ResolvedTo, Return,
+    ReturnBody, Stamp, Target, Vat,
 };
 use std::alloc::Global;
 
-/// A message of a peer, or the fault that the one before it is, which ends a row.
+/// A message of a peer.
 #[derive(Clone, Copy, Drop)]
 pub(super) enum Said {
     Bootstrap(u32),
@@ -31,15 +32,81 @@ pub(super) enum Said {
     Disembargo(DisembargoContext),
     Unimplemented,
     Abort,
-    Fault(u16),
 }
 
-fn exception(alloc: Global) -> Result<Exception, Memory> {
-    let reason = Text::new(alloc, "no")?;
-    Ok(Exception {
-        kind: ExceptionKind::Failed,
-        reason,
+/// The message.
+pub(super) fn message(alloc: Global, said: Said) -> Result<Message, Memory> {
+    match said {
+        Said::Call(question) => bare_call(alloc, question, Target::ImportedCap(ExportId(0))),
+        Said::CallBoot(question) => bare_call(alloc, question, at_root(0)),
+        Said::CallOf(question, of) => bare_call(alloc, question, at_root(of)),
+        Said::GiveObject(question, export) => {
+            gift(alloc, question, Descriptor::SenderHosted(ExportId(export)))
+        }
+        Said::GivePromise(question, export) => {
+            gift(alloc, question, Descriptor::SenderPromise(ExportId(export)))
+        }
+        Said::GiveNone(question) => gift(alloc, question, Descriptor::None),
+        Said::Broken(promise) => broken(alloc, promise),
+        Said::Null(answer) => null_results(alloc, answer),
+        Said::Abort => abort(alloc),
+        other => Ok(bare(other)),
+    }
+}
+
+/// Without contents.
+fn bare(said: Said) -> Message {
+    match said {
+        Said::Bootstrap(question) => Message::Plain(PlainMessage::Bootstrap(QuestionId(question))),
+        Said::Finish(question) => Message::Plain(finish(question)),
+        Said::Canceled(answer) => returned(answer, ReturnBody::Canceled),
+        Said::Release(export, count) => Message::Plain(PlainMessage::Release(Release {
+            export: ExportId(export),
+            count,
+        })),
+        Said::Disembargo(context) => Message::Plain(PlainMessage::Disembargo(Disembargo {
+            target: Target::ImportedCap(ExportId(0)),
+            context,
+        })),
+        _ => Message::Unimplemented(finish(0)),
+    }
+}
+
+fn finish(question: u32) -> PlainMessage {
+    PlainMessage::Finish(Finish {
+        question: QuestionId(question),
+        release_result_caps: false,
     })
+}
+
+fn returned(answer: u32, body: ReturnBody) -> Message {
+    Message::Plain(PlainMessage::Return(Return {
+        answer: QuestionId(answer),
+        release_param_caps: false,
+        body,
+    }))
+}
+
+fn null_results(alloc: Global, answer: u32) -> Result<Message, Memory> {
+    let payload = Payload::null(alloc)?;
+    Ok(returned(answer, ReturnBody::Results(payload, Items::new(alloc))))
+}
+
+fn broken(alloc: Global, promise: u32) -> Result<Message, Memory> {
+    let exception = failed(alloc)?;
+    Ok(Message::Plain(PlainMessage::Resolve(Resolve {
+        promise: ExportId(promise),
+        to: ResolvedTo::Exception(exception),
+    })))
+}
+
+fn abort(alloc: Global) -> Result<Message, Memory> {
+    let exception = failed(alloc)?;
+    Ok(Message::Plain(PlainMessage::Abort(exception)))
+}
+
+fn at_root(question: u32) -> Target {
+    Target::PromisedAnswer(QuestionId(question), Path::root())
 }
 
 fn call(
@@ -63,121 +130,20 @@ fn call(
     }))
 }
 
-fn at_root(question: u32) -> Target {
-    Target::PromisedAnswer(QuestionId(question), Path::root())
-}
-
 fn bare_call(alloc: Global, question: u32, target: Target) -> Result<Message, Memory> {
     let payload = Payload::null(alloc)?;
     Ok(call(question, target, payload, Items::new(alloc)))
 }
 
+/// The payload is one capability; that of no capability is null.
 fn gift(alloc: Global, question: u32, given: Descriptor) -> Result<Message, Memory> {
-    let payload = Payload::root_capability(alloc)?;
-    with_one(alloc, question, payload, given)
-}
-
-fn with_one(
-    alloc: Global,
-    question: u32,
-    payload: Payload,
-    given: Descriptor,
-) -> Result<Message, Memory> {
+    let payload = if matches!(given, Descriptor::None) {
+        Payload::null(alloc)?
+    } else {
+        Payload::root_capability(alloc)?
+    };
     match Items::one(alloc, given) {
         Ok(descriptors) => Ok(call(question, at_root(0), payload, descriptors)),
         Err(_) => Err(Memory),
-    }
-}
-
-fn finish(question: u32) -> PlainMessage {
-    PlainMessage::Finish(Finish {
-        question: QuestionId(question),
-        release_result_caps: false,
-    })
-}
-
-/// A message without contents.
-fn bare(said: Said) -> Option<PlainMessage> {
-    match said {
-        Said::Bootstrap(question) => Some(PlainMessage::Bootstrap(QuestionId(question))),
-        Said::Finish(question) => Some(finish(question)),
-        Said::Canceled(answer) => Some(PlainMessage::Return(Return {
-            answer: QuestionId(answer),
-            release_param_caps: false,
-            body: ReturnBody::Canceled,
-        })),
-        Said::Release(export, count) => Some(PlainMessage::Release(Release {
-            export: ExportId(export),
-            count,
-        })),
-        Said::Disembargo(context) => Some(PlainMessage::Disembargo(Disembargo {
-            target: Target::ImportedCap(ExportId(0)),
-            context,
-        })),
-        _ => None,
-    }
-}
-
-/// The message, or none where it says the fault.
-pub(super) fn message(alloc: Global, said: Said) -> Result<Option<Message>, Memory> {
-    match said {
-        Said::Fault(_) => return Ok(None),
-        Said::Call(question) => {
-            let call = bare_call(alloc, question, Target::ImportedCap(ExportId(0)))?;
-            return Ok(Some(call));
-        }
-        Said::CallBoot(question) => {
-            let call = bare_call(alloc, question, at_root(0))?;
-            return Ok(Some(call));
-        }
-        Said::CallOf(question, of) => {
-            let call = bare_call(alloc, question, at_root(of))?;
-            return Ok(Some(call));
-        }
-        Said::GiveObject(question, export) => {
-            let call = gift(alloc, question, Descriptor::SenderHosted(ExportId(export)))?;
-            return Ok(Some(call));
-        }
-        Said::GivePromise(question, export) => {
-            let call = gift(alloc, question, Descriptor::SenderPromise(ExportId(export)))?;
-            return Ok(Some(call));
-        }
-        Said::GiveNone(question) => {
-            let payload = Payload::null(alloc)?;
-            let call = with_one(alloc, question, payload, Descriptor::None)?;
-            return Ok(Some(call));
-        }
-        other => return message_more(alloc, other),
-    }
-}
-
-fn message_more(alloc: Global, said: Said) -> Result<Option<Message>, Memory> {
-    match said {
-        Said::Broken(promise) => {
-            let exception = exception(alloc)?;
-            let resolve = Resolve {
-                promise: ExportId(promise),
-                to: ResolvedTo::Exception(exception),
-            };
-            return Ok(Some(Message::Plain(PlainMessage::Resolve(resolve))));
-        }
-        Said::Null(answer) => {
-            let payload = Payload::null(alloc)?;
-            let returned = Return {
-                answer: QuestionId(answer),
-                release_param_caps: false,
-                body: ReturnBody::Results(payload, Items::new(alloc)),
-            };
-            return Ok(Some(Message::Plain(PlainMessage::Return(returned))));
-        }
-        Said::Abort => {
-            let exception = exception(alloc)?;
-            return Ok(Some(Message::Plain(PlainMessage::Abort(exception))));
-        }
-        Said::Unimplemented => return Ok(Some(Message::Unimplemented(finish(0)))),
-        other => match bare(other) {
-            Some(plain) => return Ok(Some(Message::Plain(plain))),
-            None => return Ok(None),
-        },
     }
 }

@@ -1,61 +1,70 @@
 //! Frames that are handed to a seat: those that say what is a fault, and those with wrong numbers.
+use crate::tests::commands::call;
+use crate::tests::cores::seat;
+use crate::tests::need::Asked;
 use crate::tests::said::{Said, message};
-use crate::tests::seated::{obey, seated, take};
-use link_driver::{Answer, JournalEntry, Seat};
-use rpc_machine::{CallCommand, Command, Refusal};
+use crate::tests::seated::{ask, take};
+use link_driver::{JournalEntry, Seat};
+use rpc_machine::{Command, Refusal};
 use rpc_msg::{
     DisembargoContext, EmbargoId, Items, Memory, Message, ObjectId, Payload, PlainMessage,
-    QuestionId, RefId, Vat,
+    QuestionId, Vat,
 };
 use std::alloc::Global;
 use std::process::Abort;
 
-const ROWS: &[Said] = &[
-    Said::Bootstrap(0),
-    Said::Bootstrap(0),
-    Said::Fault(20),
-    Said::Canceled(0),
-    Said::Fault(21),
-    Said::Call(0),
-    Said::Fault(22),
-    Said::Finish(0),
-    Said::Fault(23),
-    Said::Bootstrap(0),
-    Said::Release(0, 0),
-    Said::Fault(24),
-    Said::Bootstrap(0),
-    Said::GivePromise(1, 5),
-    Said::Broken(5),
-    Said::Broken(5),
-    Said::Fault(25),
-    Said::Bootstrap(0),
-    Said::GiveObject(1, 5),
-    Said::Broken(5),
-    Said::Fault(26),
-    Said::Bootstrap(0),
-    Said::Disembargo(DisembargoContext::SenderLoopback(EmbargoId(0))),
-    Said::Fault(27),
-    Said::Disembargo(DisembargoContext::ReceiverLoopback(EmbargoId(0))),
-    Said::Fault(28),
-    Said::Bootstrap(0),
-    Said::GiveObject(1, 5),
-    Said::GivePromise(2, 5),
-    Said::Fault(29),
-    Said::Bootstrap(0),
-    Said::GiveNone(1),
-    Said::Fault(30),
-    Said::Unimplemented,
-    Said::Fault(32),
-    Said::Abort,
-    Said::Fault(34),
+/// Frames of a peer, of which the last takes the vat down, with that number: all before it are taken.
+type Row = (&'static [Said], u16);
+
+const ROWS: &[Row] = &[
+    (&[Said::Bootstrap(0), Said::Bootstrap(0)], 20),
+    (&[Said::Canceled(0)], 21),
+    (&[Said::Call(0)], 22),
+    (&[Said::Finish(0)], 23),
+    (&[Said::Bootstrap(0), Said::Release(0, 0)], 24),
+    (
+        &[
+            Said::Bootstrap(0),
+            Said::GivePromise(1, 5),
+            Said::Broken(5),
+            Said::Broken(5),
+        ],
+        25,
+    ),
+    (
+        &[Said::Bootstrap(0), Said::GiveObject(1, 5), Said::Broken(5)],
+        26,
+    ),
+    (
+        &[
+            Said::Bootstrap(0),
+            Said::Disembargo(DisembargoContext::SenderLoopback(EmbargoId(0))),
+        ],
+        27,
+    ),
+    (
+        &[Said::Disembargo(DisembargoContext::ReceiverLoopback(EmbargoId(0)))],
+        28,
+    ),
+    (
+        &[
+            Said::Bootstrap(0),
+            Said::GiveObject(1, 5),
+            Said::GivePromise(2, 5),
+        ],
+        29,
+    ),
+    (&[Said::Bootstrap(0), Said::GiveNone(1)], 30),
+    (&[Said::Unimplemented], 32),
+    (&[Said::Abort], 34),
 ];
 
-fn seat_of_b(alloc: Global) -> Result<Seat, Memory> {
-    seated(alloc, Vat::B, Some(ObjectId(0)))
+fn seat_of_b(rt: &impl Abort, alloc: Global) -> Result<Seat, Memory> {
+    seat(rt, alloc, Vat::B, Some(ObjectId(0)))
 }
 
-fn bootstrap() -> Message {
-    Message::Plain(PlainMessage::Bootstrap(QuestionId(9)))
+fn bootstrap(question: u32) -> Message {
+    Message::Plain(PlainMessage::Bootstrap(QuestionId(question)))
 }
 
 /// The number that the Abort of its last step has, which said nothing else.
@@ -71,135 +80,133 @@ fn says(seat: &Seat) -> Option<u16> {
 }
 
 /// A seat that is down by that number said so by one Abort, if it was not an Abort; it takes and obeys no more.
-fn is_over(rt: &impl Abort, seat: &mut Seat, number: u16, seq: u64) {
+fn is_over(seat: &mut Seat, number: u16, seq: u64) -> bool {
+    let said = says(seat);
     let made = seat.made().len();
     let logged = seat.log().len();
-    assert!(rt;
-        says(seat) == if number == 34 { None } else { Some(number) },
-        "{number}"
-    );
-    assert_eq!(rt; seat.down(), Some(number));
-    assert!(rt; take(rt, seat, seq, 0, bootstrap()) == Some(number));
-    match seat.command(Command::Promise) {
-        Answer::Refused(refusal, _) => assert!(rt; refusal == Refusal::Down),
-        Answer::Done(_, effects) => {
-            seat.recycle(effects);
-            panic!(rt; "{number}");
-        }
+    let is_down = seat.down() == Some(number)
+        && take(seat, seq, 0, bootstrap(9)) == Some(number)
+        && ask(seat, Command::Promise) == Asked::Refused(Refusal::Down);
+    is_down
+        && said == (if number == 34 { None } else { Some(number) })
+        && seat.made().len() == made
+        && seat.log().len() == logged
+}
+
+/// Hands it the message as a frame: gives the number with which it is down, if it is.
+fn hear(alloc: Global, seat: &mut Seat, seq: u64, ack: u64, said: Said) -> Option<u16> {
+    match message(alloc, said) {
+        Ok(message) => take(seat, seq, ack, message),
+        Err(Memory) => None,
     }
-    assert!(rt; seat.made().len() == made && seat.log().len() == logged);
+}
+
+/// Hands it the frames, the first of that number and acknowledgement: whether the last, and none before it, takes it down by that
+/// number.
+fn falls(
+    alloc: Global,
+    seat: &mut Seat,
+    (seq, ack): (u64, u64),
+    row: &[Said],
+    number: u16,
+) -> bool {
+    let mut seq = seq;
+    let mut down = None;
+    for said in row {
+        if down.is_some() {
+            return false;
+        }
+        down = hear(alloc, seat, seq, ack, *said);
+        seq = seq.wrapping_add(1);
+    }
+    down == Some(number) && is_over(seat, number, seq)
 }
 
 #[test]
 fn the_last_frame_of_a_row_is_the_fault(rt: HostRuntime) -> Result<(), Memory> {
-    let alloc = rt.alloc();
-    let mut seat = seat_of_b(alloc)?;
-    let mut seq = 0_u64;
-    let mut down = None;
-    for said in ROWS {
-        match message(alloc, *said)? {
-            Some(message) => {
-                assert!(rt; down.is_none());
-                down = take(&rt, &mut seat, seq, 0, message);
-                seq = seq.wrapping_add(1);
-            }
-            None => {
-                assert!(rt; matches!((*said, down), (Said::Fault(n), Some(m)) if n == m));
-                if let Some(number) = down {
-                    is_over(&rt, &mut seat, number, seq);
-                }
-                seat = seat_of_b(alloc)?;
-                seq = 0;
-                down = None;
-            }
-        }
+    for (row, number) in ROWS {
+        let mut seat = seat_of_b(&rt, rt.alloc())?;
+        assert!(rt;
+            falls(rt.alloc(), &mut seat, (0, 0), row, *number),
+            "{number}"
+        );
     }
     Ok(())
 }
 
 /// How many answers may be open.
-const ANSWERS: u64 = 4_096;
+const ANSWERS: u32 = 4_096;
+
+/// Whether it takes so many Bootstraps, and is down by the next.
+fn takes_no_more(seat: &mut Seat) -> bool {
+    for question in 0..ANSWERS {
+        if take(seat, u64::from(question), 0, bootstrap(question)).is_some() {
+            return false;
+        }
+    }
+    take(seat, u64::from(ANSWERS), 0, bootstrap(ANSWERS)) == Some(33) && is_over(seat, 33, 4_097)
+}
 
 #[test]
 fn a_frame_past_a_limit_is_the_fault(rt: HostRuntime) -> Result<(), Memory> {
-    let alloc = rt.alloc();
-    let mut seat = seat_of_b(alloc)?;
-    for question in 0..ANSWERS {
-        let asked = Message::Plain(PlainMessage::Bootstrap(QuestionId(question as u32)));
-        assert!(rt; take(&rt, &mut seat, question, 0, asked).is_none());
-    }
-    let asked = Message::Plain(PlainMessage::Bootstrap(QuestionId(4_096)));
-    assert!(rt; take(&rt, &mut seat, ANSWERS, 0, asked) == Some(33));
-    is_over(&rt, &mut seat, 33, 4_097);
+    let mut seat = seat_of_b(&rt, rt.alloc())?;
+    assert!(rt; takes_no_more(&mut seat));
     Ok(())
 }
 
 /// How many calls may wait at a vat.
 const WAITING: u32 = 65_536;
 
-/// A call through the reference to its one promise, where it waits.
-fn waiting_call(alloc: Global, null: &Payload) -> Result<Command, Memory> {
-    let payload = null.copy(alloc)?;
-    Ok(Command::Call(CallCommand {
-        reference: RefId(0),
-        interface: 7,
-        method: 1,
-        payload,
-        refs: Items::new(alloc),
-    }))
+/// What becomes of a call through the reference to its one promise, where it waits.
+fn wait(alloc: Global, seat: &mut Seat, null: &Payload) -> Option<Asked> {
+    match null.copy(alloc) {
+        Ok(payload) => {
+            let call = call(0, 1, (payload, Items::new(alloc)));
+            Some(ask(seat, Command::Call(call)))
+        }
+        Err(Memory) => None,
+    }
+}
+
+/// Whether it makes a promise, and as many calls that wait for it as may; and one more is refused.
+fn fills(alloc: Global, seat: &mut Seat, null: &Payload) -> bool {
+    let mut is_done = ask(seat, Command::Promise) == Asked::Done;
+    for _ in 0..WAITING {
+        is_done = is_done && wait(alloc, seat, null) == Some(Asked::Done);
+    }
+    is_done && wait(alloc, seat, null) == Some(Asked::Refused(Refusal::Full))
 }
 
 /// A Bootstrap, a Call that is delivered, and one on its results, which would wait.
-const ONE_TOO_MANY: [(Said, Option<u16>); 3] = [
-    (Said::Bootstrap(0), None),
-    (Said::CallBoot(1), None),
-    (Said::CallOf(2, 1), Some(31)),
-];
+const ONE_TOO_MANY: &[Said] = &[Said::Bootstrap(0), Said::CallBoot(1), Said::CallOf(2, 1)];
 
 #[test]
 fn a_call_past_those_that_may_wait_is_the_fault(rt: HostRuntime) -> Result<(), Memory> {
-    let alloc = rt.alloc();
-    let mut seat = seat_of_b(alloc)?;
-    let null = Payload::null(alloc)?;
-    obey(&rt, &mut seat, Command::Promise);
-    for _ in 0..WAITING {
-        obey(&rt, &mut seat, waiting_call(alloc, &null)?);
-    }
-    match seat.command(waiting_call(alloc, &null)?) {
-        Answer::Refused(refusal, _) => assert!(rt; refusal == Refusal::Full),
-        Answer::Done(_, effects) => {
-            seat.recycle(effects);
-            panic!(rt; "one more waits");
-        }
-    }
-    let mut seq = 0_u64;
-    for (said, down) in ONE_TOO_MANY {
-        let Some(message) = message(alloc, said)? else {
-            return Err(Memory);
-        };
-        assert!(rt; take(&rt, &mut seat, seq, 0, message) == down);
-        seq = seq.wrapping_add(1);
-    }
-    is_over(&rt, &mut seat, 31, 3);
+    let null = Payload::null(rt.alloc())?;
+    let mut seat = seat_of_b(&rt, rt.alloc())?;
+    assert!(rt; fills(rt.alloc(), &mut seat, &null));
+    assert!(rt; falls(rt.alloc(), &mut seat, (0, 0), ONE_TOO_MANY, 31));
     Ok(())
 }
 
 /// A first frame, by its number and what it acknowledges, and the number of the shut.
-const WRONG: [(u64, u64, u16); 3] = [(1, 0, 41), (0, 1, 42), (1, 1, 41)];
+const WRONG: [((u64, u64), u16); 3] = [((1, 0), 41), ((0, 1), 42), ((1, 1), 41)];
+
+fn delivers(journal: &[JournalEntry]) -> bool {
+    for entry in journal {
+        if matches!(entry, JournalEntry::Delivered(_, _)) {
+            return true;
+        }
+    }
+    false
+}
 
 #[test]
 fn wrong_frames_shut_a_seat(rt: HostRuntime) -> Result<(), Memory> {
-    let alloc = rt.alloc();
-    for (seq, ack, number) in WRONG {
-        let mut seat = seat_of_b(alloc)?;
-        let Some(said) = message(alloc, Said::CallBoot(0))? else {
-            return Err(Memory);
-        };
-        assert!(rt; take(&rt, &mut seat, seq, ack, said) == Some(number));
-        is_over(&rt, &mut seat, number, 0);
-        for entry in seat.side().journal() {
-            assert!(rt; !matches!(entry, JournalEntry::Delivered(_, _)));
-        }
+    for (numbers, number) in WRONG {
+        let mut seat = seat_of_b(&rt, rt.alloc())?;
+        assert!(rt; falls(rt.alloc(), &mut seat, numbers, &[Said::CallBoot(0)], number));
+        assert!(rt; !delivers(seat.side().journal()));
     }
     Ok(())
 }
