@@ -1,17 +1,19 @@
-//! Payloads: read, looked into, written, and as the `capnp` tool made them; and values, messages and entries.
-mod copies;
+//! Payloads: read, looked into, written, and as the `capnp` tool made them; streams of them; and values and entries. `stream` goes
+//! with refused allocations too (`scripts/refused`).
+mod entries;
 mod places;
 mod reading;
 mod segments;
+mod stream;
+mod trees;
 mod values;
-mod writing;
 
 use capn_wire::{CapAt, Op, Payload, Tree};
-use std::alloc::Global;
+use std::alloc::{AllocError, Global};
 use std::test::Fail;
 
 /// The bytes that hexadecimal digits spell. What is no digit only divides.
-fn bytes_of(alloc: Global, text: &str) -> Result<Vec<u8>, Fail> {
+fn bytes_of(alloc: Global, text: &str) -> Result<Vec<u8>, AllocError> {
     let mut bytes = Vec::new(alloc);
     let mut high = None;
     for c in text.bytes() {
@@ -23,7 +25,7 @@ fn bytes_of(alloc: Global, text: &str) -> Result<Vec<u8>, Fail> {
         high = match high {
             None => Some(digit),
             Some(first) => {
-                bytes.push(first % 16 * 16 + digit)?;
+                bytes.push(first << 4 | digit)?;
                 None
             }
         };
@@ -34,6 +36,11 @@ fn bytes_of(alloc: Global, text: &str) -> Result<Vec<u8>, Fail> {
 // No clause says what these do: a test is proved quicker where nothing is known of what it compares.
 fn read(alloc: Global, bytes: &[u8], caps: u32) -> Result<Payload, Fail> {
     Ok(Payload::read(alloc, bytes, caps)?)
+}
+
+fn read_text(alloc: Global, text: &str, caps: u32) -> Result<Payload, Fail> {
+    let bytes = bytes_of(alloc, text)?;
+    read(alloc, &bytes, caps)
 }
 
 fn copied(alloc: Global, payload: &Payload) -> Result<Payload, Fail> {
@@ -48,6 +55,6 @@ fn cap_at(payload: &Payload, path: &[Op]) -> CapAt {
     payload.cap_at(path)
 }
 
-fn has_bytes(payload: &Payload, bytes: &[u8]) -> bool {
-    payload.bytes() == bytes
+fn is_made_of(payload: &Payload, bytes: &[u8], caps: u32) -> bool {
+    payload.bytes() == bytes && payload.caps() == caps
 }
