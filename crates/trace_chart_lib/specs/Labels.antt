@@ -1,5 +1,5 @@
 -- How a label stands in a picture (docs/trace.md, "A picture of a trace").
-use Rattle.std.specs.Prelude.{ℕ, ◌≡◌, ◌==◌, ◌<◌, ◌≤◌, ◌⊎◌, ◌++◌, ◌&&◌, ◌||◌, nat_lt, nat_le, Bool, if◌then◌else◌, List, map, length, take, codes, encode_utf8, suc}
+use Rattle.std.specs.Prelude.{ℕ, ◌≡◌, ◌==◌, ◌<◌, ◌≤◌, ◌⊎◌, ◌++◌, ◌&&◌, ◌||◌, nat_le, Bool, if◌then◌else◌, List, map, length, take, codes, encode_utf8, suc}
 use Rattle.std.specs.List.{list_any, sum}
 use Rattle.trace_chart_lib.specs.Escapes.{escaped}
 

@@ -1,7 +1,7 @@
-use rpc_journal::JournalEntry;
-use rpc_msg::{CallId, EmbargoId, Memory, Message, PlainMessage, QuestionId, RefId, Stamp, Vat};
+use crate::lasting::Lasting;
+use crate::over::Over;
+use rpc_msg::{EmbargoId, Memory, RefId, Stamp, Vat};
 use std::alloc::Global;
-use std::mem;
 
 /// An embargo of a vat.
 #[derive(Clone, Copy, Drop)]
@@ -9,29 +9,23 @@ pub(crate) struct Embargo {
     pub(crate) id: EmbargoId,
     /// The reference that was advanced, where the trace says it.
     pub(crate) reference: Option<RefId>,
+    /// How many calls through it were counted as the embargo began.
+    before: u64,
     /// How many calls were made through it since.
     pub(crate) waiting: u64,
-}
-
-/// How a vat has a call that came to it.
-#[derive(Clone, Copy, PartialEq, Eq, Drop)]
-pub(crate) enum CallName {
-    /// Its own application made it.
-    Made(CallId),
-    /// The other vat sent it.
-    Answer(QuestionId),
 }
 
 /// A call at a vat.
 #[derive(Clone, Copy, Drop)]
 pub(crate) struct CallAt {
     pub(crate) stamp: Stamp,
-    pub(crate) name: CallName,
+    /// That it has its outcome.
+    pub(crate) end: Over,
 }
 
-/// What lasts at a vat.
+/// Why there is a bar.
 #[derive(Clone, Copy, Drop)]
-pub(crate) enum Lasting {
+pub(crate) enum Cause {
     /// From the entry that sent the Disembargo to the one that received it back.
     Embargo(Embargo),
     /// A call waits, from the entry with which it came to the one with which it goes on.
@@ -42,83 +36,31 @@ pub(crate) enum Lasting {
 #[derive(Clone, Copy, Drop)]
 pub(crate) struct Bar {
     pub(crate) vat: Vat,
-    pub(crate) what: Lasting,
+    pub(crate) cause: Cause,
     /// Bars of one vat at one time have different lanes.
     pub(crate) lane: u64,
     pub(crate) began: u64,
     pub(crate) ended: Option<u64>,
 }
 
-/// What is over at a vat.
-#[derive(Drop)]
-pub(crate) enum Over {
-    /// The embargo with that id.
-    Embargo(EmbargoId),
-    /// The call goes on from there.
-    GoesOn(Stamp),
-    /// The call has its outcome.
-    Ends(CallName),
-    All,
-}
-
-impl Over {
-    /// What the vat's entry says of a call that waits there.
-    pub(crate) fn by(entry: &JournalEntry) -> Option<(Vat, Over)> {
-        match entry {
-            JournalEntry::Sent(vat, message) => Over::by_sent(message).map(|over| (*vat, over)),
-            JournalEntry::Delivered(vat, delivery) => Some((*vat, Over::GoesOn(delivery.stamp))),
-            JournalEntry::Ended(vat, ended) => Some((*vat, Over::Ends(CallName::Made(ended.call)))),
-            JournalEntry::Down(vat, _) => Some((*vat, Over::All)),
-            _ => None,
-        }
-    }
-
-    fn by_sent(message: &Message) -> Option<Over> {
-        match message {
-            Message::Plain(PlainMessage::Call(call)) => Some(Over::GoesOn(call.stamp)),
-            Message::Plain(PlainMessage::Return(answer)) => {
-                Some(Over::Ends(CallName::Answer(answer.answer)))
-            }
-            Message::Unimplemented(PlainMessage::Call(call)) => {
-                Some(Over::Ends(CallName::Answer(call.question)))
-            }
-            _ => None,
-        }
-    }
-
-    pub(crate) fn has_call(&self, call: &CallAt) -> bool {
-        match self {
-            Over::Embargo(_) => false,
-            Over::GoesOn(stamp) => call.stamp == *stamp,
-            Over::Ends(name) => call.name == *name,
-            Over::All => true,
-        }
-    }
-
-    fn has(&self, what: &Lasting) -> bool {
-        match what {
-            Lasting::Wait(call) => self.has_call(call),
-            Lasting::Embargo(embargo) => match self {
-                Over::Embargo(id) => embargo.id == *id,
-                Over::All => true,
-                _ => false,
-            },
-        }
-    }
-}
-
 /// The embargoes and waiting calls of both vats.
 #[derive(Drop)]
 pub(crate) struct Bars {
-    open: Vec<Bar>,
+    /// In the order in which they began.
+    all: Vec<Bar>,
+    /// Those that have ended, in the order in which they did.
     closed: Vec<Bar>,
+    a: Lasting,
+    b: Lasting,
 }
 
 impl Bars {
     pub(crate) fn new(alloc: Global) -> Self {
         Bars {
-            open: Vec::new(alloc),
+            all: Vec::new(alloc),
             closed: Vec::new(alloc),
+            a: Lasting::new(alloc),
+            b: Lasting::new(alloc),
         }
     }
 
@@ -127,16 +69,68 @@ impl Bars {
         self.closed.as_slice()
     }
 
-    /// Those that last to the trace's end.
-    pub(crate) fn open(&self) -> &[Bar] {
-        self.open.as_slice()
+    /// All of them.
+    pub(crate) fn all(&self) -> &[Bar] {
+        self.all.as_slice()
     }
 
-    pub(crate) fn begin(&mut self, vat: Vat, what: Lasting, began: u64) -> Result<(), Memory> {
-        let lane = self.free_lane(vat);
-        self.open.push(Bar {
+    fn at(&self, vat: Vat) -> &Lasting {
+        match vat {
+            Vat::A => &self.a,
+            Vat::B => &self.b,
+        }
+    }
+
+    fn at_mut(&mut self, vat: Vat) -> &mut Lasting {
+        match vat {
+            Vat::A => &mut self.a,
+            Vat::B => &mut self.b,
+        }
+    }
+
+    /// A call begins to wait.
+    pub(crate) fn wait(
+        &mut self,
+        alloc: Global,
+        vat: Vat,
+        call: CallAt,
+        began: u64,
+    ) -> Result<(), Memory> {
+        let place = self.all.len();
+        let lasting = self.at_mut(vat);
+        let lane = lasting.begin(place)?;
+        lasting.end_by(alloc, Over::GoesOn(call.stamp), place)?;
+        lasting.end_by(alloc, call.end, place)?;
+        self.add(vat, Cause::Wait(call), lane, began)
+    }
+
+    /// An embargo begins, of the reference if the trace says of which.
+    pub(crate) fn begin_embargo(
+        &mut self,
+        alloc: Global,
+        vat: Vat,
+        id: EmbargoId,
+        reference: Option<RefId>,
+        began: u64,
+    ) -> Result<Embargo, Memory> {
+        let place = self.all.len();
+        let lasting = self.at_mut(vat);
+        let lane = lasting.begin(place)?;
+        lasting.end_by(alloc, Over::Embargo(id), place)?;
+        let embargo = Embargo {
+            id,
+            reference,
+            before: lasting.start_counting(reference)?,
+            waiting: 0,
+        };
+        self.add(vat, Cause::Embargo(embargo), lane, began)?;
+        Ok(embargo)
+    }
+
+    fn add(&mut self, vat: Vat, cause: Cause, lane: u64, began: u64) -> Result<(), Memory> {
+        self.all.push(Bar {
             vat,
-            what,
+            cause,
             lane,
             began,
             ended: None,
@@ -144,50 +138,38 @@ impl Bars {
         Ok(())
     }
 
-    /// Beyond those of the vat's bars that last.
-    fn free_lane(&self, vat: Vat) -> u64 {
-        let mut lane = 0;
-        for bar in self.open.iter() {
-            if bar.vat == vat && lane <= bar.lane {
-                lane = bar.lane.saturating_add(1);
-            }
-        }
-        lane
+    /// A call is made, which waits where its reference has an embargo.
+    pub(crate) fn count(&mut self, vat: Vat, reference: RefId) {
+        self.at_mut(vat).count(reference);
     }
 
     /// The embargo with that id that the vat has.
     pub(crate) fn embargo(&self, vat: Vat, id: EmbargoId) -> Option<Embargo> {
-        let mut found = None;
-        for bar in self.open.iter() {
-            if let Lasting::Embargo(embargo) = bar.what
-                && bar.vat == vat
-                && embargo.id == id
-            {
-                found = Some(embargo);
-            }
-        }
-        found
-    }
-
-    /// A call is made, which waits where its reference has an embargo.
-    pub(crate) fn count(&mut self, vat: Vat, reference: RefId) {
-        for bar in self.open.iter_mut() {
-            if let Lasting::Embargo(embargo) = &mut bar.what
-                && bar.vat == vat
-                && embargo.reference == Some(reference)
-            {
-                embargo.waiting = embargo.waiting.saturating_add(1);
-            }
+        let place = self.at(vat).newest(Over::Embargo(id))?;
+        match self.all.get(place)?.cause {
+            Cause::Embargo(embargo) => Some(self.counted(vat, embargo)),
+            Cause::Wait(_) => None,
         }
     }
 
-    fn has(&self, vat: Vat, over: &Over) -> bool {
-        for bar in self.open.iter() {
-            if bar.vat == vat && over.has(&bar.what) {
-                return true;
-            }
+    /// An embargo that lasts, with the calls that wait by now.
+    fn counted(&self, vat: Vat, embargo: Embargo) -> Embargo {
+        let calls = self.at(vat).calls(embargo.reference);
+        Embargo {
+            waiting: calls.saturating_sub(embargo.before),
+            ..embargo
         }
-        false
+    }
+
+    /// A bar that lasts, as it is by now.
+    pub(crate) fn by_now(&self, bar: &Bar) -> Bar {
+        match bar.cause {
+            Cause::Embargo(embargo) => Bar {
+                cause: Cause::Embargo(self.counted(bar.vat, embargo)),
+                ..*bar
+            },
+            Cause::Wait(_) => *bar,
+        }
     }
 
     /// What is over at a vat ends. Whether there was any.
@@ -198,20 +180,31 @@ impl Bars {
         over: &Over,
         number: u64,
     ) -> Result<bool, Memory> {
-        if !self.has(vat, over) {
-            return Ok(false);
-        }
-        let bars = mem::replace(&mut self.open, Vec::new(alloc));
-        for bar in bars {
-            if bar.vat == vat && over.has(&bar.what) {
-                self.closed.push(Bar {
-                    ended: Some(number),
-                    ..bar
-                })?;
-            } else {
-                self.open.push(bar)?;
+        let places = self.at_mut(vat).take(alloc, over)?;
+        let mut any = false;
+        for place in places {
+            if self.close(place, number)? {
+                any = true;
             }
         }
+        Ok(any)
+    }
+
+    /// A bar ends, unless it has ended. Whether it lasted.
+    fn close(&mut self, place: usize, number: u64) -> Result<bool, Memory> {
+        let bar = match self.all.get(place) {
+            Some(bar) if bar.ended.is_none() => self.by_now(bar),
+            _ => return Ok(false),
+        };
+        let bar = Bar {
+            ended: Some(number),
+            ..bar
+        };
+        self.at_mut(bar.vat).close(bar.lane);
+        if let Some(kept) = self.all.get_mut(place) {
+            *kept = bar;
+        }
+        self.closed.push(bar)?;
         Ok(true)
     }
 }

@@ -1,12 +1,13 @@
 ghost use Rattle.std.specs.Prelude.{◌≡◌};
 ghost use Rattle.trace_chart_lib.specs.Choices.{message_stands_out, entry_stands_out};
 
-use crate::bars::{Bars, CallAt, CallName, Embargo, Lasting, Over};
+use crate::bars::{Bars, CallAt, Embargo};
 use crate::entries::{begins_step, begun_by, call_of, lifted_by, vat_of};
 use crate::followed::Followed;
 use crate::labels::{begun_label, counts_label, entry_label, lifted_label, write_stamp};
 use crate::messages::message_label;
 use crate::options::Options;
+use crate::over::Over;
 use crate::questions::{Asked, Questions};
 use rpc_journal::{Advanced, Counts, JournalEntry};
 use rpc_msg::{
@@ -66,6 +67,24 @@ struct OnItsWay {
     call: Option<CallAt>,
 }
 
+/// What is to come of what a vat did.
+#[derive(Drop)]
+struct Sender {
+    /// What it sent and the other vat did not receive yet.
+    ways: VecDeque<OnItsWay>,
+    /// The reference that it advanced last, where the Disembargo is not sent yet.
+    embargoed: Option<RefId>,
+}
+
+impl Sender {
+    fn new(alloc: Global) -> Self {
+        Sender {
+            ways: VecDeque::new(alloc),
+            embargoed: None,
+        }
+    }
+}
+
 /// The call that came with the newest step, where that did not say yet where it goes.
 #[derive(Clone, Copy, Drop)]
 struct Arrived {
@@ -93,11 +112,8 @@ pub(crate) struct Chart {
     pub(crate) bars: Bars,
     /// Whether an entry named the reference that stands out.
     pub(crate) is_named: bool,
-    from_a: VecDeque<OnItsWay>,
-    from_b: VecDeque<OnItsWay>,
-    /// The reference that each vat advanced last, where its Disembargo is not sent yet.
-    embargoed_a: Option<RefId>,
-    embargoed_b: Option<RefId>,
+    a: Sender,
+    b: Sender,
     arrived: Option<Arrived>,
     followed: Followed,
     questions: Questions,
@@ -114,10 +130,8 @@ impl Chart {
             notes: Vec::new(alloc),
             bars: Bars::new(alloc),
             is_named: false,
-            from_a: VecDeque::new(alloc),
-            from_b: VecDeque::new(alloc),
-            embargoed_a: None,
-            embargoed_b: None,
+            a: Sender::new(alloc),
+            b: Sender::new(alloc),
             arrived: None,
             followed: Followed::new(alloc),
             questions: Questions::new(alloc),
@@ -126,26 +140,17 @@ impl Chart {
 
     /// Draws the messages too that were never received.
     pub(crate) fn finish(&mut self, alloc: Global) -> Result<(), Memory> {
-        let from_a = mem::replace(&mut self.from_a, VecDeque::new(alloc));
+        let from_a = mem::replace(&mut self.a.ways, VecDeque::new(alloc));
         draw_open(&mut self.arrows, Vat::A, from_a)?;
-        let from_b = mem::replace(&mut self.from_b, VecDeque::new(alloc));
+        let from_b = mem::replace(&mut self.b.ways, VecDeque::new(alloc));
         draw_open(&mut self.arrows, Vat::B, from_b)
     }
 
-    /// The oldest message that the vat sent and the other did not receive.
-    fn next_from(&mut self, vat: Vat) -> Option<OnItsWay> {
+    fn sender(&mut self, vat: Vat) -> &mut Sender {
         match vat {
-            Vat::A => self.from_a.pop_front(),
-            Vat::B => self.from_b.pop_front(),
+            Vat::A => &mut self.a,
+            Vat::B => &mut self.b,
         }
-    }
-
-    fn depart(&mut self, vat: Vat, way: OnItsWay) -> Result<(), Memory> {
-        match vat {
-            Vat::A => self.from_a.push_back(way)?,
-            Vat::B => self.from_b.push_back(way)?,
-        }
-        Ok(())
     }
 
     /// The row of the entry that comes now, where it is drawn.
@@ -206,23 +211,40 @@ impl Chart {
 
     /// The call that came with the step that is over waits, where that did not say where it goes.
     fn wait(&mut self, alloc: Global) -> Result<(), Memory> {
-        let Some(arrived) = mem::replace(&mut self.arrived, None) else {
+        let Some(arrived) = self.arrived.take() else {
             return Ok(());
         };
-        let what = Lasting::Wait(arrived.call);
-        self.bars.begin(arrived.vat, what, arrived.entry)?;
-        let mut label = String::from_str(alloc, "waits: ")?;
-        if let Some(place) = arrived.note
-            && let Some(note) = self.notes.get_mut(place)
-        {
-            label.push_str(note.label.as_str())?;
-            note.label = label;
-            note.mark = Mark::Waiting;
-            return Ok(());
+        self.bars
+            .wait(alloc, arrived.vat, arrived.call, arrived.entry)?;
+        match arrived.note {
+            Some(place) => self.say_waiting(alloc, place),
+            None => self.note_waiting(alloc, &arrived),
         }
+    }
+
+    /// A note says that its call waits.
+    fn say_waiting(&mut self, alloc: Global, place: usize) -> Result<(), Memory> {
+        let Some(note) = self.notes.get_mut(place) else {
+            return Ok(());
+        };
+        let mut label = String::from_str(alloc, "waits: ")?;
+        label.push_str(note.label.as_str())?;
+        note.label = label;
+        note.mark = Mark::Waiting;
+        Ok(())
+    }
+
+    /// There is no note yet in its row.
+    fn note_waiting(&mut self, alloc: Global, arrived: &Arrived) -> Result<(), Memory> {
+        let mut label = String::from_str(alloc, "waits: ")?;
         write_stamp(&mut label, &arrived.call.stamp)?;
-        let (row, vat, marked) = (arrived.row, arrived.vat, arrived.marked);
-        let _place = self.note(row, vat, Mark::Waiting, label, marked)?;
+        let _place = self.note(
+            arrived.row,
+            arrived.vat,
+            Mark::Waiting,
+            label,
+            arrived.marked,
+        )?;
         Ok(())
     }
 
@@ -251,7 +273,7 @@ impl Chart {
         ended: Option<Remark>,
     ) -> Result<(), Memory> {
         let row = self.row()?;
-        let begun = self.open_embargo(vat, message)?;
+        let begun = self.open_embargo(alloc, vat, message)?;
         let marked = self.marks_message(message) || self.marks_more(vat, message);
         let label = message_label(alloc, message, self.questions.of(vat, message))?;
         let mut said = remark_label(alloc, ended)?;
@@ -261,16 +283,14 @@ impl Chart {
         }
         said.push_str(label.as_str())?;
         let _place = self.note(row, vat, Mark::Message, said, marked)?;
-        self.depart(
-            vat,
-            OnItsWay {
-                sent: row,
-                label,
-                marked,
-                lifts: lifted_by(message),
-                call: call_of(message),
-            },
-        )
+        self.sender(vat).ways.push_back(OnItsWay {
+            sent: row,
+            label,
+            marked,
+            lifts: lifted_by(message),
+            call: call_of(message),
+        })?;
+        Ok(())
     }
 
     fn marks_message(&self, message: &Message) -> bool
@@ -315,7 +335,7 @@ impl Chart {
 
     fn receive(&mut self, alloc: Global, vat: Vat) -> Result<(), Memory> {
         let got = self.row()?;
-        let Some(way) = self.next_from(vat.other()) else {
+        let Some(way) = self.sender(vat.other()).ways.pop_front() else {
             let label = String::from_str(alloc, "receives nothing that was sent")?;
             let _place = self.note(got, vat, Mark::Beside, label, false)?;
             return Ok(());
@@ -367,38 +387,25 @@ impl Chart {
     }
 
     /// The embargo that begins where the message is sent.
-    fn open_embargo(&mut self, vat: Vat, message: &Message) -> Result<Option<Embargo>, Memory> {
+    fn open_embargo(
+        &mut self,
+        alloc: Global,
+        vat: Vat,
+        message: &Message,
+    ) -> Result<Option<Embargo>, Memory> {
         let Some(id) = begun_by(message) else {
             return Ok(None);
         };
-        let reference = self.take_embargoed(vat);
-        let embargo = Embargo {
-            id,
-            reference,
-            waiting: 0,
-        };
-        self.bars
-            .begin(vat, Lasting::Embargo(embargo), self.entries)?;
+        let reference = self.sender(vat).embargoed.take();
+        let embargo = self
+            .bars
+            .begin_embargo(alloc, vat, id, reference, self.entries)?;
         Ok(Some(embargo))
     }
 
-    /// The reference whose embargo begins with the vat's next Disembargo.
-    fn take_embargoed(&mut self, vat: Vat) -> Option<RefId> {
-        match vat {
-            Vat::A => mem::replace(&mut self.embargoed_a, None),
-            Vat::B => mem::replace(&mut self.embargoed_b, None),
-        }
-    }
-
     fn keep_embargoed(&mut self, entry: &JournalEntry) {
-        match entry {
-            JournalEntry::Advanced(Vat::A, reference, Advanced::Embargoed) => {
-                self.embargoed_a = Some(*reference);
-            }
-            JournalEntry::Advanced(Vat::B, reference, Advanced::Embargoed) => {
-                self.embargoed_b = Some(*reference);
-            }
-            _ => {}
+        if let JournalEntry::Advanced(vat, reference, Advanced::Embargoed) = entry {
+            self.sender(*vat).embargoed = Some(*reference);
         }
     }
 
@@ -441,7 +448,7 @@ impl Chart {
                 vat,
                 call: CallAt {
                     stamp,
-                    name: CallName::Made(made.call),
+                    end: Over::Ended(made.call),
                 },
                 entry: self.entries,
                 row,
@@ -477,7 +484,7 @@ enum Remark {
 fn remark_on(over: &Over) -> Option<Remark> {
     match over {
         Over::GoesOn(_) => Some(Remark::GoesOn),
-        Over::Ends(_) => Some(Remark::WaitsNoMore),
+        Over::Ended(_) | Over::Returned(_) => Some(Remark::WaitsNoMore),
         _ => None,
     }
 }
@@ -495,10 +502,13 @@ fn remark_label(alloc: Global, remark: Option<Remark>) -> Result<String, Memory>
 
 /// Whether a message is received far from where it was sent, or that is not drawn.
 fn is_far(sent: Option<usize>, got: Option<usize>) -> bool {
-    match (sent, got) {
-        (Some(sent), Some(got)) => got.saturating_sub(sent) > LONG,
-        _ => true,
-    }
+    let Some(sent) = sent else {
+        return true;
+    };
+    let Some(got) = got else {
+        return true;
+    };
+    got.saturating_sub(sent) > LONG
 }
 
 /// Arrows for the messages that a vat sent and the other did not receive.

@@ -1,4 +1,4 @@
-use crate::bars::{Bar, Lasting};
+use crate::bars::{Bar, Cause};
 use crate::chart::{Arrow, Chart, Mark, Note};
 use crate::foot::Foot;
 use crate::labels::{letter, write_embargo, write_stamp};
@@ -116,12 +116,15 @@ fn end_of(chart: &Chart) -> u64 {
 
 /// The height of the first drawn entry with that number or a later one; where there is none, of the lifelines' end.
 fn y_from(chart: &Chart, number: u64) -> u64 {
-    for (row, drawn) in chart.rows.iter().enumerate() {
-        if number <= *drawn {
-            return y_of(row);
-        }
+    let row = match chart.rows.binary_search(&number) {
+        Ok(row) => row,
+        Err(row) => row,
+    };
+    if row < chart.rows.len() {
+        y_of(row)
+    } else {
+        end_of(chart)
     }
-    end_of(chart)
 }
 
 fn lifeline(vat: Vat) -> u64 {
@@ -141,13 +144,15 @@ fn inside(vat: Vat, far: u64) -> u64 {
 
 /// The heads of the arrows.
 fn write_heads(svg: &mut String) -> Result<(), AllocError> {
-    for (name, fill) in [("head", MESSAGE), ("marked", MARKED)] {
-        writeln!(
-            svg,
-            "<marker id=\"{name}\" orient=\"auto\" markerUnits=\"userSpaceOnUse\" markerWidth=\"10\" markerHeight=\"8\" refX=\"10\" refY=\"4\"><path d=\"M 0 0 L 10 4 L 0 8 Z\" fill=\"{fill}\"/></marker>"
-        )?;
-    }
-    Ok(())
+    write_head(svg, "head", MESSAGE)?;
+    write_head(svg, "marked", MARKED)
+}
+
+fn write_head(svg: &mut String, name: &str, fill: &str) -> Result<(), AllocError> {
+    writeln!(
+        svg,
+        "<marker id=\"{name}\" orient=\"auto\" markerUnits=\"userSpaceOnUse\" markerWidth=\"10\" markerHeight=\"8\" refX=\"10\" refY=\"4\"><path d=\"M 0 0 L 10 4 L 0 8 Z\" fill=\"{fill}\"/></marker>"
+    )
 }
 
 /// Which entries are drawn, and how many are left out.
@@ -168,12 +173,11 @@ fn write_title(svg: &mut String, chart: &Chart) -> Result<(), AllocError> {
 }
 
 fn write_extent(svg: &mut String, chart: &Chart) -> Result<(), AllocError> {
-    match (chart.rows.first(), chart.rows.last()) {
-        (Some(first), Some(last)) => {
-            write!(svg, "entries {first} to {last} of {}", chart.entries)
-        }
-        _ => write!(svg, "none of {} entries", chart.entries),
-    }
+    let Some(first) = chart.rows.first() else {
+        return write!(svg, "none of {} entries", chart.entries);
+    };
+    let last = chart.rows.last().unwrap_or(first);
+    write!(svg, "entries {first} to {last} of {}", chart.entries)
 }
 
 /// What the signs say.
@@ -260,25 +264,28 @@ fn write_row(svg: &mut String, row: usize, number: u64) -> Result<(), AllocError
 
 fn write_lifelines(svg: &mut String, chart: &Chart) -> Result<(), AllocError> {
     let end = end_of(chart);
-    for vat in [Vat::A, Vat::B] {
-        let x = lifeline(vat);
-        writeln!(
-            svg,
-            "<line x1=\"{x}\" y1=\"84\" x2=\"{x}\" y2=\"{end}\" stroke=\"{FAINT}\"/>"
-        )?;
-    }
+    write_lifeline(svg, LIFELINE_A, end)?;
+    write_lifeline(svg, LIFELINE_B, end)?;
     write_names(svg, 76)
 }
 
+fn write_lifeline(svg: &mut String, x: u64, end: u64) -> Result<(), AllocError> {
+    writeln!(
+        svg,
+        "<line x1=\"{x}\" y1=\"84\" x2=\"{x}\" y2=\"{end}\" stroke=\"{FAINT}\"/>"
+    )
+}
+
 fn write_names(svg: &mut String, y: u64) -> Result<(), AllocError> {
-    for (vat, name) in [(Vat::A, "vat A"), (Vat::B, "vat B")] {
-        let x = lifeline(vat);
-        writeln!(
-            svg,
-            "<text x=\"{x}\" y=\"{y}\" text-anchor=\"middle\" font-weight=\"bold\" font-size=\"14\" fill=\"{EVENT}\" stroke=\"white\" stroke-width=\"4\" paint-order=\"stroke\">{name}</text>"
-        )?;
-    }
-    Ok(())
+    write_name(svg, LIFELINE_A, y, "vat A")?;
+    write_name(svg, LIFELINE_B, y, "vat B")
+}
+
+fn write_name(svg: &mut String, x: u64, y: u64, name: &str) -> Result<(), AllocError> {
+    writeln!(
+        svg,
+        "<text x=\"{x}\" y=\"{y}\" text-anchor=\"middle\" font-weight=\"bold\" font-size=\"14\" fill=\"{EVENT}\" stroke=\"white\" stroke-width=\"4\" paint-order=\"stroke\">{name}</text>"
+    )
 }
 
 /// The vats' heads again, in the bands of a long picture.
@@ -296,8 +303,10 @@ fn write_bars(svg: &mut String, chart: &Chart) -> Result<(), AllocError> {
     for bar in chart.bars.closed() {
         write_bar(svg, chart, bar)?;
     }
-    for bar in chart.bars.open() {
-        write_bar(svg, chart, bar)?;
+    for bar in chart.bars.all() {
+        if bar.ended.is_none() {
+            write_bar(svg, chart, &chart.bars.by_now(bar))?;
+        }
     }
     Ok(())
 }
@@ -318,9 +327,9 @@ fn write_bar(svg: &mut String, chart: &Chart, bar: &Bar) -> Result<(), AllocErro
         Vat::A => LIFELINE_A - 4 + aside,
         Vat::B => LIFELINE_B - 4 - aside,
     };
-    let fill = match bar.what {
-        Lasting::Embargo(_) => EMBARGO,
-        Lasting::Wait(_) => WAIT,
+    let fill = match bar.cause {
+        Cause::Embargo(_) => EMBARGO,
+        Cause::Wait(_) => WAIT,
     };
     write!(
         svg,
@@ -331,12 +340,12 @@ fn write_bar(svg: &mut String, chart: &Chart, bar: &Bar) -> Result<(), AllocErro
 }
 
 fn write_bar_title(svg: &mut String, bar: &Bar) -> Result<(), AllocError> {
-    match &bar.what {
-        Lasting::Embargo(embargo) => {
+    match &bar.cause {
+        Cause::Embargo(embargo) => {
             write_embargo(svg, embargo)?;
             write!(svg, "; calls that wait: {}", embargo.waiting)
         }
-        Lasting::Wait(call) => {
+        Cause::Wait(call) => {
             write_stamp(svg, &call.stamp)?;
             svg.push_str(" waits")
         }
@@ -416,14 +425,27 @@ fn write_line(
 
 /// Whether a line is broken, and its head.
 fn write_ends(svg: &mut String, arrow: &Arrow) -> Result<(), AllocError> {
-    if arrow.sent.is_none() || arrow.got.is_none() {
-        svg.push_str(" stroke-dasharray=\"4 3\"")?;
-    }
-    if arrow.got.is_some() {
-        let head = if arrow.marked { "marked" } else { "head" };
-        write!(svg, " marker-end=\"url(#{head})\"")?;
-    }
+    svg.push_str(dashes_of(arrow))?;
+    svg.push_str(head_of(arrow))?;
     svg.push_str("/>\n")
+}
+
+fn dashes_of(arrow: &Arrow) -> &'static str {
+    if arrow.sent.is_none() || arrow.got.is_none() {
+        " stroke-dasharray=\"4 3\""
+    } else {
+        ""
+    }
+}
+
+fn head_of(arrow: &Arrow) -> &'static str {
+    if arrow.got.is_none() {
+        ""
+    } else if arrow.marked {
+        " marker-end=\"url(#marked)\""
+    } else {
+        " marker-end=\"url(#head)\""
+    }
 }
 
 /// What is said, each vat's in a column of its own, which nothing leaves.

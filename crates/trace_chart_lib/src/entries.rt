@@ -1,4 +1,5 @@
-use crate::bars::{CallAt, CallName};
+use crate::bars::CallAt;
+use crate::over::Over;
 use rpc_journal::JournalEntry;
 use rpc_msg::{DisembargoContext, EmbargoId, Message, PlainMessage, Vat};
 
@@ -20,7 +21,7 @@ pub(crate) fn call_of(message: &Message) -> Option<CallAt> {
     };
     Some(CallAt {
         stamp: call.stamp,
-        name: CallName::Answer(call.question),
+        end: Over::Returned(call.question),
     })
 }
 

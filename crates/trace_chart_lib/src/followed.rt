@@ -2,22 +2,23 @@ use crate::options::Options;
 use rpc_journal::JournalEntry;
 use rpc_msg::{CallId, Memory, TaskId, Vat};
 use std::alloc::Global;
+use std::collections::BTreeSet;
 
 /// The calls through the reference that stands out, under the names that applications have for them.
 #[derive(Drop)]
 pub(crate) struct Followed {
     /// Of the application that made them.
-    calls: Vec<(Vat, CallId)>,
+    calls: BTreeSet<(Vat, CallId)>,
     /// Of the application that they reached.
-    tasks: Vec<(Vat, TaskId)>,
+    tasks: BTreeSet<(Vat, TaskId)>,
 }
 
 impl Followed {
     /// No call yet.
     pub(crate) fn new(alloc: Global) -> Self {
         Followed {
-            calls: Vec::new(alloc),
-            tasks: Vec::new(alloc),
+            calls: BTreeSet::new(alloc),
+            tasks: BTreeSet::new(alloc),
         }
     }
 
@@ -25,10 +26,10 @@ impl Followed {
     pub(crate) fn learn(&mut self, options: &Options, entry: &JournalEntry) -> Result<(), Memory> {
         match entry {
             JournalEntry::Made(vat, made) if options.marks(*vat, made.reference) => {
-                self.calls.push((*vat, made.call))?;
+                self.calls.insert((*vat, made.call))?;
             }
             JournalEntry::Delivered(vat, delivery) if options.marks_call(&delivery.stamp) => {
-                self.tasks.push((*vat, delivery.task))?;
+                self.tasks.insert((*vat, delivery.task))?;
             }
             _ => {}
         }
@@ -39,12 +40,10 @@ impl Followed {
     pub(crate) fn forget(&mut self, entry: &JournalEntry) {
         match entry {
             JournalEntry::Finished(vat, call) => {
-                let over = (*vat, *call);
-                self.calls.retain(|other| *other != over);
+                let _was = self.calls.remove(&(*vat, *call));
             }
             JournalEntry::Answered(vat, task, ..) => {
-                let over = (*vat, *task);
-                self.tasks.retain(|other| *other != over);
+                let _was = self.tasks.remove(&(*vat, *task));
             }
             _ => {}
         }

@@ -2,8 +2,9 @@
 //! does with a file, a reader and a writer.
 //!
 //! - `chart.rt`: the follower that gathers what is drawn of a trace: rows with their notes, arrows. `bars.rt` keeps the
-//!   embargoes and the calls that wait, `followed.rt` the names of the calls through the reference that stands out,
-//!   `questions.rt` what each question is of, and `entries.rt` says what of an entry the others want to know.
+//!   embargoes and the calls that wait, `lasting.rt` which of them last and by what they end, `over.rt` says what an entry
+//!   ends, `followed.rt` keeps the names of the calls through the reference that stands out, `questions.rt` what each
+//!   question is of, and `entries.rt` says what of an entry the others want to know.
 //! - `labels.rt` says an entry in words and `messages.rt` a message (`reasons.rt` refusals and faults), `text.rt` writes a
 //!   text as SVG has it, cut where it is too wide, `draw.rt` draws, and `foot.rt` the labels that were cut.
 //! - `options.rt`: the program's options; `fault.rt`: why it fails; `program.rt`: the program without its handles:
@@ -18,8 +19,10 @@ mod fault;
 mod followed;
 mod foot;
 mod labels;
+mod lasting;
 mod messages;
 mod options;
+mod over;
 mod program;
 mod questions;
 mod reasons;
