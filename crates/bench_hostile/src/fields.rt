@@ -1,47 +1,47 @@
 //! A Return whose capabilities are fields of one another.
 
+use crate::astray::Astray;
 use crate::contents::{fields, path_to, result_at};
 use crate::played::Played;
 use crate::side::{BEGUN, Side};
-use anyhow::Result;
 use rpc_msg::{Descriptor, ExportId, Items};
 use std::alloc::Global;
 
-/// What the last of a row is.
-const LAST: Descriptor = Descriptor::SenderHosted(ExportId(8));
-
-/// Each leads to the next, and the last to an object.
-pub(crate) fn in_a_row(alloc: Global, size: u16) -> Result<Played> {
-    leading_on(alloc, size, 0, LAST)
-}
-
-/// The same, where each stands 16 steps down.
-pub(crate) fn deep(alloc: Global, size: u16) -> Result<Played> {
-    leading_on(alloc, size, 15, LAST)
-}
+/// An object of the peer.
+pub(crate) const OBJECT: Descriptor = Descriptor::SenderHosted(ExportId(8));
 
 /// Each leads to the next, and the last to the first.
-pub(crate) fn in_a_circle(alloc: Global, size: u16) -> Result<Played> {
-    let first = result_at(2, path_to(alloc, 0, 0)?);
-    leading_on(alloc, size, 0, first)
+pub(crate) fn in_a_circle(side: &mut Side, size: u16) -> Result<Played, Astray> {
+    let first = result_at(2, path_to(side.alloc, 0, 0)?);
+    in_a_row(side, size, 0, first)
 }
 
-// A Call, a Return that passes all of them on, and a Finish go out.
-fn leading_on(alloc: Global, size: u16, down: usize, last: Descriptor) -> Result<Played> {
-    let mut side = Side::new(alloc)?;
-    side.begin()?;
-    side.calls(2, 1, path_to(alloc, 0, 0)?, Items::new(alloc))?;
+/// Each leads to the next, so many structs down, and the last to that: a Call, a Return that passes all of them on, and a
+/// Finish go out.
+pub(crate) fn in_a_row(
+    side: &mut Side,
+    size: u16,
+    down: usize,
+    last: Descriptor,
+) -> Result<Played, Astray> {
+    let first = path_to(side.alloc, 0, 0)?;
+    side.calls(2, 1, first, Items::new(side.alloc))?;
+    let payload = fields(side.alloc, down, size)?;
+    let descriptors = row(side.alloc, size, down, last)?;
+    side.returns(payload, descriptors, false)?;
+    Ok(BEGUN.more(2, 3, u64::from(size)))
+}
+
+fn row(
+    alloc: Global,
+    size: u16,
+    down: usize,
+    last: Descriptor,
+) -> Result<Items<Descriptor>, Astray> {
     let mut descriptors = Items::new(alloc);
     for index in 1..size {
         descriptors.push(result_at(2, path_to(alloc, down, index)?))?;
     }
     descriptors.push(last)?;
-    let payload = fields(alloc, down, size)?;
-    side.returns(payload, descriptors, false)?;
-    side.played.is(Played {
-        steps: BEGUN.steps + 2,
-        sent: BEGUN.sent + 3,
-        passed: BEGUN.passed + u64::from(size),
-        ..BEGUN
-    })
+    Ok(descriptors)
 }

@@ -1,78 +1,46 @@
 //! Many descriptors in one message, which a flag gives back.
 
+use crate::astray::Astray;
 use crate::contents::null_with;
 use crate::played::Played;
 use crate::side::{BEGUN, Side};
-use anyhow::Result;
 use rpc_msg::{Descriptor, ExportId, Items, Path, RefId, TaskId};
 use std::alloc::Global;
 
 /// The number of an id times this, of 32 bits, is the id: so they come in no order, and none comes twice.
 const SCATTER: u32 = 0x9E37_79B1;
 
-/// A Call of the peer with so many descriptors of one id.
-pub(crate) fn of_one_id(alloc: Global, size: u16) -> Result<Played> {
-    of_params(alloc, size, 1)
-}
-
-/// The same, each of an id of its own.
-pub(crate) fn of_ids(alloc: Global, size: u16) -> Result<Played> {
-    of_params(alloc, size, size)
-}
-
-/// The same, of half as many ids, which all stand there once before one stands there again.
-pub(crate) fn of_ids_twice(alloc: Global, size: u16) -> Result<Played> {
-    of_params(alloc, size, size / 2)
-}
-
-/// A Return of the peer with so many descriptors of one id.
-pub(crate) fn of_one_result(alloc: Global, size: u16) -> Result<Played> {
-    of_results(alloc, size, 1)
-}
-
-/// The same, each of an id of its own.
-pub(crate) fn of_each_result(alloc: Global, size: u16) -> Result<Played> {
-    of_results(alloc, size, size)
-}
-
-// The application drops what it got and answers, and the Return's flag gives all of it back.
-fn of_params(alloc: Global, size: u16, ids: u16) -> Result<Played> {
-    let mut side = Side::new(alloc)?;
-    side.begin()?;
-    let descriptors = hosted(alloc, size, ids)?;
+/// A Call of the peer with so many descriptors, of so many ids in turn. The application drops what it got and answers, and the
+/// Return's flag gives all of it back.
+pub(crate) fn of_params(side: &mut Side, size: u16, ids: u16) -> Result<Played, Astray> {
+    let descriptors = hosted(side.alloc, size, ids)?;
     side.calls(2, 0, Path::root(), descriptors)?;
-    drop_all(&mut side, size)?;
-    let payload = null_with(alloc, 0)?;
-    side.answer(TaskId(1), payload, Items::new(alloc))?;
-    side.played.is(Played {
-        steps: BEGUN.steps + 2 + u64::from(size),
-        sent: BEGUN.sent + 1,
+    drop_all(side, size)?;
+    let payload = null_with(side.alloc, 0)?;
+    side.answer(TaskId(1), payload, Items::new(side.alloc))?;
+    Ok(Played {
         flags: 1,
         delivered: BEGUN.delivered + 1,
-        ..BEGUN
+        ..BEGUN.more(2 + u64::from(size), 1, 0)
     })
 }
 
-// The application calls, drops what it got and finishes the call, and the Finish's flag gives all of it back.
-fn of_results(alloc: Global, size: u16, ids: u16) -> Result<Played> {
-    let mut side = Side::new(alloc)?;
-    side.begin()?;
-    let call = side.call(RefId(0), Items::new(alloc))?;
-    let payload = null_with(alloc, usize::from(size))?;
-    let descriptors = hosted(alloc, size, ids)?;
+/// A Return of the peer with so many descriptors, of so many ids in turn. The application calls, drops what it got and finishes
+/// the call, and the Finish's flag gives all of it back.
+pub(crate) fn of_results(side: &mut Side, size: u16, ids: u16) -> Result<Played, Astray> {
+    let call = side.call(RefId(0), Items::new(side.alloc))?;
+    let payload = null_with(side.alloc, usize::from(size))?;
+    let descriptors = hosted(side.alloc, size, ids)?;
     side.returns(payload, descriptors, false)?;
-    drop_all(&mut side, size)?;
+    drop_all(side, size)?;
     side.finish(call)?;
-    side.played.is(Played {
-        steps: BEGUN.steps + 3 + u64::from(size),
-        sent: BEGUN.sent + 2,
+    Ok(Played {
         flags: 1,
-        ..BEGUN
+        ..BEGUN.more(3 + u64::from(size), 2, 0)
     })
 }
 
-// Descriptors of so many ids, which come in turn.
-fn hosted(alloc: Global, size: u16, ids: u16) -> Result<Items<Descriptor>> {
+fn hosted(alloc: Global, size: u16, ids: u16) -> Result<Items<Descriptor>, Astray> {
     let mut descriptors = Items::new(alloc);
     for index in 0..size {
         let number = index.checked_rem(ids).unwrap_or(0);
@@ -83,7 +51,7 @@ fn hosted(alloc: Global, size: u16, ids: u16) -> Result<Items<Descriptor>> {
 }
 
 // The references that came with them.
-fn drop_all(side: &mut Side, size: u16) -> Result<()> {
+fn drop_all(side: &mut Side, size: u16) -> Result<(), Astray> {
     for reference in 0..size {
         side.drop_ref(RefId(u64::from(reference) + 1))?;
     }
@@ -91,21 +59,19 @@ fn drop_all(side: &mut Side, size: u16) -> Result<()> {
 }
 
 /// A call of the application that passes one object so many times; the peer's Return gives all of them back by its flag.
-pub(crate) fn of_own(alloc: Global, size: u16) -> Result<Played> {
-    let mut side = Side::new(alloc)?;
-    side.begin()?;
+pub(crate) fn of_own(side: &mut Side, size: u16) -> Result<Played, Astray> {
     let passed = side.host(1)?;
+    let refs = repeated(side.alloc, passed, size)?;
+    side.call(RefId(0), refs)?;
+    let payload = null_with(side.alloc, 0)?;
+    side.returns(payload, Items::new(side.alloc), true)?;
+    Ok(BEGUN.more(2, 1, u64::from(size)))
+}
+
+fn repeated(alloc: Global, passed: RefId, size: u16) -> Result<Items<RefId>, Astray> {
     let mut refs = Items::new(alloc);
     for _ in 0..size {
         refs.push(passed)?;
     }
-    side.call(RefId(0), refs)?;
-    let payload = null_with(alloc, 0)?;
-    side.returns(payload, Items::new(alloc), true)?;
-    side.played.is(Played {
-        steps: BEGUN.steps + 2,
-        sent: BEGUN.sent + 1,
-        passed: BEGUN.passed + u64::from(size),
-        ..BEGUN
-    })
+    Ok(refs)
 }

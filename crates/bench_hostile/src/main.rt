@@ -18,6 +18,7 @@
 //! `backwards`, the same from the last on; `call`, a call with so many references near the limit of exports.
 #![tactic(auto)]
 
+mod astray;
 mod chains;
 mod contents;
 mod exports;
@@ -28,8 +29,11 @@ mod promises;
 mod side;
 mod traces;
 
-use anyhow::{Result, bail};
+use anyhow::Result;
+use astray::Astray;
+use fields::OBJECT;
 use played::Played;
+use side::Side;
 use std::alloc::Global;
 use std::env;
 use std::process::ExitCode;
@@ -83,23 +87,42 @@ fn tell(rt: &HostRuntime, what: &str, size: u16) -> Result<()> {
 }
 
 /// Plays an input of that size.
-fn play(alloc: Global, what: &str, size: u16) -> Result<Played> {
+fn play(alloc: Global, what: &str, size: u16) -> Result<Played, Astray> {
+    if what == "trace" {
+        return traces::with_finishes(alloc, size);
+    }
+    let mut side = Side::new(alloc)?;
+    let expected = play_at(&mut side, what, size)?;
+    side.played.is(expected)
+}
+
+// What that has to play in all.
+fn play_at(side: &mut Side, what: &str, size: u16) -> Result<Played, Astray> {
     match what {
-        "fields" => fields::in_a_row(alloc, size),
-        "deep" => fields::deep(alloc, size),
-        "circle" => fields::in_a_circle(alloc, size),
-        "kept" => chains::of_outcomes(alloc, size),
-        "wide" => chains::named_often(alloc, size),
-        "flag" => flags::of_one_id(alloc, size),
-        "each" => flags::of_ids(alloc, size),
-        "twice" => flags::of_ids_twice(alloc, size),
-        "result" => flags::of_one_result(alloc, size),
-        "results" => flags::of_each_result(alloc, size),
-        "given" => flags::of_own(alloc, size),
-        "trace" => traces::with_finishes(alloc, size),
-        "promises" => promises::from_the_first(alloc, size),
-        "backwards" => promises::from_the_last(alloc, size),
-        "call" => exports::near_the_limit(alloc, size),
-        _ => bail!("no input of that name"),
+        "promises" => return promises::from_the_first(side, size),
+        "backwards" => return promises::from_the_last(side, size),
+        _ => {}
+    }
+    side.begin()?;
+    match what {
+        "fields" => fields::in_a_row(side, size, 0, OBJECT),
+        "deep" => fields::in_a_row(side, size, 15, OBJECT),
+        "circle" => fields::in_a_circle(side, size),
+        "kept" => chains::of_outcomes(side, size),
+        "wide" => chains::named_often(side, size),
+        "call" => exports::near_the_limit(side, size),
+        _ => play_flag(side, what, size),
+    }
+}
+
+fn play_flag(side: &mut Side, what: &str, size: u16) -> Result<Played, Astray> {
+    match what {
+        "flag" => flags::of_params(side, size, 1),
+        "each" => flags::of_params(side, size, size),
+        "twice" => flags::of_params(side, size, size / 2),
+        "result" => flags::of_results(side, size, 1),
+        "results" => flags::of_results(side, size, size),
+        "given" => flags::of_own(side, size),
+        _ => Err(Astray::NoInput),
     }
 }

@@ -1,6 +1,6 @@
 //! What steps did, counted.
 
-use anyhow::{Result, bail};
+use crate::astray::Astray;
 use rpc_machine::Effects;
 use rpc_msg::{Message, PlainMessage};
 
@@ -27,6 +27,16 @@ impl Played {
         }
     }
 
+    /// So many steps more, which sent so many messages with so many descriptors.
+    pub(crate) fn more(self, steps: u64, sent: u64, passed: u64) -> Played {
+        Played {
+            steps: self.steps.saturating_add(steps),
+            sent: self.sent.saturating_add(sent),
+            passed: self.passed.saturating_add(passed),
+            ..self
+        }
+    }
+
     /// One step more.
     pub(crate) fn add(&mut self, effects: &Effects) {
         self.steps = self.steps.saturating_add(1);
@@ -47,17 +57,16 @@ impl Played {
     }
 
     /// All that was played, which has to be this.
-    pub(crate) fn is(self, expected: Played) -> Result<Played> {
-        if self != expected {
-            bail!(
-                "{} messages sent with {} descriptors and {} true flags, {} calls delivered",
-                self.sent,
-                self.passed,
-                self.flags,
-                self.delivered
-            );
+    pub(crate) fn is(self, expected: Played) -> Result<Played, Astray> {
+        if self == expected {
+            return Ok(self);
         }
-        Ok(self)
+        Err(Astray::Otherwise {
+            sent: self.sent,
+            passed: self.passed,
+            flags: self.flags,
+            delivered: self.delivered,
+        })
     }
 }
 

@@ -1,34 +1,34 @@
 //! The application's own promises, each of which leads to the next, and the last to an object.
 
+use crate::astray::Astray;
 use crate::played::Played;
 use crate::side::Side;
-use anyhow::{Result, bail};
 use rpc_msg::{Items, PromiseId, RefId};
-use std::alloc::Global;
+
+/// A promise, and the reference to it.
+type Made = (PromiseId, RefId);
 
 /// They are resolved from the first on; and as many calls go through the first, before the last is resolved.
-pub(crate) fn from_the_first(alloc: Global, size: u16) -> Result<Played> {
-    let mut side = Side::new(alloc)?;
-    let promises = opened(&mut side, size)?;
-    for pair in promises.windows(2) {
-        side.resolve(pair[0].0, pair[1].1)?;
+pub(crate) fn from_the_first(side: &mut Side, size: u16) -> Result<Played, Astray> {
+    let promises = make_all(side, size)?;
+    for index in 0..promises.len() {
+        lead_on(side, &promises, index)?;
     }
-    call_first(&mut side, &promises)?;
-    side.played.is(all_delivered(size))
+    call_first(side, &promises)?;
+    Ok(all_delivered(size))
 }
 
 /// From the last on.
-pub(crate) fn from_the_last(alloc: Global, size: u16) -> Result<Played> {
-    let mut side = Side::new(alloc)?;
-    let promises = opened(&mut side, size)?;
-    for pair in promises.windows(2).rev() {
-        side.resolve(pair[0].0, pair[1].1)?;
+pub(crate) fn from_the_last(side: &mut Side, size: u16) -> Result<Played, Astray> {
+    let promises = make_all(side, size)?;
+    for index in (0..promises.len()).rev() {
+        lead_on(side, &promises, index)?;
     }
-    call_first(&mut side, &promises)?;
-    side.played.is(all_delivered(size))
+    call_first(side, &promises)?;
+    Ok(all_delivered(size))
 }
 
-fn opened(side: &mut Side, size: u16) -> Result<Vec<(PromiseId, RefId)>> {
+fn make_all(side: &mut Side, size: u16) -> Result<Vec<Made>, Astray> {
     let mut promises = Vec::new(side.alloc);
     for _ in 0..size {
         promises.push(side.promise()?)?;
@@ -36,24 +36,31 @@ fn opened(side: &mut Side, size: u16) -> Result<Vec<(PromiseId, RefId)>> {
     Ok(promises)
 }
 
-fn call_first(side: &mut Side, promises: &[(PromiseId, RefId)]) -> Result<()> {
-    let (Some((_, first)), Some((last, _))) = (promises.first(), promises.last()) else {
-        bail!("no promise");
+// The promise of that number is resolved to the next, if there is one.
+fn lead_on(side: &mut Side, promises: &[Made], index: usize) -> Result<(), Astray> {
+    let next = promises.get(index.saturating_add(1));
+    match (promises.get(index), next) {
+        (Some(promise), Some(next)) => side.resolve(promise.0, next.1),
+        _ => Ok(()),
+    }
+}
+
+fn call_first(side: &mut Side, promises: &[Made]) -> Result<(), Astray> {
+    let (Some(first), Some(last)) = (promises.first(), promises.last()) else {
+        return Err(Astray::NoPromise);
     };
     for _ in promises {
-        side.call(*first, Items::new(side.alloc))?;
+        side.call(first.1, Items::new(side.alloc))?;
     }
     let object = side.host(1)?;
-    side.resolve(*last, object)
+    side.resolve(last.0, object)
 }
 
 // Each promise is resolved, each call made, and each reaches the object.
 fn all_delivered(size: u16) -> Played {
     Played {
         steps: 2 * u64::from(size),
-        sent: 0,
-        passed: 0,
-        flags: 0,
         delivered: u64::from(size),
+        ..Played::nothing()
     }
 }

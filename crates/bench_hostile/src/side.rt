@@ -1,8 +1,8 @@
 //! A core, and the messages that its peer sends.
 
+use crate::astray::Astray;
 use crate::contents::{fields, null_with};
 use crate::played::Played;
-use anyhow::{Result, bail};
 use rpc_machine::{CallCommand, Effects, Level, Refusal};
 use rpc_msg::{
     Call, CallId, Descriptor, ExportId, Finish, Items, Message, ObjectId, Path, Payload,
@@ -32,7 +32,7 @@ pub(crate) struct Side {
 }
 
 impl Side {
-    pub(crate) fn new(alloc: Global) -> Result<Side> {
+    pub(crate) fn new(alloc: Global) -> Result<Side, Astray> {
         let core = Core::new(alloc, Vat::A, Level::One, Some(ObjectId(0)))?;
         Ok(Side {
             alloc,
@@ -42,24 +42,32 @@ impl Side {
     }
 
     // A step was taken.
-    fn took(&mut self, effects: Effects) -> Result<()> {
+    fn took(&mut self, effects: Effects) -> Result<(), Astray> {
         let down = effects.down;
         self.played.add(&effects);
         self.core.recycle(effects);
-        if let Some(number) = down {
-            bail!("the vat went down with {number}");
+        match down {
+            Some(number) => Err(Astray::Down(number)),
+            None => Ok(()),
         }
-        Ok(())
     }
 
-    fn receive(&mut self, message: PlainMessage) -> Result<()> {
+    // A step was taken, or refused.
+    fn did(&mut self, done: Result<Effects, Refusal>) -> Result<(), Astray> {
+        match done {
+            Ok(effects) => self.took(effects),
+            Err(refusal) => Err(Astray::Refused(refusal)),
+        }
+    }
+
+    fn receive(&mut self, message: PlainMessage) -> Result<(), Astray> {
         let effects = self.core.receive(Message::Plain(message));
         self.took(effects)
     }
 
     /// The vat imports an object, to which its first reference leads; and the peer has an answer of it, 1, of which the field
     /// 0 leads to that object.
-    pub(crate) fn begin(&mut self) -> Result<()> {
+    pub(crate) fn begin(&mut self) -> Result<(), Astray> {
         self.import()?;
         self.receive(PlainMessage::Bootstrap(QuestionId(0)))?;
         self.calls(1, 0, Path::root(), Items::new(self.alloc))?;
@@ -69,11 +77,11 @@ impl Side {
     }
 
     // The vat asks for the peer's object, and gets it.
-    fn import(&mut self) -> Result<()> {
+    fn import(&mut self) -> Result<(), Astray> {
         let (call, effects) = self.core.bootstrap()?;
         self.took(effects)?;
-        let object = Items::one(self.alloc, Descriptor::SenderHosted(OBJECT))?;
         let payload = Payload::root_capability(self.alloc)?;
+        let object = Items::one(self.alloc, Descriptor::SenderHosted(OBJECT))?;
         self.returns(payload, object, false)?;
         self.finish(call)
     }
@@ -85,7 +93,7 @@ impl Side {
         of: u32,
         path: Path,
         descriptors: Items<Descriptor>,
-    ) -> Result<()> {
+    ) -> Result<(), Astray> {
         let payload = null_with(self.alloc, descriptors.len())?;
         self.receive(PlainMessage::Call(Call {
             question: QuestionId(question),
@@ -108,7 +116,7 @@ impl Side {
         payload: Payload,
         descriptors: Items<Descriptor>,
         release_param_caps: bool,
-    ) -> Result<()> {
+    ) -> Result<(), Astray> {
         self.receive(PlainMessage::Return(Return {
             answer: QuestionId(0),
             release_param_caps,
@@ -117,7 +125,7 @@ impl Side {
     }
 
     /// The peer's Finish of a question, whose results it keeps.
-    pub(crate) fn finishes(&mut self, question: u32) -> Result<()> {
+    pub(crate) fn finishes(&mut self, question: u32) -> Result<(), Astray> {
         self.receive(PlainMessage::Finish(Finish {
             question: QuestionId(question),
             release_result_caps: false,
@@ -130,39 +138,39 @@ impl Side {
         task: TaskId,
         payload: Payload,
         refs: Items<RefId>,
-    ) -> Result<()> {
+    ) -> Result<(), Astray> {
         match self.core.answer(task, payload, refs) {
             Ok(effects) => self.took(effects),
-            Err(refused) => bail!("answer: {}", refused.refusal),
+            Err(refused) => Err(Astray::Refused(refused.refusal)),
         }
     }
 
     /// The application calls through a reference, and passes others.
-    pub(crate) fn call(&mut self, reference: RefId, refs: Items<RefId>) -> Result<CallId> {
+    pub(crate) fn call(&mut self, reference: RefId, refs: Items<RefId>) -> Result<CallId, Astray> {
         let call = self.command(reference, refs)?;
         match self.core.call(call) {
             Ok((id, effects)) => {
                 self.took(effects)?;
                 Ok(id)
             }
-            Err(refused) => bail!("call: {}", refused.refusal),
+            Err(refused) => Err(Astray::Refused(refused.refusal)),
         }
     }
 
     /// The same call, which has to be refused at a limit.
-    pub(crate) fn call_in_vain(&mut self, reference: RefId, refs: Items<RefId>) -> Result<()> {
-        let call = self.command(reference, refs)?;
-        match self.core.call(call) {
-            Ok((_, effects)) => {
-                self.took(effects)?;
-                bail!("call: it was not refused")
-            }
-            Err(refused) if refused.refusal == Refusal::Full => Ok(()),
-            Err(refused) => bail!("call: {}", refused.refusal),
+    pub(crate) fn call_in_vain(
+        &mut self,
+        reference: RefId,
+        refs: Items<RefId>,
+    ) -> Result<(), Astray> {
+        match self.call(reference, refs) {
+            Ok(_) => Err(Astray::NotRefused),
+            Err(Astray::Refused(Refusal::Full)) => Ok(()),
+            Err(astray) => Err(astray),
         }
     }
 
-    fn command(&self, reference: RefId, refs: Items<RefId>) -> Result<CallCommand> {
+    fn command(&self, reference: RefId, refs: Items<RefId>) -> Result<CallCommand, Astray> {
         let payload = null_with(self.alloc, refs.len())?;
         Ok(CallCommand {
             reference,
@@ -174,26 +182,26 @@ impl Side {
     }
 
     /// The application has no more use for a call.
-    pub(crate) fn finish(&mut self, call: CallId) -> Result<()> {
-        let effects = self.core.finish(call)?;
-        self.took(effects)
+    pub(crate) fn finish(&mut self, call: CallId) -> Result<(), Astray> {
+        let done = self.core.finish(call);
+        self.did(done)
     }
 
-    pub(crate) fn host(&mut self, object: u64) -> Result<RefId> {
+    pub(crate) fn host(&mut self, object: u64) -> Result<RefId, Astray> {
         Ok(self.core.host(ObjectId(object))?)
     }
 
-    pub(crate) fn drop_ref(&mut self, reference: RefId) -> Result<()> {
-        let effects = self.core.drop_ref(reference)?;
-        self.took(effects)
+    pub(crate) fn drop_ref(&mut self, reference: RefId) -> Result<(), Astray> {
+        let done = self.core.drop_ref(reference);
+        self.did(done)
     }
 
-    pub(crate) fn promise(&mut self) -> Result<(PromiseId, RefId)> {
+    pub(crate) fn promise(&mut self) -> Result<(PromiseId, RefId), Astray> {
         Ok(self.core.promise()?)
     }
 
-    pub(crate) fn resolve(&mut self, promise: PromiseId, reference: RefId) -> Result<()> {
-        let effects = self.core.resolve(promise, reference)?;
-        self.took(effects)
+    pub(crate) fn resolve(&mut self, promise: PromiseId, reference: RefId) -> Result<(), Astray> {
+        let done = self.core.resolve(promise, reference);
+        self.did(done)
     }
 }

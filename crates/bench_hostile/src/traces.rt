@@ -1,8 +1,8 @@
 //! A trace that takes long to be checked, if each Finish goes over all that the Return gave.
 
+use crate::astray::Astray;
 use crate::contents::null_with;
 use crate::played::Played;
-use anyhow::{Result, bail};
 use rpc_check::{Verdict, check};
 use rpc_journal::{Counts, JournalEntry};
 use rpc_msg::{
@@ -12,7 +12,21 @@ use std::alloc::Global;
 
 /// A Return with so many descriptors, so many Finishes of its question, each of which gives all of them back, and the counts
 /// that these messages make.
-pub(crate) fn with_finishes(alloc: Global, size: u16) -> Result<Played> {
+pub(crate) fn with_finishes(alloc: Global, size: u16) -> Result<Played, Astray> {
+    let entries = entries_of(alloc, size)?;
+    match check(alloc, &entries)? {
+        Verdict::Good(0) => Ok(Played {
+            steps: u64::from(size) + 3,
+            sent: u64::from(size) + 1,
+            passed: u64::from(size),
+            flags: u64::from(size),
+            delivered: 0,
+        }),
+        _ => Err(Astray::OtherCounts),
+    }
+}
+
+fn entries_of(alloc: Global, size: u16) -> Result<Vec<JournalEntry>, Astray> {
     let mut entries = Vec::new(alloc);
     entries.push(JournalEntry::Head)?;
     entries.push(giving(alloc, size)?)?;
@@ -20,19 +34,10 @@ pub(crate) fn with_finishes(alloc: Global, size: u16) -> Result<Played> {
         entries.push(giving_back())?;
     }
     entries.push(counted(alloc, size)?)?;
-    if check(alloc, &entries)? != Verdict::Good(0) {
-        bail!("the counts are others");
-    }
-    Ok(Played {
-        steps: u64::from(size) + 3,
-        sent: u64::from(size) + 1,
-        passed: u64::from(size),
-        flags: u64::from(size),
-        delivered: 0,
-    })
+    Ok(entries)
 }
 
-fn giving(alloc: Global, size: u16) -> Result<JournalEntry> {
+fn giving(alloc: Global, size: u16) -> Result<JournalEntry, Astray> {
     let mut descriptors = Items::new(alloc);
     for id in 0..size {
         descriptors.push(Descriptor::SenderHosted(ExportId(u32::from(id))))?;
@@ -55,7 +60,7 @@ fn giving_back() -> JournalEntry {
 }
 
 // Vat a has given each id once, and each Finish that is on its way takes one off.
-fn counted(alloc: Global, size: u16) -> Result<JournalEntry> {
+fn counted(alloc: Global, size: u16) -> Result<JournalEntry, Astray> {
     let mut exports = Items::new(alloc);
     for id in 0..size {
         exports.push((ExportId(u32::from(id)), u32::from(size) + 1))?;
