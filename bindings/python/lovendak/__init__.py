@@ -1,0 +1,58 @@
+"""A vat for Cap'n Proto RPC, without input or output of its own, by the C interface of bindings/c/lovendak.h.
+
+`LOVENDAK_SO` names the shared library; else it is the `liblovendak.so` beside this file, or in bindings/build. `lovendak.schema`
+writes and reads contents by the names of a schema. Two vats in one process, of which one calls an object of the other that doubles
+numbers:
+
+>>> client, server = Vat(), Vat(root=0)
+>>> asked = client.bootstrap()
+>>> doubler = client.result_of(asked)
+>>> call = client.call(doubler, 7, 0, Contents.of([21], "twice", [doubler]))  # before the first answer has come
+>>> client.pending()[0] > 0
+True
+>>> server.received(client.outgoing(100))  # the first hundred bytes
+>>> server.received(client.outgoing())
+>>> server.pending()[1]
+True
+>>> [served] = server.events()
+>>> served.object, served.interface, served.method, served.contents.number(0), served.contents.text(0)
+(0, 7, 0, 21, 'twice')
+>>> server.answer(served.task, Contents.of([2 * served.contents.number(0)], refs=[served.contents.ref(1)]))
+>>> server.drop_ref(*served.contents.refs)
+>>> client.received(server.outgoing())
+>>> ended = {event.call: event.contents for event in client.events()}
+>>> ended[call].number(0)
+42
+>>> for call, contents in ended.items():
+...     client.drop_ref(*contents.refs)
+...     client.finish(call)
+>>> client.drop_ref(doubler)
+>>> server.received(client.outgoing())
+>>> client.shares_nothing(), server.shares_nothing()
+(True, True)
+
+A command that is refused raises Refused, with the name of its code. Numbers that are out of range raise ValueError:
+
+>>> client.drop_ref(doubler)
+Traceback (most recent call last):
+lovendak.Refused: UnknownRef: no such reference
+>>> client.call(client.host(1), 7, 70000, Contents.of())
+Traceback (most recent call last):
+ValueError: call: 70000 is not within 0 .. 65535
+
+A vat that goes down says why:
+
+>>> server.received(b"no message of Cap'n Proto")
+>>> list(server.events())
+[<down with 3, TooManySegments>]
+"""
+from .contents import Contents, carried
+from .errors import DISCONNECTED, FAILED, FAULTS, KINDS, NAMES, OVERLOADED, REFUSALS, UNIMPLEMENTED, Refused
+from .library import LIBRARY, NOTHING, ROOM, SO, TAKES, Handle, Told, ask, done
+from .vat import DOWN, ENDED, SERVED, Event, Vat
+
+__version__ = "0.1.0"
+__all__ = [
+    "DISCONNECTED", "DOWN", "ENDED", "FAILED", "FAULTS", "KINDS", "LIBRARY", "NAMES", "NOTHING", "OVERLOADED", "REFUSALS", "ROOM",
+    "SERVED", "SO", "TAKES", "UNIMPLEMENTED", "Contents", "Event", "Handle", "Refused", "Told", "Vat", "ask", "carried", "done",
+]

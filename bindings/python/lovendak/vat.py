@@ -1,0 +1,218 @@
+"""A vat, and what it tells its application."""
+import ctypes as c
+import threading
+from typing import Any, Iterator, Optional, Tuple
+
+from .contents import Contents, carried
+from .errors import FAULTS, KINDS
+from .library import LIBRARY, NOTHING, ROOM, SIZE, U16, U32, U64, Handle, Told, ask, done, filled, numbers, room
+
+SERVED, ENDED, DOWN = 1, 2, 3
+
+
+class Event:
+    """What an application is told. `kind` says which fields there are:
+
+    - SERVED, a call to serve: `task`, `object`, `interface`, `method`, `contents`.
+    - ENDED, an own call that ended: `call`, and `contents`, or `exception`, which is a pair of its kind and its reason.
+    - DOWN, the vat went down: `number`, and `fault`, its name in docs/numbers.md, or None if it has none. Before it each own call
+      that was open ends, with an exception of the kind DISCONNECTED."""
+
+    __module__ = "lovendak"
+    kind: int
+    task: int
+    object: int
+    interface: int
+    method: int
+    call: int
+    number: int
+    fault: Optional[str]
+    contents: Optional[Contents] = None
+    exception: Optional[Tuple[int, str]] = None
+
+    def __init__(self, told: Told, payload: bytes, refs: "list[int]") -> None:
+        self.kind = told.kind
+        if told.kind == DOWN:
+            self.number, self.fault = told.number, FAULTS.get(told.number)
+            return
+        if told.is_exception:
+            self.exception = told.exception, payload.decode(errors="replace")
+        else:
+            self.contents = Contents(payload, refs)
+        if told.kind == SERVED:
+            self.task, self.object, self.interface, self.method = told.number, told.object, told.interface_id, told.method
+        else:
+            self.call = told.number
+
+    def __repr__(self) -> str:
+        if self.kind == DOWN:
+            return f"<down with {self.number}{f', {self.fault}' if self.fault else ''}>"
+        if self.kind == SERVED:
+            return f"<task {self.task}: method {self.method} of {self.interface:#x} of object {self.object}>"
+        if self.exception:
+            return f"<call {self.call} ended: {KINDS[self.exception[0]]}: {self.exception[1]}>"
+        return f"<call {self.call} ended with contents>"
+
+
+class Vat:
+    """A vat that speaks with one peer. With `root`, the object of that number is its bootstrap object. `level` is 0 or 1.
+
+    References, calls, tasks and promises are numbers of this vat. References are to be dropped, calls to be finished, tasks to be
+    answered or failed, promises to be resolved or rejected.
+
+    A command that is refused raises Refused, and changes nothing. A number that is out of range raises ValueError, and what is no
+    number TypeError.
+
+    Any thread may use a vat: a lock of its own lets one in at a time, and two vats don't wait for each other."""
+
+    __module__ = "lovendak"
+
+    def __init__(self, root: Optional[int] = None, level: int = 1) -> None:
+        self._lock = threading.RLock()
+        self._payload, self._refs = room(4096), (U64 * 16)()
+        handle = Handle()
+        self._at = c.byref(handle)
+        done(ask("new", self._at, level, root is not None, root or 0))
+
+    def __del__(self, free: Any = LIBRARY.lovendak_free) -> None:
+        if "_at" in vars(self):
+            free(self._at)
+
+    def received(self, data: bytes) -> None:
+        """Takes bytes from the peer, in any pieces. A fault in them takes the vat down, which is an event."""
+        data = bytes(memoryview(data))
+        self._asked("received", data, len(data))
+
+    def ended(self) -> None:
+        """The peer's stream has ended: the vat goes down."""
+        self._asked("ended")
+
+    def outgoing(self, most: Optional[int] = None) -> bytes:
+        """The bytes that are to be sent, each once: all of them, or the first `most`."""
+        said = bytearray()
+        with self._lock:
+            while (size := self._piece(most, len(said))) > 0:
+                out, got = room(size), SIZE()
+                self._asked("outgoing", out, size, c.byref(got))
+                said += filled(out, got.value)
+        return bytes(said)
+
+    def _piece(self, most: Optional[int], have: int) -> int:
+        size = self.pending()[0]
+        return size if most is None else min(size, most - have)
+
+    def pending(self) -> Tuple[int, bool]:
+        """How many bytes there are to be sent, and whether there is an event. It takes nothing. What was said since a part of the bytes
+        was taken may not be counted yet, but there are 0 only if none are to be sent."""
+        size, has_event = SIZE(), U32()
+        self._asked("pending", c.byref(size), c.byref(has_event))
+        return size.value, has_event.value == 1
+
+    def events(self) -> Iterator[Event]:
+        """What there is to tell, until there is no more."""
+        while (event := self._next()) is not None:
+            yield event
+
+    def _next(self) -> Optional[Event]:
+        told = Told()
+        with self._lock:
+            while True:
+                payload, refs = self._payload, self._refs
+                code = self._asked("next_event", c.byref(told), payload, len(payload), refs, len(refs))
+                if code == NOTHING:
+                    return None
+                if code != ROOM:
+                    return Event(told, filled(payload, told.payload_len), refs[:told.refs_len])
+                self._payload = room(max(told.payload_len, len(payload)))
+                self._refs = (U64 * max(told.refs_len, len(refs)))()
+
+    def down(self) -> Optional[int]:
+        """The number with which the vat went down, or None."""
+        number = U32()
+        return None if self._asked("down", c.byref(number)) else number.value
+
+    def shares_nothing(self) -> bool:
+        """Whether nothing is left between the two vats."""
+        answer = U32()
+        self._asked("shares_nothing", c.byref(answer))
+        return answer.value == 1
+
+    def calls_made(self, ref: int) -> int:
+        """How many calls were made through a reference."""
+        return self._given("calls_made", ref)
+
+    def bootstrap(self) -> int:
+        """Asks the peer for its bootstrap object: the number of a call, whose result is that object."""
+        return self._given("bootstrap")
+
+    def result_of(self, call: int) -> int:
+        """A reference to what a call gives, now or later."""
+        return self._given("result_of", call)
+
+    def field(self, call: int, *path: int) -> int:
+        """A reference to what stands in a call's results at a path of pointers' numbers, now or later."""
+        return self._given("field", call, numbers("field", U16, path), len(path))
+
+    def host(self, number: int) -> int:
+        """A reference to an object of the application, which knows it by that number."""
+        return self._given("host", number)
+
+    def clone_ref(self, ref: int) -> int:
+        """A second reference to the same."""
+        return self._given("clone_ref", ref)
+
+    def drop_ref(self, *refs: int) -> None:
+        """Lets references go."""
+        for ref in refs:
+            self._asked("drop_ref", ref)
+
+    def call(self, ref: int, interface: int, method: int, contents: Contents) -> int:
+        """Makes a call: its number. The references of the contents stay the caller's."""
+        return self._given("call", ref, interface, method, *carried("call", contents))
+
+    def finish(self, call: int) -> None:
+        """The application has no more use for a call, which need not have ended."""
+        self._asked("finish", call)
+
+    def answer(self, task: int, contents: Contents) -> None:
+        """Gives a task its results. The references of the contents stay the caller's."""
+        self._asked("answer", task, *carried("answer", contents))
+
+    def fail(self, task: int, kind: int, reason: str) -> None:
+        """Gives a task an exception: FAILED, OVERLOADED, DISCONNECTED or UNIMPLEMENTED."""
+        letters = reason.encode()
+        self._asked("fail", task, kind, letters, len(letters))
+
+    def promise(self) -> Tuple[int, int]:
+        """Makes a promise: its number, and that of a reference to it."""
+        promise = U64()
+        ref = self._given("promise", c.byref(promise))
+        return promise.value, ref
+
+    def resolve(self, promise: int, ref: int) -> None:
+        """Settles a promise to what a reference leads to."""
+        self._asked("resolve", promise, ref)
+
+    def reject(self, promise: int, kind: int, reason: str) -> None:
+        """Breaks a promise, with an exception as `fail` takes it."""
+        letters = reason.encode()
+        self._asked("reject", promise, kind, letters, len(letters))
+
+    def advance(self, ref: int) -> int:
+        """Lets a reference take the shorter path, if one is known: 0 nothing, 1 switched, 2 embargoed, 3 broke."""
+        advanced = U32()
+        self._asked("advance", ref, c.byref(advanced))
+        return advanced.value
+
+    def shut(self, number: int) -> None:
+        """Takes the vat down with a number up to 65,535."""
+        self._asked("shut", number)
+
+    def _asked(self, function: str, *words: Any) -> int:
+        with self._lock:
+            return ask(function, self._at, *words)
+
+    def _given(self, function: str, *words: Any) -> int:
+        number = U64()
+        self._asked(function, *words, c.byref(number))
+        return number.value

@@ -1,0 +1,182 @@
+"""The module `lovendak`: its documentation, what it refuses, and its use from several threads."""
+import doctest
+import pickle
+import threading
+import unittest
+
+import lovendak
+from lovendak import DOWN, ENDED, FAILED, OVERLOADED, SERVED, Contents, Refused, Vat
+
+THREADS = 4
+
+
+def load_tests(_loader, tests, _pattern):
+    tests.addTests(doctest.DocTestSuite(lovendak))
+    return tests
+
+
+class Refusals(unittest.TestCase):
+    def setUp(self):
+        self.vat = Vat(root=0)
+        self.ref = self.vat.host(1)
+
+    def test_numbers_out_of_range(self):
+        vat, ref, some = self.vat, self.ref, Contents.of()
+        cases = {
+            "contents: -1 is not within 0 .. 18446744073709551615": lambda: Contents.of([-1]),
+            "contents: 18446744073709551616 is not within 0 .. 18446744073709551615": lambda: Contents.of([1 << 64]),
+            "number_at: -1 is not within 0 .. 18446744073709551615": lambda: some.number(-1),
+            "text_at: 65536 is not within 0 .. 65535": lambda: some.text(65536),
+            "ref_at: 65536 is not within 0 .. 65535": lambda: some.ref(0, 65536),
+            "new: -1 is not within 0 .. 4294967295": lambda: Vat(level=-1),
+            "new: 18446744073709551616 is not within 0 .. 18446744073709551615": lambda: Vat(root=1 << 64),
+            "call: 70000 is not within 0 .. 65535": lambda: vat.call(ref, 1, 70000, some),
+            "call: -2 is not within 0 .. 18446744073709551615": lambda: vat.call(ref, -2, 0, some),
+            "answer: -3 is not within 0 .. 18446744073709551615": lambda: vat.answer(0, Contents(some.payload, [-3])),
+            "field: 65536 is not within 0 .. 65535": lambda: vat.field(0, 65536),
+            "host: 18446744073709551616 is not within 0 .. 18446744073709551615": lambda: vat.host(1 << 64),
+            "fail: -1 is not within 0 .. 4294967295": lambda: vat.fail(0, -1, ""),
+            "shut: 4294967296 is not within 0 .. 4294967295": lambda: vat.shut(1 << 32),
+        }
+        for text, wrong in cases.items():
+            with self.subTest(text), self.assertRaises(ValueError) as raised:
+                wrong()
+            self.assertEqual(str(raised.exception), text)
+
+    def test_what_is_no_number(self):
+        cases = {
+            "new: 'x' is no number": lambda: Vat(root="x"),
+            "drop_ref: 'x' is no number": lambda: self.vat.drop_ref("x"),
+            "contents: 1.5 is no number": lambda: Contents.of([1.5]),
+            "call: None is no number": lambda: self.vat.call(self.ref, None, 0, Contents.of()),
+        }
+        for text, wrong in cases.items():
+            with self.subTest(text), self.assertRaises(TypeError) as raised:
+                wrong()
+            self.assertEqual(str(raised.exception), text)
+
+    def test_codes_by_their_names(self):
+        vat = self.vat
+        cases = {
+            "UnknownRef: no such reference": lambda: vat.drop_ref(9),
+            "UnknownCall: no such call": lambda: vat.finish(9),
+            "UnknownTask: no such task": lambda: vat.fail(9, FAILED, ""),
+            "UnknownPromise: no such promise": lambda: vat.resolve(9, self.ref),
+            "Cycle: the promise would lead to itself": lambda: vat.resolve(*vat.promise()),
+            "Level: a vat of level 0 has no promises and sends no references": lambda: Vat(level=0).promise(),
+            "LOVENDAK_NO_PAYLOAD: these bytes are no payload": lambda: Contents(b"abc").number(0),
+            "LOVENDAK_NO_SUCH_NUMBER: no such number": lambda: Vat(level=2),
+        }
+        for text, wrong in cases.items():
+            with self.subTest(text), self.assertRaises(Refused) as raised:
+                wrong()
+            self.assertEqual(str(raised.exception), text)
+            self.assertEqual(str(pickle.loads(pickle.dumps(raised.exception))), text)
+
+    def test_no_bytes(self):
+        with self.assertRaises(TypeError):
+            self.vat.received("text")
+
+
+class Conversations(unittest.TestCase):
+    def test_bytes_in_parts(self):
+        client, server = Vat(), Vat(root=0)
+        client.bootstrap()
+        whole = client.pending()[0]
+        self.assertEqual(client.outgoing(0), b"")
+        first = client.outgoing(10)
+        self.assertEqual((len(first), client.pending()[0]), (10, whole - 10))
+        server.received(first)
+        self.assertEqual(server.pending(), (0, False))
+        server.received(memoryview(client.outgoing()))
+        self.assertGreater(server.pending()[0], 0)
+
+    def test_a_large_payload(self):
+        client, server = Vat(), Vat(root=0)
+        target = client.result_of(client.bootstrap())
+        client.call(target, 1, 0, Contents.of(range(50_000), refs=[target] * 50))
+        server.received(client.outgoing())
+        [event] = server.events()
+        self.assertEqual((event.contents.number(49_999), len(event.contents.refs)), (49_999, 50))
+
+    def test_what_events_say(self):
+        client, server = Vat(), Vat(root=5)
+        call = client.call(client.result_of(client.bootstrap()), 7, 3, Contents.of())
+        server.received(client.outgoing())
+        [served] = server.events()
+        self.assertEqual((served.kind, served.object, served.interface, served.method), (SERVED, 5, 7, 3))
+        self.assertEqual(repr(served), f"<task {served.task}: method 3 of 0x7 of object 5>")
+        server.fail(served.task, OVERLOADED, "busy")
+        client.received(server.outgoing())
+        told = {event.call: event for event in client.events()}
+        self.assertEqual((told[call].kind, told[call].exception), (ENDED, (OVERLOADED, "busy")))
+        self.assertEqual(repr(told[call]), f"<call {call} ended: overloaded: busy>")
+        client.ended()
+        [down] = client.events()
+        self.assertEqual((down.kind, down.number, down.fault, repr(down)), (DOWN, 0, None, "<down with 0>"))
+
+
+class Threads(unittest.TestCase):
+    def together(self, work):
+        """Runs it in several threads; the first exception of any is raised."""
+        wrong = []
+
+        def guarded():
+            try:
+                work()
+            except BaseException as error:
+                wrong.append(error)
+
+        threads = [threading.Thread(target=guarded) for _ in range(THREADS)]
+        for thread in threads:
+            thread.start()
+        for thread in threads:
+            thread.join()
+        if wrong:
+            raise wrong[0]
+
+    def test_references(self):
+        vat = Vat()
+
+        def work():
+            for number in range(25_000):
+                vat.drop_ref(vat.host(number))
+
+        self.together(work)
+        self.assertTrue(vat.shares_nothing())
+
+    def test_calls_and_events(self):
+        """Calls of four threads, whose bytes and events are taken by all of them: each call is served and ends once, as it was made."""
+        client, server = Vat(), Vat(root=0)
+        target = client.result_of(client.bootstrap())
+        line, made, ended = threading.Lock(), {}, {}
+
+        def speak():
+            with line:  # bytes arrive in the order in which they were taken
+                server.received(client.outgoing())
+                client.received(server.outgoing())
+
+        def serve():
+            for event in server.events():
+                server.answer(event.task, Contents(event.contents.payload))
+            for event in client.events():
+                ended[event.call] = event.contents
+
+        def work():
+            name = threading.get_ident()
+            for number in range(300):
+                made[client.call(target, 7, 0, Contents.of([name] * (number * 4 % 1500), str(number)))] = name, str(number)
+                speak()
+                serve()
+
+        self.together(work)
+        for _ in range(3):
+            speak()
+            serve()
+        self.assertEqual(len(made), 300 * THREADS)
+        told = {call: (ended[call].number(0) or name, ended[call].text(0)) for call, (name, _) in made.items()}
+        self.assertEqual(told, made)
+
+
+if __name__ == "__main__":
+    unittest.main()
