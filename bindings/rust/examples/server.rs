@@ -58,10 +58,10 @@ impl Counters {
     /// Answers a call, and lets go of what came with it and of what was given. A vat that is down answers nothing, and this one makes
     /// no calls of its own.
     fn serve(&mut self, vat: &mut Vat, event: Event) -> Result<(), Refusal> {
-        let Event::Served(call) = event else { return Ok(()) };
-        if vat.down().is_some() {
-            return Ok(());
-        }
+        let call = match event {
+            Event::Served(call) if vat.down().is_none() => call,
+            _ => return Ok(()),
+        };
         let answered = self.answer(vat, &call).and_then(|results| {
             let taken = vat.answer(call.task, &results);
             vat.let_go(&results.refs)?;
@@ -90,11 +90,13 @@ impl Counters {
     }
 
     fn add(&mut self, counter: usize, by: u64) -> Result<Contents, Exception> {
-        let Some(sum) = self.sums[counter].checked_add(by) else {
-            return failed("the sum is too large");
-        };
-        self.sums[counter] = sum;
-        Ok(Contents::new(&[sum], None, &[])?)
+        match self.sums[counter].checked_add(by) {
+            None => failed("the sum is too large"),
+            Some(sum) => {
+                self.sums[counter] = sum;
+                Ok(Contents::new(&[sum], None, &[])?)
+            }
+        }
     }
 }
 

@@ -1,14 +1,18 @@
 //! What calls and answers carry.
 
+use crate::contents_error::ContentsError;
 use crate::ffi;
 use crate::ids::RefId;
+use crate::node::Node;
 use crate::refusal::Refusal;
+use crate::structs::Struct;
+use crate::{reading, writing};
 
 /// What a call or an answer carries: a payload, and a reference for each of its capabilities.
 ///
-/// `new` makes one of numbers, a text and references, and `number`, `text` and `reference` look into one. For anything else use
-/// another library for Cap'n Proto messages: the payload is a message in framed segments, whose root is what is carried and whose
-/// capability pointers number the references.
+/// `new` makes one of numbers, a text and references, and `number`, `text` and `reference` look into one. [`Contents::of`] writes a
+/// [`Struct`] of any fields, and [`Contents::root`] reads one. Another library for Cap'n Proto messages does as well: the payload is a
+/// message in framed segments, whose root is what is carried and whose capability pointers number the references.
 #[derive(Clone, Debug, PartialEq, Eq)]
 pub struct Contents {
     /// The message, in framed segments.
@@ -33,6 +37,39 @@ impl Contents {
         Refusal::check(code)?;
         payload.truncate(len);
         Ok(Contents { payload, refs: refs.to_vec() })
+    }
+
+    /// A message whose root is that struct. `TooMuch` if it is too large for a message, or nests too deep.
+    ///
+    /// ```
+    /// use lovendak::{Contents, ContentsError, Struct};
+    ///
+    /// let mut line = Struct::new();
+    /// line.set_text(0, "ann").set_text(1, "hello");
+    /// let contents = Contents::of(&line)?;
+    /// assert_eq!(contents.root()?.text(1)?, "hello");
+    /// # Ok::<(), ContentsError>(())
+    /// ```
+    pub fn of(root: &Struct) -> Result<Contents, ContentsError> {
+        let (payload, refs) = writing::write(root).map_err(ContentsError::TooMuch)?;
+        Ok(Contents { payload, refs })
+    }
+
+    /// The struct at the root, an empty one if the root is null. The whole payload is checked, and refused as the library refuses it.
+    /// `NoPayload`, or `WrongKind` if the root is something else.
+    ///
+    /// ```
+    /// use lovendak::{Contents, ContentsError, Fault};
+    ///
+    /// let contents = Contents { payload: vec![1, 2, 3], refs: vec![] };
+    /// assert_eq!(contents.root().unwrap_err(), ContentsError::NoPayload(Fault::Short));
+    /// ```
+    pub fn root(&self) -> Result<Struct, ContentsError> {
+        match reading::read(&self.payload, &self.refs).map_err(ContentsError::NoPayload)? {
+            Node::Null => Ok(Struct::new()),
+            Node::Struct(root) => Ok(root),
+            other => Err(ContentsError::WrongKind { pointer: None, wanted: "a struct", found: other.kind() }),
+        }
     }
 
     /// The data word of that index; 0 where there is none. `NoPayload` where the payload is none, `Memory`.

@@ -1,6 +1,7 @@
 //! What an application is told.
 
 use crate::contents::Contents;
+use crate::fault::Fault;
 use crate::ids::{CallId, ObjectId, TaskId};
 use crate::refusal::Refusal;
 use std::error::Error;
@@ -13,8 +14,23 @@ pub enum Event {
     Served(Served),
     /// An own call has ended: drop the references in its results, and `finish` it.
     Ended(Ended),
-    /// The vat went down, with that number. Each own call has ended before, those that were open with `Disconnected`.
+    /// The vat went down, with that number; [`Fault::of`] says what it means. Each own call has ended before, those that were open
+    /// with `Disconnected`.
     Down(u16),
+}
+
+/// What happened, in a line for a log.
+impl fmt::Display for Event {
+    fn fmt(&self, f: &mut fmt::Formatter<'_>) -> fmt::Result {
+        match self {
+            Event::Served(call) => call.fmt(f),
+            Event::Ended(ended) => ended.fmt(f),
+            Event::Down(number) => match Fault::of(*number) {
+                Some(fault) => write!(f, "the vat went down with {number}, {fault}"),
+                None => write!(f, "the vat went down with {number}"),
+            },
+        }
+    }
 }
 
 /// A call that is to be served.
@@ -32,6 +48,13 @@ pub struct Served {
     pub params: Contents,
 }
 
+impl fmt::Display for Served {
+    fn fmt(&self, f: &mut fmt::Formatter<'_>) -> fmt::Result {
+        let Served { task, object, interface, method, .. } = self;
+        write!(f, "{task}: method {method} of {interface:#x} of {object}")
+    }
+}
+
 /// An own call that has ended.
 #[derive(Clone, Debug, PartialEq, Eq)]
 pub struct Ended {
@@ -39,6 +62,15 @@ pub struct Ended {
     pub call: CallId,
     /// What it gave, or why it failed.
     pub outcome: Result<Contents, Exception>,
+}
+
+impl fmt::Display for Ended {
+    fn fmt(&self, f: &mut fmt::Formatter<'_>) -> fmt::Result {
+        match &self.outcome {
+            Ok(_) => write!(f, "{} ended with contents", self.call),
+            Err(exception) => write!(f, "{} ended with an exception, {exception}", self.call),
+        }
+    }
 }
 
 /// Why a call failed.
@@ -52,7 +84,7 @@ pub struct Exception {
 
 impl fmt::Display for Exception {
     fn fmt(&self, f: &mut fmt::Formatter<'_>) -> fmt::Result {
-        write!(f, "{:?}: {}", self.kind, self.reason)
+        write!(f, "{}: {}", self.kind, self.reason)
     }
 }
 
@@ -65,7 +97,7 @@ impl From<Refusal> for Exception {
             Refusal::Memory | Refusal::Full => ExceptionKind::Overloaded,
             _ => ExceptionKind::Failed,
         };
-        Exception { kind, reason: refusal.to_string() }
+        Exception { kind, reason: format!("{}: {}", refusal.name(), refusal.meaning()) }
     }
 }
 
@@ -80,6 +112,17 @@ pub enum ExceptionKind {
     Disconnected,
     /// There is no such method.
     Unimplemented,
+}
+
+impl fmt::Display for ExceptionKind {
+    fn fmt(&self, f: &mut fmt::Formatter<'_>) -> fmt::Result {
+        f.write_str(match self {
+            ExceptionKind::Failed => "failed",
+            ExceptionKind::Overloaded => "overloaded",
+            ExceptionKind::Disconnected => "disconnected",
+            ExceptionKind::Unimplemented => "unimplemented",
+        })
+    }
 }
 
 impl ExceptionKind {

@@ -1,6 +1,6 @@
-//! The functions of the library (`bindings/c/lovendak.h`), and all that is `unsafe`. Functions that take numbers and references are
-//! declared safe: a reference is what they ask for. Those that take a pointer and a length have a safe function here that takes a
-//! slice. `bindings/agree` compares the declarations with the header.
+//! The functions of the library (`bindings/c/lovendak.h`), and all that is `unsafe`. Those that take numbers and references are safe to
+//! call. Those that take a pointer and a length have a safe function here that takes a slice. `bindings/agree` compares the declarations
+//! with the header.
 
 use crate::ids::RefId;
 use std::ptr;
@@ -37,15 +37,45 @@ pub struct LovendakEvent {
     pub refs_len: usize,
 }
 
-// SAFETY: what is declared safe reads and writes no more than the references that it is given, and takes a handle as it was left.
-unsafe extern "C" {
-    pub safe fn lovendak_version() -> u32;
-    pub safe fn lovendak_new(vat: &mut Lovendak, level: u32, has_root: u32, root: u64) -> u32;
-    pub safe fn lovendak_free(vat: &mut Lovendak) -> u32;
+/// Functions that are safe to call, since they take numbers and references alone. Each is declared, and called by one of its name.
+macro_rules! safe {
+    ($(fn $name:ident($($given:ident: $kind:ty),*) -> u32;)*) => {
+        $(
+            pub fn $name($($given: $kind),*) -> u32 {
+                extern "C" {
+                    fn $name($($given: $kind),*) -> u32;
+                }
+                // SAFETY: it reads and writes no more than the references that it is given, and takes a handle as it was left.
+                unsafe { $name($($given),*) }
+            }
+        )*
+    };
+}
+
+safe! {
+    fn lovendak_version() -> u32;
+    fn lovendak_new(vat: &mut Lovendak, level: u32, has_root: u32, root: u64) -> u32;
+    fn lovendak_free(vat: &mut Lovendak) -> u32;
+    fn lovendak_ended(vat: &mut Lovendak) -> u32;
+    fn lovendak_pending(vat: &mut Lovendak, bytes: &mut usize, has_event: &mut u32) -> u32;
+    fn lovendak_down(vat: &mut Lovendak, number: &mut u32) -> u32;
+    fn lovendak_shares_nothing(vat: &mut Lovendak, answer: &mut u32) -> u32;
+    fn lovendak_calls_made(vat: &mut Lovendak, reference: u64, made: &mut u64) -> u32;
+    fn lovendak_bootstrap(vat: &mut Lovendak, call: &mut u64) -> u32;
+    fn lovendak_result_of(vat: &mut Lovendak, call: u64, reference: &mut u64) -> u32;
+    fn lovendak_host(vat: &mut Lovendak, object: u64, reference: &mut u64) -> u32;
+    fn lovendak_clone_ref(vat: &mut Lovendak, reference: u64, made: &mut u64) -> u32;
+    fn lovendak_drop_ref(vat: &mut Lovendak, reference: u64) -> u32;
+    fn lovendak_finish(vat: &mut Lovendak, call: u64) -> u32;
+    fn lovendak_promise(vat: &mut Lovendak, promise: &mut u64, reference: &mut u64) -> u32;
+    fn lovendak_resolve(vat: &mut Lovendak, promise: u64, reference: u64) -> u32;
+    fn lovendak_advance(vat: &mut Lovendak, reference: u64, advanced: &mut u32) -> u32;
+    fn lovendak_shut(vat: &mut Lovendak, number: u32) -> u32;
+}
+
+extern "C" {
     fn lovendak_received(vat: &mut Lovendak, bytes: *const u8, len: usize) -> u32;
-    pub safe fn lovendak_ended(vat: &mut Lovendak) -> u32;
     fn lovendak_outgoing(vat: &mut Lovendak, out: *mut u8, room: usize, len: &mut usize) -> u32;
-    pub safe fn lovendak_pending(vat: &mut Lovendak, bytes: &mut usize, has_event: &mut u32) -> u32;
     fn lovendak_next_event(
         vat: &mut Lovendak,
         event: &mut LovendakEvent,
@@ -54,16 +84,7 @@ unsafe extern "C" {
         refs: *mut u64,
         refs_room: usize,
     ) -> u32;
-    pub safe fn lovendak_down(vat: &mut Lovendak, number: &mut u32) -> u32;
-    pub safe fn lovendak_shares_nothing(vat: &mut Lovendak, answer: &mut u32) -> u32;
-    pub safe fn lovendak_calls_made(vat: &mut Lovendak, reference: u64, made: &mut u64) -> u32;
-
-    pub safe fn lovendak_bootstrap(vat: &mut Lovendak, call: &mut u64) -> u32;
-    pub safe fn lovendak_result_of(vat: &mut Lovendak, call: u64, reference: &mut u64) -> u32;
     fn lovendak_field(vat: &mut Lovendak, call: u64, path: *const u16, steps: usize, reference: &mut u64) -> u32;
-    pub safe fn lovendak_host(vat: &mut Lovendak, object: u64, reference: &mut u64) -> u32;
-    pub safe fn lovendak_clone_ref(vat: &mut Lovendak, reference: u64, made: &mut u64) -> u32;
-    pub safe fn lovendak_drop_ref(vat: &mut Lovendak, reference: u64) -> u32;
     fn lovendak_call(
         vat: &mut Lovendak,
         reference: u64,
@@ -75,7 +96,6 @@ unsafe extern "C" {
         refs_len: usize,
         call: &mut u64,
     ) -> u32;
-    pub safe fn lovendak_finish(vat: &mut Lovendak, call: u64) -> u32;
     fn lovendak_answer(
         vat: &mut Lovendak,
         task: u64,
@@ -85,12 +105,7 @@ unsafe extern "C" {
         refs_len: usize,
     ) -> u32;
     fn lovendak_fail(vat: &mut Lovendak, task: u64, kind: u32, reason: *const u8, len: usize) -> u32;
-    pub safe fn lovendak_promise(vat: &mut Lovendak, promise: &mut u64, reference: &mut u64) -> u32;
-    pub safe fn lovendak_resolve(vat: &mut Lovendak, promise: u64, reference: u64) -> u32;
     fn lovendak_reject(vat: &mut Lovendak, promise: u64, kind: u32, reason: *const u8, len: usize) -> u32;
-    pub safe fn lovendak_advance(vat: &mut Lovendak, reference: u64, advanced: &mut u32) -> u32;
-    pub safe fn lovendak_shut(vat: &mut Lovendak, number: u32) -> u32;
-
     fn lovendak_contents(
         numbers: *const u64,
         count: usize,

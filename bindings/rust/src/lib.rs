@@ -18,7 +18,10 @@
 //!     let call = client.call(doubler, 7, 0, &Contents::new(&[21], None, &[])?)?;  // before the first answer has come
 //!
 //!     server.received(&client.outgoing());
-//!     let Some(Event::Served(served)) = server.next_event() else { panic!("no call came") };
+//!     let served = match server.next_event() {
+//!         Some(Event::Served(served)) => served,
+//!         _ => panic!("no call came"),
+//!     };
 //!     let doubled = served.params.number(0)? * 2;
 //!     server.answer(served.task, &Contents::new(&[doubled], None, &[])?)?;
 //!
@@ -40,17 +43,31 @@
 #![deny(missing_docs)]
 
 mod contents;
+mod contents_error;
 mod event;
+mod fault;
 mod ffi;
 mod ids;
+mod node;
+mod number;
+mod numbered;
+mod reading;
 mod refusal;
+mod structs;
+#[cfg(feature = "capnp")]
+pub mod typed;
 mod vat;
+mod writing;
 
 pub use contents::Contents;
+pub use contents_error::ContentsError;
 pub use event::{Ended, Event, Exception, ExceptionKind, Served};
+pub use fault::Fault;
 pub use ids::{CallId, ObjectId, PromiseId, RefId, TaskId};
+pub use number::Number;
 pub use refusal::Refusal;
-pub use vat::{Advanced, Level, Vat};
+pub use structs::Struct;
+pub use vat::{Advanced, Level, Pending, Vat};
 
 /// The number of the library's interface.
 pub fn version() -> u32 {

@@ -1,77 +1,41 @@
 //! Why a command is refused.
 
 use crate::ffi;
-use std::error::Error;
-use std::fmt;
+use crate::numbered::{numbered, shown_name};
 
-/// Why a command is refused. Nothing is changed then.
-#[derive(Clone, Copy, Debug, PartialEq, Eq)]
-pub enum Refusal {
-    /// A growth was refused.
-    Memory,
-    /// A limit is reached, or contents are too large for a message.
-    Full,
-    /// The vat is down.
-    Down,
-    /// There is no such reference: it was dropped, or is of another vat.
-    UnknownRef,
-    /// There is no such call, or it was finished.
-    UnknownCall,
-    /// There is no such task, or it was answered.
-    UnknownTask,
-    /// There is no such promise, or it was settled.
-    UnknownPromise,
-    /// The promise would lead to itself.
-    Cycle,
-    /// The payload has another number of capabilities than references were given.
-    CapCount,
-    /// A path has more than 16 steps.
-    LongPath,
-    /// A vat of level 0 has no promises and sends no references.
-    Level,
-    /// The bytes are no payload with so many capabilities.
-    NoPayload,
+numbered! {
+    /// Why a command is refused. Nothing is changed then.
+    Refusal of u32:
+
+    1 Memory: "A growth was refused", "Free memory, and try again.";
+    2 Full: "A table, a count or a number would pass its limit",
+        "Finish calls, drop references or settle promises, and try again. Over bytes it may be the size of the contents: send less in one call.";
+    3 Down: "The vat is down", "Let the vat go, and connect again with a new one.";
+    4 UnknownRef: "There is no such reference",
+        "The reference was dropped, or is another vat's: keep the ids of each vat apart.";
+    5 UnknownCall: "There is no such call, or it was finished",
+        "Each call is finished once. Keep the ids of each vat apart.";
+    6 UnknownTask: "There is no such task, or it was answered",
+        "Each task is answered once, by `answer` or `fail`. Keep the ids of each vat apart.";
+    7 UnknownPromise: "There is no such promise, or it was settled",
+        "Each promise is settled once, by `resolve` or `reject`. Keep the ids of each vat apart.";
+    8 Cycle: "The promise would be settled to itself", "Resolve the promise to something else, or reject it.";
+    9 CapCount: "The payload has another number of capabilities than references were given",
+        "Give one reference for each capability of the payload, in order.";
+    10 LongPath: "The path has more than 16 steps",
+        "Wait for the results: each of their capabilities comes as a reference.";
+    11 Level: "A vat of level 0 has no promises and sends no references", "Make the vat one of level 1.";
+    102 NoPayload "LOVENDAK_NO_PAYLOAD": "The bytes are no payload, or the text is no UTF-8",
+        "Write the contents as one framed message, and the text as UTF-8.";
 }
 
 impl Refusal {
     /// What a code of a function says that can answer refusals alone.
     pub(crate) fn check(code: u32) -> Result<(), Refusal> {
-        Err(match code {
-            ffi::OK => return Ok(()),
-            1 => Refusal::Memory,
-            2 => Refusal::Full,
-            3 => Refusal::Down,
-            4 => Refusal::UnknownRef,
-            5 => Refusal::UnknownCall,
-            6 => Refusal::UnknownTask,
-            7 => Refusal::UnknownPromise,
-            8 => Refusal::Cycle,
-            9 => Refusal::CapCount,
-            10 => Refusal::LongPath,
-            11 => Refusal::Level,
-            102 => Refusal::NoPayload,
-            code => unreachable!("the library answered {code}"),
-        })
+        match (code, Refusal::of(code)) {
+            (ffi::OK, _) => Ok(()),
+            (_, Some(refusal)) => Err(refusal),
+            (code, None) => unreachable!("the library answered {code}"),
+        }
     }
 }
-
-impl fmt::Display for Refusal {
-    fn fmt(&self, f: &mut fmt::Formatter<'_>) -> fmt::Result {
-        f.write_str(match self {
-            Refusal::Memory => "out of memory",
-            Refusal::Full => "a limit is reached",
-            Refusal::Down => "the vat is down",
-            Refusal::UnknownRef => "no such reference",
-            Refusal::UnknownCall => "no such call",
-            Refusal::UnknownTask => "no such task",
-            Refusal::UnknownPromise => "no such promise",
-            Refusal::Cycle => "the promise would lead to itself",
-            Refusal::CapCount => "the payload's capabilities and the references differ in number",
-            Refusal::LongPath => "the path is too long",
-            Refusal::Level => "a vat of level 0 has no promises and sends no references",
-            Refusal::NoPayload => "these bytes are no payload",
-        })
-    }
-}
-
-impl Error for Refusal {}

@@ -29,6 +29,16 @@ pub enum Advanced {
     Broke,
 }
 
+/// What waits to be taken from a vat.
+#[derive(Clone, Copy, Debug, PartialEq, Eq)]
+pub struct Pending {
+    /// Bytes that are to be sent. What was said since a part of the bytes was taken may not be counted yet, but there are 0 only if
+    /// none are to be sent.
+    pub bytes: usize,
+    /// Whether there is an event.
+    pub has_event: bool,
+}
+
 /// A vat that speaks with one peer. It may go to another thread, and is used by one at a time, so it is not `Sync`:
 ///
 /// ```compile_fail
@@ -62,16 +72,27 @@ impl Vat {
         ok(ffi::lovendak_ended(&mut self.handle));
     }
 
+    /// What there is to be sent and to be told. It takes nothing.
+    pub fn pending(&mut self) -> Pending {
+        let (mut bytes, mut has_event) = (0, 0);
+        ok(ffi::lovendak_pending(&mut self.handle, &mut bytes, &mut has_event));
+        Pending { bytes, has_event: has_event == 1 }
+    }
+
     /// The bytes that are to be sent, each once. What can't be sent takes the vat down: look for events once more.
     pub fn outgoing(&mut self) -> Vec<u8> {
+        self.outgoing_up_to(usize::MAX)
+    }
+
+    /// The first of the bytes that are to be sent, at most so many: fewer only if there are no more.
+    pub fn outgoing_up_to(&mut self, most: usize) -> Vec<u8> {
         let mut out = Vec::new();
         loop {
-            let (mut bytes, mut has_event) = (0, 0);
-            ok(ffi::lovendak_pending(&mut self.handle, &mut bytes, &mut has_event));
+            let given = out.len();
+            let bytes = self.pending().bytes.min(most - given);
             if bytes == 0 {
                 return out;
             }
-            let given = out.len();
             out.resize(given + bytes, 0);
             let len = self.outgoing_into(&mut out[given..]);
             out.truncate(given + len);
@@ -85,8 +106,9 @@ impl Vat {
         len
     }
 
-    /// What there is to tell: calls to be served, then own calls that ended; of a vat that is down then each that is open, as one
-    /// that ended with `Disconnected`, and once that it is down.
+    /// The oldest event. The events of one command or message come behind those of the ones before it; of one, calls to serve
+    /// come before own calls that ended. Of a vat that is down, each own call that is open ends then with `Disconnected`, and
+    /// last comes, once, that it is down.
     pub fn next_event(&mut self) -> Option<Event> {
         let mut event = LovendakEvent::default();
         loop {
@@ -133,7 +155,7 @@ impl Vat {
         })
     }
 
-    /// The number with which the vat went down, if it did.
+    /// The number with which the vat went down, if it did. [`Fault::of`](crate::Fault::of) says what it means.
     pub fn down(&mut self) -> Option<u16> {
         let mut number = 0;
         (ffi::lovendak_down(&mut self.handle, &mut number) == ffi::OK).then_some(number as u16)

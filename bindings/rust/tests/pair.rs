@@ -1,8 +1,8 @@
 //! Two vats in one process.
 
 use lovendak::{
-    Advanced, CallId, Contents, Ended, Event, Exception, ExceptionKind, Level, ObjectId, PromiseId, RefId, Refusal,
-    Served, TaskId, Vat,
+    Advanced, CallId, Contents, Ended, Event, Exception, ExceptionKind, Fault, Level, ObjectId, Pending, PromiseId,
+    RefId, Refusal, Served, TaskId, Vat,
 };
 
 const NOTHING: &[RefId] = &[];
@@ -176,6 +176,50 @@ fn refusals() {
         assert!(matches!(event, Event::Served(_) | Event::Down(34)), "{event:?}");
     }
     assert_eq!(b.down(), Some(34));
+}
+
+#[test]
+fn numbers_have_names() {
+    let refused = Refusal::UnknownRef;
+    assert_eq!((refused.number(), refused.name()), (4, "UnknownRef"));
+    assert_eq!(
+        refused.to_string(),
+        "UnknownRef: There is no such reference. The reference was dropped, or is another vat's: keep the ids of each vat apart."
+    );
+    assert_eq!(Refusal::of(102).map(Refusal::name), Some("LOVENDAK_NO_PAYLOAD"));
+    assert_eq!((Fault::of(0), Fault::of(34)), (None, Some(Fault::PeerAbort)));
+    assert_eq!(
+        Event::Down(12).to_string(),
+        "the vat went down with 12, Traversal: More than 65,536 words visited. Have the peer send less in one message. Contents to \
+         which several pointers lead count once for each."
+    );
+    assert_eq!(Event::Down(99).to_string(), "the vat went down with 99");
+    let failed = Exception { kind: ExceptionKind::Unimplemented, reason: "no such method".into() };
+    let ended = Event::Ended(Ended { call: CallId(3), outcome: Err(failed) });
+    assert_eq!(ended.to_string(), "call 3 ended with an exception, unimplemented: no such method");
+    assert_eq!(Exception::from(Refusal::Memory).to_string(), "overloaded: Memory: A growth was refused");
+    let (mut a, mut b, _, root) = pair();
+    a.call(root, 0xff, 2, &nothing()).unwrap();
+    exchange(&mut a, &mut b);
+    assert_eq!(b.next_event().unwrap().to_string(), "task 0: method 2 of 0xff of object 5");
+}
+
+#[test]
+fn a_vat_says_what_waits_and_gives_a_part() {
+    let (mut a, mut b, _, root) = pair();
+    a.call(root, 1, 2, &nothing()).unwrap();
+    let pending = a.pending();
+    assert!(pending.bytes > 8 && !pending.has_event);
+    let first = a.outgoing_up_to(8);
+    assert_eq!((first.len(), a.pending().bytes), (8, pending.bytes - 8));
+    a.call(root, 1, 3, &nothing()).unwrap();
+    let rest = a.outgoing_up_to(usize::MAX);
+    assert_eq!(a.pending(), Pending { bytes: 0, has_event: false });
+    assert_eq!((a.outgoing_up_to(0), a.outgoing_up_to(1)), (vec![], vec![]));
+    b.received(&[first, rest].concat());
+    assert!(b.pending().has_event);
+    assert_eq!((served(&mut b).method, served(&mut b).method), (2, 3));
+    assert!(!b.pending().has_event);
 }
 
 #[test]
