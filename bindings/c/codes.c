@@ -115,7 +115,7 @@ int main(void) {
   lovendak a = LOVENDAK_EMPTY, b;
   uint32_t number;
   memset(&b, 0x55, sizeof b); /* a handle that was never set: empty, since the magic number is not there */
-  IS(lovendak_version(), 1);
+  IS(lovendak_version(), LOVENDAK_INTERFACE);
   empty_handle(&a);
   empty_handle(&b);
   IS(lovendak_new(&a, 1, 0, 0), LOVENDAK_OK);

@@ -5,7 +5,8 @@
  * and promises are, and what has to be given back, stands in docs/embedding.md; docs/numbers.md says of each number what to do.
  *
  * Each function but `lovendak_version` answers a code. What a pointer is to get is written where the code is LOVENDAK_OK, and else
- * only where that is said. A command that is refused changes nothing. Of several codes EMPTY_HANDLE comes first.
+ * only where that is said. A command that is refused changes nothing, but for one case: the reference of a refused `lovendak_call` may
+ * have taken the shorter path. Of several codes EMPTY_HANDLE comes first.
  *
  * Memory: the library keeps no pointer that it is given, and gives out none of its own: what goes in is read during the call,
  * what comes out is copied into room of the caller. Where memory is wanting it says so; it never ends the process.
@@ -27,6 +28,10 @@
 #ifdef __cplusplus
 extern "C" {
 #endif
+
+/* The version of the library, and the number of its interface, which `lovendak_version` answers where the two agree. */
+#define LOVENDAK_VERSION "0.1.0"
+#define LOVENDAK_INTERFACE 1
 
 /* A vat, which `lovendak_free` lets go, or nothing. */
 typedef struct lovendak {
@@ -79,7 +84,7 @@ typedef struct lovendak_event {
   size_t refs_len;       /* references, one for each capability of the payload; each is to be dropped */
 } lovendak_event;
 
-/* The number of this interface: 1. */
+/* The number of the interface that the library has: LOVENDAK_INTERFACE where it is the one of this header. */
 uint32_t lovendak_version(void);
 
 /* Puts a vat into an empty handle, of level 0 or 1, and where `has_root` is not 0 with the object `root` as its bootstrap object.
@@ -103,14 +108,15 @@ uint32_t lovendak_ended(lovendak *vat);
 uint32_t lovendak_outgoing(lovendak *vat, uint8_t *out, size_t room, size_t *len);
 
 /* How many bytes the next `lovendak_outgoing` gives, with that much room: 0 where none are to be sent. And whether there is an event
- * (1) or none (0). Takes nothing. */
+ * (1) or none (0). What the vat has to say becomes frames before, as by `lovendak_outgoing`; no bytes and no event are taken out. */
 uint32_t lovendak_pending(lovendak *vat, size_t *bytes, uint32_t *has_event);
 
-/* Takes the oldest event: calls to serve, then own calls that ended; of a vat that is down then each own call that is open, as one that
- * failed with LOVENDAK_DISCONNECTED, and once that the vat is down. Its payload (framed segments, as Cap'n Proto writes a message) and
- * its references are copied into the rooms given. NOTHING where there is none; ROOM where one of the rooms is too small: the event is
- * filled in, and stays. Ask until there is none, and then send what goes out: in this order no event is missed. After bytes were sent
- * first, ask again, since what can't be sent takes the vat down. */
+/* Takes the oldest event. The events of one command or message come behind those of the ones before it; of one, calls to serve come
+ * before own calls that ended. Of a vat that is down, each own call that is open ends then, as one that failed with
+ * LOVENDAK_DISCONNECTED, and last comes, once, that the vat is down. The event's payload (framed segments, as Cap'n Proto writes a
+ * message) and its references are copied into the rooms given. NOTHING if there is none; ROOM if one of the rooms is too small: the
+ * event is filled in, and stays. Ask until there is none, and then send what goes out: in this order no event is missed. After bytes
+ * were sent first, ask again, since what can't be sent takes the vat down. */
 uint32_t lovendak_next_event(lovendak *vat, lovendak_event *event, uint8_t *payload, size_t room, uint64_t *refs, size_t refs_room);
 
 /* The number with which the vat went down; NOTHING while it is up. */
