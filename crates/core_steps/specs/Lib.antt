@@ -1,3 +1,7 @@
+-- The definitions:
+-- - `Aborts`: a received Abort, and what comes of it alone.
+-- - `Undoing`: what `advance` does to a reference, so that it can be put back.
+-- - `Whole`: whole steps: a vat between them, and what a command answers.
 pub mod Aborts
 pub mod Undoing
 pub mod Whole

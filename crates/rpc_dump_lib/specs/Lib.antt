@@ -1,3 +1,10 @@
+-- The definitions:
+-- - `Words`: what the program's words ask for.
+-- - `Trees`: the tree of a payload as JSON.
+-- - `Lines`: the line of what a frame says.
+-- - `Conversations`: what is said of a captured conversation.
+-- - `Reading`: a stream that is said while its bytes come.
+-- - `Failures`: what is said of a failure, and the status with which the program ends.
 pub mod Words
 pub mod Trees
 pub mod Lines

@@ -1,3 +1,8 @@
+-- The definitions:
+-- - `Messages`: the descriptors of a message, and the exports that they count on.
+-- - `Paths`: paths into payloads.
+-- - `Places`: the places in which a path keeps its steps.
+-- - `Vats`: the two vats.
 pub mod Messages
 pub mod Paths
 pub mod Places
