@@ -5,8 +5,8 @@ ghost use Rattle.vat_host.specs.Exchanging.{Carries, Exchanges};
 use crate::host::Host;
 
 /// Hands the messages of two vats to each other, in so many rounds at most: in each, all messages of `a` to `b`, and then all
-/// of `b` to `a`. Answers whether anything is left to do at either: a message to send, a call to serve, or an ended call to
-/// look at.
+/// of `b` to `a`. Answers whether anything is left to do at either: a message to send, or an event to tell, that it is down
+/// among them.
 pub fn exchange(a: &mut Host, b: &mut Host, rounds: usize) -> bool
     ensures exchanged { Exchanges rounds a.old b.old a.new b.new }
     ensures left { result ≡ (not (is_idle a.new) || not (is_idle b.new)) }
