@@ -3,6 +3,7 @@
 mod codec;
 mod contents;
 mod fits;
+mod headings;
 mod messages;
 mod outgoing;
 
