@@ -13,11 +13,11 @@ use Rattle.rpc_msg.specs.declared.parts.Descriptor.{Descriptor}
 use Rattle.rpc_msg.specs.declared.parts.Descriptor.TheVariants as descriptor
 use Rattle.rpc_codec.specs.Envelopes.{What}
 use Rattle.rpc_codec.specs.Carried.{descriptors_in, gives}
+use Rattle.peer_descriptors.proofs.Replaced.{what_changed}
 use Rattle.peer_broken.specs.declared.due.Due.{Due}
 use Rattle.peer_broken.specs.declared.due.Due.TheVariants.{AtOnce, ByReturn, ByFinish}
 use Rattle.peer_broken.specs.Naming.{Naming, broken_name, flagged, heard, heard_by, heard_descriptor, names_of, owed_under, owing, released}
 use Rattle.peer_broken.specs.Laws.{owed, times}
-use Rattle.peer_broken.proofs.HeardAs.{what_changed}
 
 both_more : (k a b t : ℕ) → a ≡ b + t → k + a ≡ (k + b) + t
 both_more k a b t same = omega (arith, same)

@@ -7,8 +7,9 @@ use Rattle.rpc_msg.specs.declared.ids.QuestionId.{QuestionId}
 use Rattle.rpc_msg.specs.declared.parts.Descriptor.{Descriptor}
 use Rattle.rpc_codec.specs.Envelopes.{What}
 use Rattle.rpc_codec.specs.Carried.{descriptors_in}
+use Rattle.peer_descriptors.specs.Replacing.{what_with}
 use Rattle.peer_broken.specs.declared.due.Due.{Due}
-use Rattle.peer_broken.specs.Naming.{Naming, broken_name, comes, coming, due_by, has_some, heard, heard_descriptor, names_of, owing, unless_finished, what_with}
+use Rattle.peer_broken.specs.Naming.{Naming, broken_name, comes, coming, due_by, has_some, heard, heard_descriptor, names_of, owing, unless_finished}
 use Rattle.peer_broken.proofs.HeardAs.{heard_same}
 
 module _ (broken : ExportId → Bool) (finished : QuestionId → Bool) (s : Naming) (w : What) where

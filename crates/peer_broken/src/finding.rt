@@ -1,27 +1,13 @@
 //! The descriptors that name a broken promise.
 ghost use Rattle.std.specs.Prelude.{◌≡◌, ◌++◌, Bool, map, option_to_list, IfOk, OnOk};
 ghost use Rattle.std.specs.List.{filter_map};
-ghost use Rattle.rpc_codec.specs.Envelopes.{seen_envelope};
 ghost use Rattle.rpc_msg.specs.declared.ids.ExportId.{ExportId};
-ghost use Rattle.rpc_codec.specs.Carried.{descriptors_in};
 ghost use Rattle.peer_broken.specs.Naming.{Tells, broken_name, has_some, heard_by, heard_descriptor};
 
-use rpc_codec::Envelope;
 use rpc_msg::{Descriptor, ExportId, Items, Memory};
 use std::alloc::Global;
 
-/// The descriptors of what came. Takes no memory.
-pub(crate) fn descriptors_in(came: &Envelope) -> &[Descriptor]
-    ensures { result.now ≡ descriptors_in (seen_envelope came.now) }
-{
-    match came {
-        Envelope::Message(message) => message.descriptors(),
-        Envelope::TailCall(call) => call.descriptors.as_slice(),
-        _ => &[],
-    }
-}
-
-/// Whether one of them names a broken promise. Takes no memory.
+/// Whether one of these descriptors names a broken promise. Takes no memory.
 pub(crate) fn some_broken<B: Fn(ExportId) -> bool>(
     descriptors: &[Descriptor],
     is_broken: &B,

@@ -3,7 +3,7 @@
 //! the name is given back once.
 //!
 //! - `names.rt`: [`BrokenNames`], its calls. `named.rt`: what comes of a message.
-//! - `finding.rt`: the descriptors that name a broken promise. `hearing.rt`: a message with other descriptors.
+//! - `finding.rt`: the descriptors that name a broken promise.
 //! - `due.rt`: what gives a name back. `owed.rt`: the names that are owed, by id.
 //! - `laws.rt`: that it stands aside, and that each count is given back once, as contracts of functions that do nothing.
 //!
@@ -12,7 +12,6 @@
 
 mod due;
 mod finding;
-mod hearing;
 mod laws;
 mod named;
 mod names;

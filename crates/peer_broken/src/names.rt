@@ -6,10 +6,10 @@ ghost use Rattle.rpc_msg.specs.declared.ids.QuestionId.{QuestionId};
 ghost use Rattle.peer_broken.specs.Naming.{Tells, comes, finishes, nothing_owed, owing, released, returns, seen_named};
 
 use crate::due::{Due, due_by, unless_finished};
-use crate::finding::{Parted, descriptors_in, part, some_broken};
-use crate::hearing::envelope_with;
+use crate::finding::{Parted, part, some_broken};
 use crate::named::Named;
 use crate::owed::Owed;
+use peer_descriptors::{descriptors_in, envelope_with};
 use rpc_codec::Envelope;
 use rpc_msg::{AnswerId, ExportId, Items, Memory, QuestionId};
 use std::alloc::Global;

@@ -1,15 +1,27 @@
-//! A message with other descriptors in the place of its own.
+//! The descriptors of an envelope, and the envelope with others in their place.
 ghost use Rattle.std.specs.Prelude.{◌≡◌};
+ghost use Rattle.rpc_codec.specs.Carried.{descriptors_in};
 ghost use Rattle.rpc_codec.specs.Envelopes.{seen_envelope};
-ghost use Rattle.peer_broken.specs.Naming.{call_with, return_with, body_with, first_or, resolve_with, resolved_with, plain_with, message_with, what_with};
+ghost use Rattle.peer_descriptors.specs.Replacing.{call_with, return_with, body_with, first_or, resolve_with, resolved_with, plain_with, message_with, what_with};
 
 use rpc_codec::Envelope;
 use rpc_msg::{
     Call, Descriptor, Items, Message, PlainMessage, Resolve, ResolvedTo, Return, ReturnBody,
 };
 
-/// What came, with these descriptors.
-pub(crate) fn envelope_with(came: Envelope, heard: Items<Descriptor>) -> Envelope
+/// The descriptors of what came. Takes no memory.
+pub fn descriptors_in(came: &Envelope) -> &[Descriptor]
+    ensures { result.now ≡ descriptors_in (seen_envelope came.now) }
+{
+    match came {
+        Envelope::Message(message) => message.descriptors(),
+        Envelope::TailCall(call) => call.descriptors.as_slice(),
+        _ => &[],
+    }
+}
+
+/// What came, with these descriptors in place of its own: as many as it has. Takes no memory.
+pub fn envelope_with(came: Envelope, heard: Items<Descriptor>) -> Envelope
     ensures { seen_envelope result ≡ what_with (seen_envelope came) heard }
 {
     match came {
