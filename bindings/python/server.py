@@ -36,6 +36,13 @@ class Client(asyncio.Protocol):
         if self.vat.down() is not None:
             self.transport.close()
 
+    def pause_writing(self):
+        """A client that reads no answers is not heard, so that no more of them wait for it."""
+        self.transport.pause_reading()
+
+    def resume_writing(self):
+        self.transport.resume_reading()
+
     def serve(self, call):
         """Answers a call, and lets go of what came with it and of what was given."""
         try:

@@ -1,8 +1,9 @@
 """A vat for Cap'n Proto RPC, without input or output of its own, by the C interface of bindings/c/lovendak.h.
 
 `LOVENDAK_SO` names the shared library; else it is the `liblovendak.so` beside this file, or in bindings/build. `lovendak.schema`
-writes and reads contents by the names of a schema. Two vats in one process, of which one calls an object of the other that doubles
-numbers:
+writes and reads contents by the names of a schema, and `lovendak.service` has objects and calls over connections of `asyncio`.
+
+Two vats in one process, of which one calls an object of the other that doubles numbers:
 
 >>> client, server = Vat(), Vat(root=0)
 >>> asked = client.bootstrap()

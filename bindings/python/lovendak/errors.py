@@ -78,3 +78,43 @@ class ReadError(SchemaError):
     def __init__(self, what: str, path: str = "", fault: int = 60) -> None:
         super().__init__(what, path)
         self.fault = fault
+
+
+class Failed(Exception):
+    """A call failed; raised by a method, it fails the call of that method. `kind` is one of FAILED, OVERLOADED, DISCONNECTED and
+    UNIMPLEMENTED; the last three have classes of their own. As text it is the reason."""
+
+    __module__ = "lovendak.service"
+    kind = FAILED
+
+
+class Overloaded(Failed):
+    """There was not enough of something, and a later call may go well."""
+
+    __module__ = "lovendak.service"
+    kind = OVERLOADED
+
+
+class Disconnected(Failed):
+    """The connection to something that was needed is gone."""
+
+    __module__ = "lovendak.service"
+    kind = DISCONNECTED
+
+
+class Unimplemented(Failed):
+    """There is no such method."""
+
+    __module__ = "lovendak.service"
+    kind = UNIMPLEMENTED
+
+
+def failure(kind: int, reason: str) -> Failed:
+    """The exception of that kind."""
+    return {it.kind: it for it in (Failed, Overloaded, Disconnected, Unimplemented)}.get(kind, Failed)(reason)
+
+
+def failure_of(refused: Refused) -> Failed:
+    """What a call fails with if its vat refuses a command for it."""
+    kind = {1: OVERLOADED, 2: OVERLOADED, 3: DISCONNECTED}.get(refused.code, FAILED)
+    return failure(kind, str(refused))

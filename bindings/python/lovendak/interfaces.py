@@ -2,7 +2,7 @@
 from typing import Any, Dict, Iterator, List, Mapping, NamedTuple, Optional
 
 from .errors import SchemaError
-from .pointers import BY_NAME, CAPABILITY, ListType
+from .pointers import BY_NAME, CapabilityType, ListType
 from .scalars import Enum
 from .structs import Struct
 
@@ -78,7 +78,7 @@ class Schema(Mapping[str, Any]):
         if name.startswith("List(") and name.endswith(")"):
             return ListType(self.type(name[5:-1]))
         if name in self.interfaces:
-            return CAPABILITY
+            return CapabilityType(self.interfaces[name])
         if name not in self and name not in BY_NAME:
             raise SchemaError(f"there is no type {name!r}")
         return self[name] if name in self else BY_NAME[name]

@@ -5,7 +5,7 @@ from typing import Any, Dict, List, Mapping, NamedTuple, Optional, Sequence
 from .errors import ReadError, WriteError
 from .scalars import NUMBERS, SIZES, Bool, Void
 from .tree import LIMITS, CapNode, DataList, Node, PointerList, StructList, StructNode, kind_of
-from .values import Getting, Putting, Type, each, other_elements
+from .values import Capability, Getting, Putting, Type, each, other_elements
 
 
 class PointerType(Type):
@@ -96,7 +96,10 @@ class ListType(PointerType):
 
 
 class CapabilityType(PointerType):
-    name = "Capability"
+    """`interface` is that of the schema, or None if any may stand there."""
+
+    def __init__(self, interface: Any = None) -> None:
+        self.interface, self.name = interface, interface.name if interface else "Capability"
 
     def put(self, value: Any, putting: Putting) -> Node:
         return None if value is None else putting.capability(value)
@@ -106,7 +109,8 @@ class CapabilityType(PointerType):
             return None
         if not isinstance(node, CapNode):
             raise ReadError(f"{kind_of(node)}, not a capability")
-        return getting.capability(node.number)
+        found = getting.capability(node.number)
+        return found.typed(self.interface) if self.interface and isinstance(found, Capability) else found
 
 
 class Typed(NamedTuple):

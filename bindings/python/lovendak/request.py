@@ -4,7 +4,7 @@ from typing import Any, Dict, List, Optional
 
 from .errors import SchemaError
 from .interfaces import Interface, Method, Schema
-from .pointers import ANY, BUILT_IN, CAPABILITY, TEXT, ListType
+from .pointers import ANY, BUILT_IN, CAPABILITY, TEXT, CapabilityType, ListType
 from .reading import read_tree
 from .scalars import Bool, Enum, Scalar, Void
 from .structs import BoolField, DataField, Field, GroupField, PointerField, Struct, VoidField, fits
@@ -149,7 +149,7 @@ class Loading:
         if kind == STRUCT_TYPE:
             return self.get(STRUCT, number(node, 8, "Q"))
         if kind == INTERFACE_TYPE:
-            return CAPABILITY
+            return CapabilityType(self.get(INTERFACE, number(node, 8, "Q")))
         is_capability = kind == ANY_TYPE and number(node, 8, "H") == 0 and number(node, 10, "H") == ANY_CAPABILITY
         return CAPABILITY if is_capability else ANY
 

@@ -1,7 +1,7 @@
 """The structs of a schema, their fields and groups."""
 import struct
 from reprlib import repr as shown
-from typing import Any, Dict, Iterable, List, Mapping, Optional, Sequence
+from typing import Any, Dict, Iterable, List, Mapping, Optional, Sequence, Tuple
 
 from .contents import Contents
 from .errors import ReadError, SchemaError, WriteError
@@ -161,6 +161,22 @@ class Struct(PointerType):
         """All fields of the contents of a call or an answer, but the members of a union that are not set. Each reference is the
         caller's to drop, whether it stands at a field or not. ReadError if the payload does not go with the schema."""
         return self._read(contents.payload, contents.refs, len(contents.refs))
+
+    def path(self, *names: str) -> Tuple[List[int], Type]:
+        """Where the field of these names stands, each in the struct before it: the numbers of the pointers on the way, and its type.
+        SchemaError if there is no such field, or if it stands at no pointer."""
+        steps: List[int] = []
+        kind: Type = self
+        for name in names:
+            field = kind.fields.get(name) if isinstance(kind, Struct) else None
+            if isinstance(field, GroupField):
+                kind = field.group
+            elif isinstance(field, PointerField):
+                kind = field.kind
+                steps.append(field.offset)
+            else:
+                raise SchemaError("no such field stands at a pointer", f"{self.name}.{'.'.join(names)}")
+        return steps, kind
 
     def encode(self, values: Mapping[str, Any]) -> bytes:
         """A message with these values, in which capabilities are given by their indices. WriteError as in `write`."""

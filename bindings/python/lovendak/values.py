@@ -42,6 +42,14 @@ class Getting:
             raise ReadError("Traversal: there are too many values for a message of this size", fault=12)
 
 
+class Capability:
+    """What may stand in contents in place of a reference's number, and is told its interface when it is read."""
+
+    def typed(self, interface: Any) -> Any:
+        """It, as a capability of that interface."""
+        raise NotImplementedError
+
+
 class Type:
     """What may be an element of a list."""
 
