@@ -13,12 +13,15 @@ use crate::{reading, writing};
 /// `new` makes one of numbers, a text and references, and `number`, `text` and `reference` look into one. [`Contents::of`] writes a
 /// [`Struct`] of any fields, and [`Contents::root`] reads one. Another library for Cap'n Proto messages does as well: the payload is a
 /// message in framed segments, whose root is what is carried and whose capability pointers number the references.
+///
+/// Over a [`Connection`](crate::Connection) go contents whose capabilities are each a [`Capability`](crate::Capability) in place of a
+/// reference.
 #[derive(Clone, Debug, PartialEq, Eq)]
-pub struct Contents {
+pub struct Contents<R = RefId> {
     /// The message, in framed segments.
     pub payload: Vec<u8>,
     /// What its capabilities stand for. References that came are to be dropped; those that are given stay the giver's.
-    pub refs: Vec<RefId>,
+    pub refs: Vec<R>,
 }
 
 impl Contents {
@@ -38,19 +41,24 @@ impl Contents {
         payload.truncate(len);
         Ok(Contents { payload, refs: refs.to_vec() })
     }
+}
 
+impl<R: Clone + 'static> Contents<R> {
     /// A message whose root is that struct. `TooMuch` if it is too large for a message, or nests too deep.
     ///
     /// ```
     /// use lovendak::{Contents, ContentsError, Struct};
     ///
-    /// let mut line = Struct::new();
-    /// line.set_text(0, "ann").set_text(1, "hello");
-    /// let contents = Contents::of(&line)?;
-    /// assert_eq!(contents.root()?.text(1)?, "hello");
+    /// let line = |name| std::mem::take(Struct::new().set_text(0, name));
+    /// let mut it = Struct::new();
+    /// it.set_text(0, "hello").set_data(1, &[0xca, 0xfe]).set_numbers(2, &[1u32, 2, 3]).set_structs(3, [line("ann"), line("bob")]);
+    /// let root = Contents::of(&it)?.root()?;
+    /// assert_eq!((root.text(0)?, root.data(1)?), ("hello", &[0xca, 0xfe][..]));
+    /// assert_eq!(root.numbers::<u32>(2)?, [1, 2, 3]);
+    /// assert_eq!(root.structs(3)?[1].text(0)?, "bob");
     /// # Ok::<(), ContentsError>(())
     /// ```
-    pub fn of(root: &Struct) -> Result<Contents, ContentsError> {
+    pub fn of(root: &Struct<R>) -> Result<Contents<R>, ContentsError> {
         let (payload, refs) = writing::write(root).map_err(ContentsError::TooMuch)?;
         Ok(Contents { payload, refs })
     }
@@ -61,12 +69,12 @@ impl Contents {
     /// ```
     /// use lovendak::{Contents, ContentsError, Fault};
     ///
-    /// let contents = Contents { payload: vec![1, 2, 3], refs: vec![] };
+    /// let contents: Contents = Contents { payload: vec![1, 2, 3], refs: vec![] };
     /// assert_eq!(contents.root().unwrap_err(), ContentsError::NoPayload(Fault::Short));
     /// ```
-    pub fn root(&self) -> Result<Struct, ContentsError> {
+    pub fn root(&self) -> Result<Struct<R>, ContentsError> {
         match reading::read(&self.payload, &self.refs).map_err(ContentsError::NoPayload)? {
-            Node::Null => Ok(Struct::new()),
+            Node::Null => Ok(Struct::default()),
             Node::Struct(root) => Ok(root),
             other => Err(ContentsError::WrongKind { pointer: None, wanted: "a struct", found: other.kind() }),
         }
@@ -99,13 +107,13 @@ impl Contents {
     }
 
     /// The reference at a path of pointers' numbers, if there is one. `NoPayload` where the payload is none, `Memory`.
-    pub fn reference(&self, path: &[u16]) -> Result<Option<RefId>, Refusal> {
+    pub fn reference(&self, path: &[u16]) -> Result<Option<R>, Refusal> {
         let (code, index) = ffi::ref_at(&self.payload, self.caps(), path);
         if code == ffi::NOTHING {
             return Ok(None);
         }
         Refusal::check(code)?;
-        Ok(self.refs.get(index).copied())
+        Ok(self.refs.get(index).cloned())
     }
 
     fn caps(&self) -> u32 {

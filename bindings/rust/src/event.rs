@@ -82,6 +82,13 @@ pub struct Exception {
     pub reason: String,
 }
 
+impl Exception {
+    /// One of kind `Failed`, with that reason.
+    pub fn failed(reason: &str) -> Exception {
+        Exception { kind: ExceptionKind::Failed, reason: reason.into() }
+    }
+}
+
 impl fmt::Display for Exception {
     fn fmt(&self, f: &mut fmt::Formatter<'_>) -> fmt::Result {
         write!(f, "{}: {}", self.kind, self.reason)
@@ -90,11 +97,13 @@ impl fmt::Display for Exception {
 
 impl Error for Exception {}
 
-/// A refusal that is passed on to who called: `Overloaded` where room or memory is wanting, else `Failed`.
+/// A refusal that is passed on to who called: `Overloaded` if room or memory is lacking, `Disconnected` if the vat is down, else
+/// `Failed`.
 impl From<Refusal> for Exception {
     fn from(refusal: Refusal) -> Exception {
         let kind = match refusal {
             Refusal::Memory | Refusal::Full => ExceptionKind::Overloaded,
+            Refusal::Down => ExceptionKind::Disconnected,
             _ => ExceptionKind::Failed,
         };
         Exception { kind, reason: format!("{}: {}", refusal.name(), refusal.meaning()) }

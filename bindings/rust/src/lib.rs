@@ -5,6 +5,9 @@
 //! proved. All `unsafe` is in `ffi.rs`. What has to be given back, and what a vat does when it goes down, stands in
 //! `docs/embedding.md`.
 //!
+//! A [`Connection`] has objects call each other over a stream, with calls as futures. A [`Vat`] is what lies below it, and what the
+//! rest of this page is about.
+//!
 //! Two vats in one process, of which one calls an object of the other that doubles numbers:
 //!
 //! ```
@@ -42,6 +45,8 @@
 //! ```
 #![deny(missing_docs)]
 
+mod capability;
+mod connection;
 mod contents;
 mod contents_error;
 mod event;
@@ -51,21 +56,32 @@ mod ids;
 mod node;
 mod number;
 mod numbered;
+mod object;
+#[cfg(feature = "futures-io")]
+mod polled;
 mod reading;
 mod refusal;
+mod remote;
+mod shared;
 mod structs;
 #[cfg(feature = "capnp")]
 pub mod typed;
 mod vat;
 mod writing;
 
+pub use capability::{Capability, Promise, Resolver};
+pub use connection::{Connection, Stream, serve};
 pub use contents::Contents;
 pub use contents_error::ContentsError;
 pub use event::{Ended, Event, Exception, ExceptionKind, Served};
 pub use fault::Fault;
 pub use ids::{CallId, ObjectId, PromiseId, RefId, TaskId};
 pub use number::Number;
+pub use object::{Answer, Incoming, Object, Outcome};
+#[cfg(feature = "futures-io")]
+pub use polled::Polled;
 pub use refusal::Refusal;
+pub use remote::{Call, Remote};
 pub use structs::Struct;
 pub use vat::{Advanced, Level, Pending, Vat};
 

@@ -1,18 +1,17 @@
 //! What a payload says, without where it lies in it, and the limits: `docs/encoding.md`.
 
-use crate::ids::RefId;
 use crate::structs::Struct;
 
-/// What stands at a pointer.
+/// What stands at a pointer, where `R` stands for a capability.
 #[derive(Clone, Debug)]
-pub enum Node {
+pub enum Node<R> {
     Null,
-    Struct(Struct),
+    Struct(Struct<R>),
     /// Elements of so many bits, without pointers.
     Scalars(Scalars),
-    Pointers(Vec<Node>),
-    Structs(Vec<Struct>),
-    Reference(RefId),
+    Pointers(Vec<Node<R>>),
+    Structs(Vec<Struct<R>>),
+    Reference(R),
 }
 
 #[derive(Clone, Debug)]
@@ -22,7 +21,7 @@ pub struct Scalars {
     pub data: Vec<u8>,
 }
 
-impl Node {
+impl<R> Node<R> {
     /// What it is, for the text of an error.
     pub fn kind(&self) -> &'static str {
         match self {

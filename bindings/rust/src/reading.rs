@@ -2,7 +2,6 @@
 //! as large as what is visited, which has a limit.
 
 use crate::fault::Fault;
-use crate::ids::RefId;
 use crate::node::{BITS, MOST_LEVELS, MOST_SEGMENTS, MOST_VISITED, MOST_WORDS, Node, POINTERS, STRUCTS, Scalars};
 use crate::structs::Struct;
 
@@ -13,7 +12,7 @@ const FAR: u32 = 2;
 const OTHER: u32 = 3;
 
 /// What stands at the root of a payload, with which those references go.
-pub fn read(payload: &[u8], refs: &[RefId]) -> Result<Node, Fault> {
+pub fn read<R: Clone>(payload: &[u8], refs: &[R]) -> Result<Node<R>, Fault> {
     let segments = segments(payload)?;
     Reading { segments, refs, visited: 0 }.node(Place { segment: 0, at: 0 }, 1)
 }
@@ -97,13 +96,13 @@ impl Sections {
     }
 }
 
-struct Reading<'a> {
+struct Reading<'a, R> {
     segments: Vec<&'a [u8]>,
-    refs: &'a [RefId],
+    refs: &'a [R],
     visited: usize,
 }
 
-impl<'a> Reading<'a> {
+impl<'a, R: Clone> Reading<'a, R> {
     fn visit(&mut self, words: usize) -> Result<(), Fault> {
         self.visited += words;
         if self.visited > MOST_VISITED {
@@ -126,7 +125,7 @@ impl<'a> Reading<'a> {
     }
 
     /// What the pointer at a place leads to; the content has that level.
-    fn node(&mut self, place: Place, level: usize) -> Result<Node, Fault> {
+    fn node(&mut self, place: Place, level: usize) -> Result<Node<R>, Fault> {
         let (low, high) = self.word(place)?;
         if (low, high) == (0, 0) {
             return Ok(Node::Null);
@@ -146,11 +145,11 @@ impl<'a> Reading<'a> {
         }
     }
 
-    fn reference(&self, low: u32, high: u32) -> Result<Node, Fault> {
+    fn reference(&self, low: u32, high: u32) -> Result<Node<R>, Fault> {
         if low != OTHER {
             return Err(Fault::BadOther);
         }
-        self.refs.get(high as usize).map(|reference| Node::Reference(*reference)).ok_or(Fault::CapIndex)
+        self.refs.get(high as usize).map(|reference| Node::Reference(reference.clone())).ok_or(Fault::CapIndex)
     }
 
     /// Behind a far pointer.
@@ -176,23 +175,23 @@ impl<'a> Reading<'a> {
         Ok(Pointer { segment: high as usize, start: i64::from(low >> 3), low: tag_low, high: tag_high })
     }
 
-    fn structure(&mut self, start: Place, sections: Sections, level: usize) -> Result<Node, Fault> {
+    fn structure(&mut self, start: Place, sections: Sections, level: usize) -> Result<Node<R>, Fault> {
         self.words(start, sections.size())?;
         self.visit(sections.size())?;
         self.content(start, sections, level).map(Node::Struct)
     }
 
-    fn content(&mut self, start: Place, sections: Sections, level: usize) -> Result<Struct, Fault> {
+    fn content(&mut self, start: Place, sections: Sections, level: usize) -> Result<Struct<R>, Fault> {
         let data = self.words(start, sections.words)?.to_vec();
         let pointers = self.pointers(start.ahead(sections.words), sections.pointers, level)?;
         Ok(Struct { data, pointers })
     }
 
-    fn pointers(&mut self, first: Place, count: usize, level: usize) -> Result<Vec<Node>, Fault> {
+    fn pointers(&mut self, first: Place, count: usize, level: usize) -> Result<Vec<Node<R>>, Fault> {
         (0..count).map(|at| self.node(first.ahead(at), level + 1)).collect()
     }
 
-    fn list(&mut self, start: Place, size: u32, count: usize, level: usize) -> Result<Node, Fault> {
+    fn list(&mut self, start: Place, size: u32, count: usize, level: usize) -> Result<Node<R>, Fault> {
         if size == STRUCTS {
             return self.structs(start, count, level);
         }
@@ -207,7 +206,7 @@ impl<'a> Reading<'a> {
         Ok(Node::Scalars(Scalars { bits, count, data }))
     }
 
-    fn structs(&mut self, start: Place, size: usize, level: usize) -> Result<Node, Fault> {
+    fn structs(&mut self, start: Place, size: usize, level: usize) -> Result<Node<R>, Fault> {
         self.words(start, size + 1)?;
         let (low, high) = self.word(start)?;
         let (count, sections) = ((low >> 2) as usize, Sections::of(high));

@@ -25,19 +25,30 @@ use std::borrow::Cow;
 /// A field that was not written is zero or null, also if it is past the end, and a null pointer reads as an empty text, list or
 /// struct. So a reader whose schema has other fields than the writer's reads those that both have. The defaults of a schema that are
 /// not zero are the reader's to add; a number is stored as its bits xor those of its default.
-#[derive(Clone, Debug, Default)]
-pub struct Struct {
+///
+/// A capability is a reference of a vat, and in contents that go over a [`Connection`](crate::Connection) a
+/// [`Capability`](crate::Capability).
+#[derive(Clone, Debug)]
+pub struct Struct<R = RefId> {
     pub(crate) data: Vec<u8>,
-    pub(crate) pointers: Vec<Node>,
+    pub(crate) pointers: Vec<Node<R>>,
 }
 
-static EMPTY: Struct = Struct { data: Vec::new(), pointers: Vec::new() };
-
 impl Struct {
-    /// A struct of zeros and nulls.
+    /// A struct of zeros and nulls, whose capabilities are references. One with others is made by `default`.
     pub fn new() -> Struct {
         Struct::default()
     }
+}
+
+impl<R> Default for Struct<R> {
+    fn default() -> Struct<R> {
+        Struct { data: Vec::new(), pointers: Vec::new() }
+    }
+}
+
+impl<R: Clone + 'static> Struct<R> {
+    const EMPTY: &'static Struct<R> = &Struct { data: Vec::new(), pointers: Vec::new() };
 
     /// Writes a number. The index counts numbers of this size.
     ///
@@ -48,7 +59,7 @@ impl Struct {
     /// assert_eq!((it.number(0), it.number(3), it.number(128)), (7u64, -1i32, true));
     /// assert_eq!(it.number::<f32>(9), 0.0);
     /// ```
-    pub fn set_number<T: Number>(&mut self, index: usize, number: T) -> &mut Struct {
+    pub fn set_number<T: Number>(&mut self, index: usize, number: T) -> &mut Struct<R> {
         let bits = index.saturating_add(1).saturating_mul(T::BITS);
         // One word more than there may be has the struct refused when it is written.
         let words = ((bits - 1) / 64 + 1).min(MOST_SECTION + 1);
@@ -78,7 +89,7 @@ impl Struct {
     /// assert_eq!((it.text(0)?, it.text(1)?), ("", "grüß Gott"));
     /// # Ok::<(), ContentsError>(())
     /// ```
-    pub fn set_text(&mut self, pointer: u16, text: &str) -> &mut Struct {
+    pub fn set_text(&mut self, pointer: u16, text: &str) -> &mut Struct<R> {
         self.set_data(pointer, &[text.as_bytes(), &[0]].concat())
     }
 
@@ -100,7 +111,7 @@ impl Struct {
     /// assert_eq!((it.data(0)?, it.data(1)?), (&[0xca, 0xfe][..], &[][..]));
     /// # Ok::<(), ContentsError>(())
     /// ```
-    pub fn set_data(&mut self, pointer: u16, data: &[u8]) -> &mut Struct {
+    pub fn set_data(&mut self, pointer: u16, data: &[u8]) -> &mut Struct<R> {
         self.set_numbers(pointer, data)
     }
 
@@ -120,7 +131,7 @@ impl Struct {
     /// assert!(it.numbers::<u16>(1).is_err());
     /// # Ok::<(), ContentsError>(())
     /// ```
-    pub fn set_numbers<T: Number>(&mut self, pointer: u16, numbers: &[T]) -> &mut Struct {
+    pub fn set_numbers<T: Number>(&mut self, pointer: u16, numbers: &[T]) -> &mut Struct<R> {
         let mut data = vec![0; (numbers.len() * T::BITS + 7) / 8];
         numbers.iter().enumerate().for_each(|(index, number)| number.store(&mut data, index));
         self.set(pointer, Node::Scalars(Scalars { bits: T::BITS, count: numbers.len(), data }))
@@ -156,13 +167,13 @@ impl Struct {
     /// assert_eq!((lines.len(), lines[1].text(0)?, lines[1].number::<u32>(0)), (2, "bob", 2));
     /// # Ok::<(), ContentsError>(())
     /// ```
-    pub fn set_structs(&mut self, pointer: u16, items: impl IntoIterator<Item = Struct>) -> &mut Struct {
+    pub fn set_structs(&mut self, pointer: u16, items: impl IntoIterator<Item = Struct<R>>) -> &mut Struct<R> {
         self.set(pointer, Node::Structs(items.into_iter().collect()))
     }
 
     /// The structs there. A list of numbers or pointers, which an earlier version of the schema may have had, gives structs whose
     /// first field they are. `WrongKind`.
-    pub fn structs(&self, pointer: u16) -> Result<Cow<'_, [Struct]>, ContentsError> {
+    pub fn structs(&self, pointer: u16) -> Result<Cow<'_, [Struct<R>]>, ContentsError> {
         match self.at(pointer) {
             Node::Null => Ok(Cow::Borrowed(&[])),
             Node::Structs(items) => Ok(Cow::Borrowed(items)),
@@ -189,38 +200,38 @@ impl Struct {
     /// assert_eq!(it.struct_at(1)?.reference(0)?, None);
     /// # Ok::<(), ContentsError>(())
     /// ```
-    pub fn set_struct(&mut self, pointer: u16, it: Struct) -> &mut Struct {
+    pub fn set_struct(&mut self, pointer: u16, it: Struct<R>) -> &mut Struct<R> {
         self.set(pointer, Node::Struct(it))
     }
 
     /// The struct there. `WrongKind`.
-    pub fn struct_at(&self, pointer: u16) -> Result<&Struct, ContentsError> {
+    pub fn struct_at(&self, pointer: u16) -> Result<&Struct<R>, ContentsError> {
         match self.at(pointer) {
-            Node::Null => Ok(&EMPTY),
+            Node::Null => Ok(Self::EMPTY),
             Node::Struct(it) => Ok(it),
             other => Err(wrong(pointer, "a struct", other)),
         }
     }
 
     /// Writes a reference, which is then one of [`Contents::refs`](crate::Contents::refs).
-    pub fn set_reference(&mut self, pointer: u16, reference: RefId) -> &mut Struct {
+    pub fn set_reference(&mut self, pointer: u16, reference: R) -> &mut Struct<R> {
         self.set(pointer, Node::Reference(reference))
     }
 
     /// The reference there, which is still to be dropped as one of the contents' references. `WrongKind`.
-    pub fn reference(&self, pointer: u16) -> Result<Option<RefId>, ContentsError> {
+    pub fn reference(&self, pointer: u16) -> Result<Option<R>, ContentsError> {
         match self.at(pointer) {
             Node::Null => Ok(None),
-            Node::Reference(reference) => Ok(Some(*reference)),
+            Node::Reference(reference) => Ok(Some(reference.clone())),
             other => Err(wrong(pointer, "a reference", other)),
         }
     }
 
-    fn at(&self, pointer: u16) -> &Node {
+    fn at(&self, pointer: u16) -> &Node<R> {
         self.pointers.get(usize::from(pointer)).unwrap_or(&Node::Null)
     }
 
-    fn set(&mut self, pointer: u16, node: Node) -> &mut Struct {
+    fn set(&mut self, pointer: u16, node: Node<R>) -> &mut Struct<R> {
         let at = usize::from(pointer);
         if self.pointers.len() <= at {
             self.pointers.resize(at + 1, Node::Null);
@@ -238,6 +249,6 @@ impl Struct {
     }
 }
 
-fn wrong(pointer: u16, wanted: &'static str, found: &Node) -> ContentsError {
+fn wrong<R>(pointer: u16, wanted: &'static str, found: &Node<R>) -> ContentsError {
     ContentsError::WrongKind { pointer: Some(pointer), wanted, found: found.kind() }
 }

@@ -221,8 +221,18 @@ impl Vat {
         method: u16,
         params: &Contents,
     ) -> Result<CallId, Refusal> {
-        let method = Method(interface, method);
-        let (code, call) = ffi::call(&mut self.handle, reference.0, method, &params.payload, &params.refs);
+        self.call_parts(reference, interface, method, &params.payload, &params.refs)
+    }
+
+    pub(crate) fn call_parts(
+        &mut self,
+        reference: RefId,
+        interface: u64,
+        method: u16,
+        payload: &[u8],
+        refs: &[RefId],
+    ) -> Result<CallId, Refusal> {
+        let (code, call) = ffi::call(&mut self.handle, reference.0, Method(interface, method), payload, refs);
         Refusal::check(code).map(|()| CallId(call))
     }
 
@@ -234,7 +244,11 @@ impl Vat {
     /// Gives a task its results; the references that go with them stay the caller's. `NoPayload`, `UnknownTask`, `UnknownRef`,
     /// `Level`.
     pub fn answer(&mut self, task: TaskId, results: &Contents) -> Result<(), Refusal> {
-        Refusal::check(ffi::answer(&mut self.handle, task.0, &results.payload, &results.refs))
+        self.answer_parts(task, &results.payload, &results.refs)
+    }
+
+    pub(crate) fn answer_parts(&mut self, task: TaskId, payload: &[u8], refs: &[RefId]) -> Result<(), Refusal> {
+        Refusal::check(ffi::answer(&mut self.handle, task.0, payload, refs))
     }
 
     /// Gives a task an exception. `UnknownTask`.

@@ -1,7 +1,6 @@
 //! From a struct to the bytes of a message of one segment, with it at the root: `docs/encoding.md` says where each content is placed.
 
 use crate::fault::Fault;
-use crate::ids::RefId;
 use crate::node::{BITS, MOST_LEVELS, MOST_SECTION, MOST_VISITED, MOST_WORDS, Node, POINTERS, STRUCTS, Scalars};
 use crate::structs::Struct;
 
@@ -9,7 +8,7 @@ const LIST: u32 = 1;
 const OTHER: u32 = 3;
 
 /// The message, and what its capabilities stand for.
-pub fn write(root: &Struct) -> Result<(Vec<u8>, Vec<RefId>), Fault> {
+pub fn write<R: Clone>(root: &Struct<R>) -> Result<(Vec<u8>, Vec<R>), Fault> {
     let words = measured(root)?;
     let mut writing = Writing { words: Vec::with_capacity(words), refs: Vec::new() };
     writing.words.push(0);
@@ -20,7 +19,7 @@ pub fn write(root: &Struct) -> Result<(Vec<u8>, Vec<RefId>), Fault> {
 }
 
 /// How many words the message takes, or the first reason in the order of `docs/encoding.md` for which it can't be written.
-fn measured(root: &Struct) -> Result<usize, Fault> {
+fn measured<R>(root: &Struct<R>) -> Result<usize, Fault> {
     let mut measure = Measure::default();
     measure.structure(root, 1);
     if measure.is_deep {
@@ -44,7 +43,7 @@ struct Measure {
 }
 
 impl Measure {
-    fn node(&mut self, node: &Node, level: usize) {
+    fn node<R>(&mut self, node: &Node<R>, level: usize) {
         match node {
             Node::Null | Node::Reference(_) => {}
             _ if level > MOST_LEVELS => self.is_deep = true,
@@ -58,13 +57,13 @@ impl Measure {
         }
     }
 
-    fn structure(&mut self, it: &Struct, level: usize) {
+    fn structure<R>(&mut self, it: &Struct<R>, level: usize) {
         let words = self.sized(Sections::of(it));
         self.content(words);
         it.pointers.iter().for_each(|pointer| self.node(pointer, level + 1));
     }
 
-    fn structs(&mut self, items: &[Struct], level: usize) {
+    fn structs<R>(&mut self, items: &[Struct<R>], level: usize) {
         let each = self.sized(Sections::of_all(items));
         self.content(1 + each.saturating_mul(items.len()));
         if each == 0 {
@@ -92,12 +91,12 @@ struct Sections {
 }
 
 impl Sections {
-    fn of(it: &Struct) -> Sections {
+    fn of<R>(it: &Struct<R>) -> Sections {
         Sections { words: (it.data.len() + 7) / 8, pointers: it.pointers.len() }
     }
 
     /// The least that each of them has room in.
-    fn of_all(items: &[Struct]) -> Sections {
+    fn of_all<R>(items: &[Struct<R>]) -> Sections {
         items.iter().map(Sections::of).fold(Sections { words: 0, pointers: 0 }, |most, it| Sections {
             words: most.words.max(it.words),
             pointers: most.pointers.max(it.pointers),
@@ -110,19 +109,19 @@ impl Sections {
 }
 
 /// What was measured before, so that all numbers fit.
-struct Writing {
+struct Writing<R> {
     words: Vec<u64>,
-    refs: Vec<RefId>,
+    refs: Vec<R>,
 }
 
-impl Writing {
+impl<R: Clone> Writing<R> {
     /// Writes a pointer, for which there is a word of zeros, and appends what it leads to.
-    fn place(&mut self, at: usize, node: &Node) {
+    fn place(&mut self, at: usize, node: &Node<R>) {
         match node {
             Node::Null => {}
             Node::Reference(reference) => {
                 self.words[at] = halves(OTHER, self.refs.len() as u32);
-                self.refs.push(*reference);
+                self.refs.push(reference.clone());
             }
             Node::Struct(it) => self.place_struct(at, it),
             Node::Scalars(list) => self.place_scalars(at, list),
@@ -135,11 +134,11 @@ impl Writing {
         }
     }
 
-    fn place_all(&mut self, first: usize, nodes: &[Node]) {
+    fn place_all(&mut self, first: usize, nodes: &[Node<R>]) {
         nodes.iter().enumerate().for_each(|(number, node)| self.place(first + number, node));
     }
 
-    fn place_struct(&mut self, at: usize, it: &Struct) {
+    fn place_struct(&mut self, at: usize, it: &Struct<R>) {
         let sections = Sections::of(it);
         let is_empty = sections.words + sections.pointers == 0;
         let offset = if is_empty { u32::MAX } else { self.offset(at) };
@@ -154,7 +153,7 @@ impl Writing {
         self.append_data(&list.data);
     }
 
-    fn place_structs(&mut self, at: usize, items: &[Struct]) {
+    fn place_structs(&mut self, at: usize, items: &[Struct<R>]) {
         let sections = Sections::of_all(items);
         self.point_at_list(at, STRUCTS, (sections.words + sections.pointers) * items.len());
         self.words.push(halves((items.len() as u32) << 2, sections.of_pointer()));
@@ -172,7 +171,7 @@ impl Writing {
     }
 
     /// Where its pointers begin.
-    fn append_struct(&mut self, it: &Struct, sections: Sections) -> usize {
+    fn append_struct(&mut self, it: &Struct<R>, sections: Sections) -> usize {
         let start = self.append_data(&it.data);
         let first = start + sections.words;
         self.words.resize(first + sections.pointers, 0);

@@ -1,0 +1,107 @@
+//! What an application serves over its connections.
+
+use crate::capability::Capability;
+use crate::contents::Contents;
+use crate::event::{Exception, ExceptionKind};
+use crate::ids::TaskId;
+use crate::remote::{Call, Remote};
+use crate::shared::Shared;
+use std::sync::Arc;
+
+/// How a call over a connection ends: with what it gives, or with an exception.
+pub type Outcome = Result<Contents<Capability>, Exception>;
+
+/// What peers call. It stays at each connection over which it went, until that connection ends.
+///
+/// The calls of a connection come one after the other, in their order. The next one waits while `call` works, but not for its answer,
+/// which may be sent later and from another thread. So `call` must not wait for a call over the same connection; [`Call::then`] doesn't.
+pub trait Object: Send + Sync {
+    /// Serves a call, whose answer is sent now or later. If it panics, the call fails.
+    fn call(&self, call: Incoming, answer: Answer);
+
+    /// A connection over which it went has ended. It is called once for each of them.
+    fn gone(&self) {}
+}
+
+/// A call that is to be served.
+#[derive(Clone, Debug)]
+pub struct Incoming {
+    /// The interface of the method.
+    pub interface: u64,
+    /// The method.
+    pub method: u16,
+    /// What came with the call.
+    pub params: Contents<Capability>,
+}
+
+/// By what a call that came is answered, once. If it is dropped before, the call fails.
+pub struct Answer(Option<(Arc<Shared>, TaskId)>);
+
+impl Answer {
+    pub(crate) fn new(connection: Arc<Shared>, task: TaskId) -> Answer {
+        Answer(Some((connection, task)))
+    }
+
+    /// Ends the call. Contents that can't be sent make it fail, and after the end of the connection this does nothing. Another thread
+    /// may do it:
+    ///
+    /// ```
+    /// use lovendak::{Answer, Contents, Incoming, Object, Struct};
+    /// use std::thread;
+    ///
+    /// struct Slow;
+    ///
+    /// impl Object for Slow {
+    ///     fn call(&self, _: Incoming, answer: Answer) {
+    ///         thread::spawn(move || {
+    ///             let results = Contents::of(Struct::default().set_number(0, 42u64));
+    ///             answer.send(results.map_err(|error| error.into()));
+    ///         });
+    ///     }
+    /// }
+    /// ```
+    pub fn send(mut self, outcome: Outcome) {
+        if let Some((connection, task)) = self.0.take() {
+            connection.answer(task, outcome);
+        }
+    }
+
+    /// Ends the call as another call ends. An object that passes all calls on to a capability, of whichever connection:
+    ///
+    /// ```
+    /// use lovendak::{Answer, Incoming, Object, Remote};
+    ///
+    /// struct Behind(Remote);
+    ///
+    /// impl Object for Behind {
+    ///     fn call(&self, call: Incoming, answer: Answer) {
+    ///         answer.follow(self.0.call_with(call.interface, call.method, &call.params));
+    ///     }
+    /// }
+    /// ```
+    pub fn follow(self, call: Call) {
+        call.then(|outcome| self.send(outcome));
+    }
+
+    /// Has it fail, as a method that its object does not have.
+    pub fn unimplemented(self) {
+        self.send(Err(Exception { kind: ExceptionKind::Unimplemented, reason: "no such method".into() }));
+    }
+}
+
+impl Drop for Answer {
+    fn drop(&mut self) {
+        if let Some((connection, task)) = self.0.take() {
+            connection.answer(task, Err(Exception::failed("the call was not answered")));
+        }
+    }
+}
+
+/// A capability of another connection, to which calls are passed on.
+pub(crate) struct Forward(pub Remote);
+
+impl Object for Forward {
+    fn call(&self, call: Incoming, answer: Answer) {
+        answer.follow(self.0.call_with(call.interface, call.method, &call.params));
+    }
+}

@@ -1,0 +1,378 @@
+//! Objects and calls over connections.
+
+use lovendak::{
+    Answer, Call, Capability, Connection, Contents, ExceptionKind, Incoming, Level, Object, Outcome, Promise, Remote,
+    Resolver, Struct, Vat,
+};
+use std::collections::BTreeMap;
+use std::io::{Read, Write};
+use std::net::{TcpListener, TcpStream};
+use std::os::unix::net::UnixStream;
+use std::sync::{Arc, Mutex};
+use std::time::{Duration, Instant};
+use std::{panic, thread};
+
+const DESK: u64 = 0xd0e5_0000_0000_0001;
+const ECHO: u16 = 0;
+const KEEP: u16 = 1;
+const ASK: u16 = 2;
+const LATER: u16 = 3;
+const WAIT: u16 = 4;
+const PANIC: u16 = 5;
+const IGNORE: u16 = 6;
+const WAIT_HERE: u16 = 7;
+
+/// It keeps what it was told, and is told of what is gone.
+#[derive(Default)]
+struct Desk {
+    echoed: Mutex<Vec<u64>>,
+    waiting: Mutex<BTreeMap<u64, Answer>>,
+    later: Mutex<Option<Resolver>>,
+    gone: Mutex<usize>,
+}
+
+impl Object for Desk {
+    fn call(&self, call: Incoming, answer: Answer) {
+        let params = call.params.root().unwrap();
+        let number: u64 = params.number(0);
+        let given = params.reference(0).unwrap();
+        match (call.interface, call.method) {
+            (DESK, ECHO) => {
+                self.echoed.lock().unwrap().push(number);
+                answer.send(Ok(call.params));
+            }
+            (DESK, KEEP) => {
+                let mut kept = Struct::default();
+                kept.set_reference(1, given.unwrap());
+                answer.send(Ok(Contents::of(Struct::default().set_struct(2, kept)).unwrap()));
+            }
+            (DESK, ASK) => answer.follow(echo(&given.and_then(Capability::into_remote).unwrap(), number)),
+            (DESK, LATER) => {
+                let (promise, resolver) = Promise::new();
+                *self.later.lock().unwrap() = Some(resolver);
+                answer.send(Ok(Contents::of(Struct::default().set_reference(0, promise.into())).unwrap()));
+            }
+            (DESK, WAIT) => drop(self.waiting.lock().unwrap().insert(number, answer)),
+            (DESK, PANIC) => panic::resume_unwind(Box::new("on purpose")),
+            (DESK, IGNORE) => drop(answer),
+            (DESK, WAIT_HERE) => answer.send(echo(&given.and_then(Capability::into_remote).unwrap(), number).wait()),
+            _ => answer.unimplemented(),
+        }
+    }
+
+    fn gone(&self) {
+        *self.gone.lock().unwrap() += 1;
+    }
+}
+
+impl Desk {
+    fn echoed(&self) -> Vec<u64> {
+        self.echoed.lock().unwrap().clone()
+    }
+
+    fn gone(&self) -> usize {
+        *self.gone.lock().unwrap()
+    }
+}
+
+fn echo(desk: &Remote, number: u64) -> Call {
+    desk.call(DESK, ECHO, Struct::default().set_number(0, number))
+}
+
+fn with(desk: &Remote, method: u16, given: impl Into<Capability>, number: u64) -> Call {
+    desk.call(DESK, method, Struct::default().set_number(0, number).set_reference(0, given.into()))
+}
+
+fn number(outcome: Outcome) -> u64 {
+    outcome.unwrap().root().unwrap().number(0)
+}
+
+fn kind(outcome: Outcome) -> ExceptionKind {
+    outcome.unwrap_err().kind
+}
+
+fn desk() -> (Arc<Desk>, Capability) {
+    let desk = Arc::new(Desk::default());
+    (desk.clone(), Capability::Object(desk))
+}
+
+/// A connection with a server of that object, and the other side of it.
+fn connected(root: &Arc<Desk>) -> (Connection, Connection) {
+    let (here, there) = UnixStream::pair().unwrap();
+    (Connection::connected(here, None).unwrap(), Connection::accepted(there, root.clone()).unwrap())
+}
+
+fn until(is_so: impl Fn() -> bool) {
+    let begin = Instant::now();
+    while !is_so() {
+        assert!(begin.elapsed() < Duration::from_secs(120), "it did not come to pass");
+        thread::sleep(Duration::from_millis(2));
+    }
+}
+
+#[test]
+fn calls_are_pipelined() {
+    let root = Arc::new(Desk::default());
+    let (connection, _) = connected(&root);
+    let desk = connection.bootstrap();
+    let kept = with(&desk, KEEP, desk.clone(), 0);
+    let first = echo(&kept.at(&[2, 1]), 1);
+    let second = echo(&with(&kept.at(&[2, 1]), KEEP, desk.clone(), 0).at(&[2, 1]), 2);
+    assert_eq!((number(first.wait()), number(second.wait())), (1, 2));
+    let results = kept.wait().unwrap().root().unwrap();
+    let again = results.struct_at(2).unwrap().reference(1).unwrap().and_then(Capability::into_remote).unwrap();
+    assert_eq!(number(echo(&again, 3).wait()), 3);
+    assert_eq!(root.echoed(), [1, 2, 3]);
+    connection.close();
+}
+
+#[test]
+fn objects_are_called_back() {
+    let (connection, _) = connected(&Arc::new(Desk::default()));
+    let desk = connection.bootstrap();
+    let (own, given) = self::desk();
+    assert_eq!(number(with(&desk, ASK, given.clone(), 5).wait()), 5);
+    let back = with(&desk, KEEP, given, 0).at(&[2, 1]);
+    assert_eq!(number(echo(&back, 6).wait()), 6);
+    assert_eq!(own.echoed(), [5, 6]);
+    connection.close();
+}
+
+#[test]
+fn promises_are_settled_later() {
+    let root = Arc::new(Desk::default());
+    let (connection, _) = connected(&root);
+    let desk = connection.bootstrap();
+    let (promise, resolver) = Promise::new();
+    let asked = with(&desk, ASK, promise, 1);
+    let later = desk.call(DESK, LATER, &Struct::default()).at(&[0]);
+    let waiting = echo(&later, 2);
+    assert_eq!(number(echo(&desk, 3).wait()), 3);
+    assert_eq!(root.echoed(), [3]);
+    let (own, given) = self::desk();
+    resolver.resolve(given);
+    root.later.lock().unwrap().take().unwrap().resolve(Capability::Object(root.clone()));
+    assert_eq!((number(asked.wait()), number(waiting.wait())), (1, 2));
+    assert_eq!((own.echoed(), root.echoed()), (vec![1], vec![3, 2]));
+    connection.close();
+}
+
+#[test]
+fn promises_are_broken() {
+    let (connection, _) = connected(&Arc::new(Desk::default()));
+    let desk = connection.bootstrap();
+    let (first, resolver) = Promise::new();
+    let (second, dropped) = Promise::new();
+    let (circle, itself) = Promise::new();
+    resolver.reject("on purpose");
+    drop(dropped);
+    itself.resolve(circle.clone().into());
+    for promise in [first, second, circle] {
+        assert_eq!(kind(with(&desk, ASK, promise, 1).wait()), ExceptionKind::Failed);
+    }
+    connection.close();
+}
+
+#[test]
+fn failures_come_to_the_caller() {
+    let root = Arc::new(Desk::default());
+    let (connection, _) = connected(&root);
+    let desk = connection.bootstrap();
+    let method = |method| desk.call(DESK, method, &Struct::default()).wait();
+    assert_eq!(method(99).unwrap_err().to_string(), "unimplemented: no such method");
+    for unanswered in [PANIC, IGNORE] {
+        assert_eq!(method(unanswered).unwrap_err().to_string(), "failed: the call was not answered");
+    }
+    let (_own, given) = self::desk();
+    assert!(with(&desk, WAIT_HERE, given, 1).wait().unwrap_err().reason.starts_with("an object can't wait"));
+    assert_eq!(kind(echo(&desk.call(DESK, 99, &Struct::default()).at(&[0]), 1).wait()), ExceptionKind::Failed);
+    let large = desk.call(DESK, ECHO, Struct::default().set_data(0, &[0; 1 << 19]));
+    assert_eq!(kind(echo(&large.at(&[0]), 1).wait()), ExceptionKind::Failed);
+    assert!(large.wait().unwrap_err().reason.starts_with("TooLarge"));
+    assert_eq!(number(echo(&desk, 2).wait()), 2);
+    assert_eq!(root.echoed(), [2]);
+    connection.close();
+}
+
+#[test]
+fn a_thousand_calls_are_in_flight() {
+    let root = Arc::new(Desk::default());
+    let (connection, _) = connected(&root);
+    let desk = connection.bootstrap();
+    let calls: Vec<Call> =
+        (0..1000u64).map(|number| desk.call(DESK, WAIT, Struct::default().set_number(0, number))).collect();
+    until(|| root.waiting.lock().unwrap().len() == 1000);
+    let waiting = std::mem::take(&mut *root.waiting.lock().unwrap());
+    for (number, answer) in waiting.into_iter().rev() {
+        answer.send(Ok(Contents::of(Struct::default().set_number(0, number + 1)).unwrap()));
+    }
+    for (wanted, call) in (1..).zip(calls) {
+        assert_eq!(number(call.wait()), wanted);
+    }
+    connection.close();
+}
+
+#[test]
+fn calls_come_in_order_from_several_threads() {
+    let root = Arc::new(Desk::default());
+    let (connection, _) = connected(&root);
+    let desk = connection.bootstrap();
+    thread::scope(|scope| {
+        for thread in 0..4u64 {
+            let desk = desk.clone();
+            scope.spawn(move || {
+                let calls: Vec<Call> = (0..250).map(|at| echo(&desk, 1000 * thread + at)).collect();
+                for (at, call) in (0..).zip(calls) {
+                    assert_eq!(number(call.wait()), 1000 * thread + at);
+                }
+            });
+        }
+    });
+    for thread in 0..4 {
+        let of_thread: Vec<u64> = root.echoed().into_iter().filter(|number| number / 1000 == thread).collect();
+        assert_eq!(of_thread, (1000 * thread..1000 * thread + 250).collect::<Vec<_>>());
+    }
+    connection.close();
+}
+
+#[test]
+fn calls_are_forwarded_between_connections() {
+    let (root, other_root) = (Arc::new(Desk::default()), Arc::new(Desk::default()));
+    let ((one, _), (two, _)) = (connected(&root), connected(&other_root));
+    let (desk, other) = (one.bootstrap(), two.bootstrap());
+    assert_eq!(number(with(&other, ASK, desk.clone(), 1).wait()), 1);
+    // What the other gives back of ours is called by way of it.
+    let through = with(&other, KEEP, desk.clone(), 0).at(&[2, 1]);
+    let (own, given) = self::desk();
+    assert_eq!(number(echo(&with(&through, KEEP, given.clone(), 0).at(&[2, 1]), 2).wait()), 2);
+    assert_eq!(number(with(&through, ASK, given, 3).wait()), 3);
+    assert_eq!((root.echoed(), other_root.echoed(), own.echoed()), (vec![1], vec![], vec![2, 3]));
+    assert_eq!(kind(through.call(DESK, 99, &Struct::default()).wait()), ExceptionKind::Unimplemented);
+    let calls: Vec<Call> = (10..110).map(|number| echo(&through, number)).collect();
+    for (wanted, call) in (10..).zip(calls) {
+        assert_eq!(number(call.wait()), wanted);
+    }
+    assert_eq!(root.echoed()[1..], (10..110).collect::<Vec<_>>());
+    // A promise of one connection, over the other.
+    let later = desk.call(DESK, LATER, &Struct::default());
+    let asked = with(&other, ASK, later.at(&[0]), 7);
+    later.wait().unwrap();
+    root.later.lock().unwrap().take().unwrap().resolve(Capability::Object(root.clone()));
+    assert_eq!(number(asked.wait()), 7);
+    one.close();
+    until(|| one.has_ended());
+    assert_eq!(kind(echo(&through, 1).wait()), ExceptionKind::Disconnected);
+    two.close();
+}
+
+#[test]
+fn a_peer_dies() {
+    let root = Arc::new(Desk::default());
+    let (here, there) = UnixStream::pair().unwrap();
+    let cut = there.try_clone().unwrap();
+    let connection = Connection::connected(here, None).unwrap();
+    let server = Connection::accepted(there, root.clone()).unwrap();
+    let desk = connection.bootstrap();
+    let (own, given) = self::desk();
+    let kept = with(&desk, KEEP, given, 0).wait().unwrap();
+    let open = desk.call(DESK, WAIT, Struct::default().set_number(0, 1u64));
+    let (sender, told) = std::sync::mpsc::channel();
+    desk.call(DESK, WAIT, Struct::default().set_number(0, 2u64))
+        .then(move |outcome| sender.send(kind(outcome)).unwrap());
+    until(|| root.waiting.lock().unwrap().len() == 2);
+    cut.shutdown(std::net::Shutdown::Both).unwrap();
+    assert_eq!(kind(open.wait()), ExceptionKind::Disconnected);
+    assert_eq!(told.recv(), Ok(ExceptionKind::Disconnected));
+    connection.wait_ended();
+    server.wait_ended();
+    until(|| own.gone() == 1 && root.gone() == 1);
+    assert_eq!(kind(echo(&desk, 1).wait()), ExceptionKind::Disconnected);
+    assert_eq!(kind(echo(&connection.bootstrap(), 1).wait()), ExceptionKind::Disconnected);
+    root.waiting.lock().unwrap().clear(); // answers that come too late
+    drop(kept);
+}
+
+#[test]
+fn what_was_said_before_the_end_arrives() {
+    let root = Arc::new(Desk::default());
+    let (connection, server) = connected(&root);
+    let desk = connection.bootstrap();
+    (0..100).for_each(|number| echo(&desk, number).then(|_| ()));
+    connection.close();
+    server.wait_ended();
+    assert_eq!(root.echoed(), (0..100).collect::<Vec<_>>());
+}
+
+#[test]
+fn calls_that_are_dropped_are_given_up() {
+    let root = Arc::new(Desk::default());
+    let (connection, _) = connected(&root);
+    let desk = connection.bootstrap();
+    let kept = with(&desk, KEEP, desk.clone(), 0);
+    let again = kept.at(&[2, 1]);
+    drop(kept);
+    drop(desk.call(DESK, WAIT, Struct::default().set_number(0, 1u64)));
+    assert_eq!(number(echo(&again, 2).wait()), 2);
+    root.waiting.lock().unwrap().clear();
+    assert_eq!(number(echo(&desk, 3).wait()), 3);
+    connection.close();
+}
+
+#[test]
+fn no_message_ends_a_connection() {
+    let root = Arc::new(Desk::default());
+    let (mut here, there) = UnixStream::pair().unwrap();
+    let server = Connection::accepted(there, root.clone()).unwrap();
+    here.write_all(b"no message of Cap'n Proto").unwrap();
+    server.wait_ended();
+    let mut said = Vec::new();
+    here.read_to_end(&mut said).unwrap(); // an Abort
+    assert!(!said.is_empty());
+    until(|| root.gone() == 1);
+}
+
+#[test]
+fn a_peer_that_does_not_read_is_refused() {
+    let (here, _there) = UnixStream::pair().unwrap();
+    let connection = Connection::connected(here, None).unwrap();
+    let desk = connection.bootstrap();
+    let large = Contents::of(Struct::default().set_data(0, &[7; 200_000])).unwrap();
+    let calls: Vec<Call> = (0..200).map(|_| desk.call_with(DESK, ECHO, &large)).collect();
+    assert_eq!(kind(calls.into_iter().last().unwrap().wait()), ExceptionKind::Overloaded);
+}
+
+#[test]
+fn who_does_not_read_is_not_heard() {
+    let (mut here, there) = UnixStream::pair().unwrap();
+    let server = Connection::accepted(there, Arc::new(Desk::default())).unwrap();
+    here.set_write_timeout(Some(Duration::from_secs(2))).unwrap();
+    let mut vat = Vat::new(Level::One, None).unwrap();
+    let asked = vat.bootstrap().unwrap();
+    let desk = vat.result_of(asked).unwrap();
+    let large = Contents::of(Struct::new().set_data(1, &[7; 100_000])).unwrap();
+    let is_heard = |_: &i32| {
+        vat.call(desk, DESK, ECHO, &large).unwrap();
+        here.write_all(&vat.outgoing()).is_ok()
+    };
+    assert!((0..300).take_while(is_heard).count() < 100);
+    drop(here);
+    server.wait_ended();
+}
+
+#[test]
+fn connections_go_over_tcp() {
+    let root = Arc::new(Desk::default());
+    let listener = TcpListener::bind("127.0.0.1:0").unwrap();
+    let address = listener.local_addr().unwrap();
+    let served = root.clone();
+    thread::spawn(move || lovendak::serve(&listener, || served.clone()));
+    let _silent = TcpStream::connect(address).unwrap();
+    let connection = Connection::connect(address, None).unwrap();
+    assert_eq!(number(echo(&connection.bootstrap(), 5).wait()), 5);
+    connection.close();
+    connection.wait_ended();
+    let again = Connection::connect(address, None).unwrap();
+    assert_eq!(number(echo(&again.bootstrap(), 6).wait()), 6);
+    again.close();
+    until(|| root.gone() == 2);
+}
