@@ -1,7 +1,11 @@
-/* Serves counters over TCP to peers of any make, one after the other:  example PORT [CLIENTS]
- * Of the registry of interop/registry.capnp it has makeCounter, makeRegistry, echo and same. */
+/* Serves counters over TCP to peers of any make, to 64 clients at a time:  example PORT [CLIENTS]
+ * Of the registry of interop/registry.capnp it has makeCounter, makeRegistry, echo and same. It ends after so many CLIENTS, if that is
+ * given. */
 #include "lovendak.h"
 #include <arpa/inet.h>
+#include <errno.h>
+#include <fcntl.h>
+#include <poll.h>
 #include <signal.h>
 #include <stdio.h>
 #include <stdlib.h>
@@ -10,10 +14,12 @@
 #define COUNTER UINT64_C(0xa5e1c0ffee000001)
 #define REGISTRY UINT64_C(0xa5e1c0ffee000004)
 enum { ADD = 0, MAKE_COUNTER = 0, MAKE_REGISTRY = 3, ECHO = 4, SAME = 6 };
-enum { ROOT = 0, MOST_COUNTERS = 1000, PIECE = 4096 };
+enum { ROOT = 0, MOST_COUNTERS = 1000, MOST_CLIENTS = 64, PIECE = 4096 };
 
-/* A client's vat, the sums of its counters (that of object 1 first), and room for what an event carries. */
+/* A client's socket, or -1; its vat, the sums of its counters (that of object 1 first), room for what an event carries, and the bytes
+ * that wait until the client takes them. */
 struct service {
+  int client;
   lovendak vat;
   uint64_t sums[MOST_COUNTERS];
   size_t counters;
@@ -21,6 +27,8 @@ struct service {
   uint8_t *payload;
   size_t room;
   uint64_t refs[16];
+  uint8_t out[PIECE];
+  size_t out_len, sent;
 };
 
 /* Answers the event's call with what it was given, or with a number or an object. */
@@ -85,37 +93,79 @@ static uint32_t work(struct service *s) {
   }
 }
 
-/* Sends what goes out; false where the client does not take it. */
-static int send_all(lovendak *vat, int client) {
-  uint8_t out[PIECE];
-  size_t len;
-  while (lovendak_outgoing(vat, out, sizeof out, &len) == LOVENDAK_OK && len > 0)
-    for (size_t sent = 0; sent < len;) {
-      ssize_t n = write(client, out + sent, len - sent);
-      if (n <= 0) return 0;
-      sent += (size_t)n;
+/* Sends what goes out, as much as the client takes; false where it is gone. */
+static int send_some(struct service *s) {
+  for (;;) {
+    if (s->sent == s->out_len) {
+      s->sent = s->out_len = 0;
+      if (lovendak_outgoing(&s->vat, s->out, PIECE, &s->out_len) || s->out_len == 0) return 1;
     }
-  return 1;
+    ssize_t n = write(s->client, s->out + s->sent, s->out_len - s->sent);
+    if (n < 0) return errno == EAGAIN;
+    s->sent += (size_t)n;
+  }
 }
 
-/* A conversation: what is there is read, the calls in it are served, and what is to be sent is written. */
-static uint32_t converse(struct service *s, int client) {
-  uint8_t in[PIECE];
-  uint32_t number, code = lovendak_new(&s->vat, 1, 1, ROOT);
-  ssize_t n;
-  s->payload = malloc(s->room = PIECE);
-  if (!s->payload) code = LOVENDAK_MEMORY;
-  while (!code && (n = read(client, in, sizeof in)) > 0) {
-    code = lovendak_received(&s->vat, in, (size_t)n);
-    if (!code) code = work(s);
-    if (!send_all(&s->vat, client) || lovendak_down(&s->vat, &number) == LOVENDAK_OK) break;
-  }
+static int is_sending(const struct service *s) { return s->sent < s->out_len; }
+
+static uint32_t begin(struct service *s, int client) {
+  fcntl(client, F_SETFL, O_NONBLOCK);
+  *s = (struct service){.client = client, .vat = LOVENDAK_EMPTY, .payload = malloc(PIECE), .room = PIECE};
+  return s->payload ? lovendak_new(&s->vat, 1, 1, ROOT) : LOVENDAK_MEMORY;
+}
+
+static void end(struct service *s, uint32_t code) {
+  if (code) fprintf(stderr, "a conversation ended with code %u\n", code);
   lovendak_free(&s->vat);
   free(s->payload);
-  return code;
+  close(s->client);
+  s->client = -1;
+}
+
+/* A step of a conversation: what is there is read, the calls in it are served, and what is to be sent is written. A client that does
+ * not read is not heard. False where it has ended; the code says why, if it is not 0. */
+static int go_on(struct service *s, uint32_t *code) {
+  uint8_t in[PIECE];
+  uint32_t number;
+  if (!is_sending(s)) {
+    ssize_t n = read(s->client, in, sizeof in);
+    if (n <= 0) return n < 0 && errno == EAGAIN;
+    *code = lovendak_received(&s->vat, in, (size_t)n);
+    if (!*code) *code = work(s);
+  }
+  if (!send_some(s)) return 0;
+  return !*code && (is_sending(s) || lovendak_down(&s->vat, &number) != LOVENDAK_OK);
+}
+
+/* Waits until there is something to do for a client, and does it. A new client gets the first place that is free. */
+static void turn(int listener, struct service *all, long *left) {
+  struct pollfd polled[MOST_CLIENTS + 1];
+  struct service *unused = NULL;
+  for (int i = 0; i < MOST_CLIENTS; i++) {
+    polled[i] = (struct pollfd){.fd = all[i].client, .events = is_sending(&all[i]) ? POLLOUT : POLLIN};
+    if (all[i].client < 0) unused = &all[i];
+  }
+  polled[MOST_CLIENTS] = (struct pollfd){.fd = unused && *left ? listener : -1, .events = POLLIN};
+  if (poll(polled, MOST_CLIENTS + 1, -1) < 0) return;
+  for (int i = 0; i < MOST_CLIENTS; i++) {
+    uint32_t code = LOVENDAK_OK;
+    if (polled[i].revents && !go_on(&all[i], &code)) end(&all[i], code);
+  }
+  int client = polled[MOST_CLIENTS].revents ? accept(listener, NULL, NULL) : -1;
+  if (client < 0) return;
+  *left -= *left > 0;
+  uint32_t code = begin(unused, client);
+  if (code) end(unused, code);
+}
+
+static int is_serving(const struct service *all) {
+  for (int i = 0; i < MOST_CLIENTS; i++)
+    if (all[i].client >= 0) return 1;
+  return 0;
 }
 
 int main(int words, char **word) {
+  static struct service all[MOST_CLIENTS];
   struct sockaddr_in at = {.sin_family = AF_INET, .sin_addr.s_addr = htonl(INADDR_LOOPBACK)};
   int yes = 1, listener = socket(AF_INET, SOCK_STREAM, 0);
   if (words < 2) return fprintf(stderr, "usage: example PORT [CLIENTS]\n"), 2;
@@ -123,14 +173,8 @@ int main(int words, char **word) {
   at.sin_port = htons((uint16_t)atoi(word[1]));
   setsockopt(listener, SOL_SOCKET, SO_REUSEADDR, &yes, sizeof yes);
   if (bind(listener, (struct sockaddr *)&at, sizeof at) || listen(listener, 9)) return perror("example"), 2;
-  for (long clients = words > 2 ? atol(word[2]) : -1; clients != 0; clients -= clients > 0) {
-    static struct service s;
-    int client = accept(listener, NULL, NULL);
-    s = (struct service){.vat = LOVENDAK_EMPTY};
-    uint32_t code = converse(&s, client);
-    if (code) fprintf(stderr, "a conversation ended with code %u\n", code);
-    close(client);
-  }
+  for (int i = 0; i < MOST_CLIENTS; i++) all[i].client = -1;
+  for (long left = words > 2 ? atol(word[2]) : -1; left || is_serving(all);) turn(listener, all, &left);
   close(listener);
   return 0;
 }

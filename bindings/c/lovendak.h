@@ -1,25 +1,32 @@
 /* Lovendak: a vat for Cap'n Proto RPC (rpc.capnp, two parties, levels 0 and 1), as a library without input or output of its own.
  *
- * An application hands over the bytes that came from the peer (`lovendak_received`), serves what it is told
- * (`lovendak_next_event`), commands its vat, and sends the bytes that go out (`lovendak_outgoing`). What references, calls, tasks
- * and promises are, and what has to be given back, stands in docs/embedding.md; docs/numbers.md says of each number what to do.
+ * An application passes on the bytes that came from the peer (`lovendak_received`), handles events (`lovendak_next_event`), gives
+ * commands to its vat, and sends the outbound bytes (`lovendak_outgoing`). docs/embedding.md says what references, calls, tasks and
+ * promises are, and what has to be given back. docs/numbers.md says what each number means, and what to do about it.
  *
- * Each function but `lovendak_version` answers a code. What a pointer is to get is written where the code is LOVENDAK_OK, and else
- * only where that is said. A command that is refused changes nothing, but for one case: the reference of a refused `lovendak_call` may
- * have taken the shorter path. Of several codes EMPTY_HANDLE comes first.
+ * After bytes came, and after each command, take events until there are none, and then send. A command may cause an event with no
+ * bytes coming: a call through a reference to an object of the vat itself is delivered at once.
  *
- * Memory: the library keeps no pointer that it is given, and gives out none of its own: what goes in is read during the call,
- * what comes out is copied into room of the caller. Where memory is wanting it says so; it never ends the process.
+ * A message has at most 65,536 words (512 KiB), payload and envelope together. A call or an answer that would be larger is refused
+ * with FULL. A larger one that comes takes the vat down with 4, and the peer gets an Abort with the reason `fault 4`.
  *
- * Threads: one call at a time for a handle, from whichever thread. Two handles share nothing. There is no lock, no clock, no
- * callback and no global state.
+ * Each function except `lovendak_version` returns a code. Results are written if the code is LOVENDAK_OK, and otherwise only if the
+ * function says so. A command that is refused changes nothing, with one exception: the reference of a refused `lovendak_call` may have
+ * taken the shorter path. Of several codes EMPTY_HANDLE comes first.
  *
- * What the library can't see, and its caller must not do:
- * - change the bytes of a handle, or use two copies of it, which would be one vat. It may be moved, if the old bytes are then left.
- * - call with a handle from two threads at once, from a signal handler, or in the forked child of a process with threads.
- * - hand over a pointer that is null or not aligned, even beside a length of 0, or that has less behind it than the length says; or
- *   two in one call whose memory overlaps.
- * - hand a handle that was never set to `lovendak_new`. All zeros are an empty one: `lovendak vat = LOVENDAK_EMPTY;`
+ * Memory: the library keeps no pointer that it was given, and returns none of its own. What goes in is read during the call, what
+ * comes out is copied into room of the caller. If the library is out of memory it says so; it never ends the process.
+ *
+ * Threads: one call at a time for a handle, from any thread. Two handles share nothing. There is no lock, no clock, no callback and no
+ * global state.
+ *
+ * What the library can't check, and its caller must not do:
+ * - change the bytes of a handle, or use two copies of it, which would be one vat. It may be moved if the old bytes are not used
+ *   again.
+ * - use a handle in two threads at once, in a signal handler, or in the forked child of a process with threads.
+ * - pass a pointer that is null or not aligned, even beside a length of 0, or that has less behind it than the length says; or two
+ *   in one call whose memory overlaps.
+ * - pass a handle to `lovendak_new` that was never set. All zeros are an empty one: `lovendak vat = LOVENDAK_EMPTY;`
  */
 #ifndef LOVENDAK_H
 #define LOVENDAK_H
@@ -29,11 +36,11 @@
 extern "C" {
 #endif
 
-/* The version of the library, and the number of its interface, which `lovendak_version` answers where the two agree. */
+/* The version of the library, and the number of its interface, which `lovendak_version` returns if the two agree. */
 #define LOVENDAK_VERSION "0.1.0"
 #define LOVENDAK_INTERFACE 1
 
-/* A vat, which `lovendak_free` lets go, or nothing. */
+/* A vat, which `lovendak_free` frees, or nothing. */
 typedef struct lovendak {
   uint32_t magic;
   void *at;
@@ -43,7 +50,7 @@ typedef struct lovendak {
 
 enum {
   LOVENDAK_OK = 0,
-  LOVENDAK_MEMORY = 1,          /* a growth was refused */
+  LOVENDAK_MEMORY = 1,          /* out of memory */
   LOVENDAK_FULL = 2,            /* a limit is reached, or contents are too large for a message */
   LOVENDAK_DOWN = 3,            /* the vat is down */
   LOVENDAK_UNKNOWN_REF = 4,     /* no such reference: it was dropped, or is of another vat */
@@ -75,7 +82,7 @@ enum { LOVENDAK_UNCHANGED = 0, LOVENDAK_SWITCHED = 1, LOVENDAK_EMBARGOED = 2, LO
 typedef struct lovendak_event {
   uint32_t kind;         /* LOVENDAK_SERVE a call to serve, LOVENDAK_ENDED an own call that ended, LOVENDAK_WENT_DOWN */
   uint32_t method;       /* to serve: the method */
-  uint32_t is_exception; /* ended: 1 where it failed; then the reason, as UTF-8, comes in the payload's room */
+  uint32_t is_exception; /* ended: 1 if it failed; then the reason, as UTF-8, comes in the payload's room */
   uint32_t exception;    /* ended: the kind of the exception */
   uint64_t number;       /* to serve: the task; ended: the call; down: the number with which the vat went down */
   uint64_t object;       /* to serve: the object, by the number that its application gave it */
@@ -84,59 +91,59 @@ typedef struct lovendak_event {
   size_t refs_len;       /* references, one for each capability of the payload; each is to be dropped */
 } lovendak_event;
 
-/* The number of the interface that the library has: LOVENDAK_INTERFACE where it is the one of this header. */
+/* The number of the interface that the library has: LOVENDAK_INTERFACE if it is the one of this header. */
 uint32_t lovendak_version(void);
 
-/* Puts a vat into an empty handle, of level 0 or 1, and where `has_root` is not 0 with the object `root` as its bootstrap object.
- * IN_USE where the handle has a vat, NO_SUCH_NUMBER of another level, MEMORY. */
+/* Puts a vat into an empty handle, of level 0 or 1. If `has_root` is not 0, its bootstrap object is the object `root`.
+ * IN_USE if the handle has a vat, NO_SUCH_NUMBER of another level, MEMORY. */
 uint32_t lovendak_new(lovendak *vat, uint32_t level, uint32_t has_root, uint64_t root);
 
-/* Lets a vat go, and leaves the handle empty. EMPTY_HANDLE of one that is empty already, which does no harm. */
+/* Frees a vat, and leaves the handle empty. EMPTY_HANDLE if it is empty already, which does no harm. */
 uint32_t lovendak_free(lovendak *vat);
 
-/* From here to `lovendak_shut`, each function answers EMPTY_HANDLE where the handle is empty. */
+/* From here to `lovendak_shut`, each function returns EMPTY_HANDLE if the handle is empty. */
 
-/* Takes bytes that came from the peer, in any pieces, and drops them where the vat is down. A fault in them, or want of memory, is
+/* Takes bytes that came from the peer, in any pieces, and drops them if the vat is down. A fault in them, or running out of memory, is
  * no code: it takes the vat down, which is an event. */
 uint32_t lovendak_received(lovendak *vat, const uint8_t *bytes, size_t len);
 
-/* The peer's stream has ended: the vat goes down, with 0, or inside a message with 2. */
+/* The peer's stream has ended: the vat goes down with 0, or with 2 if the stream ended inside a message. */
 uint32_t lovendak_ended(lovendak *vat);
 
-/* Copies bytes that are to be sent, each once, as many as there is room for, and says how many. Ask until it says 0: less than the
- * room does not mean that nothing is left. */
+/* Copies outbound bytes, each once, at most as many as there is room for, and says how many. Ask until it says 0: less than the room
+ * does not mean that nothing is left. */
 uint32_t lovendak_outgoing(lovendak *vat, uint8_t *out, size_t room, size_t *len);
 
-/* How many bytes the next `lovendak_outgoing` gives, with that much room: 0 where none are to be sent. And whether there is an event
- * (1) or none (0). What the vat has to say becomes frames before, as by `lovendak_outgoing`; no bytes and no event are taken out. */
+/* How many bytes the next `lovendak_outgoing` gives, with that much room: 0 if none are to be sent. And whether there is an event (1)
+ * or none (0). Queued messages become frames first, as by `lovendak_outgoing`; no bytes and no event are taken out. */
 uint32_t lovendak_pending(lovendak *vat, size_t *bytes, uint32_t *has_event);
 
-/* Takes the oldest event. The events of one command or message come behind those of the ones before it; of one, calls to serve come
- * before own calls that ended. Of a vat that is down, each own call that is open ends then, as one that failed with
- * LOVENDAK_DISCONNECTED, and last comes, once, that the vat is down. The event's payload (framed segments, as Cap'n Proto writes a
- * message) and its references are copied into the rooms given. NOTHING if there is none; ROOM if one of the rooms is too small: the
- * event is filled in, and stays. Ask until there is none, and then send what goes out: in this order no event is missed. After bytes
- * were sent first, ask again, since what can't be sent takes the vat down. */
+/* Takes the oldest event. The events of one command or message come after those of earlier ones; among them, calls to serve come
+ * before own calls that ended. Once the vat is down, each own call that is open is reported as one that failed with
+ * LOVENDAK_DISCONNECTED, and then, once, that the vat is down. The event's payload (framed segments, as Cap'n Proto writes a message)
+ * and its references are copied into the rooms given. NOTHING if there is none; ROOM if one of the rooms is too small: the event is
+ * filled in, and stays. After each command too, ask until there is none, and then send: in this order no event is missed. If bytes
+ * were sent first, ask again, since a message that can't be sent takes the vat down. */
 uint32_t lovendak_next_event(lovendak *vat, lovendak_event *event, uint8_t *payload, size_t room, uint64_t *refs, size_t refs_room);
 
-/* The number with which the vat went down; NOTHING while it is up. */
+/* The number with which the vat went down; NOTHING if it is not down. */
 uint32_t lovendak_down(lovendak *vat, uint32_t *number);
 
-/* 1 where nothing is left between the two vats: no question, answer, export or import; else 0. */
+/* 1 if nothing is left between the two vats: no question, answer, export or import; otherwise 0. */
 uint32_t lovendak_shares_nothing(lovendak *vat, uint32_t *answer);
 
 /* How many calls were made through a reference. UNKNOWN_REF. */
 uint32_t lovendak_calls_made(lovendak *vat, uint64_t ref, uint64_t *made);
 
-/* Commands. Each may answer DOWN (but `lovendak_shut`), FULL and MEMORY, and what is named beside it. */
+/* Commands. Each may return DOWN (except `lovendak_shut`), FULL and MEMORY, and the codes that are named beside it. */
 
 /* Asks the peer for its bootstrap object: a call, whose result is that object. */
 uint32_t lovendak_bootstrap(lovendak *vat, uint64_t *call);
 
-/* A reference to what a call gives, now or later. UNKNOWN_CALL. */
+/* A reference to the result of a call, before or after it has ended. UNKNOWN_CALL. */
 uint32_t lovendak_result_of(lovendak *vat, uint64_t call, uint64_t *ref);
 
-/* A reference to what stands in a call's results at a path of pointers' numbers, now or later. UNKNOWN_CALL, LONG_PATH. */
+/* A reference to what a call's results have at a path of pointers' numbers, before or after it has ended. UNKNOWN_CALL, LONG_PATH. */
 uint32_t lovendak_field(lovendak *vat, uint64_t call, const uint16_t *path, size_t steps, uint64_t *ref);
 
 /* A reference to an object of the application, which knows it by that number. */
@@ -145,11 +152,11 @@ uint32_t lovendak_host(lovendak *vat, uint64_t object, uint64_t *ref);
 /* A second reference to the same. UNKNOWN_REF. */
 uint32_t lovendak_clone_ref(lovendak *vat, uint64_t ref, uint64_t *made);
 
-/* Lets a reference go. UNKNOWN_REF. */
+/* Drops a reference. UNKNOWN_REF. */
 uint32_t lovendak_drop_ref(lovendak *vat, uint64_t ref);
 
-/* Makes a call, with a payload (framed segments) and a reference for each of its capabilities, which stay the caller's. The
- * reference that is called takes the shorter path before, where one is known. NO_PAYLOAD where the bytes are no payload with so many
+/* Makes a call, with a payload (framed segments) and a reference for each of its capabilities, which still belong to the caller. The
+ * reference that is called first takes the shorter path, if one is known. NO_PAYLOAD if the bytes are no payload with so many
  * capabilities, UNKNOWN_REF, LEVEL. */
 uint32_t lovendak_call(lovendak *vat, uint64_t ref, uint64_t interface_id, uint16_t method, const uint8_t *payload, size_t len,
                        const uint64_t *refs, size_t refs_len, uint64_t *call);
@@ -166,38 +173,38 @@ uint32_t lovendak_fail(lovendak *vat, uint64_t task, uint32_t kind, const uint8_
 /* Makes a promise, and a reference to it. LEVEL. */
 uint32_t lovendak_promise(lovendak *vat, uint64_t *promise, uint64_t *ref);
 
-/* Settles a promise to what a reference leads to; the reference stays the caller's. UNKNOWN_PROMISE, UNKNOWN_REF, CYCLE, LEVEL. */
+/* Settles a promise to what a reference leads to; the reference still belongs to the caller. UNKNOWN_PROMISE, UNKNOWN_REF, CYCLE,
+ * LEVEL. */
 uint32_t lovendak_resolve(lovendak *vat, uint64_t promise, uint64_t ref);
 
 /* Breaks a promise. NO_SUCH_NUMBER of another kind, NO_PAYLOAD of a reason that is no UTF-8, UNKNOWN_PROMISE, LEVEL. */
 uint32_t lovendak_reject(lovendak *vat, uint64_t promise, uint32_t kind, const uint8_t *reason, size_t len);
 
-/* Lets a reference take the shorter path, one step, where one is known; what became of it goes to `advanced`. UNKNOWN_REF, LEVEL. */
+/* Lets a reference take one step of the shorter path, if one is known; `advanced` says what it did. UNKNOWN_REF, LEVEL. */
 uint32_t lovendak_advance(lovendak *vat, uint64_t ref, uint32_t *advanced);
 
-/* Takes the vat down with a number up to 65,535; NO_SUCH_NUMBER of a greater one. Its Abort goes out last. */
+/* Takes the vat down with a number up to 65,535; NO_SUCH_NUMBER of a greater one. Its Abort is the last message. */
 uint32_t lovendak_shut(lovendak *vat, uint32_t number);
 
-/* Contents without a schema compiler. A library that writes and reads Cap'n Proto messages does as well: the root of the message is
- * the payload, and its capability pointers number the references. `caps` is how many capabilities a payload has. */
+/* Contents without a schema compiler. Any library that writes and reads Cap'n Proto messages will do: the root of the message is the
+ * payload, and its capability pointers number the references. `caps` is how many capabilities a payload has. */
 
-/* A struct whose data words are the numbers. Where `has_text` is not 0 the text, UTF-8 without a zero behind it, is its pointer 0,
- * and the capabilities are its pointers 1, 2 and so on; else there is no text, and they are its pointers 0, 1 and so on. ROOM where
- * it takes more bytes; `len` says how many. NO_PAYLOAD where the text is no UTF-8, FULL where there is too much for a payload,
- * MEMORY. */
+/* A struct whose data words are the numbers. If `has_text` is not 0, the text (UTF-8 without a zero behind it) is pointer 0, and the
+ * capabilities are pointers 1, 2 and so on. Otherwise there is no text, and they are pointers 0, 1 and so on. ROOM if it takes more
+ * bytes; `len` says how many. NO_PAYLOAD if the text is no UTF-8, FULL if there is too much for a payload, MEMORY. */
 uint32_t lovendak_contents(const uint64_t *numbers, size_t count, uint32_t has_text, const uint8_t *text, size_t text_len,
                            uint32_t caps, uint8_t *out, size_t room, size_t *len);
 
-/* The data word of that index of the root struct; 0 past its end, and where the root is null. NOTHING where the root is something
- * else, NO_SUCH_NUMBER of an index above 4,294,967,295, NO_PAYLOAD where the bytes are no payload with so many capabilities, MEMORY. */
+/* The data word of that index of the root struct; 0 past its end, or if the root is null. NOTHING if the root is something else,
+ * NO_SUCH_NUMBER of an index above 4,294,967,295, NO_PAYLOAD if the bytes are no payload with so many capabilities, MEMORY. */
 uint32_t lovendak_number_at(const uint8_t *payload, size_t len, uint32_t caps, size_t index, uint64_t *number);
 
-/* The text at that pointer of the root struct, UTF-8 without a zero behind it; an empty one where the pointer is null or not there.
- * NOTHING where something else stands there; ROOM, where `text_len` says how many bytes it has; NO_PAYLOAD, MEMORY. */
+/* The text at that pointer of the root struct, UTF-8 without a zero behind it; an empty one if the pointer is null or not there.
+ * NOTHING if there is something else; ROOM if the text is longer, and `text_len` says how many bytes it has; NO_PAYLOAD, MEMORY. */
 uint32_t lovendak_text_at(const uint8_t *payload, size_t len, uint32_t caps, uint16_t pointer, uint8_t *out, size_t room,
                           size_t *text_len);
 
-/* Which of the references stands at a path of pointers' numbers. NOTHING where there is no capability; NO_PAYLOAD, MEMORY. */
+/* Which of the references is at a path of pointers' numbers. NOTHING if there is no capability; NO_PAYLOAD, MEMORY. */
 uint32_t lovendak_ref_at(const uint8_t *payload, size_t len, uint32_t caps, const uint16_t *path, size_t steps, size_t *index);
 
 #ifdef __cplusplus
