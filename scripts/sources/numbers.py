@@ -10,12 +10,12 @@ BYTES = "The peer sent bytes that are no Cap'n Proto message. Capture the stream
 SECTIONS = [
     (
         "Why a vat went down",
-        """A vat goes down once, with one number: `Down` of a connection or a host tells it, `lovendak_down` in C, and a `down` entry
-in a trace. The Abort that the vat sends says `fault N` (kind `failed`). An application that shuts its vat chooses the number itself;
+        """A vat goes down once, with one number. The event `Down` of a connection or a host has it, `lovendak_down` in C, and a `down` entry
+in a trace. The Abort that the vat sends has the reason `fault N` (kind `failed`). An application that shuts its vat chooses the number;
 0 is usual, and is also the number if the peer's stream ends between two messages. Numbers 2 to 12 and 60 to 68 come only over bytes.
-After any of them the vat is of no more use: let it go, and connect again with a new one.
-If it is the peer's Abort that says `fault N`, your own vat went down with 34, and row N says what the peer found wrong with what it got
-from this side: read it with the roles exchanged.""",
+After any of them, drop the vat, and connect again with a new one.
+If the peer sends an Abort with `fault N`, your own vat goes down with 34. Then row N says what the peer found wrong with the messages of
+your side: read it with the roles exchanged.""",
         "Fault",
         ["capn_trees::PayloadFault", "rpc_machine::Fault", "rpc_codec_parts::EnvelopeFault", "peer_tail_calls::AdapterFault", "peer_overload::OverloadFault"],
         {
@@ -60,7 +60,7 @@ from this side: read it with the roles exchanged.""",
     ),
     (
         "Why a command is refused",
-        """A refused command hands its arguments back. In C these are the results of the functions, `LOVENDAK_..`. A trace has them in its
+        """A refused command returns its arguments. In C these are the results of the functions, `LOVENDAK_..`. A trace has them in its
 `refused` entries.""",
         "Refusal",
         ["rpc_machine::Refusal"],
@@ -109,7 +109,7 @@ These are the reasons for which a tree of contents can't be written.""",
     ),
     (
         "Why a link is not made, or an end shuts",
-        "Of the two ends of a link over rings ([threads.md](threads.md)). The numbers 41 and 42 shut an end, and the others keep a link from being made or worked.",
+        "Of the two ends of a link over rings ([threads.md](threads.md)). The numbers 41 and 42 shut an end. With the others, no link is made or no end runs.",
         "Fault",
         ["link_rings::LinkFault"],
         {
@@ -122,7 +122,7 @@ These are the reasons for which a tree of contents can't be written.""",
     ),
     (
         "Why a line of a trace is refused",
-        "`trace line N: fault M` of `vat_trace` and `trace_chart` ([trace.md](trace.md)); what is written of a line stands there.",
+        "The M of `trace line N: fault M`, which `vat_trace` and `trace_chart` print. [trace.md](trace.md) says what a line has.",
         "Fault",
         ["trace_json::TraceFault"],
         {
@@ -176,7 +176,7 @@ def rows(sources, advice):
 
 
 def draw():
-    parts = ["# Numbers\n\nWhat each number means that a vat, a library or a program says, and what to do. `scripts/pages` writes this page from the sources.\n"]
+    parts = ["# Numbers\n\nWhat each number of a vat, the library or a program means, and what to do about it. `scripts/pages` writes this page from the sources.\n"]
     for title, about, kind, sources, advice in SECTIONS:
         table = "\n".join(rows(sources, advice))
         where = ", ".join(f"`{it}`" for it in sources)
