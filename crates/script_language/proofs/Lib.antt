@@ -2,7 +2,6 @@ pub mod Numbers
 pub mod Each
 pub mod Going
 pub mod Carrying
-pub mod NameKeys
 pub mod LineWords
 pub mod NameLetters
 pub mod NameMap

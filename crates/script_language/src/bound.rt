@@ -4,13 +4,13 @@ ghost use Rattle.std.specs.FinMap as map;
 use crate::name::Name;
 use rpc_msg::Memory;
 use std::alloc::Global;
-use std::collections::HashMap;
+use std::collections::BTreeMap;
 use std::marker::Model;
 
-/// What names stand for: seen by contracts as the ids by name.
+/// What names stand for: seen by contracts as the ids by name. In order, so that no choice of names makes a look-up long.
 #[derive(Drop)]
 pub(crate) struct Bound<Id> {
-    hashed: HashMap<Name, Id>,
+    ordered: BTreeMap<Name, Id>,
 }
 
 impl<Id> Model for Bound<Id> {
@@ -23,7 +23,7 @@ impl<Id> Model for Bound<Id> {
 
     ghost coded = { map.code (coded_list coded_ℕ) Id.code };
 
-    ghost view = { λ a. map.from_entries a.hashed.entries };
+    ghost view = { λ a. map.from_entries a.ordered.entries };
 }
 
 impl<Id: Copy> Bound<Id> {
@@ -32,7 +32,7 @@ impl<Id: Copy> Bound<Id> {
         ensures { result ≡ map.empty }
     {
         Bound {
-            hashed: HashMap::new(alloc),
+            ordered: BTreeMap::new(alloc),
         }
     }
 
@@ -40,7 +40,7 @@ impl<Id: Copy> Bound<Id> {
     pub(crate) fn get(&self, name: Name) -> Option<Id>
         ensures { result ≡ map.get self.now name }
     {
-        self.hashed.get(&name).copied()
+        self.ordered.get(&name).copied()
     }
 
     /// Lets the name stand for that id, and for no other. `Memory` where a growth was refused; nothing is changed then.
@@ -50,7 +50,7 @@ impl<Id: Copy> Bound<Id> {
         ensures ok { OnOk result (self.new ≡ map.insert self.old name id) }
         ensures err { OnErr result (self.new ≡ self.old) }
     {
-        match self.hashed.insert(name, id) {
+        match self.ordered.insert(name, id) {
             Ok(_) => return Ok(()),
             Err(_) => return Err(Memory),
         }

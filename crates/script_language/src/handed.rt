@@ -1,10 +1,10 @@
 ghost use Rattle.std.specs.Prelude.{◌≡◌, OnOk, OnErr, option_copied};
 ghost use Rattle.std.specs.FinMap as map;
 
+use rising_table::Rising;
 use rpc_msg::{Items, Memory, RefId};
 use std::alloc::Global;
 use std::marker::Model;
-use vat_tables::Rising;
 
 /// The references that were handed over with tasks, or with the outcomes of calls: seen by contracts as lists by number.
 #[derive(Drop)]

@@ -4,9 +4,9 @@
 //! - `parts.rt` parts a line at a byte, and a script at the ends of its lines, with the words of each; `words.rt` has what
 //!   one word says, `commands.rt` what is asked of a vat, `reading.rt` what the words of a line say together, `script.rt` a
 //!   whole script.
-//! - `names.rt` is what a script's user sees of names. Beneath it `bound.rt` is one table of names, a hash map that
-//!   contracts see as a finite map, `handed.rt` keeps which references came with tasks and outcomes, `binding.rt` finds and
-//!   binds at one vat, and `giving.rt` makes the commands, with the payloads and the exception of `carried.rt`.
+//! - `names.rt` is what a script's user sees of names. Beneath it `bound.rt` is one table of names, an ordered map that
+//!   contracts see as a finite map, `handed.rt` keeps which references came with tasks and outcomes, `bindings.rt` finds and
+//!   binds at one vat, and `given_commands.rt` makes the commands, with the payloads and the exception of `carried.rt`.
 //! - `act.rt`: what a line of any kind does.
 //!
 //! The definitions are functions of the line's bytes: `Words` has each word, or what is wrong with it, `Lines` each line,
@@ -15,12 +15,12 @@
 #![tactic(auto)]
 
 mod act;
-mod binding;
+mod bindings;
 mod bound;
 mod carried;
 mod commands;
 mod fault;
-mod giving;
+mod given_commands;
 mod handed;
 mod line;
 mod name;

@@ -1,16 +1,19 @@
-ghost use Rattle.std.specs.Prelude.{◌≡◌, ◌≤◌, ◌∷◌, [], length, if◌then◌else◌, Some, None};
+ghost use Rattle.std.specs.Prelude.{◌≡◌, ◌≤◌, length, if◌then◌else◌, Some, None, nat_eq, refl};
+ghost use Rattle.std.specs.Ordering.{nat_cmp};
+ghost use Rattle.std.specs.Cmp.{partial_equiv_from_equiv};
+ghost use Rattle.std.specs.Cmp.Lexicographic.{pointwise, slice_cmp, nat_list_eq_equiv, nat_list_cmp_total, texts_ties, texts_po};
 ghost use Rattle.std.specs.List.{list_all};
 ghost use Rattle.script_language.specs.Words.{name_of, is_name_letter};
 
 use crate::fault::LineFault;
-use std::hash::{Hash, Hasher};
+use std::cmp::Ordering;
 use std::marker::Model;
 
 /// The most letters that a name may have.
 const NAME_LIMIT: usize = 16;
 
 /// A name of a script: 1 to 16 lower case letters and digits. Seen by contracts as its letters. It takes no memory.
-#[derive(Clone, Copy, Debug, PartialEq, Eq, Drop)]
+#[derive(Clone, Copy, Debug, Drop)]
 pub struct Name {
     /// The letters, and zeros behind them.
     places: [u8; NAME_LIMIT],
@@ -33,19 +36,42 @@ impl Model for Name {
     ghost inverse_ok = { λ a h. padded_take a.len a.places h (λ places len. record { places = places; len = len }) };
 }
 
-// By hand, so that all places are fed to the hasher at once.
-impl Hash for Name {
-    ghost use Rattle.std.specs.Prelude.{◌∷◌, []};
-    ghost use Rattle.script_language.specs.Letters.{padded};
-    ghost use Rattle.std.proofs.Common.{rules};
-    ghost use Rattle.std.specs.Cmp.Rules.{hashing};
+impl PartialEq for Name {
+    ghost eq = { pointwise nat_eq };
 
-    ghost hash_input = { λ name. padded name ∷ [] };
+    ghost laws = { partial_equiv_from_equiv nat_list_eq_equiv };
 
-    ghost respects_eq = { Prim.search (hashing, rules) };
+    fn eq(&self, other: &Name) -> bool {
+        self.letters() == other.letters()
+    }
+}
 
-    fn hash<H: Hasher>(&self, state: &mut H) {
-        state.write(&self.places);
+impl Eq for Name {
+    ghost laws = { nat_list_eq_equiv };
+}
+
+impl PartialOrd for Name {
+    ghost partial_cmp = { λ x y. Some (slice_cmp nat_cmp x y) };
+
+    ghost laws = { texts_po };
+
+    fn partial_cmp(&self, other: &Name) -> Option<Ordering> {
+        Some(self.cmp(other))
+    }
+}
+
+// By the letters.
+impl Ord for Name {
+    ghost cmp = { slice_cmp nat_cmp };
+
+    ghost total = { nat_list_cmp_total };
+
+    ghost matches_partial_cmp = { λ x y. refl };
+
+    ghost matches_eq = { texts_ties };
+
+    fn cmp(&self, other: &Name) -> Ordering {
+        self.letters().cmp(other.letters())
     }
 }
 
@@ -71,6 +97,12 @@ impl Name {
             Some(name) => Ok(name),
             None => Err(LineFault::Name),
         }
+    }
+
+    fn letters(&self) -> &[u8]
+        ensures { result.now ≡ self.now }
+    {
+        &self.places[..self.len]
     }
 
     /// The name of these bytes, if each is a letter of names.
