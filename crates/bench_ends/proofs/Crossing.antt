@@ -3,7 +3,7 @@ use denote.Param.Send.{IsSend, sendable}
 use denote.Param.SendFields.{declared_send}
 use Rattle.std.proofs.Crossing.{crosses}
 use Rattle.bench_ends.specs.contracts.threads.Asker as Asker
-use Rattle.link_driver.proofs.Crossing.{end_a_send}
+use Rattle.link_ends.proofs.Crossing.{end_a_send}
 
 pub asker_send : IsSend Asker.the_row
 asker_send =

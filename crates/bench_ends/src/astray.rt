@@ -1,6 +1,6 @@
 //! Why a measurement is given up.
 
-use link_driver::LinkFault;
+use link_ends::LinkFault;
 use rpc_machine::Refusal;
 use rpc_msg::Memory;
 use thiserror::Error;

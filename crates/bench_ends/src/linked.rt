@@ -1,10 +1,10 @@
 //! Two vats at the ends of a link, and what a step of one leaves to do.
 ghost use Rattle.std.specs.Prelude.{IfOk};
 ghost use Rattle.rpc_msg.specs.declared.ids.Vat.TheVariants.{A, B};
-ghost use Rattle.link_driver.specs.Ends.{IsNewCore};
+ghost use Rattle.link_ends.specs.Ends.{IsNewCore};
 
 use crate::astray::Astray;
-use link_driver::{EndA, EndB, Turn, VatEnd, link};
+use link_ends::{EndA, EndB, Turn, VatEnd, link};
 use rpc_machine::{CallCommand, Effects, Level};
 use rpc_msg::{CallId, Items, ObjectId, Payload, RefId, TaskId, Vat};
 use std::alloc::Global;

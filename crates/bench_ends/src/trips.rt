@@ -3,7 +3,7 @@
 use crate::astray::Astray;
 use crate::linked::{answer, call, finish, linked, meet, taken};
 use anyhow::Result;
-use link_driver::{EndA, EndB};
+use link_ends::{EndA, EndB};
 use rpc_msg::{Payload, RefId};
 use std::alloc::Global;
 use std::rt::Clock;

@@ -4,5 +4,5 @@
 pub mod Notes
 pub mod Told
 pub use Rattle.vat_core.specs.Answers
-pub use Rattle.vat_core.specs.declared.obey.Answer
-pub use Rattle.vat_core.specs.contracts.obey.Answer as AnswerRow
+pub use Rattle.vat_core.specs.declared.commands.Answer
+pub use Rattle.vat_core.specs.contracts.commands.Answer as AnswerRow

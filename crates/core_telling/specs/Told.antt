@@ -8,8 +8,8 @@ use Rattle.rpc_machine.specs.declared.command.Granted.{Granted}
 use Rattle.rpc_machine.specs.declared.command.Refusal.{Refusal}
 use Rattle.rpc_machine.specs.declared.command.Effects.{Effects}
 use Rattle.rpc_machine.specs.Down.{falling, silent}
-use Rattle.vat_core.specs.declared.obey.Answer.{Answer}
-use Rattle.vat_core.specs.declared.obey.Answer.TheVariants.{Done, Refused}
+use Rattle.vat_core.specs.declared.commands.Answer.{Answer}
+use Rattle.vat_core.specs.declared.commands.Answer.TheVariants.{Done, Refused}
 use Rattle.core_telling.specs.declared.notes.Note.{Note}
 use Rattle.core_telling.specs.Notes.{note_entries}
 

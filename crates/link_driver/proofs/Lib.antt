@@ -1,4 +1,1 @@
-pub mod Answering
-pub mod Beginning
-pub mod Merging
 pub mod Crossing

@@ -1,11 +1,6 @@
--- The definitions:
--- - `Commands`: what an end may answer to a command.
--- - `Ends`: the ends of two vats, in the words of `link_rings` and `link_sides`.
--- - `Gathered`: two ends that were put side by side.
--- - `Seats`: the seat of a vat, in the words of `link_rings` and `link_sides`.
--- - `Runs`: two ends that were worked.
-pub mod Commands
-pub mod Ends
-pub mod Gathered
-pub mod Seats
+-- `Runs`: two ends that were worked. The rest is of `link_ends`.
 pub mod Runs
+pub use Rattle.link_ends.specs.Commands
+pub use Rattle.link_ends.specs.Ends
+pub use Rattle.link_ends.specs.Gathered
+pub use Rattle.link_ends.specs.Seats

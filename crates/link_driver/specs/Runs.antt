@@ -1,9 +1,9 @@
 -- Two ends that were worked (docs/threads.md).
 use Rattle.std.specs.Prelude.{◌≡◌}
 use Rattle.link_rings.specs.Ends.{IsSameEnd}
-use Rattle.link_promises.specs.Promises.{Pair}
-use Rattle.link_driver.specs.Ends.{VatEnded}
-use Rattle.link_driver.specs.Gathered.{both_of}
+use Rattle.link_logs.specs.Promises.{Pair}
+use Rattle.link_ends.specs.Ends.{VatEnded}
+use Rattle.link_ends.specs.Gathered.{both_of}
 
 -- The vats and logs of the same two ends, as they are later.
 pub record AreWorked (a b : VatEnded) (both : Pair) : Type 0 where

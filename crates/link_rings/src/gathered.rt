@@ -1,7 +1,7 @@
 use crate::end::End;
 use crate::entry::Entry;
 use crate::logged_side::LoggedSide;
-use crate::merging::{Reads, read_both};
+use crate::merge::{Reads, read_both};
 use crate::party::Party;
 use std::alloc::AllocError;
 use std::marker::Model;

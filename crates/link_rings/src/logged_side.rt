@@ -7,7 +7,7 @@ use crate::entry::Entry;
 use crate::fault::LinkFault;
 use crate::frame::Frame;
 use crate::party::Party;
-use crate::waiting::Waiting;
+use crate::queue::Waiting;
 use std::alloc::Global;
 
 /// A side, its log, and the frames that wait to be pushed. While the side is up the log has room for one more entry and the

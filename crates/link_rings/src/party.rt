@@ -2,7 +2,7 @@ ghost use Rattle.std.specs.Prelude.{◌≡◌, ℕ, ◌<◌, Option, None, Some,
 ghost use Rattle.laws_merge.specs.Machine.{Input};
 ghost use Rattle.link_rings.specs.Parties.{is_receipt, Obeys, Receives, Shuts};
 
-use crate::waiting::Waiting;
+use crate::queue::Waiting;
 
 /// A side of a link: it obeys commands and receives messages, and notes each step for the log. `N` is what it notes of a
 /// step, and `M` are its messages.

@@ -1,13 +1,15 @@
 //! A real vat as a side of a pair on threads: its core, and what its end writes of each step.
 #![tactic(auto)]
 
-mod asking;
+mod answers;
+mod commands;
+mod entries;
 mod kept;
-mod obeying;
-mod receiving;
-mod sending;
+mod promises;
+mod receipt;
+mod refs;
+mod sends;
 mod side;
-mod telling;
 
 pub use core_telling::{Answer, Core, Refused};
 pub use side::VatSide;

@@ -1,7 +1,7 @@
-use crate::asking::no_effects;
+use crate::answers::no_effects;
+use crate::commands::{obey, shut};
 use crate::kept::Kept;
-use crate::obeying::{obey, shut};
-use crate::receiving::receive;
+use crate::receipt::receive;
 use core_telling::{Answer, Core};
 use link_logs::Note;
 use link_rings::{Party, Waiting};
@@ -38,8 +38,10 @@ impl Model for VatSide {
 }
 
 impl VatSide {
-    ghost use Rattle.std.specs.Prelude.{◌≡◌, [], None, IfOk, IfErr};
+    ghost use Rattle.std.specs.Prelude.{◌≡◌, [], None, Some, IsTrue, IfOk, IfErr};
+    ghost use Rattle.rpc_machine.specs.Numbers.{want_of_room};
     ghost use Rattle.rpc_machine.specs.Queries.{counts_of};
+    ghost use Rattle.link_sides.specs.Sides.{down_by};
 
     /// A side of that core, which is up, with nothing written. Where a growth is refused the core comes back.
     pub fn new(alloc: Global, core: Core) -> Result<VatSide, Core>
@@ -65,6 +67,14 @@ impl VatSide {
         ensures { result.now ≡ self.now.journal }
     {
         self.kept.journal.entries()
+    }
+
+    /// Whether its vat went down with 33 and met a limit then (`Core::met_limit`): where it says no of one that is down with 33,
+    /// memory was wanting. Takes no memory.
+    pub fn met_limit(&self) -> bool
+        ensures { IsTrue result → down_by self.now ≡ Some want_of_room }
+    {
+        self.kept.core.met_limit()
     }
 
     /// The counts of its exports and imports. `Memory` where a growth was refused.

@@ -1,6 +1,6 @@
 //! What the application of a vat holds.
 
-use crate::drawing::Draws;
+use crate::draws::Draws;
 use anyhow::Result;
 use rpc_machine::{Command, Effects, Granted};
 use rpc_msg::{CallId, PromiseId, RefId, TaskId};

@@ -2,14 +2,14 @@
 ghost use Rattle.std.specs.Prelude.{IfOk};
 ghost use Rattle.rpc_msg.specs.declared.ids.Vat.TheVariants.{A, B};
 ghost use Rattle.link_rings.specs.Ends.{IsSameEnd};
-ghost use Rattle.link_driver.specs.Ends.{AreEnds, IsNewCore};
+ghost use Rattle.link_ends.specs.Ends.{AreEnds, IsNewCore};
 
 use crate::asked::Asked;
 use crate::run::Run;
 use crate::vats::Ends;
 use crate::{ROOT, play};
 use anyhow::{Result, bail};
-use link_driver::{Gathered, gather, link};
+use link_ends::{Gathered, gather, link};
 use rpc_machine::Level;
 use rpc_msg::Vat;
 use std::alloc::Global;

@@ -3,14 +3,14 @@
 //! down, the trace breaks no law, nothing is left in the tables, over rings each vat does what it does in a world, and the
 //! journal of both ends is that of a world in which all happens in the one order of both logs.
 //!
-//! `drawing.rt` draws, `run.rt` makes the event of it and lets all go at the end, `application.rt` is what each vat's
+//! `draws.rt` draws, `run.rt` makes the event of it and lets all go at the end, `application.rt` is what each vat's
 //! application holds. `vats.rt` is what is driven; `ends.rt` makes the ends of a link; `asked.rt` keeps what their vats are
 //! asked, and `merged.rt` asks it once more, in the order of both logs; `written.rt`: journals in few words.
 #![tactic(auto)]
 
 mod application;
 mod asked;
-mod drawing;
+mod draws;
 mod ends;
 mod merged;
 mod run;

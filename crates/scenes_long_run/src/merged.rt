@@ -4,7 +4,7 @@ use crate::ROOT;
 use crate::asked::Asked;
 use crate::vats::Vats;
 use anyhow::{Result, bail};
-use link_driver::{Entry, Gathered, Note, Reads};
+use link_ends::{Entry, Gathered, Note, Reads};
 use rpc_msg::Vat;
 use std::alloc::{AllocError, Global};
 use vat_world::World;

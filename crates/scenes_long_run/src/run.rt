@@ -1,7 +1,7 @@
 //! Two vats with their applications.
 
 use crate::application::{Application, Gone, pick};
-use crate::drawing::Draws;
+use crate::draws::Draws;
 use crate::vats::Vats;
 use anyhow::{Result, bail};
 use rpc_machine::{CallCommand, Command, Effects};

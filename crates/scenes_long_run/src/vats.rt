@@ -3,7 +3,7 @@ ghost use Rattle.link_rings.specs.Ends.{IsSameEnd};
 
 use crate::asked::Asked;
 use anyhow::{Result, bail};
-use link_driver::{Answer, EndA, EndB, Turn};
+use link_ends::{Answer, EndA, EndB, Turn};
 use rpc_machine::{Command, Effects, Event, Granted};
 use rpc_msg::Vat;
 use vat_world::{StepAnswer, World};

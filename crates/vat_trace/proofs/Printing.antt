@@ -12,7 +12,7 @@ use Rattle.rpc_check.specs.Breaches.{verdict_of}
 use Rattle.trace_file.specs.Traces.{trace_text}
 use Rattle.laws_verdicts.specs.Good.{IsGood, EveryHeadedVerdictIsGood}
 use Rattle.laws_verdicts.specs.Recorded.{IsRecorded, RunsAreRecorded, RecordedGoOn, CountsNoted}
-use Rattle.link_promises.specs.Promises.{Pair, IsTold, happened_in, world_of}
+use Rattle.link_logs.specs.Promises.{Pair, IsTold, happened_in, world_of}
 use Rattle.vat_trace_lib.specs.declared.fault.ScriptFault.{ScriptFault}
 use Rattle.vat_trace_lib.specs.declared.fault.ScriptFault.TheVariants as fault
 use Rattle.vat_trace_lib.specs.Answers.{complaint, status_of}

@@ -4,7 +4,7 @@ use Rattle.rpc_msg.specs.declared.ids.Vat.{Vat}
 use Rattle.rpc_msg.specs.declared.ids.Vat.TheVariants.{A, B}
 use Rattle.rpc_machine.specs.State.{State}
 use Rattle.rpc_machine.specs.Queries.{is_new}
-use Rattle.link_promises.specs.Promises.{Pair}
+use Rattle.link_logs.specs.Promises.{Pair}
 use Rattle.link_driver.specs.Ends.{VatEnded, IsNewCore, new_held}
 use Rattle.link_rings.specs.Ends.{IsNew}
 use Rattle.link_driver.specs.Runs.{AreWorked}

@@ -7,7 +7,7 @@ use Rattle.rpc_machine.specs.declared.command.Level.TheVariants.{One}
 use Rattle.rpc_machine.specs.State.{State, start}
 use Rattle.rpc_machine.specs.World.{tables_entry}
 use Rattle.link_logs.specs.Steps.{Held}
-use Rattle.link_promises.specs.Promises.{Pair, IsTold, world_of}
+use Rattle.link_logs.specs.Promises.{Pair, IsTold, world_of}
 use Rattle.link_driver.specs.Ends.{new_held}
 use Rattle.vat_trace_lib.specs.Traces.{first_object}
 
@@ -22,7 +22,7 @@ first_held v = new_held (first_state v)
 abbrev pub AreFirst : Pair → Type 0
 AreFirst p = (p.start_a ≡ first_held A) × (p.start_b ≡ first_held B)
 
--- The journal of both (`link_promises/specs/Promises`), with the counts of both vats at its end.
+-- The journal of both (`link_logs/specs/Promises`), with the counts of both vats at its end.
 abbrev pub noted : Pair → List JournalEntry → List JournalEntry
 noted p journal = journal ++ tables_entry (world_of p) ∷ []
 

@@ -12,7 +12,7 @@ use Rattle.script_language.specs.declared.line.Line.{Line}
 use Rattle.script_language.specs.declared.line.Program.TheVariants.{Pair as OnThreads}
 use Rattle.script_language.specs.Scripts.{texts_of, lines_from}
 use Rattle.link_workers.specs.Ending.{IsFaultAt}
-use Rattle.link_promises.specs.Promises.{Pair, IsTold}
+use Rattle.link_logs.specs.Promises.{Pair, IsTold}
 use Rattle.vat_trace_lib.specs.declared.fault.ScriptFault.{ScriptFault}
 use Rattle.vat_trace_lib.specs.declared.fault.ScriptFault.TheVariants as fault
 use Rattle.vat_trace.specs.Pairs.{AreFirst, noted}

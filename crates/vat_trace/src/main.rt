@@ -2,19 +2,19 @@
 //!
 //! What it does with the word `pair` stands here, and what it does in one thread in `vat_trace_lib`:
 //!
-//! - `vats.rt`: two new vats at the two ends of a link. `working.rt` works them by the lines of a script; `judging.rt`: which
-//!   fault the lines have then, and `wanting.rt` whether a vat lacked memory.
+//! - `vats.rt`: two new vats at the two ends of a link. `work.rt` works them by the lines of a script; `verdicts.rt`: which
+//!   fault the lines have then, and `memory.rt` whether a vat lacked memory.
 //! - `trace.rt`: the trace of two vats that were worked, and that of a script. `program.rt`: the word without the handles.
 #![tactic(auto)]
 
-mod judging;
+mod memory;
 mod program;
 #[cfg(test)]
 mod tests;
 mod trace;
 mod vats;
-mod wanting;
-mod working;
+mod verdicts;
+mod work;
 
 use crate::program::play_pair;
 use program_files::unread;

@@ -4,9 +4,9 @@ ghost use Rattle.link_workers.specs.Ending.{IsEnding};
 ghost use Rattle.vat_trace.specs.Pairs.{AreFirst, IsNoted};
 ghost use Rattle.vat_trace.specs.Printed.{PrintsBoth, PrintsLines, FaultsLines, PrintsPair, FaultsPair};
 
-use crate::judging::judge;
-use crate::wanting::lacked_memory;
-use crate::working::work_lines;
+use crate::memory::lacked_memory;
+use crate::verdicts::judge;
+use crate::work::work_lines;
 use laws_verdicts::{every_verdict_is_good, journals_tell_runs};
 use link_driver::{Gathered, JournalEntry, PairRun};
 use link_workers::OpenGate;
@@ -48,6 +48,7 @@ pub fn trace_of_pair<R: Threads + Wait + Sync, C: Clock + Sync>(
             return Err(ScriptFault::Line(number, fault));
         }
     };
+    // Each arm by itself: a result that is handed on whole leaves its clauses to be proved by cases.
     match trace_of_lines(alloc, rt, clock, &lines) {
         Ok(trace) => return Ok(trace),
         Err(fault) => return Err(fault),
@@ -67,7 +68,7 @@ fn trace_of_lines<R: Threads + Wait + Sync, C: Clock + Sync>(
         Ok(run) => run,
         Err(_) => return Err(ScriptFault::Memory),
     };
-    if lacked_memory(alloc, rt, clock, lines, (CAPACITY, MAX_TURNS), &run) {
+    if lacked_memory(&run) {
         return Err(ScriptFault::Memory);
     }
     trace_of_run(alloc, lines, &run)
@@ -81,6 +82,7 @@ fn trace_of_run(alloc: Global, lines: &[Line], run: &PairRun) -> Result<CheckedT
     ensures prints { IfOk result (λ trace. PrintsLines (string_bytes trace.text) trace.verdict) }
     ensures faults { IfErr result (λ fault. FaultsLines lines.now fault) }
 {
+    // Only the contract speaks of it, and the compiler counts it as unused.
     let _ = lines;
     match judge(run.a, run.b) {
         Ok(()) => {}
@@ -100,6 +102,7 @@ pub fn trace_of_gathered(alloc: Global, gathered: &Gathered) -> Result<CheckedTr
     journals_tell_runs();
     every_verdict_is_good();
     let journal = noted(alloc, gathered)?;
+    // Each arm by itself: a result that is handed on whole leaves its clauses to be proved by cases.
     match checked(alloc, journal.as_slice()) {
         Ok(trace) => return Ok(trace),
         Err(Memory) => return Err(Memory),

@@ -1,26 +1,24 @@
 //! Plays scripts on two vats and prints what happens; checks, shows and upgrades traces: what the program `vat_trace` does
 //! with a word, a reader and a writer.
 //!
-//! - `playing.rt` plays the lines of a script on two vats (`specs/Playing`: what each line does to the two vats and to the
-//!   names), `run.rt` makes the whole trace of a script (`specs/Traces`), and `falling.rt` tells whether a vat went down
-//!   meanwhile because it lacked memory.
-//! - `words.rt`: the program's words; `answering.rt`: what it answers to each; `fault.rt`: why it fails.
+//! - `lines.rt` plays the lines of a script on two vats (`specs/Playing`: what each line does to the two vats and to the
+//!   names), and `run.rt` makes the whole trace of a script (`specs/Traces`).
+//! - `words.rt`: the program's words; `answers.rt`: what it answers to each; `fault.rt`: why it fails.
 //! - `program.rt`: the program without its handles: `vat_trace` gives it arguments, files and streams.
 //!
 //! The word `pair` stands in the program `vat_trace`, which takes from here how a journal is printed.
 #![tactic(auto)]
 
-mod answering;
-mod falling;
+mod answers;
 mod fault;
-mod playing;
+mod lines;
 mod program;
 mod run;
 mod words;
 
-pub use answering::{Printed, print_checked};
+pub use answers::{Printed, print_checked};
 pub use fault::{Failure, ScriptFault};
-pub use playing::play_lines;
+pub use lines::play_lines;
 pub use program::{play, status};
 pub use run::{CheckedTrace, checked, trace_of_script};
 pub use words::Word;

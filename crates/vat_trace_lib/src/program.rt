@@ -6,7 +6,7 @@ ghost use Rattle.program_files.specs.Texts.{IsInput};
 ghost use Rattle.vat_trace_lib.specs.Answers.{Answers};
 ghost use Rattle.vat_trace_lib.specs.Failures.{Fails, said_of, status_after};
 
-use crate::answering::answer;
+use crate::answers::answer;
 use crate::fault::Failure;
 use crate::words::Word;
 use program_files::{read_text, write_text};

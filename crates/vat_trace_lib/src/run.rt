@@ -9,13 +9,12 @@ ghost use Rattle.rpc_check.specs.Kept.{HasTaken};
 ghost use Rattle.trace_file.specs.Traces.{trace_text};
 ghost use Rattle.vat_trace_lib.specs.Traces.{Prints, Faults, PrintsLines, FaultsLines, first_seen};
 
-use crate::falling::lacked_memory;
 use crate::fault::ScriptFault;
-use crate::playing::play_lines;
+use crate::lines::play_lines;
 use laws_sound::worlds_keep_promises;
 use rpc_check::{Checker, Verdict};
 use rpc_journal::JournalEntry;
-use rpc_msg::{Memory, ObjectId};
+use rpc_msg::{Memory, ObjectId, Vat};
 use script_language::{Line, Names, Program, read_script};
 use std::alloc::Global;
 use trace_file::{write_entries, write_entry};
@@ -23,7 +22,7 @@ use trace_json::TraceVersion;
 use vat_world::World;
 
 /// The object of both vats that the other asks for.
-pub(crate) const FIRST_OBJECT: ObjectId = ObjectId(0);
+const FIRST_OBJECT: ObjectId = ObjectId(0);
 
 /// The version of the traces that the program writes.
 const VERSION: TraceVersion = TraceVersion::Two;
@@ -52,6 +51,7 @@ pub fn trace_of_script(alloc: Global, script: &[u8]) -> Result<CheckedTrace, Scr
             return Err(ScriptFault::Line(number, fault));
         }
     };
+    // Each arm by itself: a result that is handed on whole leaves its clauses to be proved by cases.
     match trace_of_lines(alloc, &lines) {
         Ok(trace) => return Ok(trace),
         Err(fault) => return Err(fault),
@@ -67,7 +67,7 @@ fn trace_of_lines(alloc: Global, lines: &[Line]) -> Result<CheckedTrace, ScriptF
         Err(Memory) => return Err(ScriptFault::Memory),
     };
     let trace = trace_from(alloc, &mut world, lines);
-    if lacked_memory(alloc, &world, lines) {
+    if world.lacked_memory(Vat::A) || world.lacked_memory(Vat::B) {
         return Err(ScriptFault::Memory);
     }
     trace

@@ -8,16 +8,18 @@
 //!   its room.
 //! - `log.rt`: the core's step goes into the journal (`core_telling`) and its messages on to the link, whole, or as going down
 //!   in the room that is kept.
-//! - `step.rt`: one vat's step, by a command or a message (`specs/Stages`): a call, the results of a task and the Finish of
-//!   a call go to the core's calls of these names at once, other commands to `Core::command`; `answer.rt`: what an event
+//! - `step.rt`: one vat's step, by a command or a message (`specs/Stages`). A call and the Finish of a call (`calls.rt`) and the
+//!   results of a task (`tasks.rt`) go to the core's calls of these names, other commands to `Core::command`; `answer.rt`: what an event
 //!   answers; `world.rt`: the same for either vat, runs, what can be asked, and the memory of effects that comes back.
 #![tactic(auto)]
 
 mod answer;
+mod calls;
 mod link;
 mod log;
 mod side;
 mod step;
+mod tasks;
 mod world;
 
 pub use answer::StepAnswer;

@@ -1,7 +1,7 @@
 use crate::link::Link;
 use core_outbox::Outbox;
 use core_telling::Core;
-use rpc_machine::Level;
+use rpc_machine::{Fault, Level};
 use rpc_msg::{Memory, ObjectId, Vat};
 use std::alloc::Global;
 
@@ -27,7 +27,8 @@ impl Drop for Side {
 }
 
 impl Side {
-    ghost use Rattle.std.specs.Prelude.{◌≡◌, [], false, IfOk};
+    ghost use Rattle.std.specs.Prelude.{◌≡◌, [], false, Some, IfOk, IsTrue};
+    ghost use Rattle.rpc_machine.specs.Numbers.{want_of_room};
     ghost use Rattle.rpc_machine.specs.State.{start};
     ghost use Rattle.rpc_machine.specs.declared.command.Level.TheVariants.{One};
     ghost use Rattle.vat_world.specs.Rooms.{side_of, CanAbort};
@@ -47,5 +48,15 @@ impl Side {
             was_shut: false,
             spare,
         })
+    }
+
+    /// Whether its vat went down for want of memory: with 33, by no shut, and without meeting a limit.
+    pub(crate) fn lacked_memory(&self) -> bool
+        ensures down { IsTrue result → self.now.core.down ≡ Some want_of_room }
+        ensures by_itself { IsTrue result → self.now.was_shut ≡ false }
+    {
+        !self.was_shut
+            && self.core.down() == Some(Fault::WantOfRoom.code())
+            && !self.core.met_limit()
     }
 }

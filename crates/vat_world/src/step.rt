@@ -9,15 +9,16 @@ ghost use Rattle.rpc_machine.specs.Progress.{quiet};
 ghost use Rattle.rpc_machine.specs.World.{given_up};
 
 use crate::answer::StepAnswer;
+use crate::calls::{obey_call, obey_finish};
 use crate::log::{log_overflow, log_step};
 use crate::side::Side;
+use crate::tasks::obey_answer;
 use core_telling::{
-    Answer, Core, Journal, Note, Refused, calls_before, index_of_call, note_answer, note_call,
-    note_of, write_note, write_refused,
+    Answer, Core, Journal, Note, Refused, index_of_call, note_of, write_note, write_refused,
 };
 use rpc_journal::{Advanced, JournalEntry};
-use rpc_machine::{CallCommand, Command, Effects, Granted, Refusal};
-use rpc_msg::{CallId, Items, Memory, Message, Payload, RefId, TaskId, Vat};
+use rpc_machine::{Command, Effects, Granted, Refusal};
+use rpc_msg::{Items, Memory, Message, Vat};
 use std::alloc::Global;
 
 /// A command at a vat. Answers what its core answers, with the effects of going down where the link or the journal could
@@ -56,134 +57,6 @@ fn obey_down(core: &mut Core, command: Command) -> StepAnswer
     ensures { AnswersSo core.old command result core.new }
 {
     StepAnswer::Answered(core.command(command))
-}
-
-#[inline(always)]
-fn obey_call(
-    alloc: Global,
-    vat: Vat,
-    acting: &mut Side,
-    peer: &mut Side,
-    journal: &mut Journal,
-    call: CallCommand,
-) -> StepAnswer
-    requires up { acting.old.core.down ≡ None }
-    requires room { HasRoom acting.old peer.old journal.old }
-    requires counts { NumbersItsCalls vat acting.old.core journal.old.0 }
-    ensures obeys { ObeysUpSo vat (stage_of acting.old peer.old journal.old) (command.Call call) result (stage_of acting.new peer.new journal.new) }
-    ensures was_shut { acting.new.was_shut ≡ acting.old.was_shut }
-    ensures peer_shut { peer.new.was_shut ≡ peer.old.was_shut }
-    ensures room { HasRoom acting.new peer.new journal.new }
-{
-    let start = journal.len();
-    let index = calls_before(&acting.core, call.reference);
-    let note = note_call(alloc, index, &call);
-    match acting.core.call(call) {
-        Ok((id, mut effects)) => {
-            let granted = Granted::Call(id);
-            let left = tell_done(
-                alloc,
-                vat,
-                acting,
-                peer,
-                journal,
-                start,
-                note,
-                granted,
-                &mut effects,
-            );
-            return StepAnswer::Answered(Answer::Done(left, effects));
-        }
-        Err(Refused { refusal, back }) => {
-            tell_refused(alloc, vat, acting, peer, journal, start, refusal);
-            return StepAnswer::Answered(Answer::Refused(refusal, Command::Call(back)));
-        }
-    }
-}
-
-#[inline(always)]
-fn obey_answer(
-    alloc: Global,
-    vat: Vat,
-    acting: &mut Side,
-    peer: &mut Side,
-    journal: &mut Journal,
-    task: TaskId,
-    payload: Payload,
-    refs: Items<RefId>,
-) -> StepAnswer
-    requires up { acting.old.core.down ≡ None }
-    requires room { HasRoom acting.old peer.old journal.old }
-    requires counts { NumbersItsCalls vat acting.old.core journal.old.0 }
-    ensures obeys { ObeysUpSo vat (stage_of acting.old peer.old journal.old) (command.Answer task payload refs) result (stage_of acting.new peer.new journal.new) }
-    ensures was_shut { acting.new.was_shut ≡ acting.old.was_shut }
-    ensures peer_shut { peer.new.was_shut ≡ peer.old.was_shut }
-    ensures room { HasRoom acting.new peer.new journal.new }
-{
-    let start = journal.len();
-    let note = note_answer(alloc, task, &payload, &refs);
-    match acting.core.answer(task, payload, refs) {
-        Ok(mut effects) => {
-            let left = tell_done(
-                alloc,
-                vat,
-                acting,
-                peer,
-                journal,
-                start,
-                note,
-                Granted::Done,
-                &mut effects,
-            );
-            return StepAnswer::Answered(Answer::Done(left, effects));
-        }
-        Err(Refused { refusal, back }) => {
-            tell_refused(alloc, vat, acting, peer, journal, start, refusal);
-            let (payload, refs) = back;
-            let back = Command::Answer(task, payload, refs);
-            return StepAnswer::Answered(Answer::Refused(refusal, back));
-        }
-    }
-}
-
-#[inline(always)]
-fn obey_finish(
-    alloc: Global,
-    vat: Vat,
-    acting: &mut Side,
-    peer: &mut Side,
-    journal: &mut Journal,
-    call: CallId,
-) -> StepAnswer
-    requires up { acting.old.core.down ≡ None }
-    requires room { HasRoom acting.old peer.old journal.old }
-    requires counts { NumbersItsCalls vat acting.old.core journal.old.0 }
-    ensures obeys { ObeysUpSo vat (stage_of acting.old peer.old journal.old) (command.Finish call) result (stage_of acting.new peer.new journal.new) }
-    ensures was_shut { acting.new.was_shut ≡ acting.old.was_shut }
-    ensures peer_shut { peer.new.was_shut ≡ peer.old.was_shut }
-    ensures room { HasRoom acting.new peer.new journal.new }
-{
-    let start = journal.len();
-    match acting.core.finish(call) {
-        Ok(mut effects) => {
-            let left = tell_done(
-                alloc,
-                vat,
-                acting,
-                peer,
-                journal,
-                start,
-                Ok(Note::Finished(call)),
-                Granted::Done,
-                &mut effects,
-            );
-            return StepAnswer::Answered(Answer::Done(left, effects));
-        }
-        Err(refusal) => {
-            tell_refused(alloc, vat, acting, peer, journal, start, refusal);
-            return StepAnswer::Answered(Answer::Refused(refusal, Command::Finish(call)));
-        }
-    }
 }
 
 #[inline(never)]
@@ -254,7 +127,7 @@ fn obey_up(
 
 // Tells a step that was done, and gives what is left of what it granted.
 #[inline(always)]
-fn tell_done(
+pub(crate) fn tell_done(
     alloc: Global,
     vat: Vat,
     acting: &mut Side,
@@ -291,7 +164,7 @@ fn tell_done(
 // Tells a step that was refused.
 #[cold]
 #[inline(never)]
-fn tell_refused(
+pub(crate) fn tell_refused(
     alloc: Global,
     vat: Vat,
     acting: &mut Side,

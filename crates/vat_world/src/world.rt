@@ -1,6 +1,7 @@
-ghost use Rattle.std.specs.Prelude.{◌≡◌, ◌↔◌, true, ◌++◌, [], ◌∷◌, IfOk, OnOk, OnErr};
+ghost use Rattle.std.specs.Prelude.{◌≡◌, ◌↔◌, true, false, ◌++◌, [], ◌∷◌, Some, IsTrue, IfOk, OnOk, OnErr};
 ghost use Rattle.rpc_journal.specs.declared.entry.JournalEntry.{JournalEntry};
-ghost use Rattle.rpc_machine.specs.World.{tables_entry};
+ghost use Rattle.rpc_machine.specs.Numbers.{want_of_room};
+ghost use Rattle.rpc_machine.specs.World.{core, tables_entry};
 ghost use Rattle.rpc_machine.specs.Pending.{is_idle, pending};
 ghost use Rattle.rpc_machine.specs.Claims.{AreNumbered, CountsAgree, EndsAreSo, IsInFull, IsInOrder, IsInTime, IsQuietWhenDown, IsSound, IsToOne, MeansOne};
 ghost use Rattle.rpc_machine.specs.declared.event.Event.TheVariants as event;
@@ -185,6 +186,7 @@ impl World {
         ensures { KeepsPromises self.now }
     {
         worlds_keep_promises();
+        // A look at a field: without one, a body that only calls methods does not see the invariant of its type.
         let _ = &self.journal;
     }
 
@@ -194,6 +196,7 @@ impl World {
     {
         bootstraps_stay();
         worlds_are_sound();
+        // A look at a field: without one, a body that only calls methods does not see the invariant of its type.
         let _ = &self.journal;
     }
 
@@ -203,6 +206,7 @@ impl World {
         ensures headed { IsGood (entry.Head ∷ self.now.journal) }
     {
         every_verdict_is_good();
+        // A look at a field: without one, a body that only calls methods does not see the invariant of its type.
         let _ = &self.journal;
     }
 
@@ -294,6 +298,18 @@ impl World {
         match vat {
             Vat::A => self.a.was_shut,
             Vat::B => self.b.was_shut,
+        }
+    }
+
+    /// Whether that vat went down for want of memory: with 33, by no shut, and without meeting a limit, whose number is the same.
+    /// Takes no memory.
+    pub fn lacked_memory(&self, vat: Vat) -> bool
+        ensures down { IsTrue result → (core self.now.world vat).down ≡ Some want_of_room }
+        ensures by_itself { IsTrue result → shut self.now vat ≡ false }
+    {
+        match vat {
+            Vat::A => self.a.lacked_memory(),
+            Vat::B => self.b.lacked_memory(),
         }
     }
 }

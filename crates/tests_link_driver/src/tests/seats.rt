@@ -144,7 +144,9 @@ fn takes_no_more(seat: &mut Seat) -> bool {
             return false;
         }
     }
-    take(seat, u64::from(ANSWERS), 0, bootstrap(ANSWERS)) == Some(33) && is_over(seat, 33, 4_097)
+    take(seat, u64::from(ANSWERS), 0, bootstrap(ANSWERS)) == Some(33)
+        && is_over(seat, 33, 4_097)
+        && seat.side().met_limit()
 }
 
 #[test]

@@ -54,7 +54,11 @@ fn take_again(alloc: Global, world: &mut World, number: u32) -> Seen {
     let vat = vat_of(number);
     let said = take_number(alloc, world, number);
     if ends_overflown(entries(world), vat) {
-        return Seen::Fallen;
+        return if world.lacked_memory(vat) {
+            Seen::Fallen
+        } else {
+            Seen::Wrong
+        };
     }
     if said != Brief::Refused(Refusal::Memory) {
         return Seen::Up;

@@ -43,6 +43,45 @@ fn too_many_exports(alloc: Global) -> Result<String, AllocError> {
     Ok(script)
 }
 
+/// Each vat resolves a promise to one of the other's, and calls through it: the calls go round until tables are full, in one
+/// circle sooner than in the other, and which vat goes down is for the threads to say.
+fn round_two_circles(alloc: Global) -> Result<String, AllocError> {
+    let mut script = String::new(alloc);
+    write!(
+        script,
+        "a bootstrap boot\na field obj boot -\nb bootstrap boot\nb field obj boot -\n"
+    )?;
+    write!(
+        script,
+        "a promise p q\na call c obj 1 1 q\nb promise pb qb\nb call d obj 1 1 qb\n"
+    )?;
+    write!(script, "a turn\na turn\na turn\nb turn\nb turn\nb turn\n")?;
+    write!(
+        script,
+        "a take u 0 0\nb take t 0 0\nb resolve pb t\na resolve p u\n"
+    )?;
+    for _ in 0..40 {
+        write!(script, "a call e q 1 1 -\n")?;
+    }
+    write!(
+        script,
+        "b call f qb 1 1 -\nb call f qb 1 1 -\nb call f qb 1 1 -\n"
+    )?;
+    Ok(script)
+}
+
+/// A limit is no want of memory, however the run ends.
+#[test]
+fn a_run_ends_by_limits_in_any_order(rt: HostRuntime) -> Result<(), AllocError> {
+    let script = round_two_circles(rt.alloc())?;
+    let Ok(trace) = trace_of_pair(rt.alloc(), &rt, &rt, script.as_bytes()) else {
+        return Err(AllocError);
+    };
+    assert!(rt; matches!(trace.verdict, Verdict::Good(_)));
+    assert!(rt; trace.text.contains("{\"fault\":33,\"k\":\"down\",\"vat\":"));
+    Ok(())
+}
+
 /// The other vat is told, and goes down too; such a run is printed all the same.
 #[test]
 fn a_run_ends_with_a_vat_down(rt: HostRuntime) -> Result<(), AllocError> {

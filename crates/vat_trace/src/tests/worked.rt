@@ -1,5 +1,5 @@
 //! Two new vats, worked by the lines of a script.
-use crate::working::work_lines;
+use crate::work::work_lines;
 use link_driver::PairRun;
 use link_workers::Gate;
 use rpc_msg::Memory;

@@ -1,0 +1,4 @@
+pub mod Answering
+pub mod Beginning
+pub mod Crossing
+pub mod Merging

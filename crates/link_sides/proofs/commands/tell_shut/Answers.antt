@@ -1,0 +1,24 @@
+use Rattle.std.proofs.Common.{Ok, refl, ap, ◌∙◌}
+use Rattle.rpc_machine.specs.State.{State}
+use Rattle.link_sides.proofs.Answering.{shut_by}
+use Rattle.link_sides.proofs.Stepping.{overflowed_at}
+use Rattle.link_sides.proofs.commands.tell_shut.Goals as goal
+
+pub returns-clause-obeys : goal.returns-clause-obeys
+returns-clause-obeys c =
+    overflowed_at (record { core = c.args.before.value; journal = c.args.kept.now.journal.0 }) c.vat-vat.result c.tell_fall.new.kept.journal.0 c.len.result c.len-start.result _ c.of.result c.shut-fallen.result _ _
+    (record {
+      value = c.of.ensures;
+      vat_is = c.vat-vat.ensures ∙ (c.names_stay.ensures.commands _ _ _ _ _ c.requires.step).vat;
+      entries = refl;
+      len = c.len.ensures;
+      start = c.len-start.ensures;
+      queued = c.tell_fall.ensures.queued;
+    })
+    c.overflow_is_shut.ensures c.args.kept.now.core c.recycle.new.self c.shut-fallen.new.self c.recycle-2.new.self c.args.asked.now.value _ (Ok c.args.granted) c.args.effects refl c.requires.up c.requires.step
+    c.requires.still_up c.recycle.ensures c.shut-fallen.ensures (c.recycle-2.ensures ∙ c.tell_fall.ensures.core)
+    c.tell_fall.ensures.journal
+
+pub returns-clause-shut : goal.returns-clause-shut
+returns-clause-shut c =
+    shut_by c.recycle.new.self c.shut-fallen.new.self 33 _ c.shut-fallen.result _ c.of.ensures (ap (λ (s : State). s.down) c.recycle.ensures ∙ c.requires.still_up) c.shut-fallen.ensures

@@ -1,6 +1,0 @@
-use Rattle.std.proofs.Common.{refl}
-use Rattle.link_sides.proofs.Answering.{refused_when_shut}
-use Rattle.link_sides.proofs.obeying.without_room.Goals as goal
-
-pub returns-clause-answers : goal.returns-clause-answers
-returns-clause-answers c = refused_when_shut c.args.command _ _ c.shut-note.ensures.by_number refl c.requires.other
