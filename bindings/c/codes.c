@@ -5,7 +5,7 @@
 #include <stdlib.h>
 #include <string.h>
 
-_Static_assert(sizeof(lovendak) == 16 && offsetof(lovendak, at) == 8, "the handle's layout");
+_Static_assert(sizeof(lovendak_vat) == 16 && offsetof(lovendak_vat, at) == 8, "the handle's layout");
 _Static_assert(sizeof(lovendak_event) == 56 && offsetof(lovendak_event, payload_len) == 40, "the event's layout");
 
 /* What a length of 0 stands beside: a pointer is never null. */
@@ -21,7 +21,7 @@ static void check(unsigned long long is, unsigned long long wanted, const char *
   exit(1);
 }
 
-static void hand_over(lovendak *from, lovendak *to) {
+static void hand_over(lovendak_vat *from, lovendak_vat *to) {
   uint8_t bytes[7];
   size_t len;
   do {
@@ -31,7 +31,7 @@ static void hand_over(lovendak *from, lovendak *to) {
 }
 
 /* Every call on an empty handle answers the same, and writes nothing. */
-static void empty_handle(lovendak *vat) {
+static void empty_handle(lovendak_vat *vat) {
   lovendak_event event = {0};
   uint8_t bytes[8] = {0};
   uint64_t number = 77, more = 77;
@@ -42,6 +42,9 @@ static void empty_handle(lovendak *vat) {
   IS(lovendak_ended(vat), LOVENDAK_EMPTY_HANDLE);
   IS(lovendak_outgoing(vat, bytes, 8, &len), LOVENDAK_EMPTY_HANDLE);
   IS(lovendak_pending(vat, &len, &small), LOVENDAK_EMPTY_HANDLE);
+  IS(lovendak_load(vat, &number, &more), LOVENDAK_EMPTY_HANDLE);
+  IS(lovendak_set_limits(vat, 0, 0), LOVENDAK_EMPTY_HANDLE);
+  IS(lovendak_wants_bytes(vat, &small), LOVENDAK_EMPTY_HANDLE);
   IS(lovendak_next_event(vat, &event, bytes, 8, &number, 1), LOVENDAK_EMPTY_HANDLE);
   IS(lovendak_down(vat, &small), LOVENDAK_EMPTY_HANDLE);
   IS(lovendak_shares_nothing(vat, &small), LOVENDAK_EMPTY_HANDLE);
@@ -65,7 +68,7 @@ static void empty_handle(lovendak *vat) {
 }
 
 /* Room that is too small takes nothing, and says what is wanted. */
-static void small_rooms(lovendak *a, lovendak *b) {
+static void small_rooms(lovendak_vat *a, lovendak_vat *b) {
   static const uint16_t first[] = {0};
   const uint64_t numbers[] = {5, 6};
   uint8_t payload[128], text[8];
@@ -96,8 +99,8 @@ static void small_rooms(lovendak *a, lovendak *b) {
   IS(lovendak_text_at(payload, len, 2, 1, text, sizeof text, &len), LOVENDAK_NOTHING);
 }
 
-static void no_such_numbers(lovendak *vat) {
-  lovendak other = LOVENDAK_EMPTY;
+static void no_such_numbers(lovendak_vat *vat) {
+  lovendak_vat other = LOVENDAK_EMPTY;
   uint64_t call;
   size_t len;
   uint8_t out[64];
@@ -112,7 +115,7 @@ static void no_such_numbers(lovendak *vat) {
 }
 
 int main(void) {
-  lovendak a = LOVENDAK_EMPTY, b;
+  lovendak_vat a = LOVENDAK_EMPTY, b;
   uint32_t number;
   memset(&b, 0x55, sizeof b); /* a handle that was never set: empty, since the magic number is not there */
   IS(lovendak_version(), LOVENDAK_INTERFACE);

@@ -20,7 +20,7 @@ enum { ROOT = 0, MOST_COUNTERS = 1000, MOST_CLIENTS = 64, PIECE = 4096 };
  * that wait until the client takes them. */
 struct service {
   int client;
-  lovendak vat;
+  lovendak_vat vat;
   uint64_t sums[MOST_COUNTERS];
   size_t counters;
   lovendak_event event;

@@ -14,7 +14,7 @@ public:
   Vat(const Vat&) = delete;
   Vat& operator=(const Vat&) = delete;
 
-  operator lovendak*() { return &handle; }
+  operator lovendak_vat*() { return &handle; }
 
   // Hands over the bytes that go out.
   void send(Vat& to) {
@@ -31,7 +31,7 @@ public:
   }
 
 private:
-  lovendak handle = LOVENDAK_EMPTY;
+  lovendak_vat handle = LOVENDAK_EMPTY;
 };
 
 const uint64_t NO_REFS[1] = {};

@@ -26,7 +26,7 @@
  * - use a handle in two threads at once, in a signal handler, or in the forked child of a process with threads.
  * - pass a pointer that is null or not aligned, even beside a length of 0, or that has less behind it than the length says; or two
  *   in one call whose memory overlaps.
- * - pass a handle to `lovendak_new` that was never set. All zeros are an empty one: `lovendak vat = LOVENDAK_EMPTY;`
+ * - pass a handle to `lovendak_new` that was never set. All zeros are an empty one: `lovendak_vat vat = LOVENDAK_EMPTY;`
  */
 #ifndef LOVENDAK_H
 #define LOVENDAK_H
@@ -38,13 +38,13 @@ extern "C" {
 
 /* The version of the library, and the number of its interface, which `lovendak_version` returns if the two agree. */
 #define LOVENDAK_VERSION "0.1.0"
-#define LOVENDAK_INTERFACE 1
+#define LOVENDAK_INTERFACE 2
 
 /* A vat, which `lovendak_free` frees, or nothing. */
-typedef struct lovendak {
+typedef struct lovendak_vat {
   uint32_t magic;
   void *at;
-} lovendak;
+} lovendak_vat;
 
 #define LOVENDAK_EMPTY {0, NULL}
 
@@ -87,7 +87,7 @@ typedef struct lovendak_event {
   uint64_t number;       /* to serve: the task; ended: the call; down: the number with which the vat went down */
   uint64_t object;       /* to serve: the object, by the number that its application gave it */
   uint64_t interface_id; /* to serve: the interface */
-  size_t payload_len;    /* bytes of the payload, or of the reason */
+  size_t payload_len;    /* bytes of the payload, or of the reason; down: of the reason of the Abort with which the peer ended it */
   size_t refs_len;       /* references, one for each capability of the payload; each is to be dropped */
 } lovendak_event;
 
@@ -96,27 +96,42 @@ uint32_t lovendak_version(void);
 
 /* Puts a vat into an empty handle, of level 0 or 1. If `has_root` is not 0, its bootstrap object is the object `root`.
  * IN_USE if the handle has a vat, NO_SUCH_NUMBER of another level, MEMORY. */
-uint32_t lovendak_new(lovendak *vat, uint32_t level, uint32_t has_root, uint64_t root);
+uint32_t lovendak_new(lovendak_vat *vat, uint32_t level, uint32_t has_root, uint64_t root);
 
 /* Frees a vat, and leaves the handle empty. EMPTY_HANDLE if it is empty already, which does no harm. */
-uint32_t lovendak_free(lovendak *vat);
+uint32_t lovendak_free(lovendak_vat *vat);
 
 /* From here to `lovendak_shut`, each function returns EMPTY_HANDLE if the handle is empty. */
 
 /* Takes bytes that came from the peer, in any pieces, and drops them if the vat is down. A fault in them, or running out of memory, is
  * no code: it takes the vat down, which is an event. */
-uint32_t lovendak_received(lovendak *vat, const uint8_t *bytes, size_t len);
+uint32_t lovendak_received(lovendak_vat *vat, const uint8_t *bytes, size_t len);
 
 /* The peer's stream has ended: the vat goes down with 0, or with 2 if the stream ended inside a message. */
-uint32_t lovendak_ended(lovendak *vat);
+uint32_t lovendak_ended(lovendak_vat *vat);
 
 /* Copies outbound bytes, each once, at most as many as there is room for, and says how many. Ask until it says 0: less than the room
  * does not mean that nothing is left. */
-uint32_t lovendak_outgoing(lovendak *vat, uint8_t *out, size_t room, size_t *len);
+uint32_t lovendak_outgoing(lovendak_vat *vat, uint8_t *out, size_t room, size_t *len);
 
 /* How many bytes the next `lovendak_outgoing` gives, with that much room: 0 if none are to be sent. And whether there is an event (1)
  * or none (0). Queued messages become frames first, as by `lovendak_outgoing`; no bytes and no event are taken out. */
-uint32_t lovendak_pending(lovendak *vat, size_t *bytes, uint32_t *has_event);
+uint32_t lovendak_pending(lovendak_vat *vat, size_t *bytes, uint32_t *has_event);
+
+/* How much is held of the peer. `words`: the words of the messages of calls for which no Return was said, and of other messages until
+ * `lovendak_next_event` said that there is no event. `bytes`: those that wait to be sent. */
+uint32_t lovendak_load(lovendak_vat *vat, uint64_t *words, uint64_t *bytes);
+
+/* Sets limits of the load: while its words, or the bytes that wait in the vat, are above, messages of the peer wait unheard, in their
+ * order. `lovendak_outgoing` and `lovendak_pending` take these bytes out of the vat, for the caller to fetch. So at most twice as many
+ * bytes wait as the limit says, and what one message adds. A new vat has no limits. Limits that are too low for what two applications
+ * ask of each other at a time stop both. */
+uint32_t lovendak_set_limits(lovendak_vat *vat, uint64_t words, uint64_t bytes);
+
+/* Whether more bytes of the peer would be heard (1), or only wait (0): then there are events to take, bytes to send or calls to
+ * answer, or the vat is down. An application that reads of its peer only while this says 1, and takes events and bytes meanwhile,
+ * holds no more words than the limit says, and what one message adds. */
+uint32_t lovendak_wants_bytes(lovendak_vat *vat, uint32_t *answer);
 
 /* Takes the oldest event. The events of one command or message come after those of earlier ones; among them, calls to serve come
  * before own calls that ended. Once the vat is down, each own call that is open is reported as one that failed with
@@ -124,67 +139,67 @@ uint32_t lovendak_pending(lovendak *vat, size_t *bytes, uint32_t *has_event);
  * and its references are copied into the rooms given. NOTHING if there is none; ROOM if one of the rooms is too small: the event is
  * filled in, and stays. After each command too, ask until there is none, and then send: in this order no event is missed. If bytes
  * were sent first, ask again, since a message that can't be sent takes the vat down. */
-uint32_t lovendak_next_event(lovendak *vat, lovendak_event *event, uint8_t *payload, size_t room, uint64_t *refs, size_t refs_room);
+uint32_t lovendak_next_event(lovendak_vat *vat, lovendak_event *event, uint8_t *payload, size_t room, uint64_t *refs, size_t refs_room);
 
 /* The number with which the vat went down; NOTHING if it is not down. */
-uint32_t lovendak_down(lovendak *vat, uint32_t *number);
+uint32_t lovendak_down(lovendak_vat *vat, uint32_t *number);
 
 /* 1 if nothing is left between the two vats: no question, answer, export or import; otherwise 0. */
-uint32_t lovendak_shares_nothing(lovendak *vat, uint32_t *answer);
+uint32_t lovendak_shares_nothing(lovendak_vat *vat, uint32_t *answer);
 
 /* How many calls were made through a reference. UNKNOWN_REF. */
-uint32_t lovendak_calls_made(lovendak *vat, uint64_t ref, uint64_t *made);
+uint32_t lovendak_calls_made(lovendak_vat *vat, uint64_t ref, uint64_t *made);
 
 /* Commands. Each may return DOWN (except `lovendak_shut`), FULL and MEMORY, and the codes that are named beside it. */
 
 /* Asks the peer for its bootstrap object: a call, whose result is that object. */
-uint32_t lovendak_bootstrap(lovendak *vat, uint64_t *call);
+uint32_t lovendak_bootstrap(lovendak_vat *vat, uint64_t *call);
 
 /* A reference to the result of a call, before or after it has ended. UNKNOWN_CALL. */
-uint32_t lovendak_result_of(lovendak *vat, uint64_t call, uint64_t *ref);
+uint32_t lovendak_result_of(lovendak_vat *vat, uint64_t call, uint64_t *ref);
 
 /* A reference to what a call's results have at a path of pointers' numbers, before or after it has ended. UNKNOWN_CALL, LONG_PATH. */
-uint32_t lovendak_field(lovendak *vat, uint64_t call, const uint16_t *path, size_t steps, uint64_t *ref);
+uint32_t lovendak_field(lovendak_vat *vat, uint64_t call, const uint16_t *path, size_t steps, uint64_t *ref);
 
 /* A reference to an object of the application, which knows it by that number. */
-uint32_t lovendak_host(lovendak *vat, uint64_t object, uint64_t *ref);
+uint32_t lovendak_host(lovendak_vat *vat, uint64_t object, uint64_t *ref);
 
 /* A second reference to the same. UNKNOWN_REF. */
-uint32_t lovendak_clone_ref(lovendak *vat, uint64_t ref, uint64_t *made);
+uint32_t lovendak_clone_ref(lovendak_vat *vat, uint64_t ref, uint64_t *made);
 
 /* Drops a reference. UNKNOWN_REF. */
-uint32_t lovendak_drop_ref(lovendak *vat, uint64_t ref);
+uint32_t lovendak_drop_ref(lovendak_vat *vat, uint64_t ref);
 
 /* Makes a call, with a payload (framed segments) and a reference for each of its capabilities, which still belong to the caller. The
  * reference that is called first takes the shorter path, if one is known. NO_PAYLOAD if the bytes are no payload with so many
  * capabilities, UNKNOWN_REF, LEVEL. */
-uint32_t lovendak_call(lovendak *vat, uint64_t ref, uint64_t interface_id, uint16_t method, const uint8_t *payload, size_t len,
+uint32_t lovendak_call(lovendak_vat *vat, uint64_t ref, uint64_t interface_id, uint16_t method, const uint8_t *payload, size_t len,
                        const uint64_t *refs, size_t refs_len, uint64_t *call);
 
 /* The application has no more use for a call, which need not have ended. UNKNOWN_CALL. */
-uint32_t lovendak_finish(lovendak *vat, uint64_t call);
+uint32_t lovendak_finish(lovendak_vat *vat, uint64_t call);
 
 /* Gives a task its results, as `lovendak_call` takes contents. NO_PAYLOAD, UNKNOWN_TASK, UNKNOWN_REF, LEVEL. */
-uint32_t lovendak_answer(lovendak *vat, uint64_t task, const uint8_t *payload, size_t len, const uint64_t *refs, size_t refs_len);
+uint32_t lovendak_answer(lovendak_vat *vat, uint64_t task, const uint8_t *payload, size_t len, const uint64_t *refs, size_t refs_len);
 
 /* Gives a task an exception. NO_SUCH_NUMBER of another kind, NO_PAYLOAD of a reason that is no UTF-8, UNKNOWN_TASK. */
-uint32_t lovendak_fail(lovendak *vat, uint64_t task, uint32_t kind, const uint8_t *reason, size_t len);
+uint32_t lovendak_fail(lovendak_vat *vat, uint64_t task, uint32_t kind, const uint8_t *reason, size_t len);
 
 /* Makes a promise, and a reference to it. LEVEL. */
-uint32_t lovendak_promise(lovendak *vat, uint64_t *promise, uint64_t *ref);
+uint32_t lovendak_promise(lovendak_vat *vat, uint64_t *promise, uint64_t *ref);
 
 /* Settles a promise to what a reference leads to; the reference still belongs to the caller. UNKNOWN_PROMISE, UNKNOWN_REF, CYCLE,
  * LEVEL. */
-uint32_t lovendak_resolve(lovendak *vat, uint64_t promise, uint64_t ref);
+uint32_t lovendak_resolve(lovendak_vat *vat, uint64_t promise, uint64_t ref);
 
 /* Breaks a promise. NO_SUCH_NUMBER of another kind, NO_PAYLOAD of a reason that is no UTF-8, UNKNOWN_PROMISE, LEVEL. */
-uint32_t lovendak_reject(lovendak *vat, uint64_t promise, uint32_t kind, const uint8_t *reason, size_t len);
+uint32_t lovendak_reject(lovendak_vat *vat, uint64_t promise, uint32_t kind, const uint8_t *reason, size_t len);
 
 /* Lets a reference take one step of the shorter path, if one is known; `advanced` says what it did. UNKNOWN_REF, LEVEL. */
-uint32_t lovendak_advance(lovendak *vat, uint64_t ref, uint32_t *advanced);
+uint32_t lovendak_advance(lovendak_vat *vat, uint64_t ref, uint32_t *advanced);
 
 /* Takes the vat down with a number up to 65,535; NO_SUCH_NUMBER of a greater one. Its Abort is the last message. */
-uint32_t lovendak_shut(lovendak *vat, uint32_t number);
+uint32_t lovendak_shut(lovendak_vat *vat, uint32_t number);
 
 /* Contents without a schema compiler. Any library that writes and reads Cap'n Proto messages will do: the root of the message is the
  * payload, and its capability pointers number the references. `caps` is how many capabilities a payload has. */

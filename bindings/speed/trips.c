@@ -14,7 +14,7 @@ static void done(uint32_t code) {
   exit(1);
 }
 
-static void send_to(lovendak *from, lovendak *to) {
+static void send_to(lovendak_vat *from, lovendak_vat *to) {
   static uint8_t bytes[4096];
   size_t len;
   for (;;) {
@@ -24,7 +24,7 @@ static void send_to(lovendak *from, lovendak *to) {
   }
 }
 
-static uint64_t next(lovendak *vat, uint32_t kind) {
+static uint64_t next(lovendak_vat *vat, uint32_t kind) {
   static uint8_t payload[256];
   uint64_t refs[1];
   lovendak_event event;
@@ -35,7 +35,7 @@ static uint64_t next(lovendak *vat, uint32_t kind) {
 }
 
 int main(int words, char **word) {
-  lovendak a = LOVENDAK_EMPTY, b = LOVENDAK_EMPTY;
+  lovendak_vat a = LOVENDAK_EMPTY, b = LOVENDAK_EMPTY;
   uint64_t call, root;
   done(lovendak_new(&a, 1, 0, 0));
   done(lovendak_new(&b, 1, 1, 0));

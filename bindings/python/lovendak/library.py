@@ -8,7 +8,7 @@ from .errors import Refused
 
 ROOM, NOTHING = 103, 104
 # The number of the interface that this package speaks, LOVENDAK_INTERFACE in the header.
-INTERFACE = 1
+INTERFACE = 2
 
 
 class Handle(c.Structure):
@@ -27,6 +27,7 @@ HANDLE, BYTES, ROOMS, WORDS = c.POINTER(Handle), c.c_char_p, c.POINTER(c.c_char)
 TAKES: Dict[str, List[Any]] = {
     "version": [], "new": [HANDLE, U32, U32, U64], "free": [HANDLE], "received": [HANDLE, BYTES, SIZE], "ended": [HANDLE],
     "outgoing": [HANDLE, ROOMS, SIZE, c.POINTER(SIZE)], "pending": [HANDLE, c.POINTER(SIZE), c.POINTER(U32)],
+    "load": [HANDLE, WORDS, WORDS], "set_limits": [HANDLE, U64, U64], "wants_bytes": [HANDLE, c.POINTER(U32)],
     "next_event": [HANDLE, c.POINTER(Told), ROOMS, SIZE, WORDS, SIZE], "down": [HANDLE, c.POINTER(U32)],
     "shares_nothing": [HANDLE, c.POINTER(U32)], "calls_made": [HANDLE, U64, WORDS], "bootstrap": [HANDLE, WORDS],
     "result_of": [HANDLE, U64, WORDS], "field": [HANDLE, U64, c.POINTER(U16), SIZE, WORDS], "host": [HANDLE, U64, WORDS],

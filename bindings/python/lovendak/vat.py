@@ -15,8 +15,9 @@ class Event:
 
     - SERVED, a call to serve: `task`, `object`, `interface`, `method`, `contents`.
     - ENDED, an own call that ended: `call`, and `contents`, or `exception`, which is a pair of its kind and its reason.
-    - DOWN, the vat went down: `number`, and `fault`, its name in docs/numbers.md, or None if it has none. Before it each own call
-      that was open ends, with an exception of the kind DISCONNECTED."""
+    - DOWN, the vat went down: `number`, and `fault`, its name in docs/numbers.md, or None if it has none; and `reason`, that of the
+      Abort by which the peer ended it, or an empty text. Before it each own call that was open ends, with an exception of the kind
+      DISCONNECTED."""
 
     __module__ = "lovendak"
     kind: int
@@ -27,13 +28,14 @@ class Event:
     call: int
     number: int
     fault: Optional[str]
+    reason: str
     contents: Optional[Contents] = None
     exception: Optional[Tuple[int, str]] = None
 
     def __init__(self, told: Told, payload: bytes, refs: "list[int]") -> None:
         self.kind = told.kind
         if told.kind == DOWN:
-            self.number, self.fault = told.number, FAULTS.get(told.number)
+            self.number, self.fault, self.reason = told.number, FAULTS.get(told.number), payload.decode(errors="replace")
             return
         if told.is_exception:
             self.exception = told.exception, payload.decode(errors="replace")
@@ -46,7 +48,7 @@ class Event:
 
     def __repr__(self) -> str:
         if self.kind == DOWN:
-            return f"<down with {self.number}{f', {self.fault}' if self.fault else ''}>"
+            return f"<down with {self.number}{f', {self.fault}' if self.fault else ''}{f': {self.reason}' if self.reason else ''}>"
         if self.kind == SERVED:
             return f"<task {self.task}: method {self.method} of {self.interface:#x} of object {self.object}>"
         if self.exception:
@@ -107,6 +109,25 @@ class Vat:
         size, has_event = SIZE(), U32()
         self._asked("pending", c.byref(size), c.byref(has_event))
         return size.value, has_event.value == 1
+
+    def load(self) -> Tuple[int, int]:
+        """How much is held of the peer: the words of the messages of calls for which no Return was said, and of other messages until
+        `events` was at its end; and the bytes that wait to be sent."""
+        words, size = U64(), U64()
+        self._asked("load", c.byref(words), c.byref(size))
+        return words.value, size.value
+
+    def set_limits(self, words: int, size: int) -> None:
+        """Sets limits of the load: while its words, or the bytes that wait in the vat, are above, messages of the peer wait unheard, in
+        their order. A new vat has no limits. Limits that are too low for what two applications ask of each other at a time stop both."""
+        self._asked("set_limits", words, size)
+
+    def wants_bytes(self) -> bool:
+        """Whether more bytes of the peer would be heard. If not, there are events to take, bytes to send or calls to answer, or the vat
+        is down, and what comes only waits: read no more of the peer meanwhile."""
+        answer = U32()
+        self._asked("wants_bytes", c.byref(answer))
+        return answer.value == 1
 
     def events(self) -> Iterator[Event]:
         """What there is to tell, until there is no more."""

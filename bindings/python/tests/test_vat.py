@@ -20,6 +20,21 @@ class Refusals(unittest.TestCase):
         self.vat = Vat(root=0)
         self.ref = self.vat.host(1)
 
+    def test_limits(self):
+        client, server = Vat(), Vat(root=0)
+        server.set_limits(5, 1 << 40)  # a Bootstrap has six words
+        root = client.result_of(client.bootstrap())
+        client.call(root, 7, 0, Contents.of([1]))
+        self.assertTrue(server.wants_bytes())
+        server.received(client.outgoing())
+        self.assertEqual((server.load()[0], server.wants_bytes()), (6, False))
+        self.assertEqual(list(server.events()), [])  # the Bootstrap is counted no more
+        [served] = server.events()
+        self.assertFalse(server.wants_bytes())
+        server.answer(served.task, Contents.of([2]))
+        client.received(server.outgoing())
+        self.assertEqual((server.load(), server.wants_bytes()), ((0, 0), True))
+
     def test_numbers_out_of_range(self):
         vat, ref, some = self.vat, self.ref, Contents.of()
         cases = {
@@ -114,6 +129,11 @@ class Conversations(unittest.TestCase):
         client.ended()
         [down] = client.events()
         self.assertEqual((down.kind, down.number, down.fault, repr(down)), (DOWN, 0, None, "<down with 0>"))
+        client, server = Vat(), Vat()
+        server.shut(7)
+        client.received(server.outgoing())
+        [down] = client.events()
+        self.assertEqual((down.number, down.reason), (34, "fault 7"))
 
 
 class Threads(unittest.TestCase):

@@ -85,7 +85,7 @@ impl Client {
             match event {
                 Event::Ended(ended) => self.ended.push(ended),
                 Event::Served(call) => self.vat.let_go(&call.params.refs)?, // it serves no objects
-                Event::Down(_) => return Err(event.to_string().into()),
+                Event::Down(..) => return Err(event.to_string().into()),
             }
         }
         Ok(())

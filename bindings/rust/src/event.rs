@@ -15,8 +15,8 @@ pub enum Event {
     /// An own call has ended: drop the references in its results, and `finish` it.
     Ended(Ended),
     /// The vat went down, with that number; [`Fault::of`] says what it means. Each own call has ended before, those that were open
-    /// with `Disconnected`.
-    Down(u16),
+    /// with `Disconnected`. With it comes the reason of the Abort by which the peer ended it, or an empty text.
+    Down(u16, String),
 }
 
 /// What happened, in a line for a log.
@@ -25,10 +25,16 @@ impl fmt::Display for Event {
         match self {
             Event::Served(call) => call.fmt(f),
             Event::Ended(ended) => ended.fmt(f),
-            Event::Down(number) => match Fault::of(*number) {
-                Some(fault) => write!(f, "the vat went down with {number}, {fault}"),
-                None => write!(f, "the vat went down with {number}"),
-            },
+            Event::Down(number, reason) => {
+                write!(f, "the vat went down with {number}")?;
+                if let Some(fault) = Fault::of(*number) {
+                    write!(f, ", {fault}")?;
+                }
+                if !reason.is_empty() {
+                    write!(f, ": {reason}")?;
+                }
+                Ok(())
+            }
         }
     }
 }

@@ -58,6 +58,9 @@ safe! {
     fn lovendak_free(vat: &mut Lovendak) -> u32;
     fn lovendak_ended(vat: &mut Lovendak) -> u32;
     fn lovendak_pending(vat: &mut Lovendak, bytes: &mut usize, has_event: &mut u32) -> u32;
+    fn lovendak_load(vat: &mut Lovendak, words: &mut u64, bytes: &mut u64) -> u32;
+    fn lovendak_set_limits(vat: &mut Lovendak, words: u64, bytes: u64) -> u32;
+    fn lovendak_wants_bytes(vat: &mut Lovendak, answer: &mut u32) -> u32;
     fn lovendak_down(vat: &mut Lovendak, number: &mut u32) -> u32;
     fn lovendak_shares_nothing(vat: &mut Lovendak, answer: &mut u32) -> u32;
     fn lovendak_calls_made(vat: &mut Lovendak, reference: u64, made: &mut u64) -> u32;

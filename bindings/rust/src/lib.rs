@@ -83,7 +83,7 @@ pub use polled::Polled;
 pub use refusal::Refusal;
 pub use remote::{Call, Remote};
 pub use structs::Struct;
-pub use vat::{Advanced, Level, Pending, Vat};
+pub use vat::{Advanced, Level, Load, Pending, Vat};
 
 /// The number of the library's interface.
 pub fn version() -> u32 {

@@ -29,6 +29,15 @@ pub enum Advanced {
     Broke,
 }
 
+/// What a vat holds of its peer.
+#[derive(Clone, Copy, Debug, PartialEq, Eq)]
+pub struct Load {
+    /// The words of the messages of calls for which no Return was said, and of other messages until [`Vat::next_event`] gave none.
+    pub words: u64,
+    /// The bytes that wait to be sent.
+    pub bytes: u64,
+}
+
 /// What waits to be taken from a vat.
 #[derive(Clone, Copy, Debug, PartialEq, Eq)]
 pub struct Pending {
@@ -77,6 +86,27 @@ impl Vat {
         let (mut bytes, mut has_event) = (0, 0);
         ok(ffi::lovendak_pending(&mut self.handle, &mut bytes, &mut has_event));
         Pending { bytes, has_event: has_event == 1 }
+    }
+
+    /// How much is held of the peer.
+    pub fn load(&mut self) -> Load {
+        let (mut words, mut bytes) = (0, 0);
+        ok(ffi::lovendak_load(&mut self.handle, &mut words, &mut bytes));
+        Load { words, bytes }
+    }
+
+    /// Sets limits of the load: while its words, or the bytes that wait in the vat, are above, messages of the peer wait unheard, in
+    /// their order. A new vat has no limits. Limits that are too low for what two applications ask of each other at a time stop both.
+    pub fn set_limits(&mut self, words: u64, bytes: u64) {
+        ok(ffi::lovendak_set_limits(&mut self.handle, words, bytes));
+    }
+
+    /// Whether more bytes of the peer would be heard. If not, there are events to take, bytes to send or calls to answer, or the vat is
+    /// down, and what comes only waits: read no more of the peer meanwhile.
+    pub fn wants_bytes(&mut self) -> bool {
+        let mut answer = 0;
+        ok(ffi::lovendak_wants_bytes(&mut self.handle, &mut answer));
+        answer == 1
     }
 
     /// The bytes that are to be sent, each once. What can't be sent takes the vat down: look for events once more.
@@ -150,7 +180,7 @@ impl Vat {
                     }),
                 },
             }),
-            3 => Event::Down(event.number as u16),
+            3 => Event::Down(event.number as u16, String::from_utf8_lossy(payload).into_owned()),
             _ => return None,
         })
     }

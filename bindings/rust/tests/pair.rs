@@ -170,10 +170,10 @@ fn refusals() {
     let cut_off = ended(&mut a);
     assert_eq!(cut_off.call, call);
     assert_eq!(cut_off.outcome.unwrap_err().kind, ExceptionKind::Disconnected);
-    assert_eq!(a.next_event(), Some(Event::Down(7)));
+    assert_eq!(a.next_event(), Some(Event::Down(7, String::new())));
     assert_eq!(a.next_event(), None);
     while let Some(event) = b.next_event() {
-        assert!(matches!(event, Event::Served(_) | Event::Down(34)), "{event:?}");
+        assert!(matches!(event, Event::Served(_) | Event::Down(34, _)), "{event:?}");
     }
     assert_eq!(b.down(), Some(34));
 }
@@ -189,11 +189,11 @@ fn numbers_have_names() {
     assert_eq!(Refusal::of(102).map(Refusal::name), Some("LOVENDAK_NO_PAYLOAD"));
     assert_eq!((Fault::of(0), Fault::of(34)), (None, Some(Fault::PeerAbort)));
     assert_eq!(
-        Event::Down(12).to_string(),
+        Event::Down(12, String::new()).to_string(),
         "the vat went down with 12, Traversal: More than 65,536 words visited. Have the peer send less in one message. Contents to \
          which several pointers lead count once for each."
     );
-    assert_eq!(Event::Down(99).to_string(), "the vat went down with 99");
+    assert_eq!(Event::Down(99, "why".into()).to_string(), "the vat went down with 99: why");
     let failed = Exception { kind: ExceptionKind::Unimplemented, reason: "no such method".into() };
     let ended = Event::Ended(Ended { call: CallId(3), outcome: Err(failed) });
     assert_eq!(ended.to_string(), "call 3 ended with an exception, unimplemented: no such method");
@@ -236,5 +236,5 @@ fn bytes_come_and_go_in_pieces_and_on_threads() {
     assert!(ended(&mut a).outcome.is_ok());
     a.received(&[0, 0, 0, 0, 255]);
     a.ended();
-    assert_eq!(a.next_event(), Some(Event::Down(2)));
+    assert_eq!(a.next_event(), Some(Event::Down(2, String::new())));
 }

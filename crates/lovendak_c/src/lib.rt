@@ -2,24 +2,26 @@
 //! header is `bindings/c/lovendak.h`.
 //!
 //! - `raw.rt`, `handle.rt`: `Handle`, which C keeps: the address of a boxed desk (of `lovendak_c_desk`), or of none.
-//! - `life.rt`: a vat is made and let go. `streams.rt`: the bytes of both directions. `telling.rt`: events, and what is asked of
-//!   the vat.
-//! - `asks.rt`: commands that give a number. `settling.rt`: those that give nothing. `payloads.rt`: payloads made and looked
-//!   into.
+//! - `life.rt`: a vat is made and let go. `streams.rt`: the bytes of both directions. `events.rt`: events. `queries.rt`: what
+//!   is asked of the vat.
+//! - The commands by name: `calls.rt`, `refs.rt`, `promises.rt`, `tasks.rt`. `payloads.rt`: payloads made and looked into.
 //! - `codes.rt`: the code that each call answers.
 //!
 //! Each call takes the desk out of its handle, has the desk do what it is for, and puts it back. So its contract is that of the
 //! desk's call, on what the handle has (`specs/Calls.antt`).
 #![tactic(auto)]
 
-mod asks;
+mod calls;
 mod codes;
+mod events;
 mod handle;
 mod life;
 mod payloads;
+mod promises;
+mod queries;
 mod raw;
-mod settling;
+mod refs;
 mod streams;
-mod telling;
+mod tasks;
 #[cfg(test)]
 mod tests;

@@ -1,6 +1,6 @@
-// A vat is made and let go.
 ghost use Rattle.std.specs.Prelude.{◌≡◌};
-ghost use Rattle.lovendak_c.specs.Calls.{FreesOn, MakesOn, root_of};
+ghost use Rattle.lovendak_c.specs.Calls.{FreesOn, MakesOn, root_of, AsksOn};
+ghost use Rattle.lovendak_c_desk.specs.Commands.{ShutsWith};
 
 use crate::codes::{DONE, EMPTY, done};
 use crate::handle::Handle;
@@ -9,12 +9,12 @@ use rpc_msg::ObjectId;
 use std::alloc::Global;
 
 /// The version of this interface.
-const VERSION: u32 = 1;
+const VERSION: u32 = 2;
 
-/// The version of the interface: 1.
+/// The version of the interface: 2.
 #[unsafe(no_mangle)]
 pub extern "C" fn lovendak_version() -> u32
-    ensures { result ≡ 1 }
+    ensures { result ≡ 2 }
 {
     VERSION
 }
@@ -62,4 +62,17 @@ pub extern "C" fn lovendak_free(alloc: Global, vat: &mut Handle) -> u32
     };
     drop(desk);
     DONE
+}
+
+/// Takes a vat that is up down with that number (105 where it is above 65,535). Its Abort is to be sent.
+#[unsafe(no_mangle)]
+pub extern "C" fn lovendak_shut(alloc: Global, vat: &mut Handle, number: u32) -> u32
+    ensures { AsksOn vat.old.raw.desk vat.new.raw.desk result (Unit {0}) (λ old answer new. ShutsWith old number answer new) }
+{
+    let Some(mut desk) = vat.take(alloc) else {
+        return EMPTY;
+    };
+    let answer = desk.shut(number);
+    *vat = Handle::of(desk);
+    done(answer)
 }

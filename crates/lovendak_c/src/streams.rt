@@ -1,6 +1,7 @@
 // The bytes of both directions.
-ghost use Rattle.std.specs.Prelude.{◌≡◌, Bool};
-ghost use Rattle.vat_connection.specs.Connecting.{Finishes, Receives};
+ghost use Rattle.std.specs.Prelude.{◌≡◌, ◌+◌, Bool, length, min};
+ghost use Rattle.vat_connection.specs.Connecting.{Finishes, Receives, wants_bytes};
+ghost use Rattle.vat_connection.specs.Load.{greatest};
 ghost use Rattle.lovendak_c_desk.specs.Desks.{Awaits, HandsOut, with_connection};
 ghost use Rattle.lovendak_c.specs.Calls.{DoesOn, HandsOn};
 ghost use Rattle.lovendak_c.specs.Codes.{bit};
@@ -72,5 +73,57 @@ pub extern "C" fn lovendak_pending(
     *vat = Handle::of(desk);
     *bytes = waiting;
     *has_event = bit(event);
+    DONE
+}
+
+/// Says how much is held of the peer: the words of the messages of calls for which no Return was said, and of other messages until all
+/// events were told; and the bytes that wait to be sent.
+#[unsafe(no_mangle)]
+pub extern "C" fn lovendak_load(
+    alloc: Global,
+    vat: &mut Handle,
+    words: &mut u64,
+    bytes: &mut u64,
+) -> u32
+    ensures { HandsOn vat.old.raw.desk vat.new.raw.desk result ((words.new ≡ words.old) × (bytes.new ≡ bytes.old)) (λ old new. (words.new ≡ old.connection.speaker.heard.words) × (bytes.new ≡ min greatest (length old.connection.speaker.out.bytes + length old.waiting)) × (new ≡ old)) }
+{
+    let Some(desk) = vat.take(alloc) else {
+        return EMPTY;
+    };
+    let load = desk.load();
+    *vat = Handle::of(desk);
+    *words = load.words;
+    *bytes = load.bytes;
+    DONE
+}
+
+/// Sets the load above which messages of the peer wait unheard. A new vat has no limits.
+#[unsafe(no_mangle)]
+pub extern "C" fn lovendak_set_limits(
+    alloc: Global,
+    vat: &mut Handle,
+    words: u64,
+    bytes: u64,
+) -> u32
+    ensures { DoesOn vat.old.raw.desk vat.new.raw.desk result (λ old new. new ≡ with_connection old (record (old.connection) { limits = record { words = words; bytes = bytes } })) }
+{
+    let Some(mut desk) = vat.take(alloc) else {
+        return EMPTY;
+    };
+    desk.set_limits(words, bytes);
+    *vat = Handle::of(desk);
+    DONE
+}
+
+/// Says whether more bytes of the peer would be heard (1 or 0).
+#[unsafe(no_mangle)]
+pub extern "C" fn lovendak_wants_bytes(alloc: Global, vat: &mut Handle, answer: &mut u32) -> u32
+    ensures { HandsOn vat.old.raw.desk vat.new.raw.desk result (answer.new ≡ answer.old) (λ old new. (answer.new ≡ bit (wants_bytes old.connection)) × (new ≡ old)) }
+{
+    let Some(desk) = vat.take(alloc) else {
+        return EMPTY;
+    };
+    *answer = bit(desk.wants_bytes());
+    *vat = Handle::of(desk);
     DONE
 }

@@ -1,6 +1,5 @@
 -- Payloads made of numbers, a text and capabilities, and looked into.
-use Rattle.std.specs.Prelude.{◌≡◌, ◌<◌, ◌≤◌, ◌^◌, ◌⊎◌, ℕ, List, [], ◌∷◌, ◌++◌, map, Option, Some, None, IsSome, Result, Ok, Err}
-use Rattle.std.specs.List.{range_with_len}
+use Rattle.std.specs.Prelude.{◌≡◌, ◌≤◌, ◌^◌, ◌⊎◌, ℕ, List, Option, Some, None, Result, Ok, Err}
 use Rattle.std.specs.Str.{IsUtf8}
 use Rattle.rpc_msg.specs.Op.{Op}
 use Rattle.rpc_msg.specs.Payloads.{Contents, IsEncoded, tree_of}
@@ -9,10 +8,9 @@ use Rattle.rpc_msg.specs.CapAt.{CapAt}
 use Rattle.rpc_msg.specs.CapAt.TheVariants.{Cap, Null, NotCap}
 use Rattle.capn_reading.specs.Looking.{IsTextOf, data_of, field}
 use Rattle.capn_reading.specs.Reading.{element}
-use Rattle.capn_trees.specs.Trees.{Tree, struct, list, packed, capability}
-use Rattle.capn_trees.specs.Views.{trees_of}
-use Rattle.capn_trees.specs.Writable.{refusal}
+use Rattle.capn_trees.specs.Trees.{Tree}
 use Rattle.capn_writing.specs.Placing.{written}
+use Rattle.vat_payloads.specs.Contents.{IsTooMuch, saying}
 use Rattle.rpc_machine.specs.declared.command.Refusal.TheVariants as refusals
 use Rattle.lovendak_c_desk.specs.declared.not_done.NotDone.{NotDone}
 use Rattle.lovendak_c_desk.specs.declared.not_done.NotDone.TheVariants as not_done
@@ -20,19 +18,6 @@ use Rattle.lovendak_c_desk.specs.Copies.{CopiesOut}
 use Rattle.lovendak_c_desk.specs.Given.{IsNoPayload, lacks_memory}
 
 -- ---- made
-
--- a pointer to the text, if there is one
-abbrev pub to_text : Option (List ℕ) → List Tree
-to_text None = []
-to_text (Some text) = list (packed 8 (text ++ 0 ∷ [])) ∷ []
-
--- A struct of these numbers, with a pointer to the text, if there is one, and behind it one to each of so many capabilities.
-abbrev pub saying : List ℕ → Option (List ℕ) → ℕ → Tree
-saying numbers text caps = struct numbers (trees_of (to_text text ++ map capability (range_with_len 0 caps)))
-
--- A struct has no more than 65,535 pointers, and a payload no more than its limits allow.
-abbrev pub IsTooMuch : List ℕ → Option (List ℕ) → ℕ → Type 0
-IsTooMuch numbers text caps = (65535 < caps) ⊎ IsSome (refusal (saying numbers text caps) caps)
 
 -- The text is none of characters.
 abbrev pub IsNotUtf8 : Option (List ℕ) → Type 0

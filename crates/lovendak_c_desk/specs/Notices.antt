@@ -24,12 +24,12 @@ bytes_of_outcome (outcome.Exception exception) = exception.reason
 abbrev pub bytes_of : Event → List ℕ
 bytes_of (event.Served call) = call.payload.bytes
 bytes_of (event.Ended call) = bytes_of_outcome call.outcome
-bytes_of (event.Down number) = []
+bytes_of (event.Down number reason) = reason
 
 abbrev pub refs_of : Event → List RefId
 refs_of (event.Served call) = call.refs
 refs_of (event.Ended call) = call.refs
-refs_of (event.Down number) = []
+refs_of (event.Down number reason) = []
 
 abbrev pub numbers : List RefId → List ℕ
 numbers = map (λ r. r.0)
@@ -76,4 +76,4 @@ notice_of (event.Ended call) = record silent {
   payload_len = length (bytes_of_outcome call.outcome);
   refs_len = length call.refs;
 }
-notice_of (event.Down number) = record silent { kind = 3; number = number }
+notice_of (event.Down number reason) = record silent { kind = 3; number = number; payload_len = length reason }

@@ -1,14 +1,15 @@
-//! A connection with what was taken out of it and not handed on.
-ghost use Rattle.std.specs.Prelude.{◌≡◌, IfOk, IfErr, MatchOption};
-ghost use Rattle.vat_connection.specs.Connecting.{Finishes, Receives};
+ghost use Rattle.std.specs.Prelude.{◌≡◌, ◌+◌, length, min, IfOk, IfErr, MatchOption};
+ghost use Rattle.vat_connection.specs.Connecting.{Finishes, Receives, wants_bytes};
+ghost use Rattle.vat_connection.specs.Load.{greatest};
 ghost use Rattle.lovendak_c_desk.specs.Desks.{Awaits, HandsOut, IsNotMade, Looks, Says, idle, with_connection};
 ghost use Rattle.lovendak_c_desk.specs.Given.{level_at};
+ghost use Rattle.lovendak_c_desk.specs.Commands.{ShutsWith};
 
+use crate::byte_queue::Waiting;
 use crate::given::level_of;
 use crate::not_done::NotDone;
-use crate::waiting::Waiting;
 use std::alloc::Global;
-use vat_connection::{Connection, Event, Level, Memory, ObjectId, Vat};
+use vat_connection::{Connection, Event, Level, Limits, Load, Memory, ObjectId, Vat};
 
 /// Which of the two vats it is says nothing over bytes.
 const VAT: Vat = Vat::A;
@@ -83,6 +84,7 @@ impl Desk {
         }
         self.event = self.connection.next_event();
     }
+
     /// Takes bytes of the peer, in any pieces, as `Connection::received` does.
     pub fn received(&mut self, bytes: &[u8])
         ensures receives { Receives self.old.connection bytes.now self.new.connection }
@@ -97,6 +99,32 @@ impl Desk {
         ensures rest { self.new ≡ with_connection self.old self.new.connection }
     {
         self.connection.ended();
+    }
+
+    /// What the connection holds of its peer, as `Connection::load`, with the bytes that were taken out of it and wait here.
+    pub fn load(&self) -> Load
+        ensures words { result.words ≡ self.now.connection.speaker.heard.words }
+        ensures bytes { result.bytes ≡ min greatest (length self.now.connection.speaker.out.bytes + length self.now.waiting) }
+    {
+        let Load { words, bytes } = self.connection.load();
+        Load {
+            words,
+            bytes: bytes.saturating_add(self.waiting.len() as u64),
+        }
+    }
+
+    /// Sets the load above which frames wait unheard, as `Connection::set_limits` does.
+    pub fn set_limits(&mut self, words: u64, bytes: u64)
+        ensures { self.new ≡ with_connection self.old (record (self.old.connection) { limits = record { words = words; bytes = bytes } }) }
+    {
+        self.connection.set_limits(Limits { words, bytes });
+    }
+
+    /// Whether more bytes of the peer would be heard, as `Connection::wants_bytes`.
+    pub fn wants_bytes(&self) -> bool
+        ensures { result ≡ wants_bytes self.now.connection }
+    {
+        self.connection.wants_bytes()
     }
 
     /// Hands out bytes that are to be sent, once, as many as wait and there is room for, and gives how many: none only where none
@@ -116,4 +144,18 @@ impl Desk {
         self.look();
         (self.waiting.len(), self.event.is_some())
     }
+
+    /// Takes a vat that is up down with that number. `NoSuchNumber` where it is above 65,535.
+    pub fn shut(&mut self, number: u32) -> Result<(), NotDone>
+        ensures { ShutsWith self.old number result self.new }
+    {
+        if number >= TOO_LARGE {
+            return Err(NotDone::NoSuchNumber);
+        }
+        self.connection.shut(number as u16);
+        Ok(())
+    }
 }
+
+/// No vat goes down with it.
+const TOO_LARGE: u32 = 65_536;

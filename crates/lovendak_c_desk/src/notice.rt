@@ -24,7 +24,7 @@ pub struct Notice {
     pub object: u64,
     /// Of 1: its interface.
     pub interface_id: u64,
-    /// How many bytes its payload has, or the reason of its exception.
+    /// How many bytes its payload has, or the reason of its exception, or of the peer's Abort.
     pub payload_len: usize,
     /// How many references came with it.
     pub refs_len: usize,
@@ -55,9 +55,10 @@ impl Notice {
         match event {
             Event::Served(delivery) => Notice::of_delivery(delivery),
             Event::Ended(ended) => Notice::of_ended(ended),
-            Event::Down(number) => Notice {
+            Event::Down(number, reason) => Notice {
                 kind: 3,
                 number: u64::from(*number),
+                payload_len: reason.as_str().as_bytes().len(),
                 ..Notice::new()
             },
         }
@@ -111,14 +112,14 @@ fn number_of_kind(kind: ExceptionKind) -> u32
     }
 }
 
-/// The bytes that an event carries: of a payload, or of the reason of an exception.
+/// The bytes that an event carries: of a payload, or of the reason of an exception or of the peer's Abort.
 pub(crate) fn bytes_of(event: &Event) -> &[u8]
     ensures { result.now ≡ bytes_of event.now }
 {
     match event {
         Event::Served(delivery) => delivery.payload.bytes(),
         Event::Ended(ended) => bytes_of_outcome(&ended.outcome),
-        Event::Down(_) => &[],
+        Event::Down(_, reason) => reason.as_str().as_bytes(),
     }
 }
 
@@ -138,6 +139,6 @@ pub(crate) fn refs_of(event: &Event) -> &[RefId]
     match event {
         Event::Served(delivery) => delivery.refs.as_slice(),
         Event::Ended(ended) => ended.refs.as_slice(),
-        Event::Down(_) => &[],
+        Event::Down(..) => &[],
     }
 }

@@ -1,27 +1,18 @@
 // Payloads made of numbers, a text and capabilities, and looked into.
-ghost use Rattle.std.specs.Prelude.{◌≡◌, ◌<◌, ◌⊎◌, ◌++◌, length, map, option_map, IsSome, IfOk, IfErr};
-ghost use Rattle.std.specs.List.{range_with_len};
-ghost use Rattle.rpc_msg.specs.Payloads.{tree_of};
-ghost use Rattle.capn_trees.specs.Trees.{capability, struct};
-ghost use Rattle.capn_trees.specs.Views.{held, trees_view, view};
-ghost use Rattle.capn_trees.specs.Writable.{refusal};
+ghost use Rattle.std.specs.Prelude.{◌≡◌, ◌⊎◌, option_map, IfOk, IfErr};
 ghost use Rattle.capn_trees.specs.declared.faults.WriteFault.TheVariants as write_faults;
-ghost use Rattle.capn_writing.specs.Placing.{written};
 ghost use Rattle.rpc_machine.specs.declared.command.Refusal.TheVariants as refusals;
 ghost use Rattle.lovendak_c_desk.specs.declared.not_done.NotDone.TheVariants as not_done;
-ghost use Rattle.lovendak_c_desk.specs.Contents.{IsNotUtf8, IsTooMuch, Makes, NumberAt, ReferenceAt, TextAt, saying, to_text};
+ghost use Rattle.lovendak_c_desk.specs.Contents.{IsNotUtf8, Makes, NumberAt, ReferenceAt, TextAt};
 ghost use Rattle.lovendak_c_desk.specs.Given.{lacks_memory, path};
 
-use crate::copying::copy_out;
+use crate::copies::copy_out;
 use crate::given::{path_of, payload_of};
 use crate::not_done::NotDone;
 use capn_trees::WriteFault;
-use rpc_msg::{CapAt, Payload, Pointers, Tree};
+use rpc_msg::CapAt;
 use std::alloc::Global;
 use vat_connection::Refusal;
-
-/// A struct has so many pointers at most.
-const MOST_POINTERS: u32 = 65_535;
 
 /// No number of a payload has such an index.
 const TOO_HIGH: usize = 4_294_967_296;
@@ -41,7 +32,7 @@ pub fn contents(
     ensures { Makes numbers.now (option_map (λ t. t.now) text.entry) caps out.old len.old result out.new len.new }
 {
     let text = letters_of(text)?;
-    let payload = match write(alloc, numbers, text, caps) {
+    let payload = match vat_payloads::payload(alloc, numbers, text, caps) {
         Ok(payload) => payload,
         Err(fault) => return Err(not_written(fault)),
     };
@@ -71,68 +62,6 @@ fn not_written(fault: WriteFault) -> NotDone
         WriteFault::Memory => NotDone::Refused(Refusal::Memory),
         _ => NotDone::Refused(Refusal::Full),
     }
-}
-
-// The payload that says so.
-fn write(
-    alloc: Global,
-    numbers: &[u64],
-    text: Option<&str>,
-    caps: u32,
-) -> Result<Payload, WriteFault>
-    ensures made { IfOk result (λ payload. payload ≡ record { bytes = written (saying numbers.now (option_map (λ t. t.now) text.entry) caps); caps = caps }) }
-    ensures refused { IfErr result (λ fault. (fault ≡ write_faults.Memory) ⊎ IsTooMuch numbers.now (option_map (λ t. t.now) text.entry) caps) }
-{
-    if caps > MOST_POINTERS {
-        return Err(WriteFault::TooLarge);
-    }
-    let pointers = pointers_to(alloc, text, caps)?;
-    let words = Vec::from_slice(alloc, numbers)?;
-    write_struct(alloc, words, pointers, caps)
-}
-
-// Apart, since a tree is let go at each exit.
-fn write_struct(
-    alloc: Global,
-    words: Vec<u64>,
-    pointers: Pointers,
-    caps: u32,
-) -> Result<Payload, WriteFault>
-    ensures made { IfOk result (λ payload. payload ≡ record { bytes = written (struct words.items (trees_view (held pointers))); caps = caps }) }
-    ensures refused { IfErr result (λ fault. (fault ≡ write_faults.Memory) ⊎ IsSome (refusal (struct words.items (trees_view (held pointers))) caps)) }
-{
-    let tree = Tree::Struct { words, pointers };
-    Payload::write(alloc, &tree, caps)
-}
-
-// A pointer to the text, if there is one, and one to each of so many capabilities.
-fn pointers_to(alloc: Global, text: Option<&str>, caps: u32) -> Result<Pointers, WriteFault>
-    ensures made { IfOk result (λ pointers. map view (held pointers) ≡ to_text (option_map (λ t. t.now) text.entry) ++ map capability (range_with_len 0 caps)) }
-    ensures memory { IfErr result (λ fault. fault ≡ write_faults.Memory) }
-{
-    let mut pointers = text_pointer(alloc, text)?;
-    for index in 0..caps {
-        pointers.push(capability(index))?;
-    }
-    Ok(pointers)
-}
-
-fn text_pointer(alloc: Global, text: Option<&str>) -> Result<Pointers, WriteFault>
-    ensures made { IfOk result (λ pointers. map view (held pointers) ≡ to_text (option_map (λ t. t.now) text.entry)) }
-    ensures memory { IfErr result (λ fault. fault ≡ write_faults.Memory) }
-{
-    let mut pointers = Pointers::new(alloc);
-    let Some(text) = text else {
-        return Ok(pointers);
-    };
-    pointers.push(Tree::text(alloc, text)?)?;
-    Ok(pointers)
-}
-
-fn capability(index: u32) -> Tree
-    ensures { view result ≡ capability index }
-{
-    Tree::Cap(index)
 }
 
 /// The data word of that index of a payload's root, a struct; 0 past its end and behind null. `Nothing` where the root is a list or

@@ -3,7 +3,7 @@ ghost use Rattle.std.specs.Prelude.{◌≡◌, IfOk, IfErr};
 ghost use Rattle.vat_call_lib.specs.Ending.{IsEnding};
 ghost use Rattle.vat_call_lib.specs.Scripts.{Stops};
 
-use crate::ending::Ending;
+use crate::end::Ending;
 use crate::failure::{BrokenOff, Failure};
 use crate::frames::Frames;
 use crate::open::Open;

@@ -17,6 +17,9 @@ use Rattle.rpc_codec_fits.specs.Carrying.{Carries}
 use Rattle.rpc_outgoing.specs.Outflows.{Outflow}
 use Rattle.vat_connection.specs.Calling.{Calls, Fits, IsTooLarge, Obeys, ObeysToFit, answered}
 use Rattle.vat_connection.specs.Speaking.{Speaking, Shuts as IsShut}
+use Rattle.vat_connection.specs.Load.{Intake}
+use Rattle.vat_connection.specs.declared.load.Limits.{Limits}
+use Rattle.vat_connection.specs.Hearing.{Inflow}
 use Rattle.vat_connection.specs.OwnCalls.{asked}
 use Rattle.vat_connection.specs.Connecting.{Asks, AsksToFit, Connected, answered_by}
 
@@ -46,15 +49,16 @@ shuts old new c n is falls = ((falls.0, Shuts n is refl falls.1, falls.2), λ m 
 
 -- ---- of a connection
 
-abbrev pub connected : Hosted → Outflow → Peering → ℕ → List ℕ → List CallId → Connected
-connected host out adapter heard waiting calls = record {
+abbrev pub connected : Hosted → Outflow → Peering → Intake → Inflow → Limits → List CallId → Connected
+connected host out adapter heard inflow limits calls = record {
   speaker = record { host = host; out = out; adapter = adapter; heard = heard };
-  waiting = waiting;
+  inflow = inflow;
+  limits = limits;
   open_calls = calls;
 }
 
-abbrev pub connection : Speaking → List ℕ → List CallId → Connected
-connection s waiting calls = record { speaker = s; waiting = waiting; open_calls = calls }
+abbrev pub connection : Speaking → Inflow → Limits → List CallId → Connected
+connection s inflow limits calls = record { speaker = s; inflow = inflow; limits = limits; open_calls = calls }
 
 -- What makes no call and lets none go leaves the same ones open.
 same_calls : {A E : Type 0} (result : Result A E) (gives : A → Granted) (why : E → Refusal) (calls : List CallId) (c : Command)
@@ -62,24 +66,24 @@ same_calls : {A E : Type 0} (result : Result A E) (gives : A → Granted) (why :
 same_calls (Ok x) gives why calls c same = same x
 same_calls (Err e) gives why calls c same = refl
 
-module _ (before after : Hosted) (out : Outflow) (adapter : Peering) (heard : ℕ) (waiting : List ℕ) (calls : List CallId) (old : Connected) (c : Command) (is : connected before out adapter heard waiting calls ≡ old) where
+module _ (before after : Hosted) (out : Outflow) (adapter : Peering) (heard : Intake) (inflow : Inflow) (limits : Limits) (calls : List CallId) (old : Connected) (c : Command) (is : connected before out adapter heard inflow limits calls ≡ old) where
   -- What comes of the vat is what comes of the connection.
-  pub asks_as : (answer : Result Granted Refusal) (left : List CallId) → left ≡ asked calls c answer → Obeys before c answer after → Asks old c answer (connected after out adapter heard waiting left)
+  pub asks_as : (answer : Result Granted Refusal) (left : List CallId) → left ≡ asked calls c answer → Obeys before c answer after → Asks old c answer (connected after out adapter heard inflow limits left)
   asks_as answer left follows obeys =
-      subst (λ (o : Connected). Asks o c answer (connected after out adapter heard waiting left)) is (obeys, ap (λ (cs : List CallId). connected after out adapter heard waiting cs) follows)
+      subst (λ (o : Connected). Asks o c answer (connected after out adapter heard inflow limits left)) is (obeys, ap (λ (cs : List CallId). connected after out adapter heard inflow limits cs) follows)
 
   pub asks : {A E : Type 0} (result : Result A E) (gives : A → Granted) (why : E → Refusal) → ((x : A) → calls ≡ asked calls c (Ok (gives x))) → IfOk result (λ x. Does before c (gives x) after)
-      → IfErr result (λ e. Refuses before c (why e) after) → Asks old c (answered result gives why) (connected after out adapter heard waiting calls)
+      → IfErr result (λ e. Refuses before c (why e) after) → Asks old c (answered result gives why) (connected after out adapter heard inflow limits calls)
   asks result gives why same done refused = asks_as (answered result gives why) calls (same_calls result gives why calls c same) (obeyed result gives why before after c done refused)
 
-module _ (before after : Speaking) (waiting : List ℕ) (calls : List CallId) (old : Connected) (c : Command) (is : connection before waiting calls ≡ old) (rest : after ≡ record before { host = after.host }) where
-  pub leaves : (answer : Result Granted Refusal) (left : List CallId) → left ≡ asked calls c answer → connection after waiting left ≡ answered_by old c answer after.host
+module _ (before after : Speaking) (inflow : Inflow) (limits : Limits) (calls : List CallId) (old : Connected) (c : Command) (is : connection before inflow limits calls ≡ old) (rest : after ≡ record before { host = after.host }) where
+  pub leaves : (answer : Result Granted Refusal) (left : List CallId) → left ≡ asked calls c answer → connection after inflow limits left ≡ answered_by old c answer after.host
   leaves answer left follows =
-      subst (λ (o : Connected). connection after waiting left ≡ answered_by o c answer after.host) is
-      (ap (λ (s : Speaking). connection s waiting left) rest ∙ ap (λ (cs : List CallId). connection (record before { host = after.host }) waiting cs) follows)
+      subst (λ (o : Connected). connection after inflow limits left ≡ answered_by o c answer after.host) is
+      (ap (λ (s : Speaking). connection s inflow limits left) rest ∙ ap (λ (cs : List CallId). connection (record before { host = after.host }) inflow limits cs) follows)
 
-  pub spoken : (answer : Result Granted Refusal) (left : List CallId) → left ≡ asked calls c answer → Obeys before.host c answer after.host → Asks old c answer (connection after waiting left)
+  pub spoken : (answer : Result Granted Refusal) (left : List CallId) → left ≡ asked calls c answer → Obeys before.host c answer after.host → Asks old c answer (connection after inflow limits left)
   spoken answer left follows obeys = (subst (λ (o : Connected). Obeys o.speaker.host c answer after.host) is obeys, leaves answer left follows)
 
-  pub spoken_to_fit : (answer : Result Granted Refusal) (left : List CallId) → left ≡ asked calls c answer → ObeysToFit before.host c answer after.host → AsksToFit old c answer (connection after waiting left)
+  pub spoken_to_fit : (answer : Result Granted Refusal) (left : List CallId) → left ≡ asked calls c answer → ObeysToFit before.host c answer after.host → AsksToFit old c answer (connection after inflow limits left)
   spoken_to_fit answer left follows obeys = (subst (λ (o : Connected). ObeysToFit o.speaker.host c answer after.host) is obeys, leaves answer left follows)

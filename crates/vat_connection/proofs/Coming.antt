@@ -1,69 +1,54 @@
--- What comes of bytes, by what comes of those behind a frame.
-use Rattle.std.proofs.Common.{◌≡◌, ℕ, List, [], ◌∷◌, ◌++◌, Option, Some, None, Ok, Err, Bool, true, false, is_some, IsSome, inl, inr, refl, sym, ap, subst, ◌∙◌, append_assoc}
+-- Bytes come: what is parted of them is heard in turn.
+use Rattle.std.proofs.Common.{◌≡◌, ℕ, List, [], ◌∷◌, ◌++◌, Option, Some, None, ◌⊎◌, inl, inr, IsSome, refl, sym, ap, subst, ◌∙◌, append-nil}
 use Rattle.std.specs.List.{concat}
 use Rattle.capn_trees.specs.Numbers.{number_of}
-use Rattle.capn_trees.specs.declared.faults.PayloadFault.{PayloadFault}
 use Rattle.capn_stream.specs.declared.front.Front.{Front}
 use Rattle.capn_stream.specs.declared.front.Front.TheVariants as front
-use Rattle.capn_stream.specs.Fronts.{front_of, IsFrame}
-use Rattle.capn_stream.specs.Readers.{Reader}
-use Rattle.vat_connection.specs.Speaking.{Speaking, Falls, HearsFrame, want_of_room}
-use Rattle.vat_connection.specs.Hearing.{Comes, Ends, EndsBy, IsBegun, Waits, held_of}
+use Rattle.capn_stream.specs.Fronts.{front_of}
+use Rattle.vat_connection.specs.declared.load.Limits.{Limits}
+use Rattle.vat_connection.specs.Speaking.{Speaking, Falls, want_of_room}
+use Rattle.vat_connection.specs.Hearing.{Comes, Ends, EndsBy, HearsInTurn, Inflow, IsParted, Leaves, PartedBy, Proceeds, nothing_in}
+use Rattle.vat_connection.specs.Hearing.HearsInTurn.{All, Lacking}
 use Rattle.vat_connection.proofs.Falling.{falls_down}
 
--- A vat that is down drops what comes.
-drops : (s end : Speaking) (n : ℕ) (bytes left : List ℕ) → s.host.core.down ≡ Some n → Comes s bytes end left → (end ≡ s) × (left ≡ [])
-drops s end n bytes left is ([], rest, split, takes) = subst (λ (d : Option ℕ). Ends d s rest end left) is takes
-drops s end n bytes left is (frame ∷ frames, rest, split, takes) = absurd (let e : ◌≡◌ {A = Option ℕ} None (Some n) = sym takes.0 ∙ is in cc)
-
-pub stops : (s new : Speaking) (total left : List ℕ) → s.host.core.down ≡ None → Ends None s total new left → Comes s total new left
-stops s new total left up ends = ([], total, record { whole = tt; joined = refl }, subst (λ (d : Option ℕ). Ends d s total new left) (sym up) ends)
-
--- It goes down for want of memory.
-pub lacks : (s mid end : Speaking) (total rest left : List ℕ) → s.host.core.down ≡ None → Falls s want_of_room mid → Comes mid rest end left → Comes s total end left
-lacks s mid end total rest left up falls more =
-    let same = drops mid end want_of_room rest left (falls_down s mid want_of_room up falls) more in
-    stops s end total left up (inr (subst (λ (e : Speaking). Falls s want_of_room e) (sym same.0) falls, same.1))
-
--- It goes down by what begins with no frame.
-pub no_frame : (s mid end : Speaking) (f : PayloadFault) (total rest left : List ℕ) → s.host.core.down ≡ None → front_of total ≡ front.Fault f → Falls s (number_of f) mid
-    → Comes mid rest end left → Comes s total end left
-no_frame s mid end f total rest left up is falls more =
-    let same = drops mid end (number_of f) rest left (falls_down s mid (number_of f) up falls) more in
-    let ends : EndsBy (front.Fault f) s total end left = (subst (λ (e : Speaking). Falls s (number_of f) e) (sym same.0) falls, same.1) in
-    stops s end total left up (inl (subst (λ (x : Front). EndsBy x s total end left) (sym is) ends))
-
--- It hears a frame.
-pub hears : (s mid end : Speaking) (frame more total left : List ℕ) → s.host.core.down ≡ None → IsFrame frame → frame ++ more ≡ total → HearsFrame s frame mid
-    → Comes mid more end left → Comes s total end left
-hears s mid end frame more total left up whole joins hear (frames, rest, split, takes) = (
-  frame ∷ frames,
-  rest,
-  record { whole = (whole, split.whole); joined = sym joins ∙ ap (λ (t : List ℕ). frame ++ t) split.joined ∙ sym (append_assoc frame (concat frames) rest) },
-  (up, (mid, hear, takes)),
+-- Memory is wanting for the bytes, and the vat goes down.
+lacks_by : (l : Limits) (s new : Speaking) (unheard : List (List ℕ)) (bytes : List ℕ) (later : Inflow) → s.host.core.down ≡ None → Falls s want_of_room new → later ≡ nothing_in → Comes l s unheard bytes new later
+lacks_by l s new [] bytes later up falls none =
+    ([], bytes, record { whole = tt; joined = refl }, (s, [], All refl refl, subst (λ (d : Option ℕ). Ends d s [] bytes new later) (sym up) (inr (falls, none))))
+lacks_by l s new (frame ∷ frames) bytes later up falls none = (
+  [],
+  bytes,
+  record { whole = tt; joined = refl },
+  (new, [], Lacking frame (frames ++ []) up falls refl, subst (λ (d : Option ℕ). Ends d new [] bytes new later) (sym (falls_down s new want_of_room up falls)) (refl, none)),
 )
 
-waits_by : (s : Speaking) (f : Front) (held : List ℕ) → front_of held ≡ f → IsBegun f → Ends None s held s held
-waits_by s (front.Complete n) held is begun = absurd begun
-waits_by s (front.Need n) held is begun = inl (subst (λ (x : Front). EndsBy x s held s held) (sym is) (refl, refl))
-waits_by s (front.Fault f) held is begun = absurd begun
+pub lacks : (l : Limits) (s new : Speaking) (unheard : List (List ℕ)) (bytes : List ℕ) → s.host.core.down ≡ None → Falls s want_of_room new → Comes l s unheard bytes new nothing_in
+lacks l s new unheard bytes up falls = lacks_by l s new unheard bytes nothing_in up falls refl
 
-held_now : (s : Speaking) (r : Reader) → Waits r → Ends None s (held_of r) s (held_of r)
-held_now s (Ok held) waits = waits_by s (front_of held) held refl waits
-held_now s (Err f) waits = absurd waits
+-- What was parted is heard, and the rest is kept.
+ends_by : (f : Front) (old parted later : Inflow) (frames left : List (List ℕ)) (rest : List ℕ) (d : Option ℕ) (mid new : Speaking) → front_of rest ≡ f → PartedBy f old frames rest parted
+    → Leaves d mid left parted.waiting parted.over new later → Ends d mid left rest new later
+ends_by f old parted later frames left rest (Some n) mid new is by leaves = leaves
+ends_by (front.Complete n) old parted later frames left rest None mid new is by leaves = absurd by
+ends_by (front.Need n) old parted later frames left rest None mid new is by leaves =
+    inl (subst (λ (x : Front). EndsBy x mid left rest new later) (sym is) (subst (λ (i : Inflow). Leaves None mid left i.waiting i.over new later) by leaves))
+ends_by (front.Fault f) old parted later frames left rest None mid new is by leaves =
+    inl (subst (λ (x : Front). EndsBy x mid left rest new later) (sym is) (subst (λ (i : Inflow). Leaves None mid left i.waiting i.over new later) by leaves))
 
-now_by : (s : Speaking) (d : Option ℕ) (r : Reader) → s.host.core.down ≡ d → Waits r → (IsSome d → held_of r ≡ []) → Ends d s (held_of r) s (held_of r)
-now_by s None r is waits dropped = held_now s r waits
-now_by s (Some n) r is waits dropped = (refl, dropped refl)
+unheard_by : (f : Front) (old parted : Inflow) (frames : List (List ℕ)) (rest : List ℕ) → PartedBy f old frames rest parted → parted.unheard ≡ old.unheard ++ frames
+unheard_by (front.Complete n) old parted frames rest by = absurd by
+unheard_by (front.Need n) old parted frames rest by = ap (λ (i : Inflow). i.unheard) by
+unheard_by (front.Fault f) old parted frames rest by = ap (λ (i : Inflow). i.unheard) by
 
--- Nothing more comes.
-pub now : (s : Speaking) (r : Reader) → Waits r → (IsSome s.host.core.down → held_of r ≡ []) → Comes s (held_of r) s (held_of r)
-now s r waits dropped = ([], held_of r, record { whole = tt; joined = refl }, now_by s s.host.core.down r refl waits dropped)
-
-down_by : (s : Speaking) (d : Option ℕ) (total left : List ℕ) → is_some d ≡ true → left ≡ [] → Ends d s total s left
-down_by s None total left is none = absurd (let k : ◌≡◌ {A = Bool} false true = is in cc)
-down_by s (Some n) total left is none = (refl, none)
-
--- It is down, and the rest is dropped.
-pub down : (s : Speaking) (total left : List ℕ) → is_some s.host.core.down ≡ true → left ≡ [] → Comes s total s left
-down s total left is none = ([], total, record { whole = tt; joined = refl }, down_by s s.host.core.down total left is none)
+pub comes : (l : Limits) (s new : Speaking) (old parted later : Inflow) (bytes : List ℕ) → IsParted old bytes parted → Proceeds l s parted new later → Comes l s old.unheard (old.waiting ++ bytes) new later
+comes l s new old parted later bytes (frames, rest, split, by) (mid, left, turn, leaves) = (
+  frames,
+  rest,
+  split,
+  (
+    mid,
+    left,
+    subst (λ (fs : List (List ℕ)). HearsInTurn l mid left s fs) (unheard_by (front_of rest) old parted frames rest by) turn,
+    ends_by (front_of rest) old parted later frames left rest mid.host.core.down mid new refl by leaves,
+  ),
+)

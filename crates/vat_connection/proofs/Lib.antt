@@ -1,8 +1,11 @@
 mod Falling
+mod Saying
+mod Turns
 mod Coming
+mod Following
 mod Pushing
 mod Pieces
-mod Saying
+mod Bounds
 mod Telling
 mod Calling
 mod Giving

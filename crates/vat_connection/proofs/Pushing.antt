@@ -1,18 +1,18 @@
--- A piece is handed to a reader, and a frame is asked for.
-use Rattle.std.proofs.Common.{◌≡◌, ℕ, ◌+◌, ◌-◌, ◌<◌, List, [], ◌++◌, length, take, drop, Option, Some, None, Result, Ok, Err, inl, inr, refl, sym, ap, subst, ◌∙◌, arith}
+-- A piece is handed to a reader, and a frame is asked for: what is parted of the bytes.
+use Rattle.std.proofs.Common.{◌≡◌, ℕ, ◌+◌, ◌-◌, ◌<◌, List, [], ◌∷◌, ◌++◌, length, take, drop, Bool, true, false, is_some, Option, Some, None, Result, Ok, Err, inl, inr, refl, sym, ap, subst, ◌∙◌, append_assoc, arith}
 use Rattle.std.proofs.lemmas.List.{append-nil, take-append-drop, drop_all}
 use Rattle.std.proofs.Math.Seq.{drop-append-add}
+use Rattle.std.specs.List.{concat}
 use Rattle.capn_trees.specs.declared.faults.PayloadFault.{PayloadFault}
 use Rattle.capn_stream.specs.declared.error.StreamError.{StreamError}
 use Rattle.capn_stream.specs.declared.error.StreamError.TheVariants as error
 use Rattle.capn_stream.specs.declared.front.Front.{Front}
 use Rattle.capn_stream.specs.declared.front.Front.TheVariants as front
-use Rattle.capn_stream.specs.Fronts.{front_of, IsShort}
+use Rattle.capn_trees.specs.Numbers.{number_of}
+use Rattle.capn_stream.specs.Fronts.{front_of, IsFrame, IsShort}
 use Rattle.capn_stream.specs.Laws.{FrontsStay, Stays}
 use Rattle.capn_stream.specs.Readers.{Reader, Pushed, PushedBy, Taken, TakenBy, IsWaiting}
-use Rattle.vat_connection.specs.Speaking.{Speaking, Falls}
-use Rattle.vat_connection.specs.Hearing.{Comes, IsBegun, Waits, held_of, number_for}
-use Rattle.vat_connection.proofs.Coming.{lacks, no_frame}
+use Rattle.vat_connection.specs.Hearing.{Inflow, IsBegun, IsParted, PartedBy, PartsBy, PartsOn, Waits, held_of}
 
 -- A new reader waits.
 pub new_waits : (r : Reader) → r ≡ Ok [] → Waits r
@@ -51,22 +51,90 @@ moved (Err f) new piece taken waits some push = absurd waits
 moved (Ok held) new piece taken waits some (inl by) = moved_by held piece (front_of (held ++ piece)) taken new some by
 moved (Ok held) new piece taken waits some (inr none) = let e : ◌≡◌ {A = Result ℕ StreamError} (Ok taken) (Err error.Memory) = none.0 in cc
 
--- The vat goes down where a piece is not taken.
-failed_by : (held piece left : List ℕ) (f : Front) (e : StreamError) (new : Reader) (s mid end : Speaking) (rest : List ℕ) → s.host.core.down ≡ None → front_of (held ++ piece) ≡ f
-    → PushedBy held piece f (Err e) new → Falls s (number_for e) mid → Comes mid rest end left → Comes s (held ++ piece) end left
-failed_by held piece left (front.Complete n) e new s mid end rest up is by falls more = absurd (let k : ◌≡◌ {A = Result ℕ StreamError} (Err e) (Ok (n - length held)) = by.0 in cc)
-failed_by held piece left (front.Need n) e new s mid end rest up is by falls more = absurd (let k : ◌≡◌ {A = Result ℕ StreamError} (Err e) (Ok (length piece)) = by.0 in cc)
-failed_by held piece left (front.Fault f) e new s mid end rest up is by falls more =
-    let which : e ≡ error.Fault f = let k = by.0 in cc in
-    no_frame s mid end f (held ++ piece) rest left up is (subst (λ (x : StreamError). Falls s (number_for x) mid) which falls) more
+-- ---- what is parted of a piece
 
-pub failed : (r new : Reader) (piece left : List ℕ) (e : StreamError) (s mid end : Speaking) (rest : List ℕ) → s.host.core.down ≡ None → Waits r → Pushed r piece (Err e) new
-    → Falls s (number_for e) mid → Comes mid rest end left → Comes s (held_of r ++ piece) end left
-failed (Err f) new piece left e s mid end rest up waits push falls more = absurd waits
-failed (Ok held) new piece left e s mid end rest up waits (inl by) falls more = failed_by held piece left (front_of (held ++ piece)) e new s mid end rest up refl by falls more
-failed (Ok held) new piece left e s mid end rest up waits (inr none) falls more =
-    let which : e ≡ error.Memory = let k = none.0 in cc in
-    lacks s mid end (held ++ piece) rest left up (subst (λ (x : StreamError). Falls s (number_for x) mid) which falls) more
+-- What begins with no frame ends the stream.
+no_frame_by : (old new : Inflow) (held piece : List ℕ) (f : Front) (e : PayloadFault) (after : Reader) → front_of (held ++ piece) ≡ f → PushedBy held piece f (Err (error.Fault e)) after → old.waiting ≡ held
+    → new ≡ record { unheard = old.unheard; waiting = []; over = Some (number_of e) } → IsParted old piece new
+no_frame_by old new held piece (front.Complete n) e after is by here same = absurd (let k : ◌≡◌ {A = Result ℕ StreamError} (Err (error.Fault e)) (Ok (n - length held)) = by.0 in cc)
+no_frame_by old new held piece (front.Need n) e after is by here same = absurd (let k : ◌≡◌ {A = Result ℕ StreamError} (Err (error.Fault e)) (Ok (length piece)) = by.0 in cc)
+no_frame_by old new held piece (front.Fault f) e after is by here same =
+    let which : e ≡ f = let k = by.0 in cc in
+    let all : old.waiting ++ piece ≡ held ++ piece = ap (λ (t : List ℕ). t ++ piece) here in (
+      [],
+      held ++ piece,
+      record { whole = tt; joined = all },
+      subst (λ (x : Front). PartedBy x old [] (held ++ piece) new) (sym is)
+          (same ∙ ap (λ (us : List (List ℕ)). record { unheard = us; waiting = []; over = Some (number_of e) }) (sym (append-nil old.unheard))
+          ∙ ap (λ (g : PayloadFault). record { unheard = old.unheard ++ []; waiting = []; over = Some (number_of g) }) which),
+    )
+
+pub no_frame : (old new : Inflow) (r after : Reader) (piece : List ℕ) (e : PayloadFault) → Waits r → old.waiting ≡ held_of r → Pushed r piece (Err (error.Fault e)) after
+    → new ≡ record { unheard = old.unheard; waiting = []; over = Some (number_of e) } → IsParted old piece new
+no_frame old new (Err f) after piece e waits here push same = absurd waits
+no_frame old new (Ok held) after piece e waits here (inl by) same = no_frame_by old new held piece (front_of (held ++ piece)) e after refl by here same
+no_frame old new (Ok held) after piece e waits here (inr none) same = absurd (let k : ◌≡◌ {A = Result ℕ StreamError} (Err (error.Fault e)) (Err error.Memory) = none.0 in cc)
+
+-- A frame is whole: it waits behind the others.
+more_by : (f : Front) (old mid new : Inflow) (frame : List ℕ) (frames : List (List ℕ)) (rest : List ℕ) → mid.unheard ≡ old.unheard ++ frame ∷ [] → PartedBy f mid frames rest new → PartedBy f old (frame ∷ frames) rest new
+more_by (front.Complete n) old mid new frame frames rest is by = absurd by
+more_by (front.Need n) old mid new frame frames rest is by =
+    by ∙ ap (λ (us : List (List ℕ)). record { unheard = us; waiting = rest; over = None }) (ap (λ (us : List (List ℕ)). us ++ frames) is ∙ append_assoc old.unheard (frame ∷ []) frames)
+more_by (front.Fault f) old mid new frame frames rest is by =
+    by ∙ ap (λ (us : List (List ℕ)). record { unheard = us; waiting = []; over = Some (number_of f) }) (ap (λ (us : List (List ℕ)). us ++ frames) is ∙ append_assoc old.unheard (frame ∷ []) frames)
+
+pub one_more : (old mid new : Inflow) (frame piece more : List ℕ) → IsFrame frame → mid.unheard ≡ old.unheard ++ frame ∷ [] → mid.waiting ≡ [] → frame ++ more ≡ old.waiting ++ piece
+    → IsParted mid more new → IsParted old piece new
+one_more old mid new frame piece more whole is none joins (frames, rest, split, by) = (
+  frame ∷ frames,
+  rest,
+  record {
+    whole = (whole, split.whole);
+    joined = sym joins ∙ ap (λ (t : List ℕ). frame ++ t) (ap (λ (w : List ℕ). w ++ more) (sym none) ∙ split.joined) ∙ sym (append_assoc frame (concat frames) rest);
+  },
+  more_by (front_of rest) old mid new frame frames rest is by,
+)
+
+-- No frame is whole: all waits.
+pub no_more : (old mid new : Inflow) (piece more : List ℕ) → mid.unheard ≡ old.unheard → mid.waiting ++ more ≡ old.waiting ++ piece → IsParted mid more new → IsParted old piece new
+no_more old mid new piece more is joins (frames, rest, split, by) = (
+  frames,
+  rest,
+  record { whole = split.whole; joined = sym joins ∙ split.joined },
+  same_by (front_of rest) by,
+)
+  where
+    same_by : (f : Front) → PartedBy f mid frames rest new → PartedBy f old frames rest new
+    same_by (front.Complete n) by = absurd by
+    same_by (front.Need n) by = by ∙ ap (λ (us : List (List ℕ)). record { unheard = us ++ frames; waiting = rest; over = None }) is
+    same_by (front.Fault f) by = by ∙ ap (λ (us : List (List ℕ)). record { unheard = us ++ frames; waiting = []; over = Some (number_of f) }) is
+
+begun_by_front : (f : Front) (old : Inflow) (held : List ℕ) → front_of held ≡ f → IsBegun f → old.waiting ≡ held → old.over ≡ None → PartedBy f old [] held old
+begun_by_front (front.Complete n) old held is begun here still = absurd begun
+begun_by_front (front.Need n) old held is begun here still =
+    ap (λ (w : List ℕ). record old { waiting = w }) here ∙ ap (λ (o : Option ℕ). record { unheard = old.unheard; waiting = held; over = o }) still
+    ∙ ap (λ (us : List (List ℕ)). record { unheard = us; waiting = held; over = None }) (sym (append-nil old.unheard))
+begun_by_front (front.Fault f) old held is begun here still = absurd begun
+
+-- Nothing more comes.
+none_by : (i : Inflow) (o : Option ℕ) → i.over ≡ o → IsBegun (front_of i.waiting) → PartsBy o i [] i
+none_by i (Some n) is begun = refl
+none_by i None is begun = ([], i.waiting, record { whole = tt; joined = append-nil i.waiting }, begun_by_front (front_of i.waiting) i i.waiting refl begun refl is)
+
+pub none_more : (i : Inflow) → IsBegun (front_of i.waiting) → PartsOn i [] i
+none_more i begun = none_by i i.over refl begun
+
+-- A stream that is over takes no more.
+pub over_takes : (i : Inflow) (bytes : List ℕ) → is_some i.over ≡ true → PartsOn i bytes i
+over_takes i bytes over = by i.over over
+  where
+    by : (o : Option ℕ) → is_some o ≡ true → PartsBy o i bytes i
+    by None over = absurd (let e : ◌≡◌ {A = Bool} false true = over in cc)
+    by (Some n) over = refl
+
+pub begun_held : (r : Reader) → Waits r → IsBegun (front_of (held_of r))
+begun_held (Ok held) waits = waits
+begun_held (Err f) waits = absurd waits
 
 -- No frame is given: the reader stays.
 stays_by : (held : List ℕ) (f : Front) (new : Reader) → TakenBy held f None new → new ≡ Ok held

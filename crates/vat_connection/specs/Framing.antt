@@ -7,8 +7,8 @@ use Rattle.rpc_codec.specs.Decoding.{Came}
 use Rattle.peer_adapter.specs.declared.errors.PeerFault.{PeerFault}
 use Rattle.peer_adapter.specs.declared.told.Inbound.{Inbound}
 use Rattle.peer_adapter.specs.Numbers.{number_of as number_of_peer}
-use Rattle.peer_adapter.specs.Peering.{Peering, Coming, seen_inbound}
-use Rattle.vat_connection.specs.Speaking.{want_of_room}
+use Rattle.peer_adapter.specs.Peering.{Peering, Coming, comes, seen_inbound}
+use Rattle.vat_connection.specs.Speaking.{Speaking, HearsComing, Lacks, tables_of, want_of_room}
 
 abbrev pub IsFault : Came What → ℕ → Type 0
 IsFault (Ok w) n = ⊥
@@ -27,3 +27,11 @@ IsRefused (Err f) n = n ≡ number_of_peer f
 abbrev pub Turned : Result Coming PeerFault → Result Inbound ℕ → Peering → Type 0
 Turned coming (Ok i) new = coming ≡ Ok (seen_inbound new i)
 Turned coming (Err n) new = IsRefused coming n ⊎ (n ≡ want_of_room)
+
+-- The envelope of a frame of so many words is heard; or memory is wanting, and the vat goes down.
+abbrev pub HearsEnvelope : Speaking → ℕ → Envelope → Speaking → Type 0
+HearsEnvelope old words e new = HearsComing old words (comes (tables_of old.host.core) old.adapter (seen_envelope e)) new ⊎ Lacks old new
+
+-- The same of what the adapter said, once it took its step.
+abbrev pub HearsInbound : Speaking → ℕ → Inbound → Speaking → Type 0
+HearsInbound old words i new = HearsComing old words (Ok (seen_inbound old.adapter i)) new ⊎ Lacks old new

@@ -1,7 +1,7 @@
 -- A vat with the bytes that it says: it hears frames, and what it says goes out as frames. Between its messages and what goes over
 -- the wire stands an adapter (docs/messages.md, "Peers of other make").
-use Rattle.std.specs.Prelude.{◌≡◌, ℕ, ◌+◌, Bool, true, false, List, [], ◌∷◌, Option, Some, None, Result, Ok, Err, ◌⊎◌, refl}
-use Rattle.std.specs.Coded.{Coded, code_by, coded×, coded_ℕ}
+use Rattle.std.specs.Prelude.{◌≡◌, ℕ, ◌/◌, Bool, true, false, List, [], ◌∷◌, length, Option, Some, None, Result, Ok, Err, ◌⊎◌, refl}
+use Rattle.std.specs.Coded.{Coded, code_by, coded×}
 use Rattle.std.specs.FinMap as map
 use Rattle.rpc_msg.specs.Vats.{other_vat}
 use Rattle.rpc_msg.specs.declared.ids.Stamp.{Stamp}
@@ -23,21 +23,21 @@ use Rattle.rpc_machine.specs.Fullness.{has_no_room}
 use Rattle.rpc_machine.specs.State.{State}
 use Rattle.vat_core.specs.Foreseen.{is_broken, is_finished}
 use Rattle.vat_host.specs.Hosting.{Hosted, Hears, hosted_code, is_abort, stepped}
+use Rattle.vat_connection.specs.Load.{Intake, intake_code, with_frame, without_call}
 use Rattle.rpc_outgoing.specs.contracts.outgoing.Outgoing as outgoing_row
 use Rattle.rpc_outgoing.specs.Outflows.{Outflow, Kept, Put, PutElsewhere}
 
--- A vat with what its steps left to do; the bytes that go out, with the frames that are kept; its adapter; and how many frames it
--- has heard.
+-- A vat with what its steps left to do; the bytes that go out, with the frames that are kept; its adapter; and what it has heard.
 pub record Speaking : Type 0 where
   pub host : Hosted
   pub out : Outflow
   pub adapter : Peering
-  pub heard : ℕ
+  pub heard : Intake
 
 abbrev pub speaking_code : Coded Speaking
 speaking_code =
-    code_by (Hosted × (Outflow × (Peering × ℕ)))
-    (coded× hosted_code (coded× outgoing_row.the_row.coded (coded× peering_code coded_ℕ)))
+    code_by (Hosted × (Outflow × (Peering × Intake)))
+    (coded× hosted_code (coded× outgoing_row.the_row.coded (coded× peering_code intake_code)))
     (λ s. (s.host, (s.out, (s.adapter, s.heard))))
     (λ p. record { host = p.0; out = p.1.0; adapter = p.1.1.0; heard = p.1.1.1 })
     (λ _. refl)
@@ -53,9 +53,9 @@ Shuts old n new = (effects : Effects) × ShutsFrom old.core n old.core.down effe
 abbrev pub Falls : Speaking → ℕ → Speaking → Type 0
 Falls old n new = Shuts old.host n new.host × (new ≡ record old { host = new.host })
 
--- The vat goes down with that number, whatever its adapter took. It is asked no more.
+-- The vat goes down with that number, whatever its adapter took and whatever was counted. Neither is asked any more.
 abbrev pub Fails : Speaking → ℕ → Speaking → Type 0
-Fails old n new = (adapter : Peering) × Falls (record old { adapter = adapter }) n new
+Fails old n new = (adapter : Peering) × (heard : Intake) × Falls (record old { adapter = adapter; heard = heard }) n new
 
 -- Memory is wanting, or room.
 abbrev pub Lacks : Speaking → Speaking → Type 0
@@ -88,9 +88,9 @@ PassesAll old (m ∷ ms) new = (mid : Outflow) × PassesOne (is_abort m) old m m
 abbrev pub Passes : Speaking → Speaking → Type 0
 Passes old new = PassesAll old.out old.host.messages new.out × (new ≡ record old { host = without old.host []; out = new.out })
 
--- these are still to be said
-abbrev pub saying : Speaking → List Message → Speaking
-saying old ms = record old { host = without old.host ms }
+-- A message is taken up, and these are still to be said. A Return that is taken up ends the load of its Call.
+abbrev pub saying : Speaking → Message → List Message → Speaking
+saying old m ms = record old { host = without old.host ms; heard = without_call m old.heard }
 
 -- A message has no frame, or memory is wanting for it: the vat goes down with 33, if it is up, and of what is still to be said
 -- nothing but an Abort goes out.
@@ -122,8 +122,8 @@ Turns old going new =
 -- message that breaks it off.
 pub data SaysTo (new : Speaking) : Speaking → Type 0 where
   Nothing : {s : Speaking} → s.host.messages ≡ [] → new ≡ s → SaysTo new s
-  Oldest : {s mid : Speaking} (m : Message) (ms : List Message) → s.host.messages ≡ m ∷ ms → Turns (saying s ms) (goes s.adapter m) mid → SaysTo new mid → SaysTo new s
-  Broken : {s : Speaking} (m : Message) (ms : List Message) → s.host.messages ≡ m ∷ ms → Breaks (saying s ms) new → SaysTo new s
+  Oldest : {s mid : Speaking} (m : Message) (ms : List Message) → s.host.messages ≡ m ∷ ms → Turns (saying s m ms) (goes s.adapter m) mid → SaysTo new mid → SaysTo new s
+  Broken : {s : Speaking} (m : Message) (ms : List Message) → s.host.messages ≡ m ∷ ms → Breaks (saying s m ms) new → SaysTo new s
 
 abbrev pub Says : Speaking → Speaking → Type 0
 Says old new = SaysTo new old
@@ -136,7 +136,7 @@ given s = record s { out = record (s.out) { bytes = [] } }
 
 -- the stamp of a Call in the next frame: the peer, and how many frames were heard before
 abbrev pub stamp_of : Speaking → Stamp
-stamp_of s = record { vat = other_vat s.host.core.vat; reference = record { 0 = s.heard }; index = 0 }
+stamp_of s = record { vat = other_vat s.host.core.vat; reference = record { 0 = s.heard.frames }; index = 0 }
 
 -- what the adapter is told of a core's tables
 abbrev pub tables_of : State → Tables
@@ -151,28 +151,22 @@ abbrev pub IsAside : Outflow → Besides → Outflow → Type 0
 IsAside old (Tells told) new = IsTold old told new
 IsAside old (Keeps original) new = Kept old (Some original) new
 
--- The adapter says what an envelope comes to: the peer is told that, or it is kept to go back, and the vat hears what it is to
--- hear; a fault takes the vat down with its number.
-abbrev pub HearsComing : Speaking → Result Coming PeerFault → Speaking → Type 0
-HearsComing old (Ok c) new =
+-- The adapter says what an envelope in a frame of so many words comes to: the peer is told that, or it is kept to go back, and the
+-- vat hears what it is to hear; a fault takes the vat down with its number.
+abbrev pub HearsComing : Speaking → ℕ → Result Coming PeerFault → Speaking → Type 0
+HearsComing old words (Ok c) new =
     (out : Outflow) × IsAside old.out c.besides out
-    × ((host : Hosted) × HearsAll old.host c.heard host × (new ≡ record { host = host; out = out; adapter = c.state; heard = old.heard + 1 }))
-HearsComing old (Err f) new = Fails old (number_of_peer f) new
+    × ((host : Hosted) × HearsAll old.host c.heard host × (new ≡ record { host = host; out = out; adapter = c.state; heard = with_frame c.heard words old.heard }))
+HearsComing old words (Err f) new = Fails old (number_of_peer f) new
 
--- A frame has an envelope; a fault takes the vat down with its number.
-abbrev pub HearsCame : Speaking → Came What → Speaking → Type 0
-HearsCame old (Ok w) new = HearsComing old (comes (tables_of old.host.core) old.adapter w) new
-HearsCame old (Err f) new = Falls old (number_of f) new
+-- A frame of so many words has an envelope; a fault takes the vat down with its number.
+abbrev pub HearsCame : Speaking → ℕ → Came What → Speaking → Type 0
+HearsCame old words (Ok w) new = HearsComing old words (comes (tables_of old.host.core) old.adapter w) new
+HearsCame old words (Err f) new = Falls old (number_of f) new
+
+abbrev pub words_in : List ℕ → ℕ
+words_in frame = length frame / 8
 
 -- A frame is heard; or memory is wanting for it, and the vat goes down.
 abbrev pub HearsUp : Speaking → List ℕ → Speaking → Type 0
-HearsUp old frame new = HearsCame old (envelope_at (stamp_of old) frame) new ⊎ Lacks old new
-
--- A vat that went down hears nothing more.
-abbrev pub HearsThen : Option ℕ → Speaking → List ℕ → Speaking → Type 0
-HearsThen None old frame new = HearsUp old frame new
-HearsThen (Some n) old frame new = new ≡ old
-
--- A frame comes: first all goes out that the vat has to say.
-abbrev pub HearsFrame : Speaking → List ℕ → Speaking → Type 0
-HearsFrame old frame new = (mid : Speaking) × Says old mid × HearsThen mid.host.core.down mid frame new
+HearsUp old frame new = HearsCame old (words_in frame) (envelope_at (stamp_of old) frame) new ⊎ Lacks old new

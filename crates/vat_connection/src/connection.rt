@@ -3,47 +3,44 @@ ghost use Rattle.std.specs.Prelude.{◌≡◌, ◌⊎◌, false, IfOk, IfErr, no
 ghost use Rattle.rpc_machine.specs.Refusals.{is_shut};
 ghost use Rattle.vat_host.specs.Hosting.{Does, Refuses};
 ghost use Rattle.vat_connection.specs.Calling.{Fits, IsTooLarge, answered};
-ghost use Rattle.vat_connection.specs.Connecting.{Connected, Finishes, Gives, Receives, Tells, TellsNext, answered_by, fresh, IsShut};
+ghost use Rattle.vat_connection.specs.Connecting.{Connected, Finishes, Gives, Receives, Tells, TellsNext, WorksOn, answered_by, fresh, IsShut, wants_bytes};
+ghost use Rattle.vat_connection.specs.Load.{no_limits};
 
-use crate::hearing::hear_all;
+use crate::arrivals::{proceed, receive, rest};
+use crate::inflow::Inflow;
+use crate::load::{Limits, Load};
 use crate::open_calls::{OpenCalls, cut_off, finished_by};
 use crate::speaker::Speaker;
-use capn_stream::FrameReader;
 use rpc_machine::{Command, Granted, Level, Refusal};
 use rpc_msg::{Memory, ObjectId, Vat};
 use std::alloc::Global;
 use std::marker::Model;
 use vat_host::{Core, Event, Refused};
 
-/// The number with which a vat goes down where the stream ends between two frames.
-const ENDED: u16 = 0;
-
 /// A vat that speaks with another by bytes. It does no input and output of its own: what comes from the peer is handed to
 /// `received`, and what `outgoing` gives is to be sent.
 #[derive(Drop)]
 pub struct Connection {
     pub(crate) speaker: Speaker,
-    reader: FrameReader,
+    inflow: Inflow,
+    limits: Limits,
     pub(crate) open_calls: OpenCalls,
     alloc: Global,
 }
 
 impl Model for Connection {
     ghost use Rattle.vat_connection.specs.Connecting.{Connected, connected_code};
-    ghost use Rattle.vat_connection.specs.Hearing.{Waits, held_of};
 
     ghost Value = { Connected };
 
     ghost coded = { connected_code };
 
-    ghost view = { λ a. record { speaker = a.speaker; waiting = held_of a.reader; open_calls = a.open_calls.0 } };
-
-    ghost invariant = { λ a. Waits a.reader };
+    ghost view = { λ a. record { speaker = a.speaker; inflow = a.inflow; limits = a.limits; open_calls = a.open_calls.0 } };
 }
 
 impl Connection {
-    /// A new vat, of that level and with that bootstrap object if it has one, of whose stream nothing has come. `Memory` where
-    /// the memory of its Abort was refused.
+    /// A new vat, of that level and with that bootstrap object if it has one, of whose stream nothing has come. It has no limits.
+    /// `Memory` if the memory of its Abort was refused.
     pub fn new(
         alloc: Global,
         vat: Vat,
@@ -55,7 +52,11 @@ impl Connection {
         let speaker = Speaker::new(alloc, vat, level, bootstrap)?;
         Ok(Connection {
             speaker,
-            reader: FrameReader::new(alloc),
+            inflow: Inflow::new(alloc),
+            limits: Limits {
+                words: u64::MAX,
+                bytes: u64::MAX,
+            },
             open_calls: OpenCalls::new(alloc),
             alloc,
         })
@@ -68,27 +69,35 @@ impl Connection {
         self.speaker.host.core()
     }
 
-    /// Takes bytes of the peer, in any pieces: the vat hears each frame that is whole now, in order, and the rest waits. What
-    /// is no frame, or a frame that is at fault, takes the vat down with the fault's number, and want of memory with 33. A vat
-    /// that is down drops what comes.
+    /// Takes bytes of the peer, in any pieces: the vat hears each frame that is whole now, in order, and the rest waits. While its load
+    /// is above the limits, frames wait too. What is no frame, or a frame that is at fault, takes the vat down with the fault's number,
+    /// and want of memory with 33. A vat that is down drops what comes.
     pub fn received(&mut self, bytes: &[u8])
         ensures { Receives self.old bytes.now self.new }
     {
-        if self.speaker.is_down() {
+        if self.speaker.is_down() || self.inflow.is_over() {
             return;
         }
-        hear_all(&mut self.speaker, &mut self.reader, self.alloc, bytes);
+        receive(
+            &mut self.speaker,
+            &mut self.inflow,
+            self.limits,
+            self.alloc,
+            bytes,
+        );
     }
 
-    /// The peer's stream has ended: takes a vat that is up down, with 0, or inside a frame with 2.
+    /// The peer's stream has ended: takes a vat that is up down, with 0, or inside a frame with 2. If frames wait unheard, they are heard
+    /// before, as the load allows it.
     pub fn ended(&mut self)
         ensures { Finishes self.old self.new }
     {
-        let number = match self.reader.ended() {
-            Ok(()) => ENDED,
-            Err(fault) => fault.code(),
-        };
-        self.speaker.fall(number);
+        if self.speaker.is_down() || self.inflow.is_over() {
+            return;
+        }
+        let number = self.inflow.end_number();
+        self.inflow.end(number);
+        rest(&mut self.speaker, &mut self.inflow, self.alloc);
     }
 
     /// Takes a vat that is up down with that number. Its Abort is to be sent.
@@ -105,24 +114,32 @@ impl Connection {
         self.speaker.host.has_messages() || !self.speaker.out.bytes().is_empty()
     }
 
-    /// Hands out the bytes that are to be sent to the peer, once: the frames of all messages that the vat has said by now.
-    /// Where a message has no frame, or memory is wanting for it, the vat goes down with 33, and of what it said from there on
-    /// an Abort alone is sent. After that of a vat that is down nothing more is.
+    /// Hands out the bytes that are to be sent to the peer, once: the frames of all messages that the vat has said by now. Frames that
+    /// wait unheard are heard before, as the load allows it. If a message has no frame, or memory is wanting for it, the vat goes down
+    /// with 33, and of what it said from there on an Abort alone is sent. After that of a vat that is down nothing more is.
     pub fn outgoing(&mut self) -> Vec<u8>
         ensures { Gives self.old result.items self.new }
     {
-        self.speaker.say();
+        self.work_on();
         self.speaker.take_bytes()
     }
 
     /// What there is to tell, the oldest first, as `Host::next_event`. Of a vat that is down, before that is told, each own call that
-    /// is open, as one that ended with `Disconnected`. What the vat has to say becomes frames before, as by `outgoing`, since the
-    /// vat may hear something of it.
+    /// is open, as one that ended with `Disconnected`. Frames that wait unheard are heard before, as the load allows it, and what the
+    /// vat has to say becomes frames, as by `outgoing`, since the vat may hear something of it.
     pub fn next_event(&mut self) -> Option<Event>
         ensures { Tells self.old result self.new }
     {
-        self.speaker.say();
+        self.work_on();
         self.tell_next()
+    }
+
+    // Hears what waits, as the load allows it, and passes on all that the vat has to say.
+    fn work_on(&mut self)
+        ensures { WorksOn self.old self.new }
+    {
+        proceed(&mut self.speaker, &mut self.inflow, self.limits, self.alloc);
+        self.speaker.say();
     }
 
     fn tell_next(&mut self) -> Option<Event>
@@ -133,11 +150,45 @@ impl Connection {
                 return Some(Event::Ended(cut_off(self.alloc, call)));
             }
         }
-        let event = self.speaker.host.next_event()?;
+        let Some(event) = self.speaker.host.next_event() else {
+            self.speaker.heard.all_told();
+            return None;
+        };
         if let Event::Ended(ended) = &event {
             self.open_calls.remove(ended.call);
         }
         Some(event)
+    }
+
+    /// What the connection holds of its peer: the words of the frames of Calls for which no Return was said, and of other frames until
+    /// `next_event` found nothing to tell; and the bytes that wait to be sent.
+    pub fn load(&self) -> Load
+        ensures words { result.words ≡ self.now.speaker.heard.words }
+        ensures bytes { result.bytes ≡ length self.now.speaker.out.bytes }
+    {
+        Load {
+            words: self.speaker.heard.words(),
+            bytes: self.speaker.out.bytes().len() as u64,
+        }
+    }
+
+    /// Sets the load above which frames wait unheard. What was heard is at most the limits and one frame more. A limit that is too
+    /// low for what two applications need of each other at a time stops both.
+    pub fn set_limits(&mut self, limits: Limits)
+        ensures { self.new ≡ record self.old { limits = limits } }
+    {
+        self.limits = limits;
+    }
+
+    /// Whether more bytes of the peer would be heard. If not, a vat that is up has events to be taken, bytes to be sent, or calls to be
+    /// answered, and what comes only waits.
+    pub fn wants_bytes(&self) -> bool
+        ensures { result ≡ wants_bytes self.now }
+    {
+        if self.speaker.is_down() || self.inflow.is_over() {
+            return false;
+        }
+        self.inflow.is_empty() && self.speaker.may_hear(self.limits)
     }
 
     /// Takes a command of any kind, as `Host::command` does. Refused with `Full` too, where what it gives may be too large for

@@ -3,10 +3,11 @@ ghost use Rattle.std.specs.Prelude.{◌≡◌};
 ghost use Rattle.rpc_codec.specs.Envelopes.{seen_envelope};
 ghost use Rattle.rpc_codec.specs.Decoding.{envelope_at};
 ghost use Rattle.peer_adapter.specs.Peering.{comes};
-ghost use Rattle.vat_connection.specs.Speaking.{HearsFrame, HearsUp, stamp_of, tables_of};
-ghost use Rattle.vat_connection.specs.Framing.{Opens, Turned};
+ghost use Rattle.vat_connection.specs.Speaking.{HearsUp, stamp_of, tables_of};
+ghost use Rattle.vat_connection.specs.Framing.{HearsEnvelope, HearsInbound, Opens, Turned};
 
-use crate::passing::{hear_each, put_aside};
+use crate::departures::{hear_each, put_aside};
+use crate::load::question_in;
 use crate::speaker::{Speaker, lack_room};
 use peer_adapter::{Inbound, PeerAdapter, PeerError};
 use rpc_codec::{DecodeError, Envelope, decode};
@@ -15,39 +16,44 @@ use rpc_msg::{ExportId, QuestionId, RefId, Stamp};
 use std::alloc::Global;
 use vat_host::Core;
 
-impl Speaker {
-    /// Passes on all that the vat has to say, and then it hears what a frame says. The frame of what is not understood is kept
-    /// to go back. A fault takes the vat down with its number, and want of memory with 33.
-    pub(crate) fn hear(&mut self, frame: &[u8])
-        ensures { HearsFrame self.old frame.now self.new }
-    {
-        self.say();
-        if self.is_down() {
-            return;
-        }
-        self.hear_frame(frame);
-    }
+const BYTES_OF_A_WORD: u64 = 8;
 
-    fn hear_frame(&mut self, frame: &[u8])
+impl Speaker {
+    /// Hears what a frame says. The frame of what is not understood is kept to go back. A fault takes the vat down with its number, and
+    /// want of memory with 33.
+    pub(crate) fn hear_frame(&mut self, frame: &[u8])
         ensures { HearsUp self.old frame.now self.new }
     {
         let stamp = self.next_stamp();
-        let Some(count) = self.heard.checked_add(1) else {
-            return lack_room(&mut self.host);
-        };
         let came = match open(self.alloc, frame, stamp) {
             Ok(came) => came,
             Err(number) => return self.host.shut(number),
         };
+        self.hear_envelope(came, frame.len() as u64 / BYTES_OF_A_WORD);
+    }
+
+    // Hears the envelope of a frame of so many words.
+    fn hear_envelope(&mut self, came: Envelope, words: u64)
+        ensures { HearsEnvelope self.old words came self.new }
+    {
         let inbound = match turn(&mut self.adapter, self.host.core(), came) {
             Ok(inbound) => inbound,
             Err(number) => return self.host.shut(number),
         };
+        self.hear_inbound(inbound, words);
+    }
+
+    // Hears what the adapter said of a frame of so many words.
+    fn hear_inbound(&mut self, inbound: Inbound, words: u64)
+        ensures { HearsInbound self.old words inbound self.new }
+    {
         let Inbound { aside, heard } = inbound;
+        let Ok(()) = self.heard.add(question_in(&heard), words) else {
+            return lack_room(&mut self.host);
+        };
         if !put_aside(&mut self.out, aside) {
             return lack_room(&mut self.host);
         }
-        self.heard = count;
         hear_each(&mut self.host, heard);
     }
 
@@ -57,7 +63,7 @@ impl Speaker {
     {
         Stamp {
             vat: self.host.core().vat().other(),
-            reference: RefId(self.heard),
+            reference: RefId(self.heard.frames()),
             index: 0,
         }
     }

@@ -1,5 +1,5 @@
-//! What is proved of connections. The function runs no code: what it ensures is the theorem.
-ghost use Rattle.vat_connection.specs.Laws.{PiecesAreOne};
+//! What is proved of connections. The functions run no code: what they ensure is the theorem.
+ghost use Rattle.vat_connection.specs.Laws.{LoadIsBounded, PiecesAreOne};
 
 use capn_stream::fronts_stay;
 
@@ -10,3 +10,9 @@ pub fn pieces_are_one()
 {
     fronts_stay();
 }
+
+/// What a connection holds of its peer is at most its limit and one frame more: in words of frames, of Calls for which no Return was
+/// said, and of other frames until all events were told.
+pub fn load_is_bounded()
+    ensures { LoadIsBounded }
+{}

@@ -4,28 +4,32 @@
 //! - `connection.rt`: `Connection`, a vat with the streams of both directions, and what is told of it. The commands by name: `calls.rt`,
 //!   `refs.rt`, `promises.rt`, `tasks.rt`.
 //! - `speaker.rt`: a vat with the bytes that it says and the adapter between it and its peer, and its commands. `frame.rt`: what a
-//!   frame has it hear. `passing.rt`: what it says becomes frames.
-//! - `hearing.rt`: the bytes that come become frames, and the vat hears each. `open_calls.rt`: the own calls that are open, which end
-//!   where the vat goes down.
-//! - `laws.rt`: that pieces do not matter, as a contract of a function that does nothing.
+//!   frame has it hear. `departures.rt`: what it says becomes frames.
+//! - `inflow.rt`: what came and was not heard. `arrivals.rt`: the vat hears each frame in its turn. `load.rt`: how much of what came is
+//!   held, and how much may be.
+//! - `open_calls.rt`: the own calls that are open, which end when the vat goes down.
+//! - `laws.rt`: that pieces do not matter, and that the load is bounded, as contracts of functions that do nothing.
 //!
 //! Contracts see a connection as `Connected` (`specs/Connecting.antt`). What its calls name of the crates below is given out here.
 #![tactic(auto)]
 
+mod arrivals;
 mod calls;
 mod connection;
+mod departures;
 mod frame;
-mod hearing;
+mod inflow;
 mod laws;
+mod load;
 mod open_calls;
-mod passing;
 mod promises;
 mod refs;
 mod speaker;
 mod tasks;
 
 pub use connection::Connection;
-pub use laws::pieces_are_one;
+pub use laws::{load_is_bounded, pieces_are_one};
+pub use load::{Limits, Load};
 pub use rpc_journal::{Advanced, Delivery, Ended, Outcome};
 pub use rpc_machine::{CallCommand, Command, Granted, Level, Refusal};
 pub use rpc_msg::{

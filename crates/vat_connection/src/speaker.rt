@@ -7,8 +7,11 @@ ghost use Rattle.vat_host.specs.Hosting.{Does, Refuses, idle};
 ghost use Rattle.rpc_outgoing.specs.Outflows.{nothing_out};
 ghost use Rattle.peer_adapter.specs.Peering.{fresh as fresh_adapter};
 ghost use Rattle.vat_connection.specs.Calling.{Calls, Fits, IsTooLarge, call_of};
+ghost use Rattle.vat_connection.specs.Load.{nothing_heard};
+ghost use Rattle.vat_connection.specs.Hearing.{IsReady, may_hear};
 ghost use Rattle.vat_connection.specs.Speaking.{Falls, Shuts, given, want_of_room};
 
+use crate::load::{Intake, Limits};
 use peer_adapter::PeerAdapter;
 use rpc_codec_fits::fits_envelope;
 use rpc_machine::{CallCommand, Command, Fault, Granted, Level, Refusal};
@@ -18,13 +21,13 @@ use std::alloc::Global;
 use std::marker::Model;
 use vat_host::{Host, Refused};
 
-/// A vat, the bytes that it says, its adapter, and how many frames it has heard.
+/// A vat, the bytes that it says, its adapter, and what it has heard.
 #[derive(Drop)]
 pub(crate) struct Speaker {
     pub(crate) host: Host,
     pub(crate) out: Outgoing,
     pub(crate) adapter: PeerAdapter,
-    pub(crate) heard: u64,
+    pub(crate) heard: Intake,
     pub(crate) alloc: Global,
 }
 
@@ -46,14 +49,14 @@ impl Speaker {
         level: Level,
         bootstrap: Option<ObjectId>,
     ) -> Result<Speaker, Memory>
-        ensures { IfOk result (λ speaker. speaker ≡ record { host = idle (start vat level bootstrap); out = nothing_out; adapter = fresh_adapter; heard = 0 }) }
+        ensures { IfOk result (λ speaker. speaker ≡ record { host = idle (start vat level bootstrap); out = nothing_out; adapter = fresh_adapter; heard = nothing_heard }) }
     {
         let host = Host::new(alloc, vat, level, bootstrap)?;
         Ok(Speaker {
             host,
             out: Outgoing::new(alloc),
             adapter: PeerAdapter::new(alloc),
-            heard: 0,
+            heard: Intake::new(alloc),
             alloc,
         })
     }
@@ -62,6 +65,27 @@ impl Speaker {
         ensures { result ≡ is_some self.now.host.core.down }
     {
         self.host.core().down().is_some()
+    }
+
+    /// Whether one more frame may be heard, by the load.
+    pub(crate) fn may_hear(&self, limits: Limits) -> bool
+        ensures { result ≡ may_hear limits self.now }
+    {
+        limits.has(self.heard.words(), self.out.bytes().len() as u64)
+    }
+
+    /// Puts the frames of all that a vat that is up has to say behind the bytes. Says whether it may hear one more frame then.
+    pub(crate) fn is_ready(&mut self, limits: Limits) -> bool
+        ensures { IsReady limits self.old result self.new }
+    {
+        if self.is_down() {
+            return false;
+        }
+        self.say();
+        if self.is_down() {
+            return false;
+        }
+        self.may_hear(limits)
     }
 
     /// Takes the vat down with that number, if it is up.
@@ -84,6 +108,7 @@ impl Speaker {
                 back: command,
             });
         }
+        // Each arm by itself: a result that is handed on whole leaves its clauses to be proved by cases.
         match self.host.command(command) {
             Ok(granted) => return Ok(granted),
             Err(refused) => return Err(refused),

@@ -2,3 +2,4 @@ mod Doing
 mod Falling
 mod Going
 mod Waiting
+mod Reasons

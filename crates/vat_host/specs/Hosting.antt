@@ -1,6 +1,6 @@
 -- A core with what its steps left to do, and what each call does to both.
-use Rattle.std.specs.Prelude.{◌≡◌, Bool, ◌&&◌, ◌==◌, length, not, is_some, List, [], ◌∷◌, ◌++◌, Option, Some, None, Ok, Err, Result, ◌⊎◌, true, false, refl}
-use Rattle.std.specs.Coded.{Coded, code_by, coded×, coded_bool, coded_list}
+use Rattle.std.specs.Prelude.{◌≡◌, ℕ, Bool, ◌&&◌, ◌==◌, length, not, is_some, List, [], ◌∷◌, ◌++◌, Option, Some, None, Ok, Err, Result, ◌⊎◌, true, false, refl}
+use Rattle.std.specs.Coded.{Coded, code_by, coded×, coded_list}
 use Rattle.rpc_msg.specs.contracts.message.Message as message_row
 use Rattle.rpc_msg.specs.declared.message.Message.{Message}
 use Rattle.rpc_msg.specs.declared.message.Message.TheVariants as message
@@ -16,33 +16,35 @@ use Rattle.rpc_machine.specs.State.{State, state_code}
 use Rattle.rpc_machine.specs.Steps.{Obeys, Receives}
 use Rattle.vat_core.specs.declared.refused.Refused.{Refused}
 use Rattle.vat_host.specs.contracts.event.Event as event_row
+use Rattle.vat_host.specs.contracts.event.DownNotice as notice_row
+use Rattle.vat_host.specs.declared.event.DownNotice.{DownNotice}
 use Rattle.vat_host.specs.declared.event.Event.{Event}
 use Rattle.vat_host.specs.declared.event.Event.TheVariants as event
 use Rattle.vat_host.specs.Queues.{told}
 
 -- The state of the core, and what is to be done, the oldest first: messages to send to the peer, and what its steps left to tell;
--- and whether the application was told that the vat is down.
+-- and whether the application was told that the vat is down, with the reason that is to be told with it.
 pub record Hosted : Type 0 where
   pub core : State
   pub messages : List Message
   pub events : List Event
-  pub told_down : Bool
+  pub down_notice : DownNotice
 
 abbrev pub hosted_code : Coded Hosted
 hosted_code =
-    code_by ((State × List Message) × (List Event × Bool))
-    (coded× (coded× state_code (coded_list message_row.the_row.coded)) (coded× (coded_list event_row.the_row.coded) coded_bool))
-    (λ h. ((h.core, h.messages), (h.events, h.told_down)))
-    (λ p. record { core = p.0.0; messages = p.0.1; events = p.1.0; told_down = p.1.1 })
+    code_by ((State × List Message) × (List Event × DownNotice))
+    (coded× (coded× state_code (coded_list message_row.the_row.coded)) (coded× (coded_list event_row.the_row.coded) notice_row.the_row.coded))
+    (λ h. ((h.core, h.messages), (h.events, h.down_notice)))
+    (λ p. record { core = p.0.0; messages = p.0.1; events = p.1.0; down_notice = p.1.1 })
     (λ _. refl)
 
 -- Nothing is to be done.
 abbrev pub idle : State → Hosted
-idle s = record { core = s; messages = []; events = []; told_down = false }
+idle s = record { core = s; messages = []; events = []; down_notice = record { told = false; reason = [] } }
 
 -- All that the steps left was told; that the vat is down was not, and it is.
 abbrev pub has_only_down : Hosted → Bool
-has_only_down h = (length h.events == 0) && is_some h.core.down && not h.told_down
+has_only_down h = (length h.events == 0) && is_some h.core.down && not h.down_notice.told
 
 abbrev pub is_idle : Hosted → Bool
 is_idle h = (length h.messages == 0) && (length h.events == 0) && not (has_only_down h)
@@ -53,7 +55,7 @@ stepped old effects s = record {
   core = s;
   messages = old.messages ++ effects.sends;
   events = old.events ++ told effects;
-  told_down = old.told_down;
+  down_notice = old.down_notice;
 }
 
 -- A command is done, as the core does it.
@@ -73,9 +75,29 @@ abbrev pub is_abort : Message → Bool
 is_abort (message.Plain (plain.Abort exception)) = true
 is_abort m = false
 
--- A message comes, as the core receives it.
+-- the reason of an Abort
+abbrev pub reason_of : Message → Option (List ℕ)
+reason_of (message.Plain (plain.Abort exception)) = Some exception.reason
+reason_of m = None
+
+-- the reason that is to be told, once a message comes: that of an Abort, of a vat that is up; or none, if memory is wanting for it
+abbrev pub IsReason : Option ℕ → Option (List ℕ) → List ℕ → List ℕ → Type 0
+IsReason (Some n) given old new = new ≡ old
+IsReason None None old new = new ≡ old
+IsReason None (Some reason) old new = (new ≡ reason) ⊎ (new ≡ [])
+
+abbrev pub with_reason : Hosted → List ℕ → Hosted
+with_reason h reason = record h { down_notice = record (h.down_notice) { reason = reason } }
+
+abbrev pub NotesReason : Hosted → Message → Hosted → Type 0
+NotesReason old m new = (reason : List ℕ) × IsReason old.core.down (reason_of m) old.down_notice.reason reason × (new ≡ with_reason old reason)
+
+abbrev pub HearsSilently : Hosted → Message → Hosted → Type 0
+HearsSilently old m new = (effects : Effects) × Receives old.core m effects new.core × (new ≡ stepped old effects new.core)
+
+-- A message comes, as the core receives it, and the reason of an Abort is kept.
 abbrev pub Hears : Hosted → Message → Hosted → Type 0
-Hears old m new = (effects : Effects) × Receives old.core m effects new.core × (new ≡ stepped old effects new.core)
+Hears old m new = (mid : Hosted) × NotesReason old m mid × HearsSilently mid m new
 
 -- ---- what is told
 
@@ -83,14 +105,15 @@ Hears old m new = (effects : Effects) × Receives old.core m effects new.core ×
 abbrev pub TellsOldest : Hosted → Event → Hosted → Type 0
 TellsOldest old e new = old ≡ record new { events = e ∷ new.events }
 
--- All else was told, and now that the vat is down with that number.
+-- All else was told, and now that the vat is down with that number, and the reason that was kept.
 abbrev pub TellsDown : Hosted → Event → Hosted → Type 0
-TellsDown old (event.Down number) new = (old.events ≡ []) × (old.told_down ≡ false) × (old.core.down ≡ Some number) × (new ≡ record old { told_down = true })
+TellsDown old (event.Down number reason) new =
+    (old.events ≡ []) × (old.down_notice.told ≡ false) × (old.core.down ≡ Some number) × (reason ≡ old.down_notice.reason) × (new ≡ record old { down_notice = record { told = true; reason = [] } })
 TellsDown old e new = ⊥
 
 -- Nothing is to be told.
 abbrev pub TellsNothing : Hosted → Hosted → Type 0
-TellsNothing old new = (old.events ≡ []) × ((old.told_down ≡ true) ⊎ (old.core.down ≡ None)) × (new ≡ old)
+TellsNothing old new = (old.events ≡ []) × ((old.down_notice.told ≡ true) ⊎ (old.core.down ≡ None)) × (new ≡ old)
 
 -- What is told: the oldest event that a step left; behind them once that the vat is down, if it is.
 abbrev pub Tells : Hosted → Option Event → Hosted → Type 0

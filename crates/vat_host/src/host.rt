@@ -1,23 +1,23 @@
-ghost use Rattle.std.specs.Prelude.{◌≡◌, ◌==◌, not, length, [], ◌∷◌, IfOk, IfSome, IfNone};
+ghost use Rattle.std.specs.Prelude.{◌≡◌, ◌⊎◌, ◌==◌, not, length, [], ◌∷◌, IfOk, IfSome, IfNone, option_copied};
 ghost use Rattle.rpc_machine.specs.State.{start};
 ghost use Rattle.rpc_machine.specs.Down.{ShutsFrom};
 ghost use Rattle.rpc_machine.specs.declared.command.Effects.{Effects};
-ghost use Rattle.vat_host.specs.Hosting.{Commands, Hears, Tells, has_only_down, idle, is_abort, is_idle, stepped};
+ghost use Rattle.vat_host.specs.Hosting.{Commands, Hears, HearsSilently, NotesReason, Tells, reason_of, has_only_down, idle, is_abort, is_idle, stepped};
 
-use crate::event::Event;
+use crate::event::{DownNotice, Event};
 use crate::kept::Kept;
 use rpc_machine::{Command, Effects, Fault, Granted, Level, Refusal};
-use rpc_msg::{Items, Memory, Message, ObjectId, PlainMessage, Vat};
+use rpc_msg::{Items, Memory, Message, ObjectId, PlainMessage, Text, Vat};
 use std::alloc::Global;
 use std::marker::Model;
+use std::mem;
 use vat_core::{Answer, Core, Refused};
 
 /// A vat with what its steps left to do: messages to send to the peer, and events to tell its application.
 pub struct Host {
     pub(crate) core: Core,
     pub(crate) kept: Kept,
-    // Whether the application was told that the vat is down.
-    told_down: bool,
+    down_notice: DownNotice,
     alloc: Global,
 }
 
@@ -27,7 +27,7 @@ impl Drop for Host {
         let Host {
             core: _,
             kept: _,
-            told_down: _,
+            down_notice: _,
             alloc: _,
         } = self;
     }
@@ -41,7 +41,7 @@ impl Model for Host {
 
     ghost coded = { hosted_code };
 
-    ghost view = { λ a. record { core = a.core; messages = a.kept.messages.0; events = a.kept.events.0; told_down = a.told_down } };
+    ghost view = { λ a. record { core = a.core; messages = a.kept.messages.0; events = a.kept.events.0; down_notice = a.down_notice } };
 
     ghost invariant = { λ a. a.core.down ≡ None → 0 < a.kept.messages.1 };
 }
@@ -62,7 +62,10 @@ impl Host {
         Ok(Host {
             core,
             kept,
-            told_down: false,
+            down_notice: DownNotice {
+                told: false,
+                reason: Text::from_string(String::new(alloc)),
+            },
             alloc,
         })
     }
@@ -117,6 +120,7 @@ impl Host {
     pub fn receive(&mut self, message: Message)
         ensures { Hears self.old message self.new }
     {
+        self.note_reason(&message);
         let Ok(()) = self.kept.make_place() else {
             return self.receive_last(message);
         };
@@ -124,11 +128,23 @@ impl Host {
         self.kept.keep(effects);
     }
 
+    // The reason of an Abort is kept for the application of a vat that is up.
+    fn note_reason(&mut self, message: &Message)
+        ensures { NotesReason self.old message.now self.new }
+    {
+        if self.core.down().is_some() {
+            return;
+        }
+        if let Some(reason) = reason_of(message) {
+            self.down_notice.reason = copied(self.alloc, reason);
+        }
+    }
+
     // Nothing but the Abort of this vat has a place. None follows a received Abort.
     #[cold]
     #[inline(never)]
     fn receive_last(&mut self, message: Message)
-        ensures { Hears self.old message self.new }
+        ensures { HearsSilently self.old message self.new }
     {
         if is_abort(&message) {
             let effects = self.core.receive(message);
@@ -171,12 +187,13 @@ impl Host {
         if let Some(event) = self.next_of_steps() {
             return Some(event);
         }
-        if self.told_down {
+        if self.down_notice.told {
             return None;
         }
         let number = self.core.down()?;
-        self.told_down = true;
-        Some(Event::Down(number))
+        self.down_notice.told = true;
+        let none = Text::from_string(String::new(self.alloc));
+        Some(Event::Down(number, mem::replace(&mut self.down_notice.reason, none)))
     }
 
     // Takes out the oldest event that a step left.
@@ -200,7 +217,27 @@ impl Host {
     pub fn has_only_down(&self) -> bool
         ensures { result ≡ has_only_down self.now }
     {
-        self.kept.events.is_empty() && self.core.down().is_some() && !self.told_down
+        self.kept.events.is_empty() && self.core.down().is_some() && !self.down_notice.told
+    }
+}
+
+// The reason of an Abort.
+fn reason_of(message: &Message) -> Option<&Text>
+    ensures { option_copied result ≡ reason_of message.now }
+{
+    match message {
+        Message::Plain(PlainMessage::Abort(exception)) => Some(&exception.reason),
+        _other => None,
+    }
+}
+
+// The text; or an empty one, if memory is wanting for it.
+fn copied(alloc: Global, text: &Text) -> Text
+    ensures { (result ≡ text.now) ⊎ (result ≡ []) }
+{
+    match text.copy(alloc) {
+        Ok(copy) => copy,
+        Err(_) => Text::from_string(String::new(alloc)),
     }
 }
 

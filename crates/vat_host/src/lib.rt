@@ -7,7 +7,7 @@
 //!   and one for an Abort is kept from the beginning on, so nothing that a step says is lost.
 //! - `list_queue.rt`, `event_queue.rt`: queues that take in whole lists, each in one place, and give out single items. Memory of
 //!   lists whose items were all taken out goes back to the core.
-//! - `exchanging.rt`: two hosts hand their messages to each other.
+//! - `exchanges.rt`: two hosts hand their messages to each other.
 //!
 //! Contracts see a host as `Hosted` (`specs/Hosting`): the state of its core, its two queues, and whether the application was told
 //! that the vat is down.
@@ -16,7 +16,7 @@
 mod calls;
 mod event;
 mod event_queue;
-mod exchanging;
+mod exchanges;
 mod host;
 mod kept;
 mod list_queue;
@@ -25,6 +25,6 @@ mod refs;
 mod tasks;
 
 pub use event::Event;
-pub use exchanging::exchange;
+pub use exchanges::exchange;
 pub use host::Host;
 pub use vat_core::{Answer, Core, Refused};

@@ -1,11 +1,12 @@
 //! Serves the registry of `interop/registry.capnp` over standard input and output (docs/serving.md).
 //!
-//! - `serving.rt`: the conversation: bytes are read, the service works, and bytes are written.
+//! - `conversation.rt`: the conversation: bytes are read, the service works, and bytes are written.
 //! - `service.rt`: a vat with the objects that it serves: each call is answered, each own call that ended passed on.
 //! - `objects.rt`: the objects by their numbers. `counter.rt`, `printer.rt`, `sink.rt` and `registry.rt`: one interface each.
 //!   `methods.rt`: what the methods of registries do, which have more to do with the vat. `results.rt`: what methods give.
 #![tactic(auto)]
 
+mod conversation;
 mod counter;
 mod methods;
 mod objects;
@@ -13,21 +14,23 @@ mod printer;
 mod registry;
 mod results;
 mod service;
-mod serving;
 mod sink;
 
 use anyhow::{Result, bail};
+use conversation::{Ending, MIB, converse, limits_of};
 use service::Service;
-use serving::{Ending, converse};
 use std::env;
 use std::process::ExitCode;
 
-/// The status where the words ask for nothing, and where input, output or memory fails.
+/// The status if the words ask for nothing, and if input, output or memory fails.
 const FAILED: u8 = 2;
 
-/// `vat_serve [--tell]`: serves one client over standard input and output, and ends with status 0 where it was the client that
-/// ended the conversation, with 1 where a fault did, and with 2 where input, output or memory failed. With the word it says on
-/// standard error how it ended, and whether anything was left between the two.
+const USAGE: &str = "usage: vat_serve [--tell] [--limit MIB]";
+
+/// `vat_serve [--tell] [--limit MIB]`: serves one client over standard input and output, and ends with status 0 if it was the client
+/// that ended the conversation, with 1 if a fault did, and with 2 if input, output or memory failed, or calls that wait for an answer
+/// are larger than the limit. With `--tell` it says on standard error how it ended, and whether anything was left between the two.
+/// The limit is of what it holds of the client, and of what waits to be sent: 8 MiB each, unless another number is said.
 fn main(rt: HostRuntime) -> ExitCode {
     match serve(&rt) {
         Ok(ending) if ending.is_by_client() => ExitCode::SUCCESS,
@@ -40,22 +43,52 @@ fn main(rt: HostRuntime) -> ExitCode {
 }
 
 fn serve(rt: &HostRuntime) -> Result<Ending> {
-    let tells = tells(rt)?;
-    let mut service = Service::new(rt.alloc())?;
+    let asked = read_words(rt)?;
+    let mut service = Service::new(rt.alloc(), limits_of(asked.mib))?;
     let ending = converse(&mut service, &mut rt.stdin(), &mut rt.stdout())?;
-    if tells {
+    if asked.tells {
         eprintln!(rt; "{ending}")?;
     }
     Ok(ending)
 }
 
-// Whether the words ask for an account.
-fn tells(rt: &HostRuntime) -> Result<bool> {
+/// What the words ask for: an account at the end, and another limit.
+#[derive(Clone, Copy)]
+struct Asked {
+    tells: bool,
+    mib: u32,
+}
+
+// What the words of the command line ask for.
+fn read_words(rt: &HostRuntime) -> Result<Asked> {
     let mut words = env::args(rt)?;
     let _program = words.next();
-    match words.next() {
-        None => Ok(false),
-        Some(word) if word.as_str() == "--tell" => Ok(true),
-        Some(_) => bail!("usage: vat_serve [--tell]"),
+    let mut asked = Asked {
+        tells: false,
+        mib: MIB,
+    };
+    let mut wants_limit = false;
+    for word in words {
+        if wants_limit {
+            asked.mib = mib_of(word.as_str())?;
+            wants_limit = false;
+            continue;
+        }
+        match word.as_str() {
+            "--tell" => asked.tells = true,
+            "--limit" => wants_limit = true,
+            _ => bail!("{USAGE}"),
+        }
+    }
+    if wants_limit {
+        bail!("{USAGE}");
+    }
+    Ok(asked)
+}
+
+fn mib_of(word: &str) -> Result<u32> {
+    match word.parse() {
+        Ok(mib) => Ok(mib),
+        Err(_) => bail!("{USAGE}"),
     }
 }

@@ -9,7 +9,7 @@ use vat::{
     CallId, Command, Delivery, Ended, Exception, ExceptionKind, Items, Level, ObjectId, Outcome,
     Payload, RefId, TaskId, Text, Vat,
 };
-use vat_connection::{Connection, Event};
+use vat_connection::{Connection, Event, Limits};
 
 /// What a call is answered with, or that it is later, or not at all.
 #[derive(Drop)]
@@ -35,14 +35,19 @@ pub struct Service {
     pub(crate) objects: Objects,
     /// The calls that the service made, each with the task that is answered as it ends.
     pub(crate) waiting: Vec<(CallId, TaskId)>,
+    /// How much may be held of the client.
+    pub(crate) limits: Limits,
     pub(crate) alloc: Global,
 }
 
 impl Service {
-    /// A new service, of whose client nothing has come.
-    pub fn new(alloc: Global) -> Result<Service> {
+    /// A new service, of whose client nothing has come, and of whom no more is held than that.
+    pub fn new(alloc: Global, limits: Limits) -> Result<Service> {
+        let mut vat = Connection::new(alloc, Vat::B, Level::One, Some(ObjectId(0)))?;
+        vat.set_limits(limits);
         Ok(Service {
-            vat: Connection::new(alloc, Vat::B, Level::One, Some(ObjectId(0)))?,
+            vat,
+            limits,
             objects: Objects::new(alloc)?,
             waiting: Vec::new(alloc),
             alloc,
@@ -55,7 +60,7 @@ impl Service {
             match self.vat.next_event() {
                 Some(Event::Served(call)) => self.serve(call)?,
                 Some(Event::Ended(ended)) => self.pass_on(ended)?,
-                Some(Event::Down(_)) => {}
+                Some(Event::Down(_number, _reason)) => {}
                 None => break,
             }
         }

@@ -39,7 +39,7 @@ fn main() -> Result<(), Box<dyn Error>> {
             Event::Ended(ended) if ended.call == call => show(&ended.outcome?)?,
             Event::Ended(ended) => client.let_go(&ended.outcome?.refs)?,
             Event::Served(heard) => println!("object {} hears {}", heard.object.0, heard.params.root()?.text(0)?),
-            Event::Down(_) => return Err(event.to_string().into()),
+            Event::Down(..) => return Err(event.to_string().into()),
         }
     }
     Ok(())

@@ -76,7 +76,7 @@ impl Shared {
                         guarded(|| slot.end(outcome));
                     }
                 }
-                Event::Down(_) => self.end(),
+                Event::Down(..) => self.end(),
             }
         }
     }

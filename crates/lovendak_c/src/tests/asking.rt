@@ -1,16 +1,15 @@
 // What is called on a handle, beside the streams and the events.
-use crate::asks::{
-    lovendak_advance, lovendak_bootstrap, lovendak_call, lovendak_clone_ref, lovendak_field,
-    lovendak_host, lovendak_promise, lovendak_result_of,
-};
+use crate::calls::{lovendak_bootstrap, lovendak_call, lovendak_finish};
 use crate::handle::Handle;
-use crate::life::{lovendak_free, lovendak_new};
-use crate::settling::{
-    lovendak_answer, lovendak_drop_ref, lovendak_fail, lovendak_finish, lovendak_reject,
-    lovendak_resolve, lovendak_shut,
+use crate::life::{lovendak_free, lovendak_new, lovendak_shut};
+use crate::promises::{lovendak_promise, lovendak_reject, lovendak_resolve};
+use crate::queries::{lovendak_calls_made, lovendak_down, lovendak_shares_nothing};
+use crate::refs::{
+    lovendak_advance, lovendak_clone_ref, lovendak_drop_ref, lovendak_field, lovendak_host,
+    lovendak_result_of,
 };
-use crate::streams::lovendak_ended;
-use crate::telling::{lovendak_calls_made, lovendak_down, lovendak_shares_nothing};
+use crate::streams::{lovendak_ended, lovendak_load, lovendak_set_limits, lovendak_wants_bytes};
+use crate::tasks::{lovendak_answer, lovendak_fail};
 use crate::tests::UNTOUCHED;
 use crate::tests::payloads::{NULL, payload};
 use std::alloc::Global;
@@ -43,6 +42,10 @@ pub(crate) enum Call {
     Reject(u64, u32, &'static [u8]),
     Shut(u32),
     Ended,
+    SetLimits(u64, u64),
+    /// Gives the words.
+    Load,
+    WantsBytes,
 }
 
 /// The code that a call answers, and the number that it gives.
@@ -52,7 +55,9 @@ pub(crate) fn answer(alloc: Global, vat: &mut Handle, call: Call) -> (u32, u64) 
             (lovendak_new(alloc, vat, level, has_root, root), UNTOUCHED)
         }
         Call::Free => (lovendak_free(alloc, vat), UNTOUCHED),
-        Call::Advance(_) | Call::Down | Call::SharesNothing => queried(alloc, vat, call),
+        Call::Advance(_) | Call::Down | Call::SharesNothing | Call::WantsBytes => {
+            queried(alloc, vat, call)
+        }
         Call::Answer(_)
         | Call::Fail(..)
         | Call::DropRef(_)
@@ -60,7 +65,8 @@ pub(crate) fn answer(alloc: Global, vat: &mut Handle, call: Call) -> (u32, u64) 
         | Call::Resolve(..)
         | Call::Reject(..)
         | Call::Shut(_)
-        | Call::Ended => (settled(alloc, vat, call), UNTOUCHED),
+        | Call::Ended
+        | Call::SetLimits(..) => (settled(alloc, vat, call), UNTOUCHED),
         _ => asked(alloc, vat, call),
     }
 }
@@ -78,6 +84,7 @@ fn asked(alloc: Global, vat: &mut Handle, call: Call) -> (u32, u64) {
             calls(alloc, vat, reference, caps, refs, &mut number)
         }
         Call::CallsMade(reference) => lovendak_calls_made(alloc, vat, reference, &mut number),
+        Call::Load => lovendak_load(alloc, vat, &mut number, &mut 0),
         _ => 0,
     };
     (code, number)
@@ -101,6 +108,7 @@ fn queried(alloc: Global, vat: &mut Handle, call: Call) -> (u32, u64) {
     let code = match call {
         Call::Advance(reference) => lovendak_advance(alloc, vat, reference, &mut number),
         Call::Down => lovendak_down(alloc, vat, &mut number),
+        Call::WantsBytes => lovendak_wants_bytes(alloc, vat, &mut number),
         _ => lovendak_shares_nothing(alloc, vat, &mut number),
     };
     (code, u64::from(number))
@@ -109,6 +117,7 @@ fn queried(alloc: Global, vat: &mut Handle, call: Call) -> (u32, u64) {
 fn settled(alloc: Global, vat: &mut Handle, call: Call) -> u32 {
     match call {
         Call::Answer(task) => lovendak_answer(alloc, vat, task, &NULL, &[]),
+        Call::SetLimits(words, bytes) => lovendak_set_limits(alloc, vat, words, bytes),
         Call::Fail(task, kind, reason) => lovendak_fail(alloc, vat, task, kind, reason),
         Call::DropRef(reference) => lovendak_drop_ref(alloc, vat, reference),
         Call::Finish(call) => lovendak_finish(alloc, vat, call),

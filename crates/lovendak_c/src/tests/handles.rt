@@ -18,7 +18,7 @@ const EMPTY_OR_NOT: Steps = &[
 
 #[test]
 fn a_handle_has_a_vat_or_is_empty(rt: HostRuntime) {
-    assert!(rt; lovendak_version() == 1);
+    assert!(rt; lovendak_version() == 2);
     play(&rt, rt.alloc(), &[EMPTY_OR_NOT]);
 }
 
@@ -101,6 +101,27 @@ const IS_ANSWERED: Steps = &[
 #[test]
 fn a_task_is_answered(rt: HostRuntime) {
     play(&rt, rt.alloc(), &[MEET, IS_ANSWERED, FREE]);
+}
+
+/// A Bootstrap has six words, so the Call behind it waits until the events were told.
+const LIMITED: Steps = &[
+    (Vat::B, Step::Does(Call::SetLimits(5, 1_000_000), 0)),
+    (Vat::A, Step::Gives(Call::Call(0, 0, &[]), 1)),
+    (Vat::A, Step::Carries),
+    (Vat::B, Step::Gives(Call::Load, 6)),
+    (Vat::B, Step::Gives(Call::WantsBytes, 0)),
+    (Vat::B, Step::Next(NONE)),
+    (Vat::B, Step::Next(NULL_SERVED)),
+    (Vat::B, Step::Does(Call::Answer(0), 0)),
+    (Vat::B, Step::Next(NONE)),
+    (Vat::B, Step::Carries),
+    (Vat::B, Step::Gives(Call::Load, 0)),
+    (Vat::B, Step::Gives(Call::WantsBytes, 1)),
+];
+
+#[test]
+fn what_comes_above_the_limit_waits(rt: HostRuntime) {
+    play(&rt, rt.alloc(), &[MEET, LIMITED, FREE]);
 }
 
 const LET_GO: Steps = &[

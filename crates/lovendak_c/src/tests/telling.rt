@@ -1,7 +1,7 @@
 // What a handle tells.
+use crate::events::lovendak_next_event;
 use crate::handle::Handle;
 use crate::payloads::lovendak_ref_at;
-use crate::telling::lovendak_next_event;
 use crate::tests::{SILENT, front};
 use lovendak_c_desk::Notice;
 use std::alloc::Global;

@@ -65,7 +65,7 @@ const FALLS: [(Steps<'static>, Steps<'static>); 4] = [
     ),
     (
         &[(Vat::B, Step::Shuts(9)), (Vat::B, Step::Carries)],
-        &[(Vat::A, Step::Tells(Told::Down(34)))],
+        &[(Vat::A, Step::Tells(Told::Aborted(9)))],
     ),
 ];
 

@@ -5,7 +5,7 @@ use rpc_machine::{Granted, Level, Refusal};
 use rpc_msg::{ObjectId, Vat};
 use std::alloc::Global;
 use std::process::Abort;
-use vat_connection::Connection;
+use vat_connection::{Connection, Limits};
 
 /// The bootstrap object of a vat that has one.
 pub(crate) const ROOT: Option<ObjectId> = Some(ObjectId(0));
@@ -25,6 +25,11 @@ pub(crate) enum Step<'a> {
     /// It has these bytes to send, and no more.
     Says(&'a [u8]),
     HasOutgoing(bool),
+    /// It hears more only while its load has at most so many words and bytes.
+    Limits(u64, u64),
+    /// Its load has so many words.
+    Loads(u64),
+    WantsBytes(bool),
     IsUp,
     SharesNothing,
     /// All that it has to send goes to the other.
@@ -42,9 +47,11 @@ fn holds(alloc: Global, vat: &mut Connection, step: &Step<'_>) -> bool {
         Step::Tells(wanted) => next(vat) == *wanted,
         Step::Says(bytes) => says(vat, bytes),
         Step::HasOutgoing(wanted) => vat.has_outgoing() == *wanted,
+        Step::Loads(words) => vat.load().words == *words,
+        Step::WantsBytes(wanted) => vat.wants_bytes() == *wanted,
         Step::IsUp => vat.core().down().is_none(),
         Step::SharesNothing => vat.core().shares_nothing(),
-        Step::Hears(_) | Step::Ends | Step::Shuts(_) | Step::Carries => {
+        Step::Hears(_) | Step::Ends | Step::Shuts(_) | Step::Limits(..) | Step::Carries => {
             happens(vat, step);
             true
         }
@@ -56,6 +63,10 @@ fn happens(vat: &mut Connection, step: &Step<'_>) {
         Step::Hears(bytes) => vat.received(bytes),
         Step::Ends => vat.ended(),
         Step::Shuts(number) => vat.shut(*number),
+        Step::Limits(words, bytes) => vat.set_limits(Limits {
+            words: *words,
+            bytes: *bytes,
+        }),
         _ => {}
     }
 }

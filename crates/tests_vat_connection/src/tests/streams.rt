@@ -51,7 +51,7 @@ fn what_is_no_frame_takes_a_vat_down(rt: HostRuntime) {
             (Vat::A, Step::Tells(Told::Down(number))),
             (Vat::A, Step::Tells(Told::Nothing)),
             (Vat::A, Step::Carries),
-            (Vat::B, Step::Tells(Told::Down(34))),
+            (Vat::B, Step::Tells(Told::Aborted(number))),
             (Vat::B, Step::HasOutgoing(false)),
         ];
         scene(&rt, rt.alloc(), [None, None], 5, &[&steps]);

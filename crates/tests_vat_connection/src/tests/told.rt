@@ -2,6 +2,9 @@
 use rpc_msg::{CallId, CapAt, Exception, ExceptionKind, Op, Payload, RefId, TaskId};
 use vat_connection::{Connection, Delivery, Ended, Event, Outcome};
 
+/// The number with which a vat goes down by its peer's Abort.
+const ABORTED: u16 = 34;
+
 /// An event, with what came with it.
 #[derive(Clone, Copy, PartialEq, Eq)]
 pub(crate) enum Told {
@@ -9,6 +12,8 @@ pub(crate) enum Told {
     Served(TaskId, Given),
     Ended(CallId, Came, Given),
     Down(u16),
+    /// It went down by the peer's Abort, whose reason says that fault.
+    Aborted(u16),
 }
 
 /// The references that came.
@@ -44,8 +49,20 @@ pub(crate) fn said_by(event: &Event) -> Told {
     match event {
         Event::Served(task) => served(task),
         Event::Ended(call) => ended(call),
-        Event::Down(number) => Told::Down(*number),
+        Event::Down(number, reason) => down(*number, reason.as_str()),
     }
+}
+
+fn down(number: u16, reason: &str) -> Told {
+    match fault_in(reason) {
+        Some(fault) if number == ABORTED => Told::Aborted(fault),
+        _ => Told::Down(number),
+    }
+}
+
+fn fault_in(reason: &str) -> Option<u16> {
+    let number = reason.strip_prefix("fault ")?;
+    number.parse().ok()
 }
 
 fn served(task: &Delivery) -> Told {

@@ -1,12 +1,11 @@
 use Rattle.std.proofs.Common.{refl, ap, ◌∙◌}
 use Rattle.rpc_machine.specs.declared.command.Command.TheVariants as command
 use Rattle.rpc_machine.specs.declared.command.Granted.TheVariants as granted
-use Rattle.vat_connection.specs.Hearing.{held_of}
 use Rattle.vat_connection.specs.declared.connection.Connection.TheInside.{Inside}
 use Rattle.vat_connection.proofs.Calling.{asks, connection}
 use Rattle.vat_connection.proofs.connection.Connection.clone_ref.Goals as goal
 
 pub returns : goal.returns
 returns c =
-    asks c.self-inside.inside.0.0.host c.clone_ref.new.self c.self-inside.inside.0.0.out c.self-inside.inside.0.0.adapter c.self-inside.inside.0.0.heard (held_of c.self-inside.inside.0.1.0) c.self-inside.inside.0.1.1.0.0 c.args.self.now (command.CloneRef c.args.id) (ap (λ (i : Inside). connection i.speaker (held_of i.reader) i.open_calls.0) c.self-inside.view_is ∙ c.self.view_is)
+    asks c.self-inside.inside.0.0.host c.clone_ref.new.self c.self-inside.inside.0.0.out c.self-inside.inside.0.0.adapter c.self-inside.inside.0.0.heard c.self-inside.inside.0.1.0 c.self-inside.inside.0.1.1.0 c.self-inside.inside.0.1.1.1.0.0 c.args.self.now (command.CloneRef c.args.id) (ap (λ (i : Inside). connection i.speaker i.inflow i.limits i.open_calls.0) c.self-inside.view_is ∙ c.self.view_is)
     c.clone_ref.result granted.Reference (λ r. r) (λ _. refl) c.clone_ref.ensures.done c.clone_ref.ensures.refused

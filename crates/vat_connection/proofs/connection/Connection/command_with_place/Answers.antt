@@ -4,7 +4,6 @@ use Rattle.rpc_machine.specs.declared.command.Refusal.TheVariants as refusal
 use Rattle.vat_host.specs.Hosting.{Does, Refuses}
 use Rattle.vat_connection.specs.Calling.{Fits, IsTooLarge}
 use Rattle.vat_connection.specs.Connecting.{Connected}
-use Rattle.vat_connection.specs.Hearing.{held_of}
 use Rattle.vat_connection.specs.OwnCalls.{followed}
 use Rattle.vat_connection.proofs.Calling.{leaves}
 use Rattle.vat_connection.proofs.connection.Connection.command_with_place.Goals as goal
@@ -14,14 +13,14 @@ returns-in_default-clause-refused c = subst (λ (o : Connected). Refuses o.speak
 
 pub returns-in_default-clause-rest : goal.returns-in_default-clause-rest
 returns-in_default-clause-rest c =
-    leaves c.self.inside.speaker c.self.inside.speaker (held_of c.self.inside.reader) c.self.inside.open_calls.0 c.args.self.now c.args.command c.self.view_is refl (Err refusal.Memory) c.reserve.new.self.0 c.reserve.ensures.same
+    leaves c.self.inside.speaker c.self.inside.speaker c.self.inside.inflow c.self.inside.limits c.self.inside.open_calls.0 c.args.self.now c.args.command c.self.view_is refl (Err refusal.Memory) c.reserve.new.self.0 c.reserve.ensures.same
 
 pub returns-in-Ok-command-clause-done : goal.returns-in-Ok-command-clause-done
 returns-in-Ok-command-clause-done c = subst (λ (o : Connected). Does o.speaker.host c.args.command c.in-Ok-command.granted c.command.new.self.host × Fits c.args.command) c.self.view_is c.in-Ok-command.ensures.done
 
 pub returns-in-Ok-command-clause-rest : goal.returns-in-Ok-command-clause-rest
 returns-in-Ok-command-clause-rest c =
-    leaves c.self.inside.speaker c.command.new.self (held_of c.self.inside.reader) c.self.inside.open_calls.0 c.args.self.now c.args.command c.self.view_is c.command.ensures.rest (Ok c.in-Ok-command.granted) c.follow.new.self.0
+    leaves c.self.inside.speaker c.command.new.self c.self.inside.inflow c.self.inside.limits c.self.inside.open_calls.0 c.args.self.now c.args.command c.self.view_is c.command.ensures.rest (Ok c.in-Ok-command.granted) c.follow.new.self.0
     (c.follow.ensures
     ∙ ap (λ (calls : List CallId). followed calls c.finished_by-finished.result c.in-Ok-command.granted) c.reserve.ensures.same
     ∙ ap (λ (finished : Option CallId). followed c.self.inside.open_calls.0 finished c.in-Ok-command.granted) c.finished_by-finished.ensures)
@@ -31,4 +30,4 @@ returns-in-Err-clause-refused c = subst (λ (o : Connected). Refuses o.speaker.h
 
 pub returns-in-Err-clause-rest : goal.returns-in-Err-clause-rest
 returns-in-Err-clause-rest c =
-    leaves c.self.inside.speaker c.command.new.self (held_of c.self.inside.reader) c.self.inside.open_calls.0 c.args.self.now c.args.command c.self.view_is c.command.ensures.rest (Err c.in-Err.refused.refusal) c.reserve.new.self.0 c.reserve.ensures.same
+    leaves c.self.inside.speaker c.command.new.self c.self.inside.inflow c.self.inside.limits c.self.inside.open_calls.0 c.args.self.now c.args.command c.self.view_is c.command.ensures.rest (Err c.in-Err.refused.refusal) c.reserve.new.self.0 c.reserve.ensures.same

@@ -2,7 +2,6 @@ use Rattle.std.proofs.Common.{◌≡◌, ◌⊎◌, Option, Some, Ok, Err, sym, 
 use Rattle.rpc_msg.specs.declared.exception.Exception.{Exception}
 use Rattle.rpc_machine.specs.declared.command.Command.TheVariants as command
 use Rattle.rpc_machine.specs.declared.command.Granted.TheVariants as granted
-use Rattle.vat_connection.specs.Hearing.{held_of}
 use Rattle.rpc_machine.specs.declared.command.Command.{Command}
 use Rattle.rpc_machine.specs.declared.command.Refusal.{Refusal}
 use Rattle.vat_host.specs.Hosting.{Refuses}
@@ -13,12 +12,12 @@ use Rattle.vat_connection.proofs.connection.Connection.fail.Goals as goal
 
 pub returns-in-Ok-clause-asks : goal.returns-in-Ok-clause-asks
 returns-in-Ok-clause-asks c =
-    spoken_to_fit c.self.inside.speaker c.command.new.self (held_of c.self.inside.reader) c.self.inside.open_calls.0 c.args.self.now (command.Fail c.args.task c.args.exception) c.self.view_is c.command.ensures.rest (Ok granted.Done) c.self.inside.open_calls.0 refl
+    spoken_to_fit c.self.inside.speaker c.command.new.self c.self.inside.inflow c.self.inside.limits c.self.inside.open_calls.0 c.args.self.now (command.Fail c.args.task c.args.exception) c.self.view_is c.command.ensures.rest (Ok granted.Done) c.self.inside.open_calls.0 refl
     (gives_nothing c.self.inside.speaker.host c.command.new.self.host (command.Fail c.args.task c.args.exception) c.in-Ok._granted tt c.in-Ok.ensures.done.0, c.in-Ok.ensures.done.1)
 
 pub returns-in-Err-clause-asks : goal.returns-in-Err-clause-asks
 returns-in-Err-clause-asks c =
-    spoken_to_fit c.self.inside.speaker c.command.new.self (held_of c.self.inside.reader) c.self.inside.open_calls.0 c.args.self.now (command.Fail c.args.task c.args.exception) c.self.view_is c.command.ensures.rest (Err c.exception_back.result.refusal) c.self.inside.open_calls.0 refl
+    spoken_to_fit c.self.inside.speaker c.command.new.self c.self.inside.inflow c.self.inside.limits c.self.inside.open_calls.0 c.args.self.now (command.Fail c.args.task c.args.exception) c.self.view_is c.command.ensures.rest (Err c.exception_back.result.refusal) c.self.inside.open_calls.0 refl
     (subst (λ (r : Refusal). Refuses c.self.inside.speaker.host (command.Fail c.args.task c.args.exception) r c.command.new.self.host ⊎ IsTooLarge c.self.inside.speaker.host (command.Fail c.args.task c.args.exception) r c.command.new.self.host) (sym c.exception_back.ensures.refusal) c.in-Err.ensures.refused)
 
 pub returns-in-Err-clause-handed_back : goal.returns-in-Err-clause-handed_back

@@ -10,17 +10,17 @@ pub returns-in-Done : goal.returns-in-Done
 returns-in-Done c = (
   c.in-Done.effects,
   obeyed c.args.self.now c.self.inside.core c.command.new.self c.args.command c.in-Done.granted c.in-Done.effects
-      c.self.inside.kept.messages.0 c.self.inside.kept.events.0 c.self.inside.told_down c.self.view_is c.in-Done.ensures.answers.obeys,
+      c.self.inside.kept.messages.0 c.self.inside.kept.events.0 c.self.inside.down_notice c.self.view_is c.in-Done.ensures.answers.obeys,
   kept c.args.self.now c.self.inside.core c.command.new.self c.in-Done.effects
       c.self.inside.kept.messages.0 c.make_place.new.self.messages.0 c.keep.new.self.messages.0
-      c.self.inside.kept.events.0 c.make_place.new.self.events.0 c.keep.new.self.events.0 c.self.inside.told_down
+      c.self.inside.kept.events.0 c.make_place.new.self.events.0 c.keep.new.self.events.0 c.self.inside.down_notice
       c.self.view_is c.make_place.ensures.messages c.make_place.ensures.events c.keep.ensures.messages c.keep.ensures.events,
 )
 
 pub returns-in-Refused : goal.returns-in-Refused
 returns-in-Refused c = (
   refuses c.args.self.now c.self.inside.core c.command.new.self c.args.command c.in-Refused.refusal
-      c.self.inside.kept.messages.0 c.make_place.new.self.messages.0 c.self.inside.kept.events.0 c.make_place.new.self.events.0 c.self.inside.told_down
+      c.self.inside.kept.messages.0 c.make_place.new.self.messages.0 c.self.inside.kept.events.0 c.make_place.new.self.events.0 c.self.inside.down_notice
       c.self.view_is c.make_place.ensures.messages c.make_place.ensures.events
       c.in-Refused.ensures.answers.unchanged c.in-Refused.ensures.answers.obeys,
   c.in-Refused.ensures.answers.handed_back,

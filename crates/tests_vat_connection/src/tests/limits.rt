@@ -1,0 +1,99 @@
+//! A load above the limits: what comes waits.
+use crate::tests::asks::{Ask, Named};
+use crate::tests::scene::{DONE, ROOT, Step, Steps, scene};
+use crate::tests::told::{Came, Given, Told};
+use rpc_machine::Granted;
+use rpc_msg::{CallId, RefId, TaskId, Vat};
+
+const NO_LIMIT: u64 = u64::MAX;
+
+/// A frame of a Bootstrap: its table, the root's pointer and two words, and two words of the Bootstrap.
+const BOOTSTRAP_WORDS: u64 = 6;
+
+const ASKED: Steps<'static> = &[
+    (
+        Vat::A,
+        Step::Asks(Ask::Bootstrap, Ok(Granted::Call(CallId(0)))),
+    ),
+    (
+        Vat::A,
+        Step::Calls(Named::ResultOf(CallId(0)), Ok(Granted::Reference(RefId(0)))),
+    ),
+    (
+        Vat::A,
+        Step::Calls(Named::Call(RefId(0), 1, &[]), Ok(Granted::Call(CallId(1)))),
+    ),
+];
+
+/// The Bootstrap alone is above the limit, so the Call behind it waits until all events were told; and then it is above the limit
+/// until its Return was said.
+const WAITED: Steps<'static> = &[
+    (Vat::B, Step::Limits(BOOTSTRAP_WORDS - 1, NO_LIMIT)),
+    (Vat::B, Step::WantsBytes(true)),
+    (Vat::A, Step::Carries),
+    (Vat::B, Step::Loads(BOOTSTRAP_WORDS)),
+    (Vat::B, Step::WantsBytes(false)),
+    (Vat::B, Step::Tells(Told::Nothing)),
+    (Vat::B, Step::Loads(0)),
+    (Vat::B, Step::WantsBytes(false)),
+    (Vat::B, Step::Tells(Told::Served(TaskId(0), Given::Nothing))),
+    (Vat::B, Step::WantsBytes(false)),
+    (Vat::B, Step::Tells(Told::Nothing)),
+    (Vat::B, Step::WantsBytes(false)),
+    (Vat::B, Step::Asks(Ask::Answer(TaskId(0), &[]), DONE)),
+    (Vat::B, Step::Carries),
+    (Vat::B, Step::Loads(0)),
+    (Vat::B, Step::WantsBytes(true)),
+    (
+        Vat::A,
+        Step::Tells(Told::Ended(CallId(0), Came::Results, Given::One(RefId(1)))),
+    ),
+    (
+        Vat::A,
+        Step::Tells(Told::Ended(CallId(1), Came::Results, Given::Nothing)),
+    ),
+];
+
+#[test]
+fn what_comes_above_the_limit_waits(rt: HostRuntime) {
+    let sent = scene(&rt, rt.alloc(), [None, ROOT], 7, &[ASKED, WAITED]);
+    assert!(rt; sent[1] > 0);
+}
+
+/// The stream ends while a Call waits: it is heard before the vat goes down.
+const ENDED: Steps<'static> = &[
+    (Vat::B, Step::Limits(BOOTSTRAP_WORDS - 1, NO_LIMIT)),
+    (Vat::A, Step::Carries),
+    (Vat::B, Step::Ends),
+    (Vat::B, Step::WantsBytes(false)),
+    (Vat::B, Step::IsUp),
+    (Vat::B, Step::Tells(Told::Nothing)),
+    (Vat::B, Step::Tells(Told::Served(TaskId(0), Given::Nothing))),
+    (Vat::B, Step::Tells(Told::Down(0))),
+    (Vat::B, Step::Tells(Told::Nothing)),
+];
+
+#[test]
+fn what_waits_is_heard_before_the_end(rt: HostRuntime) {
+    let sent = scene(&rt, rt.alloc(), [None, ROOT], 4096, &[ASKED, ENDED]);
+    assert!(rt; sent[1] > 0);
+}
+
+/// While bytes wait to be sent, what comes waits; the answer to the Bootstrap goes out, and then the Call is heard.
+const UNSENT: Steps<'static> = &[
+    (Vat::B, Step::Limits(NO_LIMIT, 0)),
+    (Vat::A, Step::Carries),
+    (Vat::B, Step::WantsBytes(false)),
+    (Vat::B, Step::Tells(Told::Nothing)),
+    (Vat::B, Step::HasOutgoing(true)),
+    (Vat::B, Step::Carries),
+    (Vat::B, Step::WantsBytes(false)),
+    (Vat::B, Step::Tells(Told::Served(TaskId(0), Given::Nothing))),
+    (Vat::B, Step::WantsBytes(true)),
+];
+
+#[test]
+fn what_comes_waits_for_what_goes_out(rt: HostRuntime) {
+    let sent = scene(&rt, rt.alloc(), [None, ROOT], 4096, &[ASKED, UNSENT]);
+    assert!(rt; sent[1] > 0);
+}
