@@ -22,6 +22,9 @@
 //! - each call, by `finish`, once it has ended or before; each task, by `answer` or `fail`; each promise, by `resolve` or
 //!   `reject`.
 //!
+//! Two hosts of one program whose messages are handed over in order keep all that is promised of two vats in one world:
+//! [`hosts_are_worlds`] has it as its contract, and runs no code.
+//!
 //! What is to be done: all messages of `next_message` go to the peer in this order, each once; calls of `next_event` are
 //! served in this order by whoever wants an object's calls in order. [`exchange`] carries the messages of two hosts in one
 //! process.
@@ -35,14 +38,14 @@
 //! Payloads: [`contents`] makes one of numbers, a text and references, [`Payload::write`] any; what came is looked into by
 //! [`Payload::view`], and [`reference_at`] is the reference of a capability in it.
 //!
-//! - `explaining.rt`: of what a refusal speaks. All else stands in the crates below.
+//! - `explanation.rt`: of what a refusal speaks. All else stands in the crates below.
 #![tactic(auto)]
 
-mod explaining;
+mod explanation;
 
 pub use capn_trees::{Element, Fields, Items as Elements, WriteFault};
 pub use capn_wire::{Kind, Place, View};
-pub use explaining::{Explained, explain, explain_call};
+pub use explanation::{Explained, explain, explain_call};
 pub use rpc_journal::{Advanced, Counts, Delivery, Ended, Outcome};
 pub use rpc_machine::{CallCommand, Command, Effects, Fault, Granted, Level, Refusal};
 pub use rpc_msg::{
@@ -50,4 +53,5 @@ pub use rpc_msg::{
     PayloadFault, Pointers, PromiseId, PushError, RefId, Stamp, TaskId, Text, Tree, Vat,
 };
 pub use vat_host::{Answer, Core, Event, Host, Refused, exchange};
+pub use vat_hosts::{exchange_hands_over, hosts_are_worlds};
 pub use vat_payloads::{contents, reference_at};

@@ -1,0 +1,4 @@
+pub mod Carried
+pub mod Happening
+pub mod Sides
+pub mod Worlds

@@ -1,0 +1,9 @@
+//! Two hosts whose messages are handed over are a run of two vats in one world, of which all holds that is promised of runs. No code
+//! runs here: what each function ensures is the law.
+//!
+//! How the laws are proved stands in docs/laws/hosts.md.
+#![tactic(auto)]
+
+mod laws;
+
+pub use laws::{exchange_hands_over, hosts_are_worlds};
