@@ -1,0 +1,12 @@
+pub mod Counting
+pub mod Lists
+pub mod Sending
+pub mod Moving
+pub mod Steps
+pub mod Tracking
+pub mod Following
+pub mod Arriving
+pub mod Heads
+pub mod Staying
+pub mod Making
+pub mod Made
