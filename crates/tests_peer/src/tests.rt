@@ -1,6 +1,8 @@
 //! What comes and what goes are frames, and what is wanted of them too: a frame shows the whole message.
 mod broken;
+mod finishes;
 mod frames;
+mod kinds;
 mod overload;
 mod tail_calls;
 

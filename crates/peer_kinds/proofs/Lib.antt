@@ -1,0 +1,4 @@
+mod Aside
+mod Counting
+mod Following
+mod Settled
