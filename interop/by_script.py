@@ -192,9 +192,14 @@ def abort():
     return subprocess.run(words, input=b'(abort = (reason = "over", type = failed))', capture_output=True, check=True).stdout
 
 
-# What a peer says before its stream ends, and the number with which the vat has to go down: nothing, a part of a frame, what begins
-# no frame, and an Abort.
-ENDS = {"gone": (lambda: b"", 0), "cut": (lambda: bytes(4), 2), "no-frame": (lambda: b"\x10\0\0\0", 3), "abort": (abort, 34)}
+# What a peer says before its stream ends, the number with which the vat has to go down, and the fault's name as vat_call prints it:
+# nothing, a part of a frame, what begins no frame, and an Abort.
+ENDS = {
+    "gone": (lambda: b"", 0, None),
+    "cut": (lambda: bytes(4), 2, "Short"),
+    "no-frame": (lambda: b"\x10\0\0\0", 3, "TooManySegments"),
+    "abort": (abort, 34, "PeerAbort"),
+}
 
 # How the calls end that the script has made by then.
 REASON = {"kind": "disconnected", "reason": "the connection ended"}
@@ -203,13 +208,16 @@ CUT_OFF = [json.dumps({"call": call, "k": "ended", "outcome": {"exception": REAS
 
 def with_end(program, name, folder):
     """Plays a script with a peer that ends the conversation; gives what was wrong."""
-    said, number = ENDS[name]
+    said, number, fault = ENDS[name]
     far, own = socket.socketpair()
     own.sendall(said())
     own.shutdown(socket.SHUT_WR)
     status, told, _ = play(program, written(kept("bootstrap"), folder), far)
     own.close()
-    wanted = [*CUT_OFF, json.dumps({"fault": number, "k": "down", "vat": "a"}), f"down {number}"]
+    wanted = [*CUT_OFF, json.dumps({"fault": number, "k": "down", "vat": "a"})]
+    how = told.pop() if told else ""
+    if how != f"down {number}" and not (fault and how.startswith(f"down {number} ({fault}: ")):
+        return f"vat_call said {how!r}"
     return difference("told", wanted, told) or ("" if status == 1 else f"vat_call ended with status {status}")
 
 

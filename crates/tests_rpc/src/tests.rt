@@ -2,6 +2,7 @@
 //! says so, and in no other answer.
 mod codec;
 mod contents;
+mod faults;
 mod fits;
 mod headings;
 mod messages;
