@@ -1,22 +1,35 @@
-ghost use Rattle.std.specs.Prelude.{◌≡◌, ◌||◌, None, Some, [], true, false, nat_le, option_copied, OnOk, IfErr};
+ghost use Rattle.std.specs.Prelude.{◌≡◌, Some, None, true, false, OnOk, IfErr, ◌||◌, [], nat_le, option_copied};
 ghost use Rattle.std.specs.FinMap as map;
-ghost use Rattle.rpc_machine.specs.declared.command.Refusal.TheVariants as refusal;
 ghost use Rattle.rpc_machine.specs.declared.command.Command.TheVariants as command;
-ghost use Rattle.rpc_machine.specs.Commands.{heads};
-ghost use Rattle.rpc_machine.specs.Fullness.{is_spent};
-ghost use Rattle.rpc_machine.specs.Limits.{held, held_limit};
+ghost use Rattle.rpc_machine.specs.declared.command.Refusal.TheVariants as refusal;
 ghost use Rattle.rpc_machine.specs.Refusals.{refused};
+ghost use Rattle.rpc_machine.specs.Fullness.{is_spent};
 ghost use Rattle.core_store.specs.Holding.{state_of, IsSound};
+ghost use Rattle.rpc_machine.specs.Commands.{heads};
+ghost use Rattle.rpc_machine.specs.Limits.{held, held_limit};
 ghost use Rattle.core_step_checks.specs.Rooms.{lacks_at, lacks_through, call_lacks, refused_but_exports, exports_lack_at, exports_lack};
 
 use crate::exports::check_call_exports;
 use crate::laws::calls_are_refused;
-use crate::refusals::{has_caps, has_level, has_number, has_question_room, has_refs, is_up};
+use crate::refusals::{
+    has_call, has_caps, has_level, has_number, has_question_room, has_refs, is_up,
+};
 use core_store::{Store, settle};
 use rpc_machine::{CallCommand, Node, Reference, Refusal};
-use rpc_msg::RefId;
+use rpc_msg::{CallId, RefId};
 use std::alloc::Global;
 use vat_tables::POOL_LIMIT;
+
+/// Whether `bootstrap` is refused, and with what.
+pub fn check_bootstrap(store: &Store) -> Result<(), Refusal>
+    requires { IsSound store.now }
+    ensures ok { OnOk result (refused (state_of store.now) command.Bootstrap ≡ None) }
+    ensures err { IfErr result (λ r. refused (state_of store.now) command.Bootstrap ≡ Some r) }
+{
+    is_up(store)?;
+    has_question_room(store)?;
+    has_number(store.next_call)
+}
 
 fn has_numbers(next: u64, more: usize) -> Result<(), Refusal>
     ensures ok { OnOk result (is_spent next more ≡ false) }
@@ -160,4 +173,13 @@ pub fn check_call_whole(store: &Store, alloc: Global, call: &CallCommand) -> Res
         return Ok(());
     };
     has_export_room(store, alloc, &call.refs, reference)
+}
+
+/// Whether `finish` is refused, and with what.
+pub fn check_finish(store: &Store, id: CallId) -> Result<(), Refusal>
+    ensures ok { OnOk result (refused (state_of store.now) (command.Finish id) ≡ None) }
+    ensures err { IfErr result (λ r. refused (state_of store.now) (command.Finish id) ≡ Some r) }
+{
+    is_up(store)?;
+    has_call(store, id)
 }

@@ -10,7 +10,8 @@ use core_store::Store;
 use rpc_machine::{Fault, Level, SenderKind};
 use rpc_msg::{Descriptor, ExportId, QuestionId};
 
-fn same_kind(kind: SenderKind, other: SenderKind) -> bool
+/// Whether two kinds of a descriptor are one.
+pub fn same_kind(kind: SenderKind, other: SenderKind) -> bool
     ensures { result ≡ same_kind kind other }
 {
     match kind {

@@ -9,7 +9,7 @@ ghost use Rattle.core_store.specs.Holding.{state_of, IsSound};
 ghost use Rattle.core_step_checks.specs.Sending.{sent_out, times_among, Leaves, AreFar};
 ghost use Rattle.core_step_checks.specs.Counted.{Counts};
 
-use crate::leading::head_of;
+use crate::ref_heads::head_of;
 use crate::times::Times;
 use core_store::{Store, settle};
 use rpc_machine::{Node, Refusal};

@@ -1,10 +1,10 @@
 //! The checks of commands and of received messages: what a command is refused with, and which fault a message is. Nothing
 //! here changes anything, or needs memory.
 //!
-//! - `refusals.rt`, `calls.rt`, `advancing.rt`: a `check_..` for each command: `Ok` where the machine refuses nothing, else
-//!   its refusal. `leading.rt`: where the references of a command lead. `exports.rt`: whether there is room for what a call
+//! - `calls.rt`, `refs.rt`, `promises.rt`, `tasks.rt`: a `check_..` for each command: `Ok` if the machine refuses nothing, else
+//!   its refusal. `refusals.rt`: the single checks of which they are made. `ref_heads.rt`: where the references of a command lead. `exports.rt`: whether there is room for what a call
 //!   passes; `times.rt` counts it by node.
-//! - `faults.rt`: a function for each kind of message; `received.rt` those over any message.
+//! - `faults.rt`: a function for each kind of message; `messages.rt` those over any message.
 //! - `descriptors.rt`: one descriptor, and one id that is given back. `known.rt`: what is known of a wire.
 //! - `laws.rt`: that the parts of a check together are the machine's.
 //!
@@ -28,21 +28,22 @@
 //! be taken out to be routed.
 #![tactic(auto)]
 
-mod advancing;
 mod calls;
 mod descriptors;
 mod exports;
 mod faults;
 mod known;
 mod laws;
-mod leading;
-mod received;
+mod messages;
+mod promises;
+mod ref_heads;
+mod refs;
 mod refusals;
+mod tasks;
 mod times;
 
-pub use advancing::check_advance;
-pub use calls::check_call_whole;
-pub use descriptors::{fault_of_descriptor, fault_of_one, fault_of_only};
+pub use calls::{check_bootstrap, check_call_whole, check_finish};
+pub use descriptors::{fault_of_descriptor, fault_of_one, fault_of_only, same_kind};
 pub use exports::check_call_exports;
 pub use faults::{
     fault_before_call, fault_before_finish, fault_before_return, fault_behind_call,
@@ -50,9 +51,8 @@ pub use faults::{
 };
 pub use known::{Known, known_of_wire, leads_back, wire_target};
 pub use laws::{calls_are_refused, descriptors_in_turn, faults_in_parts, flags_in_turn};
-pub use leading::{head_of, heads};
-pub use received::{fault_before, fault_before_echoed, fault_behind, is_foreign};
-pub use refusals::{
-    check_answer, check_bootstrap, check_clone_ref, check_drop_ref, check_fail, check_field,
-    check_finish, check_host, check_promise, check_reject, check_resolve,
-};
+pub use messages::{fault_before, fault_before_echoed, fault_behind, is_foreign};
+pub use promises::{check_promise, check_reject, check_resolve};
+pub use ref_heads::{head_of, heads};
+pub use refs::{check_advance, check_clone_ref, check_drop_ref, check_field, check_host};
+pub use tasks::{check_answer, check_fail};

@@ -1,6 +1,6 @@
 //! What no place names goes, and what the flags of a Return and of a Finish let go.
 //!
-//! - `going.rt`: `collect` lets go what no place names, one thing in a turn; it falls in the number of promises, outcomes
+//! - `collection.rt`: `collect` lets go what no place names, one thing in a turn; it falls in the number of promises, outcomes
 //!   and imports.
 //! - `search.rt` takes noted keys until one is loose, and notes that one again, so that the store stays sound until it is
 //!   taken out. `loose.rt` says of one key whether it is.
@@ -18,15 +18,15 @@
 //! `collect` is that loop where no Finish is made.
 #![tactic(auto)]
 
+mod collection;
 mod flags;
-mod going;
 mod got;
 mod loose;
 mod runs;
 mod search;
 
+pub use collection::{collect, collect_ending};
 pub use flags::{flag_for, give_back, give_each, may_lose, times_given};
-pub use going::{collect, collect_ending};
 pub use got::{flag_for_returned, give_if_returned};
 pub use loose::is_told;
 pub use search::{next_loose_import, next_loose_outcome, next_loose_promise};

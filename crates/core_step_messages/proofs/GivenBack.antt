@@ -13,7 +13,7 @@ use Rattle.rpc_machine.specs.State.{State}
 use Rattle.rpc_machine.specs.Flags.{lower_by}
 use Rattle.core_step_checks.specs.Parts.{fault_of_one, flag_in_turn}
 use Rattle.rpc_machine.proofs.Lowering.{lower_by_count}
-use Rattle.core_step_messages.specs.declared.remaining.Remaining.{Remaining}
+use Rattle.core_step_messages.specs.declared.remainders.Remaining.{Remaining}
 use Rattle.core_step_messages.specs.Foreseen.{left_with, kept_of, left_of, Remains}
 
 -- Where nothing was given back all is left.

@@ -17,7 +17,7 @@ use Rattle.finite_maps.specs.Tally.{Map}
 use Rattle.rpc_machine.specs.declared.entries.Export.{Export}
 use Rattle.rpc_machine.specs.Limits.{export_count}
 use Rattle.core_step_messages.specs.declared.kinds.Kinds.{Kinds}
-use Rattle.core_step_messages.specs.declared.remaining.Remaining.{Remaining}
+use Rattle.core_step_messages.specs.declared.remainders.Remaining.{Remaining}
 
 -- As what an export was given.
 abbrev pub kind_of : Kinds → ℕ → Option SenderKind

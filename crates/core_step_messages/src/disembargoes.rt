@@ -96,6 +96,7 @@ pub fn take_disembargo(step: &mut Step, alloc: Global, disembargo: Disembargo) -
     ensures taken { OnOk result (step.new.store.waits.taken ≡ []) }
     ensures ready { OnOk result (IsReady step.new) }
 {
+    // A copy: what is passed by value can't be used again, though its type is `Copy`.
     let taken = disembargo;
     fault_of_disembargo(&step.store, disembargo)?;
     let Ok(()) = take_context(step, alloc, taken) else {

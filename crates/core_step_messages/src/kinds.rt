@@ -1,9 +1,9 @@
 ghost use Rattle.std.specs.Prelude.{◌≡◌, ℕ, cond, nat_eq, None, Some, OnOk};
 ghost use Rattle.std.specs.FinMap as map;
-ghost use Rattle.rpc_machine.specs.Faults.{same_kind};
 ghost use Rattle.core_store.specs.Holding.{state_of};
 ghost use Rattle.core_step_messages.specs.Foreseen.{kind_of, clash_with};
 
+use core_step_checks::same_kind;
 use core_store::Store;
 use rpc_machine::SenderKind;
 use rpc_msg::{ExportId, Memory};
@@ -50,20 +50,5 @@ impl Kinds {
             Some(before) => !same_kind(kind, before),
             None => false,
         }
-    }
-}
-
-fn same_kind(kind: SenderKind, other: SenderKind) -> bool
-    ensures { result ≡ same_kind kind other }
-{
-    match kind {
-        SenderKind::Hosted => match other {
-            SenderKind::Hosted => true,
-            SenderKind::Promise => false,
-        },
-        SenderKind::Promise => match other {
-            SenderKind::Hosted => false,
-            SenderKind::Promise => true,
-        },
     }
 }

@@ -5,50 +5,52 @@
 //! is its fault, or want of room or of memory (`Stops` of `specs/Stopping`), and the step is only to be dropped. An Abort
 //! is never want of room (`StopsIf`). So checks and changes may alternate:
 //!
-//! - `calling.rt` (`take_call`), `bootstrapping.rt`, `returns.rt` (`take_return`, and `take_echoed` of a question that came
-//!   back), `ending.rt` (`take_finish`, `take_release`), `resolving.rt`, `disembargoes.rt`, `echoes.rt` (what came back
+//! - `calls.rt` (`take_call`), `bootstraps.rt`, `returns.rt` (`take_return`, and `take_echoed` of a question that came
+//!   back), `finishes.rt`, `releases.rt`, `resolves.rt`, `disembargoes.rt`, `echoes.rt` (what came back
 //!   Unimplemented).
-//! - `taking.rt` looks at each descriptor of a message and takes it before the next, so that the whole costs linear time:
+//! - `descriptors.rt` looks at each descriptor of a message and takes it before the next, so that the whole costs linear time:
 //!   the loop keeps that what the descriptors that are left find and leave is what all do (`found_by` of `proofs/InTurn`);
 //!   `descriptors_in_turn` of `core_step_checks` makes that the machine's fault. `flags.rt` does the same for the ids of a
 //!   release flag.
-//! - `foreseeing.rt`: where the descriptors of a message may not all find room among the imports, the message is checked
+//! - `foresight.rt`: where the descriptors of a message may not all find room among the imports, the message is checked
 //!   first and nothing is taken: what comes before its descriptors, these, the room for a call that would wait, and the
 //!   ids of a Return's flag. So a full table is not found at one descriptor where a later check fails. `kinds.rt` has as
-//!   what exports were given by the descriptors before, by id; `remaining.rt` what is left of the counts of exports where
+//!   what exports were given by the descriptors before, by id; `remainders.rt` what is left of the counts of exports where
 //!   the ids before are given back.
-//! - `reading.rt` reads the nodes of descriptors before they are taken, for exports and answers are what they were.
-//! - `opening.rt` opens an answer with a new outcome.
-//! - `coming.rt` is what a Return does to its question: it keeps what was said, and a relay's outcome arises, or the
+//! - `nodes.rt` reads the nodes of descriptors before they are taken, for exports and answers are what they were.
+//! - `answers.rt` opens an answer with a new outcome.
+//! - `questions.rt` is what a Return does to its question: it keeps what was said, and a relay's outcome arises, or the
 //!   application is told.
 //!
 //! A Resolve of an import that is gone says nothing, also where its own descriptor brings an import of that id: whether it
 //! is there is read before.
 #![tactic(auto)]
 
-mod bootstrapping;
-mod calling;
-mod coming;
+mod answers;
+mod bootstraps;
+mod calls;
+mod descriptors;
 mod disembargoes;
 mod echoes;
-mod ending;
+mod finishes;
 mod flags;
-mod foreseeing;
+mod foresight;
 mod kinds;
 mod messages;
-mod opening;
-mod reading;
-mod remaining;
-mod resolving;
+mod nodes;
+mod questions;
+mod releases;
+mod remainders;
+mod resolves;
 mod returns;
-mod taking;
 
-pub use bootstrapping::take_bootstrap;
-pub use calling::take_call;
+pub use bootstraps::take_bootstrap;
+pub use calls::take_call;
 pub use core_step_settles as settles;
 pub use disembargoes::take_disembargo;
 pub use echoes::take_unimplemented;
-pub use ending::{take_finish, take_release};
+pub use finishes::take_finish;
 pub use messages::take_message;
-pub use resolving::take_resolve;
+pub use releases::take_release;
+pub use resolves::take_resolve;
 pub use returns::{take_echoed, take_return};

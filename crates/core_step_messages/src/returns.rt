@@ -14,10 +14,10 @@ ghost use Rattle.core_step.specs.InProgress.{progress_of, IsReady};
 ghost use Rattle.core_step_checks.specs.Parts.{given_with};
 ghost use Rattle.core_step_messages.specs.Stopping.{Stops};
 
-use crate::coming::come_back;
+use crate::descriptors::take_descriptors;
 use crate::flags::obey_flag;
-use crate::reading::read_beside;
-use crate::taking::take_descriptors;
+use crate::nodes::read_beside;
+use crate::questions::come_back;
 use core_step::Step;
 use core_step_checks::{fault_before_echoed, fault_before_return};
 use core_store_tables::waive;

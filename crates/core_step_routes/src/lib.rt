@@ -1,8 +1,8 @@
 //! Where a call goes: it reaches an object, waits, is sent on, or ends.
 //!
-//! - `routing.rt` chooses by where the node settles.
-//! - `deliver.rt`: a task at an object. `waiting.rt`: behind an open promise, or a field that is not known. `asking.rt`:
-//!   out as a question, for a kept outcome or for a call of the application. `broken.rt`: it ends.
+//! - `routes.rt` chooses by where the node settles.
+//! - `deliveries.rt`: a task at an object. `waits.rt`: behind an open promise, or a field that is not known. `questions.rt`:
+//!   out as a question, for a kept outcome or for a call of the application. `broken_nodes.rt`: it ends.
 //! - `descriptors.rt`: what its capabilities are called in its message. `lists.rt`: the lists that it wants (`IsPrepared`
 //!   of `specs/Prepared`).
 //!
@@ -15,18 +15,18 @@
 //! is left: their loops keep that what routes the calls that are left routes all.
 #![tactic(auto)]
 
-mod asking;
-mod broken;
-mod deliver;
+mod broken_nodes;
+mod deliveries;
 mod descriptors;
 mod lists;
-mod routing;
-mod waiting;
+mod questions;
+mod routes;
+mod waits;
 
-pub use asking::{call_direct_kept, relay_kept};
-pub use broken::{end_broken_kept, exception_of};
-pub use deliver::deliver_kept;
+pub use broken_nodes::{end_broken_kept, exception_of};
+pub use deliveries::deliver_kept;
 pub use descriptors::{describe, describe_all_kept};
 pub use lists::Lists;
-pub use routing::{route, route_held, route_kept, route_taken};
-pub use waiting::{wait_for_field, wait_for_promise};
+pub use questions::{call_direct_kept, relay_kept};
+pub use routes::{route, route_held, route_kept, route_taken};
+pub use waits::{wait_for_field, wait_for_promise};

@@ -1,43 +1,43 @@
 //! What follows where an outcome becomes known or a promise is fixed: no capability leads to itself, the caller is told, the
 //! calls that waited are routed, and the exports get their Resolves.
 //!
-//! - `untangling.rt` fits the value of an outcome before it is kept (`fit`): its capabilities are gone through from the
+//! - `cycles.rt` fits the value of an outcome before it is kept (`fit`): its capabilities are gone through from the
 //!   last to the first, in their own list, and from each a walk by links tells whether it leads back to its own place; an
 //!   open promise takes the place of one that does. The machine's word for that speaks of walks of any length
 //!   (`TurnsBack`). A walk by links is made up to a field of the outcome, whence it comes to the outcome's capabilities
 //!   exactly as from where it began (`Walked` of `specs/Ends`); from there what is kept of that field's capability is asked.
 //! - `ends.rt` keeps where the walk from each capability came to (`Ends`). Since it came to one before it, and is shortened
 //!   each time, no walk from field to field is made again and again.
-//! - `telling.rt` tells the application how a call ended, `returning.rt` the peer: what the Return says, then all goes that
+//! - `ended_calls.rt` tells the application how a call ended, `answers.rt` the peer: what the Return says, then all goes that
 //!   no place names, then the flag.
 //! - `outcomes.rt` puts the pieces together (`settle_outcome`), each a function whose clause is the machine's word for it.
 //!   The Return's collecting may let outcomes go, but leaves those that stay as they were (`Leaves` of `proofs/Collected`);
 //!   that the outcome which is told stays is asked where its waiting calls are taken out, at no cost. The value is copied
 //!   once: the outcome keeps one, and the caller is told the other.
-//! - `draining.rt` settles those that arose, until none is left; each time one fewer is not known (`proofs/Fewer`).
-//! - `resolving.rt` sends the Resolves of a promise's exports, or of those of an outcome's fields, by rising id; where no
+//! - `drains.rt` settles those that arose, until none is left; each time one fewer is not known (`proofs/Fewer`).
+//! - `export_resolves.rt` sends the Resolves of a promise's exports, or of those of an outcome's fields, by rising id; where no
 //!   place names the promise or the outcome the table of exports is not looked at.
-//! - `fixing.rt` fixes a promise (`fix_promise`).
-//! - `promising.rt` is what the commands `resolve` and `reject` do first, `answering.rt` what `answer` and `fail` do.
+//! - `fixed_promises.rt` fixes a promise (`fix_promise`).
+//! - `promises.rt` is what the commands `resolve` and `reject` do first, `tasks.rt` what `answer` and `fail` do.
 #![tactic(auto)]
 
-mod answering;
-mod draining;
+mod answers;
+mod cycles;
+mod drains;
+mod ended_calls;
 mod ends;
-mod fixing;
+mod export_resolves;
+mod fixed_promises;
 mod outcomes;
-mod promising;
-mod resolving;
-mod returning;
-mod telling;
-mod untangling;
+mod promises;
+mod tasks;
 
-pub use answering::{answer, fail};
-pub use draining::drain;
-pub use fixing::fix_promise;
+pub use answers::returns;
+pub use cycles::fit;
+pub use drains::drain;
+pub use ended_calls::{copy_value, tell_call, tell_call_with};
+pub use export_resolves::{resolve_fields, resolve_promises};
+pub use fixed_promises::fix_promise;
 pub use outcomes::{settle_outcome, tells};
-pub use promising::{reject, resolve};
-pub use resolving::{resolve_fields, resolve_promises};
-pub use returning::returns;
-pub use telling::{copy_value, tell_call, tell_call_with};
-pub use untangling::fit;
+pub use promises::{reject, resolve};
+pub use tasks::{answer, fail};

@@ -7,10 +7,10 @@ ghost use Rattle.core_store_waits.specs.Changes.{Knows, TakesHeld};
 ghost use Rattle.core_step.specs.InProgress.{progress_of, IsReady};
 ghost use Rattle.core_step_settles.specs.Waiting.{RoutesWaiting};
 
-use crate::resolving::resolve_fields;
-use crate::returning::returns;
-use crate::telling::{copy_value, tell_call_with};
-use crate::untangling::fit;
+use crate::answers::returns;
+use crate::cycles::fit;
+use crate::ended_calls::{copy_value, tell_call_with};
+use crate::export_resolves::resolve_fields;
 use core_step::Step;
 use core_step_routes::route_held;
 use rpc_machine::{Caller, Value};

@@ -7,7 +7,7 @@ ghost use Rattle.core_store.specs.Noted.{noted_of, nothing_noted};
 ghost use Rattle.core_step_sweeps.specs.Over.{AreOver, IsOnlyOver};
 ghost use Rattle.core_step_sweeps.specs.Thinking.{GoesAlone, named_by_thing, field_node, pipe_node};
 
-use crate::resting::is_to_be_finished;
+use crate::notes::is_to_be_finished;
 use core_store::Store;
 use rpc_machine::{Returned, Value};
 use rpc_msg::{Memory, QuestionId};

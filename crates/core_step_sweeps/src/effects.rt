@@ -11,7 +11,7 @@ ghost use Rattle.core_step.specs.InProgress.{progress_of, IsReady, IsIdle};
 ghost use Rattle.core_step_sweeps.specs.Over.{AreOver};
 
 use crate::over::find_over;
-use crate::sweeping::sweep_over;
+use crate::sweeps::sweep_over;
 use crate::thought::Thought;
 use core_step::Step;
 use rpc_machine::Effects;

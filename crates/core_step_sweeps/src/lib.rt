@@ -15,44 +15,44 @@
 //!   `proofs/Withering`).
 //! - `alone.rt`: where one outcome or one question alone is noted and names nothing, nothing is thought either, for then
 //!   nothing follows from its going; nor where nothing is noted.
-//! - `finding.rt`: else each note is looked at, and then each turn of `think` looks at one node of what may have to go.
-//!   Where its thing is loose by now (`considering.rt`, `looseness.rt`: named by no more places than went), it goes, and
-//!   what it named is put behind (`losing.rt`). What is loose in what is left is always among the notes and nodes that are
+//! - `search.rt`: else each note is looked at, and then each turn of `think` looks at one node of what may have to go.
+//!   Where its thing is loose by now (`candidates.rt`, `looseness.rt`: named by no more places than went), it goes, and
+//!   what it named is put behind (`losses.rt`). What is loose in what is left is always among the notes and nodes that are
 //!   still to be looked at (`Covers`), so at the end it is tight and no question is to be finished. A turn makes less work:
 //!   what is pending, with the places that are left.
 //!
 //! Then the questions that are over are finished, in order, and what no place names goes:
 //!
-//! - `finishing.rt` has one question: what no place names goes, the flag is made while the Return stands, the question
+//! - `finishes.rt` has one question: what no place names goes, the flag is made while the Return stands, the question
 //!   closes, and what the flag lets go is given back.
-//! - `sweeping.rt`: `sweep_over` does so of all. The loop keeps that what is finished from now on is finished from the
+//! - `sweeps.rt`: `sweep_over` does so of all. The loop keeps that what is finished from now on is finished from the
 //!   start, and `AreLeft`: the questions to come stand as they stood, have room for their Finishes, and have greater ids
 //!   than those before. There is that room since no more questions are over than have a Finish to be sent
 //!   (`proofs/Withered`). `finishing_of` is the step as the machine has it meanwhile, its Finishes behind all else that it
 //!   says.
-//! - `resting.rt`: last, where more than one question is noted, the notes go (`forget_questions`): a call of the
+//! - `notes.rt`: last, where more than one question is noted, the notes go (`forget_questions`): a call of the
 //!   application takes them away before it begins, but a vat that only receives would gather them.
 //! - `effects.rt`: `end_settled` sweeps so and takes what the step says, and no step is in progress then; `sweep` finds the
 //!   questions first.
 #![tactic(auto)]
 
 mod alone;
-mod considering;
+mod candidates;
 mod effects;
-mod finding;
-mod finishing;
+mod finishes;
 mod looseness;
-mod losing;
+mod losses;
+mod notes;
 mod over;
-mod resting;
-mod sweeping;
+mod search;
+mod sweeps;
 mod tallies;
 mod tally;
 mod thought;
 mod unnamed;
 
 pub use effects::{end_settled, sweep};
+pub use notes::rest;
 pub use over::find_over;
-pub use resting::rest;
-pub use sweeping::sweep_over;
+pub use sweeps::sweep_over;
 pub use thought::Thought;

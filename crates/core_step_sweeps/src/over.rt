@@ -9,8 +9,8 @@ ghost use Rattle.core_step_sweeps.specs.Over.{AreOver};
 ghost use Rattle.core_step_sweeps.specs.Thinking.{IsThought, IsQuiet, work, asked_by, named_by_thing};
 
 use crate::alone::{find_over_alone, leaves_none_over, question_alone};
-use crate::considering::consider;
-use crate::finding::{consider_imports, consider_outcomes, consider_promises, consider_questions};
+use crate::candidates::consider;
+use crate::search::{consider_imports, consider_outcomes, consider_promises, consider_questions};
 use crate::thought::Thought;
 use crate::unnamed::{find_over_unnamed, no_pipe_holds};
 use core_store::Store;

@@ -6,3 +6,8 @@ pub mod Made
 pub mod Quietly
 pub mod Received
 pub mod Turning
+pub mod Allowed
+pub mod Breaking
+pub mod Ended
+pub mod Going
+pub mod Opened

@@ -1,5 +1,5 @@
 -- Whole steps: a vat between them, and what a command answers.
-use Rattle.std.specs.Prelude.{◌≡◌, ℕ, true, None, Some, Result, Ok, Err, []}
+use Rattle.std.specs.Prelude.{◌≡◌, ℕ, Bool, true, ◌||◌, nat_le, None, Some, Result, Ok, Err, []}
 use Rattle.rpc_machine.specs.declared.command.Command.{Command}
 use Rattle.rpc_machine.specs.declared.command.Granted.{Granted}
 use Rattle.rpc_machine.specs.declared.command.Refusal.{Refusal}
@@ -12,6 +12,9 @@ use Rattle.rpc_machine.specs.Commands.{Acts}
 use Rattle.rpc_machine.specs.Messages.{Takes}
 use Rattle.rpc_machine.specs.Settling.{Drains}
 use Rattle.rpc_machine.specs.Steps.{Obeys}
+use Rattle.rpc_machine.specs.Limits.{held_limit}
+use Rattle.rpc_machine.specs.Fullness.{has_no_room}
+use Rattle.core_store.specs.declared.store.Store.{Store}
 use Rattle.core_store.specs.Holding.{state_of, IsSound}
 use Rattle.core_step.specs.InProgress.{IsIdle}
 use Rattle.core_steps.specs.declared.machine.Machine.{Machine}
@@ -31,6 +34,12 @@ pub record IsResting (x : Machine) : Type 0 where
 -- Nothing is left but its names, and the number with which it went down.
 abbrev pub fallen_as : Named → ℕ → State
 fallen_as x n = record (start x.vat x.level x.bootstrap) { down = Some n }
+
+-- A table is full, or as many calls wait as may.
+abbrev pub meets_limit : Store → Bool
+meets_limit x =
+    has_no_room x.questions.entries || has_no_room x.answers.entries || has_no_room x.imports.entries || has_no_room x.exports.entries
+    || has_no_room x.waits.embargoes || nat_le held_limit x.waits.held
 
 -- What a command answers, where it isn't refused: what it gives, or that it is refused for want of memory.
 abbrev pub given : {A E : Type 0} → (A → Granted) → Result A E → Result Granted Refusal

@@ -13,6 +13,8 @@ pub struct Machine {
     pub thought: Thought,
     /// It has the memory of the one Abort with which the vat goes down, whatever became of the step.
     pub spare: Outbox,
+    /// It went down for want of room, and met a limit then: a table was full, or no more calls could wait.
+    pub met_limit: bool,
     pub alloc: Global,
 }
 

@@ -5,7 +5,7 @@ ghost use Rattle.rpc_machine.specs.Progress.{numbers};
 ghost use Rattle.core_store.specs.Holding.{state_of, IsSound};
 ghost use Rattle.core_store_tables.specs.Peer.{return_answer, finish_answer};
 
-use crate::naming::{name_imports, note_outcome, unname_answer};
+use crate::names::{name_imports, note_outcome, unname_answer};
 use core_store::Store;
 use rpc_machine::AnswerEntry;
 use rpc_msg::{ExportId, Items, QuestionId};

@@ -9,7 +9,7 @@ ghost use Rattle.vat_tables.specs.Exports.{IsNameLimit};
 ghost use Rattle.core_store.specs.Holding.{state_of, IsSound};
 ghost use Rattle.core_store.specs.Noted.{noted_of};
 
-use crate::naming::name_if;
+use crate::names::name_if;
 use core_store::Store;
 use rpc_machine::{Export, Node};
 use rpc_msg::{ExportId, Items, Memory};

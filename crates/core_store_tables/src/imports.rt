@@ -6,7 +6,7 @@ ghost use Rattle.rpc_machine.specs.Messages.{resolve_import};
 ghost use Rattle.core_store.specs.Holding.{state_of, IsSound};
 ghost use Rattle.core_store_tables.specs.Peer.{IsReceiveLimit, whole_count};
 
-use crate::naming::{name_resolution, note_import, unname_resolution};
+use crate::names::{name_resolution, note_import, unname_resolution};
 use core_store::Store;
 use rpc_machine::{Import, Resolution, SenderKind};
 use rpc_msg::ExportId;

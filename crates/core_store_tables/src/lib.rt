@@ -5,7 +5,7 @@
 //! came), `imports.rt` (one is received, given back, resolved, taken out), `exports.rt` (a node is named, counts fall, a
 //! flag is obeyed, and the exports of a promise or an outcome are listed). None takes memory but the lists of exports. What
 //! may have to go is noted: a relay's question whose Return came, an import that is new, and the outcome of an answer that
-//! goes. `naming.rt` names what an entry names. Of its proofs `Beside` is the common part: what holds of a store stays so
+//! goes. `names.rt` names what an entry names. Of its proofs `Beside` is the common part: what holds of a store stays so
 //! where these tables, the unfinished calls, the names and the notes change; `Asking`, `Answering`, `Importing` and
 //! `Exporting` have the changes of one table each.
 #![tactic(auto)]
@@ -13,7 +13,7 @@
 mod answers;
 mod exports;
 mod imports;
-mod naming;
+mod names;
 mod questions;
 
 pub use answers::{finish_answer, open_answer, set_answer_returned};

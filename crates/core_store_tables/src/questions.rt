@@ -11,7 +11,7 @@ ghost use Rattle.core_store.specs.Holding.{state_of, IsSound};
 ghost use Rattle.core_store.specs.Noted.{noted_of};
 ghost use Rattle.core_store_tables.specs.Peer.{NewQuestion, NewQuestionFor, question_said, question_waived, close_question};
 
-use crate::naming::{count_returned, name_returned, note_relay, unname_returned};
+use crate::names::{count_returned, name_returned, note_relay, unname_returned};
 use core_store::Store;
 use rpc_machine::{Finishing, OwnCall, Question, Returned, Role};
 use rpc_msg::{CallId, ExportId, Items, QuestionId};

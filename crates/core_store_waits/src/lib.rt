@@ -2,14 +2,14 @@
 //! taken out to be routed.
 //!
 //! - `promises.rt`, `outcomes.rt`, `embargoes.rt`: each kind, with the calls that wait there.
-//! - `taken.rt`: the next of the calls that were taken out. `naming.rt`: what comes names what it holds.
+//! - `taken.rt`: the next of the calls that were taken out. `names.rt`: what comes names what it holds.
 //!
 //! What comes there names what it holds; calls that are taken out to be routed stay named until each is handed out; and an
 //! outcome that may have to go, once it is known or its calls are taken out, is noted where no field of it is named.
 #![tactic(auto)]
 
 mod embargoes;
-mod naming;
+mod names;
 mod outcomes;
 mod promises;
 mod taken;

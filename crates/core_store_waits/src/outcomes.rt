@@ -13,7 +13,7 @@ ghost use Rattle.core_store.specs.Noted.{noted_of};
 ghost use Rattle.core_store_waits.specs.Changes.{IsUnknown, Knows, TakesHeld};
 ghost use Rattle.core_store_waits.specs.Noting.{noted_unnamed};
 
-use crate::naming::{caps_if_known, caps_of, note_unnamed};
+use crate::names::{caps_if_known, caps_of, note_unnamed};
 use core_store::{Store, shorten};
 use rpc_machine::{Caller, Node, Value, WaitingCall};
 use rpc_msg::{Memory, Path};

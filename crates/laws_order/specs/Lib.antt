@@ -8,6 +8,9 @@
 -- - `Invariant`: what holds at every moment, from which the promise follows.
 -- - `Laws`: what the contracts of this crate say, each of every machine.
 -- - `Moves`: the machine in smaller steps than its events.
+-- - `Places`: the names of the machine of routes for a vat pair.
+-- - `Runs`: runs of the machine of routes, worked out.
+-- - `Carried`: how a crate that runs beside the machine uses the invariant.
 pub mod Decisions
 pub mod Machine
 pub mod Routing
@@ -17,3 +20,6 @@ pub mod Order
 pub mod Invariant
 pub mod Laws
 pub mod Moves
+pub mod Places
+pub mod Runs
+pub mod Carried

@@ -4,21 +4,24 @@
 //!
 //! Files of functions that run no code: of pieces, `laws.rt` (references, calls, promises, embargoes, what goes),
 //! `outcomes.rt`, `messages.rt`, `quiet.rt` (what ends and what is let go), `sayings.rt`; of whole commands and messages,
-//! `making.rt` and `taking.rt`; of whole steps, `steps.rt`; of what they take as known, `midway.rt` and, of first acts,
+//! `commands.rt` and `taken_messages.rt`; of whole steps, `steps.rt`; of what they take as known, `midway.rt` and, of first acts,
 //! `first_acts.rt`.
 #![tactic(auto)]
 
+mod commands;
 mod first_acts;
 mod laws;
-mod making;
 mod messages;
 mod midway;
 mod outcomes;
 mod quiet;
 mod sayings;
 mod steps;
-mod taking;
+mod taken_messages;
 
+pub use commands::{
+    bootstraps_are_asked, each_call_is_made, lettings_go_are_no_move, promises_are_made,
+};
 pub use first_acts::{
     embargoes_are_named, embargoes_are_right, messages_may_be_taken, other_commands_keep_it,
     steps_may_be_done,
@@ -26,9 +29,6 @@ pub use first_acts::{
 pub use laws::{
     calls_are_made, calls_are_routed, calls_come, embargoes_end, gone_is_no_move,
     known_outcomes_stop, new_refs_begin, outcomes_are_kept, promises_are_fixed, references_advance,
-};
-pub use making::{
-    bootstraps_are_asked, each_call_is_made, lettings_go_are_no_move, promises_are_made,
 };
 pub use messages::{
     descriptors_are_made, descriptors_are_taken, resolves_are_sent, returns_are_sent,
@@ -52,7 +52,7 @@ pub use steps::{
     acts_are_moves, deliveries_are_in_order, steps_are_moves, steps_keep_order, takes_are_moves,
     vats_are_tied,
 };
-pub use taking::{
+pub use taken_messages::{
     bootstraps_are_taken, calls_are_taken, disembargos_meet_wires, resolves_are_taken,
     returns_are_taken,
 };

@@ -3,15 +3,15 @@
 //! the name is given back once.
 //!
 //! - `names.rt`: [`BrokenNames`], its calls. `named.rt`: what comes of a message.
-//! - `finding.rt`: the descriptors that name a broken promise.
+//! - `descriptors.rt`: the descriptors that name a broken promise.
 //! - `due.rt`: what gives a name back. `owed.rt`: the names that are owed, by id.
 //! - `laws.rt`: that it stands aside, and that each count is given back once, as contracts of functions that do nothing.
 //!
 //! `specs/Naming.antt` says what each message comes to.
 #![tactic(auto)]
 
+mod descriptors;
 mod due;
-mod finding;
 mod laws;
 mod named;
 mod names;

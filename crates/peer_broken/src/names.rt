@@ -5,8 +5,8 @@ ghost use Rattle.rpc_msg.specs.declared.ids.ExportId.{ExportId};
 ghost use Rattle.rpc_msg.specs.declared.ids.QuestionId.{QuestionId};
 ghost use Rattle.peer_broken.specs.Naming.{Tells, comes, finishes, nothing_owed, owing, released, returns, seen_named};
 
+use crate::descriptors::{Parted, part, some_broken};
 use crate::due::{Due, due_by, unless_finished};
-use crate::finding::{Parted, part, some_broken};
 use crate::named::Named;
 use crate::owed::Owed;
 use peer_descriptors::{descriptors_in, envelope_with};

@@ -4,22 +4,22 @@
 //! - `overload.rt`: [`Overload`], which sees each envelope first. `admission.rt`: what becomes of one. `errors.rt`: what is at
 //!   fault.
 //! - `refusals.rt`: the refused questions that are not finished.
-//! - `clearing.rt`: messages that name one of them, as they are handed on. `telling.rt`: what is said of it.
+//! - `clearance.rt`: messages that name one of them, as they are handed on. `replies.rt`: what is said of it.
 //! - `laws.rt`: that it stands aside and counts once, as contracts of functions that do nothing.
 //!
 //! `specs/Overloading.antt` says what each envelope comes to.
 #![tactic(auto)]
 
 mod admission;
-mod clearing;
+mod clearance;
 mod errors;
 mod laws;
 mod overload;
 mod refusals;
-mod telling;
+mod replies;
 
 pub use admission::Admission;
 pub use errors::{OverloadError, OverloadFault};
 pub use laws::{counts_once, stands_aside};
 pub use overload::Overload;
-pub use telling::overloaded;
+pub use replies::overloaded;

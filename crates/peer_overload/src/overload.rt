@@ -7,10 +7,10 @@ ghost use Rattle.rpc_codec.specs.Envelopes.{profile, seen_envelope, tail_call};
 ghost use Rattle.peer_overload.specs.Overloading.{Comes, admitted, asks, cleared_resolve, cleared_return, comes, comes_message, comes_plain, finishes, fresh, goes_to_refused, is_refused, refuses, seen_admission, takes, told};
 
 use crate::admission::Admission;
-use crate::clearing::{clear_call, clear_resolve, clear_return};
+use crate::clearance::{clear_call, clear_resolve, clear_return};
 use crate::errors::{OverloadError, OverloadFault};
 use crate::refusals::{Refusal, Refusals};
-use crate::telling::return_to;
+use crate::replies::return_to;
 use rpc_codec::{Envelope, TakenFromOther};
 use rpc_msg::{Call, Finish, Message, PlainMessage, QuestionId, Resolve, Return, Target};
 use std::alloc::Global;

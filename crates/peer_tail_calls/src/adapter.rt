@@ -9,9 +9,9 @@ ghost use Rattle.peer_tail_calls.specs.declared.tails.Tail.TheVariants.{Asked};
 
 use crate::errors::{AdapterError, AdapterFault};
 use crate::heard::{Heard, Inbound, Outbound, Said};
-use crate::nulling::{null_call, null_return};
+use crate::nulls::{null_call, null_return};
+use crate::outcomes::turn;
 use crate::tails::{Tail, Tails, Taker};
-use crate::turning::turn;
 use rpc_codec::{Envelope, SentElsewhere, TakenFromOther};
 use rpc_msg::{
     AnswerId, Call, Finish, Memory, Message, PlainMessage, QuestionId, Return, ReturnBody,

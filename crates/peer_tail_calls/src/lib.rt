@@ -3,9 +3,9 @@
 //!
 //! - `adapter.rt`: [`Adapter`], its two calls. `heard.rt`: what they give. `errors.rt`: what they refuse.
 //! - `tails.rt`: the peer's tail calls that are open.
-//! - `turning.rt`: the outcome of a tail call, as it stands in the Return that takes it. `paths.rt`: the capabilities of a
+//! - `outcomes.rt`: the outcome of a tail call, as it stands in the Return that takes it. `paths.rt`: the capabilities of a
 //!   payload, by the paths that lead to them.
-//! - `nulling.rt`: payloads as they go to the peer, with null in place of pointers to capabilities that are not there.
+//! - `nulls.rt`: payloads as they go to the peer, with null in place of pointers to capabilities that are not there.
 //! - `laws.rt`: that it stands aside, and counts each thing once, as contracts of functions that do nothing.
 //!
 //! `specs/Adapting.antt` says what each envelope and each message comes to.
@@ -15,10 +15,10 @@ mod adapter;
 mod errors;
 mod heard;
 mod laws;
-mod nulling;
+mod nulls;
+mod outcomes;
 mod paths;
 mod tails;
-mod turning;
 
 pub use adapter::Adapter;
 pub use errors::{AdapterError, AdapterFault};

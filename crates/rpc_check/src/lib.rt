@@ -6,18 +6,18 @@
 //!   one vat, `said.rt` what its questions and answers handed on, list by list, and which is the last of each id;
 //!   `releases.rt` what messages release of the other's exports: a list that a flag releases is named by its place, and
 //!   counted, as often as it is released, when an entry with tables asks), `downs.rt` (which vats are down).
-//! - `handing.rt` says what one message hands on, `amounts.rt` are sums by id, `agreeing.rt` holds two sides of counts
+//! - `handovers.rt` says what one message hands on, `amounts.rt` are sums by id, `agreement.rt` holds two sides of counts
 //!   against each other.
 //! - In `specs/`, `Breaches` and `Counts` have the definitions of the verdict, `Kept` what the parts say of the entries so
 //!   far, `Laws` what the definitions mean.
 #![tactic(auto)]
 
-mod agreeing;
+mod agreement;
 mod amounts;
 mod calls;
 mod checker;
 mod downs;
-mod handing;
+mod handovers;
 mod laws;
 mod lines;
 mod pending;

@@ -3,7 +3,7 @@ ghost use Rattle.rpc_msg.specs.declared.message.Message.{Message as AMessage};
 ghost use Rattle.rpc_check.specs.Counts.{released_after};
 ghost use Rattle.rpc_check.specs.Kept.{last_of, list_at, released_in, Grows, IsSaid};
 
-use crate::handing::handed_on;
+use crate::handovers::handed_on;
 use crate::releases::Released;
 use rpc_msg::{ExportId, Items, Memory, Message, PlainMessage, QuestionId};
 use std::alloc::Global;

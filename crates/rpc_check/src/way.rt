@@ -4,7 +4,7 @@ ghost use Rattle.rpc_check.specs.Counts.{Sending};
 ghost use Rattle.rpc_check.specs.Kept.{IsWay, IsSaid, Grows, Lists, added_by, adds, rest_of, is_some_left};
 
 use crate::amounts::Amounts;
-use crate::handing::handed_on;
+use crate::handovers::handed_on;
 use crate::releases::{Released, Releases};
 use crate::said::Said;
 use rpc_msg::{ExportId, Items, Memory, Message};

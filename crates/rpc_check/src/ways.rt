@@ -5,7 +5,7 @@ ghost use Rattle.rpc_check.specs.Breaches.{gets_nothing, agrees};
 ghost use Rattle.rpc_check.specs.Kept.{WaysFor, IsCounted};
 ghost use Rattle.rpc_msg.specs.declared.ids.Vat.TheVariants.{A, B};
 
-use crate::agreeing::agree;
+use crate::agreement::agree;
 use crate::way::Way;
 use rpc_journal::{Counts, JournalEntry};
 use rpc_msg::{Memory, Message, Vat};

@@ -2,6 +2,6 @@
 //! which messages that came can be carried on.
 #![tactic(auto)]
 
-mod fitting;
+mod lengths;
 
-pub use fitting::{fits_envelope, fits_onward};
+pub use lengths::{fits_envelope, fits_onward};

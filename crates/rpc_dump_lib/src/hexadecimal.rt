@@ -5,7 +5,7 @@ ghost use Rattle.program_files.specs.Texts.{IsInput};
 ghost use Rattle.rpc_dump_lib.specs.Conversations.{IsLines, LinesStop, Says, digits_line, is_newline};
 
 use crate::failure::Failure;
-use crate::saying::say_digits;
+use crate::frames::say_digits;
 use program_files::unread;
 use std::alloc::Global;
 use std::io::{Read, Write};

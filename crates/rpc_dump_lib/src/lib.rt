@@ -3,16 +3,16 @@
 #![tactic(auto)]
 
 mod failure;
+mod frames;
 mod hexadecimal;
 mod line;
 mod options;
 mod payloads;
-mod reading;
-mod saying;
+mod pieces;
 mod trees;
 mod write;
 
 pub use failure::{Failure, status, tell};
 pub use line::line_of;
 pub use options::Options;
-pub use reading::dump;
+pub use pieces::dump;

@@ -1,4 +1,4 @@
-use crate::lasting::Lasting;
+use crate::durations::Lasting;
 use crate::over::Over;
 use rpc_msg::{EmbargoId, Memory, RefId, Stamp, Vat};
 use std::alloc::Global;

@@ -2,7 +2,7 @@
 //! does with a file, a reader and a writer.
 //!
 //! - `chart.rt`: the follower that gathers what is drawn of a trace: rows with their notes, arrows. `bars.rt` keeps the
-//!   embargoes and the calls that wait, `lasting.rt` which of them last and by what they end, `over.rt` says what an entry
+//!   embargoes and the calls that wait, `durations.rt` which of them last and by what they end, `over.rt` says what an entry
 //!   ends, `followed.rt` keeps the names of the calls through the reference that stands out, `questions.rt` what each
 //!   question is of, and `entries.rt` says what of an entry the others want to know.
 //! - `labels.rt` says an entry in words and `messages.rt` a message (`reasons.rt` refusals and faults), `text.rt` writes a
@@ -14,12 +14,12 @@
 mod bars;
 mod chart;
 mod draw;
+mod durations;
 mod entries;
 mod fault;
 mod followed;
 mod foot;
 mod labels;
-mod lasting;
 mod messages;
 mod options;
 mod over;

@@ -1,25 +1,25 @@
 //! Whole traces as text: read line by line, checked, shown, and written in the newer version (`docs/trace.md`).
 //!
-//! - `reading.rt` reads a text line by line and hands each entry to a *follower*, which is a trait: what is done with a
+//! - `follower.rt` reads a text line by line and hands each entry to a *follower*, which is a trait: what is done with a
 //!   trace is said by how an entry changes its follower.
-//! - `checking.rt`: the follower that checks; `tally.rt`: the one that counts the calls of each reference (its table is in
+//! - `check.rt`: the follower that checks; `tally.rt`: the one that counts the calls of each reference (its table is in
 //!   `rows.rt`); `newer.rt`: the one that writes version 2.
 //! - `lines.rt`: the lines of a text; `write.rt`: entries as text; `fault.rt`: what a text's first line at fault is.
 #![tactic(auto)]
 
-mod checking;
+mod check;
 mod fault;
+mod follower;
 mod lines;
 mod newer;
-mod reading;
 mod rows;
 mod tally;
 mod write;
 
-pub use checking::{check_trace, write_verdict};
+pub use check::{check_trace, write_verdict};
 pub use fault::FileFault;
+pub use follower::{Follower, follow};
 pub use newer::upgrade;
-pub use reading::{Follower, follow};
 pub use rows::{Calls, Place};
 pub use tally::show;
 pub use write::{write_entries, write_entry};

@@ -6,7 +6,7 @@ ghost use Rattle.trace_file.specs.Traces.{IsTrace, line_text, trace_text};
 ghost use Rattle.trace_file.specs.Faults.{IsFileFault};
 
 use crate::fault::FileFault;
-use crate::reading::{Follower, follow};
+use crate::follower::{Follower, follow};
 use crate::write::write_entry;
 use rpc_journal::JournalEntry;
 use rpc_msg::Memory;

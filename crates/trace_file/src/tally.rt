@@ -8,7 +8,7 @@ ghost use Rattle.trace_file.specs.Shown.{Shows};
 ghost use Rattle.trace_file.specs.Counting.{ChangedIf, one_made, one_delivered, Counted};
 
 use crate::fault::FileFault;
-use crate::reading::{Follower, follow};
+use crate::follower::{Follower, follow};
 use crate::rows::{Calls, Place, Rows};
 use rpc_journal::JournalEntry;
 use rpc_msg::{Memory, RefId, Vat};

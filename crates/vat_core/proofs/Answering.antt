@@ -13,8 +13,8 @@ use Rattle.rpc_machine.specs.Progress.{quiet}
 use Rattle.rpc_machine.specs.Lists.{earliest}
 use Rattle.rpc_machine.specs.Refusals.{refused, refusals, without_room, is_shut}
 use Rattle.rpc_machine.specs.Down.{ShutsFrom}
-use Rattle.vat_core.specs.declared.obey.Answer.{Answer}
-use Rattle.vat_core.specs.declared.obey.Answer.TheVariants.{Done}
+use Rattle.vat_core.specs.declared.commands.Answer.{Answer}
+use Rattle.vat_core.specs.declared.commands.Answer.TheVariants.{Done}
 use Rattle.vat_core.specs.Answers.{AnswersTo}
 use Rattle.rpc_machine.specs.Steps.{Obeys, Refuses, Shuts}
 

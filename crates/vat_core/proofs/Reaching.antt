@@ -13,8 +13,8 @@ use Rattle.rpc_machine.specs.Steps.{Obeys, Receives}
 use Rattle.laws_steps.specs.NodesThere.{ComesTo, Stays, Commanded, Received, Fell, IsReached}
 use Rattle.core_outbox.specs.Outgoing.{Outgoing, nothing_said}
 use Rattle.core_store.specs.Holding.{state_of, IsSound}
-use Rattle.core_steps_asking.specs.Machine.{Machine}
-use Rattle.core_steps_asking.specs.Whole.{IsResting}
+use Rattle.core_steps.specs.declared.machine.Machine.{Machine}
+use Rattle.core_steps.specs.Whole.{IsResting}
 use Rattle.vat_core.specs.Standing.{IsStanding}
 
 -- What leads on from the last state leads on from the first.

@@ -7,8 +7,8 @@ use Rattle.rpc_machine.specs.declared.command.Effects.{Effects}
 use Rattle.rpc_machine.specs.State.{State}
 use Rattle.rpc_machine.specs.Progress.{quiet}
 use Rattle.rpc_machine.specs.Steps.{Obeys}
-use Rattle.vat_core.specs.declared.obey.Answer.{Answer}
-use Rattle.vat_core.specs.declared.obey.Answer.TheVariants.{Done, Refused}
+use Rattle.vat_core.specs.declared.commands.Answer.{Answer}
+use Rattle.vat_core.specs.declared.commands.Answer.TheVariants.{Done, Refused}
 
 abbrev pub answer_in : Answer → Result Granted Refusal
 answer_in (Done given effects) = Ok given

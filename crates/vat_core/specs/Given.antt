@@ -9,7 +9,7 @@ use Rattle.rpc_machine.specs.State.{State}
 use Rattle.laws_authority.specs.Authority.{IsOfPeer}
 use Rattle.laws_authority.specs.Reach.{IsIn}
 use Rattle.laws_authority.specs.Runs.{Event, DidCommand, GotMessage, RunsTo, WasGiven, logged}
-use Rattle.vat_core.specs.declared.obey.Answer.{Answer}
+use Rattle.vat_core.specs.declared.commands.Answer.{Answer}
 use Rattle.vat_core.specs.Answers.{answer_in, effects_in}
 
 -- Each call of the peer that is delivered comes to an object that the peer was given, as the log says.

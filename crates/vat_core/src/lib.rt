@@ -5,40 +5,35 @@
 //!   vat comes (`IsReached` of `laws_steps`), so that what is proved of all such states may be taken from laws: that calls
 //!   have no outcome or question but their own, which `finish` wants. `proofs/Reaching` shows that each step leads on to
 //!   such a state.
-//! - `making.rt`: the commands that make references and promises and say nothing; `asking.rt`: those that ask the peer or
-//!   make a call; `letting.rt`: those that let something go or take the shorter path; `settling.rt`: those that settle a
-//!   promise or a task.
-//! - `obey.rt`: `command` takes a command of any kind and answers what the call of its name does; the files
-//!   `obey_asking.rt`, `obey_letting.rt`, `obey_making.rt` and `obey_settling.rt` put that together, in the same four
-//!   groups.
-//! - `queries.rt`: what can be asked of a core without a step, in the words of `Queries`; `counting.rt` the counts of
-//!   exports and imports; `foreseeing.rt` what takes a vat down and can be told before it hears of it.
+//! - The commands by name: `calls.rt`, `refs.rt`, `promises.rt`, `tasks.rt`.
+//! - `commands.rt`: `command` takes a command of any kind and answers what the call of its name does. Each command has its own
+//!   `obey_..` beside the call of its name.
+//! - `queries.rt`: what can be asked of a core without a step, in the words of `Queries`; `counts.rt` the counts of
+//!   exports and imports; `foresight.rt` what takes a vat down and can be told before it hears of it; `fallen.rt` whether a
+//!   vat that went down met a limit.
 //! - `refused.rt`: a command that is refused hands its arguments back in a `Refused`, which is an error with the refusal's
 //!   text, so that an application may pass it on by `?`.
 //! - `contents.rt`: the payload and references of a message that gives one capability or none (`contents`).
 //!
-//! A command is first checked (`core_step_checks`), in the machine's order, and then done whole (`core_steps_asking`, `core_steps`),
+//! A command is first checked (`core_step_checks`), in the machine's order, and then done whole (`core_steps`),
 //! which leaves want of memory as its only refusal; a call that goes to an import at once is checked and told apart by one
 //! look (`straight`). `recycle` takes the memory of effects back, and is no step. `Effects` are no `Drop`: an application
 //! takes them apart or gives them back.
 #![tactic(auto)]
 
-mod asking;
+mod calls;
+mod commands;
 mod contents;
-mod counting;
-mod foreseeing;
-mod letting;
-mod making;
-mod obey;
-mod obey_asking;
-mod obey_letting;
-mod obey_making;
-mod obey_settling;
+mod counts;
+mod fallen;
+mod foresight;
+mod promises;
 mod queries;
+mod refs;
 mod refused;
-mod settling;
+mod tasks;
 mod vat;
 
-pub use obey::Answer;
+pub use commands::Answer;
 pub use refused::Refused;
 pub use vat::Core;

@@ -6,8 +6,7 @@ ghost use Rattle.laws_authority.specs.Authority.{TakesNothing};
 ghost use Rattle.vat_core.specs.Given.{HearsGiven};
 
 use core_outbox::Outbox;
-use core_steps_asking::ends;
-use core_steps_asking::ends::{Arisen, Machine, Step, Thought};
+use core_steps::{Arisen, Machine, Step, Thought};
 use core_store::Store;
 use laws_authority::{authority_is_given, authority_is_kept};
 use rpc_machine::{Effects, Level};
@@ -65,6 +64,7 @@ impl Core {
                 step,
                 thought: Thought::new(alloc),
                 spare,
+                met_limit: false,
                 alloc,
             },
         })
@@ -104,7 +104,7 @@ impl Core {
     {
         authority_is_kept();
         authority_is_given();
-        ends::receive(&mut self.machine, message)
+        core_steps::receive(&mut self.machine, message)
     }
 
     /// Takes back the memory of effects that were looked at, for those of later steps; what they still hold is dropped. Nothing
@@ -122,6 +122,6 @@ impl Core {
     pub fn shut(&mut self, number: u16) -> Effects
         ensures { ShutsFrom self.old number self.old.down result self.new }
     {
-        ends::shut(&mut self.machine, number)
+        core_steps::shut(&mut self.machine, number)
     }
 }

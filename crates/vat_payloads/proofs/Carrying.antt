@@ -1,7 +1,6 @@
--- The pointers of contents: how they are made, and what is found at them.
+-- What is found at the pointers of contents.
 use Rattle.std.proofs.Common.{◌≡◌, ℕ, zero, suc, ◌+◌, ◌<◌, List, [], ◌∷◌, ◌++◌, map, length, Some, refl, sym, ap, ◌∙◌, arith}
 use Rattle.std.specs.List.{range_with_len, slice_get}
-use Rattle.std.proofs.lemmas.List.FromFn.{map-range_with_len_more}
 use Rattle.capn_trees.specs.declared.tree.Tree as program
 use Rattle.capn_trees.specs.Trees.{Tree, struct, list, packed, capability, pointer_at}
 use Rattle.capn_trees.specs.Views.{view, trees_of}
@@ -10,17 +9,6 @@ use Rattle.rpc_msg.specs.Walking.{capability_at, found_at}
 use Rattle.rpc_msg.specs.Op.TheVariants.{Field}
 use Rattle.rpc_msg.specs.declared.ids.RefId.{RefId}
 use Rattle.vat_payloads.specs.Contents.{AreFound, ref_of, said}
-
-map_pushed : {X Y : Type 0} (f : X → Y) (xs : List X) (x : X) → map f (xs ++ x ∷ []) ≡ map f xs ++ f x ∷ []
-map_pushed f [] x = refl
-map_pushed f (y ∷ xs) x = ap (λ ys. f y ∷ ys) (map_pushed f xs x)
-
--- One more capability.
-pub caps_more : (u : Tree) (ts now : List program.Tree) (t : program.Tree) (i : ℕ) → now ≡ ts ++ t ∷ [] → view t ≡ capability i
-    → map view ts ≡ u ∷ map capability (range_with_len 0 i) → map view now ≡ u ∷ map capability (range_with_len 0 (i + 1))
-caps_more u ts now t i pushed seen so_far =
-    ap (map view) pushed ∙ map_pushed view ts t ∙ ap (λ x. map view ts ++ x ∷ []) seen ∙ ap (λ xs. xs ++ capability i ∷ []) so_far
-    ∙ ap (λ xs. u ∷ xs) (sym (map-range_with_len_more capability 0 i i (omega arith)))
 
 -- Each capability stands at its pointer.
 cap_at : (a n i j : ℕ) → i < n → a + i ≡ j → pointer_at (trees_of (map capability (range_with_len a n))) i ≡ capability j

@@ -1,5 +1,5 @@
 -- What the contents of an application's calls and answers say (docs/embedding.md, "Payloads").
-use Rattle.std.specs.Prelude.{◌≡◌, ◌<◌, ℕ, suc, nat_lt, if◌then◌else◌, List, [], ◌∷◌, ◌++◌, length, map, Option, Some, None}
+use Rattle.std.specs.Prelude.{◌≡◌, ◌<◌, ◌⊎◌, ℕ, suc, nat_lt, if◌then◌else◌, List, [], ◌∷◌, ◌++◌, length, map, Option, Some, None, IsSome}
 use Rattle.std.specs.List.{range_with_len, slice_get}
 use Rattle.rpc_msg.specs.Payloads.{Contents, tree_of}
 use Rattle.rpc_msg.specs.Walking.{capability_at}
@@ -17,7 +17,20 @@ use Rattle.capn_trees.specs.declared.faults.WriteFault.TheVariants.{TooLarge}
 abbrev pub said : List ℕ → List ℕ → ℕ → Tree
 said numbers text n = struct numbers (trees_of (list (packed 8 (text ++ 0 ∷ [])) ∷ map capability (range_with_len 0 n)))
 
--- Why that can't be written, if there is a reason: a struct has no more than 65,535 pointers.
+-- A pointer to the text, if there is one.
+abbrev pub to_text : Option (List ℕ) → List Tree
+to_text None = []
+to_text (Some text) = list (packed 8 (text ++ 0 ∷ [])) ∷ []
+
+-- A struct of these numbers, with a pointer to the text, if there is one, and behind it one to each of so many capabilities.
+abbrev pub saying : List ℕ → Option (List ℕ) → ℕ → Tree
+saying numbers text caps = struct numbers (trees_of (to_text text ++ map capability (range_with_len 0 caps)))
+
+-- A struct has no more than 65,535 pointers, and a payload no more than its limits allow.
+abbrev pub IsTooMuch : List ℕ → Option (List ℕ) → ℕ → Type 0
+IsTooMuch numbers text caps = (65535 < caps) ⊎ IsSome (refusal (saying numbers text caps) caps)
+
+-- Why what is said can't be written, if there is a reason: a struct has no more than 65,535 pointers.
 abbrev pub fault_of : List ℕ → List ℕ → ℕ → Option WriteFault
 fault_of numbers text n = if nat_lt 65534 n then Some TooLarge else refusal (said numbers text n) n
 

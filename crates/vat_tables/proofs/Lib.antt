@@ -5,12 +5,9 @@ pub mod Foreseeing
 pub mod HashTable
 pub mod Indexing
 pub mod Keys
-pub mod Lending
 pub mod NodeKeys
 pub mod Options
 pub mod PlacedTable
 pub mod PoolLemmas
 pub mod RisingKeys
-pub mod RisingPlaces
-pub mod RisingTable
 pub mod SlabTable

@@ -6,7 +6,6 @@ use Rattle.vat_tables.specs.contracts.picked.Picked as picked
 use Rattle.vat_tables.specs.contracts.slots.Slots as slots
 use Rattle.vat_tables.specs.contracts.keyed.Keyed as keyed
 use Rattle.vat_tables.specs.contracts.numbered.Numbered as numbered
-use Rattle.vat_tables.specs.contracts.rising.Rising as rising
 use Rattle.vat_tables.specs.contracts.questions.Questions as questions
 
 -- once the borrow ends, the key has the last value written through it, and no other entry changed
@@ -31,10 +30,6 @@ lends_keyed T t id r = LendsIf (keyed.the_row T) T t r (with_entry t.now id) t.n
 -- the same of entries under numbers
 abbrev pub lends_number : (T : RattleType) → MutBor (Table T.Denot) → ℕ → Option (MutBor T.Denot) → Fml
 lends_number T t number r = LendsIf (numbered.the_row T) T t r (with_entry t.now number) t.now
-
--- the same of entries under numbers that rise
-abbrev pub lends_rising : (T : RattleType) → MutBor (Table T.Denot) → ℕ → Option (MutBor T.Denot) → Fml
-lends_rising T t number r = LendsIf (rising.the_row T) T t r (with_entry t.now number) t.now
 
 -- the same of a table of questions
 abbrev pub lends_question : (T : RattleType) → MutBor (Table T.Denot) → ℕ → Option (MutBor T.Denot) → Fml

@@ -3,20 +3,18 @@
 //! - `questions.rt`, `exports.rt`: the tables under ids that this vat picks. `keyed.rt`: those under ids that the peer picks,
 //!   the answers and the imports. `held_pool.rt`: the pool.
 //! - What they, and the crates above, keep entries in: `slots.rt` under ids that the table picks, `numbered.rt` under numbers,
-//!   `rising.rt` under numbers that rise, `picked.rt` under keys that the table picks. `index.rt` has ids by node.
-//! - `growth.rt`: how much memory a table is made. `fault.rt`: why one refuses.
+//!   `picked.rt` under keys that the table picks. `index.rt` has ids by node. Under numbers that rise: `Rising` of `rising_table`.
+//! - `fault.rt`: why one refuses.
 #![tactic(auto)]
 
 mod exports;
 mod fault;
-mod growth;
 mod held_pool;
 mod index;
 mod keyed;
 mod numbered;
 mod picked;
 mod questions;
-mod rising;
 mod slots;
 
 pub use exports::Exports;
@@ -26,4 +24,4 @@ pub use keyed::{Answers, Imports, Keyed};
 pub use numbered::Numbered;
 pub use picked::Picked;
 pub use questions::Questions;
-pub use rising::Rising;
+pub use rising_table::Rising;

@@ -8,7 +8,7 @@ ghost use Rattle.std.specs.Map.{keys_of};
 ghost use Rattle.slab.specs.Slab.{entries_from};
 ghost use Rattle.vat_tables.specs.Placed.{HasSamePlaces};
 
-use crate::growth::grow;
+use rising_table::grow;
 use rpc_machine::rpc_msg::Memory;
 use std::alloc::{AllocError, Global};
 use std::collections::HashMap;

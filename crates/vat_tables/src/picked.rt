@@ -3,7 +3,7 @@ ghost use Rattle.std.specs.Option.{option_copied_mut};
 ghost use Rattle.std.specs.Borrow.{sem};
 ghost use Rattle.std.specs.FinMap as map;
 
-use crate::growth::growth;
+use rising_table::growth;
 use rpc_machine::rpc_msg::Memory;
 use slab::Slab;
 use std::alloc::Global;

@@ -3,7 +3,7 @@ use Rattle.std.proofs.lemmas.List.{get_or_default}
 use Rattle.std.specs.FinMap as map
 use Rattle.std.specs.HashMap as hash
 use Rattle.vat_tables.specs.Placed.{IsApart, entries_both, table_of_both}
-use Rattle.vat_tables.proofs.Lending.{read_of_same}
+use Rattle.rising_table.proofs.Lending.{read_of_same}
 use Rattle.vat_tables.proofs.Options.{is_some_copied, none_copied}
 use Rattle.vat_tables.proofs.PlacedTable.{left, table_placed, table_hashed, table_over, table_written, apart_set, apart_written, len_over, len_written, none_if_not_some}
 use Rattle.vat_tables.proofs.numbered.Numbered.get_mut.Goals as goal

@@ -1,0 +1,17 @@
+use Rattle.std.proofs.Common.{◌∙◌}
+use Rattle.rpc_machine.specs.declared.command.Command.TheVariants as command
+use Rattle.rpc_machine.specs.declared.command.Granted.TheVariants as granted
+use Rattle.core_store.specs.Holding.{state_of}
+use Rattle.core_step.specs.InProgress.{progress_of}
+use Rattle.core_steps.proofs.Answered.{ended, fell}
+use Rattle.core_steps.proofs.tasks.answer.Goals as goal
+
+pub returns-in_default-clause-obeys : goal.returns-in_default-clause-obeys
+returns-in_default-clause-obeys c =
+    fell (state_of c.args.machine.now.step.store) (command.Answer c.args.task c.args.payload c.args.refs) c.fall_as.result (state_of c.fall_as.new.machine.step.store) c.requires.allowed tt c.fall_as.ensures.effects
+    (c.fall_as.ensures.state ∙ c.named_of-named.ensures 33)
+
+pub returns-clause-obeys : goal.returns-clause-obeys
+returns-clause-obeys c =
+    ended (state_of c.args.machine.now.step.store) (command.Answer c.args.task c.args.payload c.args.refs) granted.Done (progress_of c.answer_whole-ended.new.step) c.end_settled.result (state_of c.end_settled.new.step.store) c.requires.allowed c.in-Ok.ensures.done
+    c.end_settled.ensures.ends c.end_settled.ensures.idle.sound.within

@@ -1,5 +1,0 @@
-use Rattle.laws_routes.proofs.DisembargoMet.{meets_wire}
-use Rattle.laws_routes.proofs.taking.disembargos_meet_wires.Goals as goal
-
-pub returns : goal.returns
-returns c = meets_wire

@@ -1,5 +1,0 @@
-use Rattle.laws_routes.proofs.ReturnTaken.{resolve_taken}
-use Rattle.laws_routes.proofs.taking.resolves_are_taken.Goals as goal
-
-pub returns : goal.returns
-returns c = resolve_taken

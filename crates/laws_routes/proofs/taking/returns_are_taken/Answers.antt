@@ -1,5 +1,0 @@
-use Rattle.laws_routes.proofs.ReturnTaken.{return_taken}
-use Rattle.laws_routes.proofs.taking.returns_are_taken.Goals as goal
-
-pub returns : goal.returns
-returns c = return_taken

@@ -1,0 +1,4 @@
+pub mod BothHold
+pub mod Lending
+pub mod RisingPlaces
+pub mod RisingTable
