@@ -134,7 +134,7 @@ module _ (bytes : List ℕ) (m : List (List ℕ)) (framed : IsFramed bytes m) wh
       ∙ (let e = length-append (flat_map (little_bytes 4) (map length m)) (padding_of (length m) ++ body_of m) in
       let f = length-append (padding_of (length m)) (body_of m) in omega arith)
 
-  framed_as_again : framed_as (length m) (map length m) bytes ≡ Ok m
+  framed_as_again : framed_as most_words (length m) (map length m) bytes ≡ Ok m
   framed_as_again =
       let small : ltb most_words (sum (map length m)) ≡ false = le-ltb _ _ framed.small in
       let long : ltb (length bytes) (8 * (table_words (length m) + sum (map length m))) ≡ false = le-ltb _ _ (omega (arith, whole_length)) in
@@ -267,9 +267,9 @@ unfolding framing sizes segment_count
 framing_takes bytes m fits e =
     let n = segment_count bytes in
     let ns = sizes bytes in
-    let a = past (ltb (length bytes) 4) Short (cond (ltb 16 n) (Err TooManySegments) (cond (ltb (length bytes) (8 * table_words n)) (Err Short) (framed_as n ns bytes))) m e in
-    let b = past (ltb 16 n) TooManySegments (cond (ltb (length bytes) (8 * table_words n)) (Err Short) (framed_as n ns bytes)) m a.1 in
-    let c = past (ltb (length bytes) (8 * table_words n)) Short (framed_as n ns bytes) m b.1 in
+    let a = past (ltb (length bytes) 4) Short (cond (ltb 16 n) (Err TooManySegments) (cond (ltb (length bytes) (8 * table_words n)) (Err Short) (framed_as most_words n ns bytes))) m e in
+    let b = past (ltb 16 n) TooManySegments (cond (ltb (length bytes) (8 * table_words n)) (Err Short) (framed_as most_words n ns bytes)) m a.1 in
+    let c = past (ltb (length bytes) (8 * table_words n)) Short (framed_as most_words n ns bytes) m b.1 in
     let d = past (ltb most_words (sum ns)) TooLarge _ m c.1 in
     let f = past (ltb (length bytes) (8 * (table_words n + sum ns))) Short _ m d.1 in
     let g = past (ltb (8 * (table_words n + sum ns)) (length bytes) || not (is_padded n bytes)) Trailing (Ok (segments_in ns (drop (8 * table_words n) bytes))) m f.1 in

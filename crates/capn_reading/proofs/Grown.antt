@@ -10,11 +10,10 @@ use Rattle.capn_reading.specs.declared.layout.Layout.{Layout}
 use Rattle.capn_reading.specs.declared.layout.Layout.TheVariants as layout
 use Rattle.capn_reading.specs.Pointers.{decoded}
 use Rattle.capn_reading.specs.Segments.{segment_of, word_at, size_of}
-use Rattle.capn_reading.specs.Following.{◌>>=◌, visit, target, pad_words, pad_at, far, capability, leads, followed}
+use Rattle.capn_reading.specs.Following.{◌>>=◌, most_counted, visit, target, pad_words, pad_at, far, capability, leads, followed}
 use Rattle.capn_reading.specs.Layouts.{laid, weight}
 use Rattle.capn_trees.specs.Trees as tree
 use Rattle.capn_trees.specs.Trees.{Tree, Trees, Structs}
-use Rattle.capn_trees.specs.Limits.{most_visited}
 use Rattle.capn_reading.specs.Reading.{Reading, pointers_at, structs_at, content_of, shallow, deep, reading}
 use Rattle.capn_reading.proofs.Rooted.{bind_ok, passed, read_as}
 use Rattle.capn_reading.proofs.Places.{ok_is}
@@ -22,7 +21,7 @@ use Rattle.capn_reading.proofs.Places.{ok_is}
 -- from v visited words to w
 pub record Grows (v w : ℕ) : Type 0 where
   pub more : v ≤ w
-  pub within : v ≤ most_visited → w ≤ most_visited
+  pub within : v ≤ most_counted → w ≤ most_counted
 
 pub grows_not : (v : ℕ) → Grows v v
 grows_not v = record { more = omega arith; within = λ le. le }
@@ -41,11 +40,11 @@ after_is a b m n e = ap after_of e
 same_words : {A : Type 0} (a b : A) (v w : ℕ) → read_as a v ≡ read_as b w → Grows v w
 same_words a b v w e = subst (Grows v) (after_is a b v w e) (grows_not v)
 
-pub visited : (v more w : ℕ) → visit v more ≡ Ok w → (v + more ≡ w) × (w ≤ most_visited)
+pub visited : (v more w : ℕ) → visit v more ≡ Ok w → (v + more ≡ w) × (w ≤ most_counted)
 visited v more w e =
-    let p = passed (ltb most_visited (v + more)) Traversal (Ok (v + more)) w e in
+    let p = passed (ltb most_counted (v + more)) Traversal (Ok (v + more)) w e in
     let same = ok_is (v + more) w p.1 in
-    (same, omega (arith, ltb-false most_visited (v + more) p.0, same))
+    (same, omega (arith, ltb-false most_counted (v + more) p.0, same))
 
 visit_grows : (v more w : ℕ) → visit v more ≡ Ok w → Grows v w
 visit_grows v more w e = let k = visited v more w e in record { more = omega (arith, k.0); within = λ le. k.1 }

@@ -12,11 +12,10 @@ use Rattle.capn_reading.specs.declared.layout.Layout.{Layout}
 use Rattle.capn_reading.specs.declared.layout.Layout.TheVariants as layout
 use Rattle.capn_reading.specs.Pointers.{words_of, tag_of}
 use Rattle.capn_reading.specs.Segments.{segment_of, word_at}
-use Rattle.capn_reading.specs.Following.{◌>>=◌}
+use Rattle.capn_reading.specs.Following.{◌>>=◌, most_counted}
 use Rattle.capn_reading.specs.Layouts.{placed, tagged, shaped, laid, weight}
 use Rattle.capn_trees.specs.Trees as tree
 use Rattle.capn_trees.specs.Trees.{Tree, Trees, Structs, pointer_at}
-use Rattle.capn_trees.specs.Limits.{most_visited}
 use Rattle.capn_reading.specs.Reading.{Reading, pointers_at, structs_at, content_of, deep, reading}
 use Rattle.capn_reading.proofs.Rooted.{bind_ok, passed, read_as, first_is}
 use Rattle.capn_reading.specs.Looking.{StandsFor, LeadsTo, item_of, struct_at}
@@ -104,15 +103,15 @@ module _ (m : List (List ℕ)) (caps levels s d p : ℕ) where
 abbrev pub struct_content : ℕ → ℕ → ℕ → ℕ → Content
 struct_content s at d p = record { segment = s; start = Some at; shape = shape.Struct d p }
 
-struct_stands : (m : List (List ℕ)) (caps levels s d p at from : ℕ) (t : Tree) → IsStruct m (reading m caps levels) s d p at from t → at + (d + p) ≤ length (segment_of m s) → d + p ≤ from → from ≤ most_visited
+struct_stands : (m : List (List ℕ)) (caps levels s d p at from : ℕ) (t : Tree) → IsStruct m (reading m caps levels) s d p at from t → at + (d + p) ≤ length (segment_of m s) → d + p ≤ from → from ≤ most_counted
     → StandsFor m caps (referent.Content (struct_content s at d p)) t
 unfolding laid deep content_of
 struct_stands m caps levels s d p at from t k inside room_before bounded =
     let grown : from ≤ k.before = k.grown.more in
-    let below : k.before ≤ most_visited = k.grown.within bounded in
+    let below : k.before ≤ most_counted = k.grown.within bounded in
     let first : ltb (length (segment_of m s)) (at + (d + p)) ≡ false = le-ltb (length (segment_of m s)) (at + (d + p)) inside in
     let sum : k.before - (d + p) + (d + p) ≡ k.before = omega (arith, grown) in
-    let second : ltb most_visited (k.before - (d + p) + (d + p)) ≡ false = le-ltb most_visited (k.before - (d + p) + (d + p)) (omega (arith, sum, below)) in
+    let second : ltb most_counted (k.before - (d + p) + (d + p)) ≡ false = le-ltb most_counted (k.before - (d + p) + (d + p)) (omega (arith, sum, below)) in
     record {
       levels = suc levels;
       before = k.before - (d + p);

@@ -1,8 +1,7 @@
 -- What is read with some levels left is read with more.
-use Rattle.std.proofs.Common.{◌≡◌, ℕ, zero, suc, ◌+◌, ◌-◌, List, take, drop, Ok, ap, subst, ◌∙◌, arith}
+use Rattle.std.proofs.Common.{◌≡◌, ℕ, zero, suc, ◌+◌, List, take, drop, Ok, ap, subst, ◌∙◌, arith}
 use Rattle.capn_trees.specs.Trees as tree
 use Rattle.capn_trees.specs.Trees.{Tree, Trees, Structs}
-use Rattle.capn_reading.specs.declared.referent.Content.{Content}
 use Rattle.capn_reading.specs.declared.referent.Referent.{Referent}
 use Rattle.capn_reading.specs.declared.referent.Referent.TheVariants as referent
 use Rattle.capn_reading.specs.declared.layout.Layout.{Layout}

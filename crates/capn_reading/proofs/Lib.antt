@@ -15,3 +15,4 @@ pub mod Spanned
 pub mod Steps
 pub mod Tables
 pub mod Uncounted
+pub mod UpTo

@@ -1,5 +1,5 @@
 -- What a place stands for, by the reading that led to it.
-use Rattle.std.proofs.Common.{◌≡◌, ℕ, zero, suc, ◌+◌, ◌<◌, ◌≤◌, Bool, true, false, eqb, ltb, List, take, drop, length, Option, Some, None, Result, Ok, refl, sym, ap, subst, ◌∙◌, arith}
+use Rattle.std.proofs.Common.{◌≡◌, ℕ, zero, suc, ◌+◌, ◌<◌, ◌≤◌, Bool, true, false, ltb, List, take, drop, Option, Some, None, Result, Ok, refl, sym, ap, subst, ◌∙◌, arith}
 use Rattle.capn_trees.specs.declared.faults.PayloadFault.{PayloadFault}
 use Rattle.capn_trees.specs.declared.faults.PayloadFault.TheVariants.{OutOfBounds}
 use Rattle.capn_reading.specs.declared.pointer.Pointer.{Pointer}
@@ -15,8 +15,7 @@ use Rattle.capn_reading.specs.Following.{◌>>=◌, visit, target, pad_words, pa
 use Rattle.capn_reading.specs.Layouts.{laid, weight}
 use Rattle.capn_trees.specs.Trees as tree
 use Rattle.capn_trees.specs.Trees.{Tree, Trees, pointer_at}
-use Rattle.capn_reading.specs.Reading.{Reading, pointers_at, structs_at, content_of, shallow, deep, reading, root_of}
-use Rattle.capn_trees.specs.Limits.{most_levels}
+use Rattle.capn_reading.specs.Reading.{Reading, pointers_at, structs_at, content_of, shallow, deep, reading}
 use Rattle.capn_reading.specs.Looking.{field, meaning, StandsFor, LeadsTo}
 use Rattle.capn_reading.proofs.Rooted.{bind_ok, passed, read_as, first_is}
 
@@ -69,14 +68,6 @@ reading_stands m caps (suc n) s i v t after e =
     let a = bind_ok (followed m caps s i v) (λ found. deep m (reading m caps n) found.0 found.1) (t, after) e in
     let f = followed_fresh m caps s i v a.0.0 a.0.1 a.1 in
     (a.0.0, f.0, f.1, record { levels = suc n; before = a.0.1; after = after; reads = a.2 })
-
--- the root stands for the tree
-pub root_stands : (m : List (List ℕ)) (caps : ℕ) (t : Tree) (after : ℕ) → root_of m caps ≡ Ok (t, after)
-    → (r : Referent) × (n : ℕ) × (followed m caps 0 0 0 ≡ Ok (r, n)) × StandsFor m caps r t
-unfolding root_of
-root_stands m caps t after e =
-    let p = passed (eqb (length (segment_of m 0)) 0) OutOfBounds (reading m caps most_levels 0 0 0) (t, after) e in
-    reading_stands m caps most_levels 0 0 0 t after p.1
 
 -- pointer n of a pointer section was read from its place
 pub pointers_read : (read : ℕ → ℕ → ℕ → Reading Tree) (s i count v : ℕ) (ts : Trees) (after n : ℕ) → pointers_at read s i count v ≡ Ok (ts, after) → n < count

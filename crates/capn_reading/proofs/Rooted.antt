@@ -1,13 +1,10 @@
--- Readings that did not fail, and what the root leads to.
-use Rattle.std.proofs.Common.{◌≡◌, ℕ, zero, suc, ◌<◌, Bool, true, false, cond, eqb, List, length, Result, Ok, Err, refl, sym, ap, subst, arith}
+-- Readings that did not fail.
+use Rattle.std.proofs.Common.{◌≡◌, ℕ, Bool, true, false, cond, List, Result, Ok, Err, refl, sym, ap, subst}
 use Rattle.std.specs.Prelude.{IsOk}
 use Rattle.capn_trees.specs.declared.faults.PayloadFault.{PayloadFault}
-use Rattle.capn_trees.specs.declared.faults.PayloadFault.TheVariants.{OutOfBounds}
-use Rattle.capn_reading.specs.Segments.{segment_of}
 use Rattle.capn_reading.specs.Following.{◌>>=◌}
 use Rattle.capn_trees.specs.Trees.{Tree}
-use Rattle.capn_reading.specs.Reading.{Reading, reading, root_of, message_of, tree_read}
-use Rattle.capn_trees.specs.Limits.{most_levels}
+use Rattle.capn_reading.specs.Reading.{Reading, root_of, message_of, tree_read}
 use Rattle.capn_reading.specs.Framing.{framing}
 
 -- the value of a step that did not fail
@@ -31,21 +28,10 @@ pub first_is : {A : Type 0} (a b : A) (m n : ℕ) → read_as a m ≡ read_as b 
 unfolding first_of
 first_is a b m n e = ap (first_of a) e
 
--- the tree of the root
-pub root_read : (m : List (List ℕ)) (caps : ℕ) → IsOk (root_of m caps) → (after : ℕ) × (root_of m caps ≡ Ok (tree_read (root_of m caps), after))
-root_read m caps ok = cases (root_of m caps) ok
-  where
-    cases : (r : Reading Tree) → IsOk r → (after : ℕ) × (r ≡ Ok (tree_read r, after))
-    cases (Ok x) ok = (x.1, refl)
-    cases (Err e) ok = absurd cc
-
-pub root_there : (m : List (List ℕ)) (caps : ℕ) → IsOk (root_of m caps) → 0 < length (segment_of m 0)
-unfolding root_of
-root_there m caps ok = cases (length (segment_of m 0)) ok
-  where
-    cases : (n : ℕ) → IsOk (cond (eqb n 0) (Err OutOfBounds) (reading m caps most_levels 0 0 0)) → 0 < n
-    cases zero h = absurd cc
-    cases (suc n) h = omega arith
+-- the tree of a reading that did not fail
+pub tree_read_is : (r : Reading Tree) → IsOk r → (after : ℕ) × (r ≡ Ok (tree_read r, after))
+tree_read_is (Ok x) ok = (x.1, refl)
+tree_read_is (Err e) ok = absurd cc
 
 abbrev refused : PayloadFault → Reading Tree
 refused e = Err e
@@ -63,11 +49,3 @@ unfolding message_of
 not_unframed bytes caps e ok is_framed =
     let same : message_of bytes caps ≡ Err e = ap (λ (f : Result (List (List ℕ)) PayloadFault). f >>= λ n. root_of n caps) (sym is_framed) in
     absurd (let no : IsOk (refused e) = subst (λ (r : Reading Tree). IsOk r) same ok in cc)
-
-pub root_is : (m : List (List ℕ)) (caps : ℕ) → IsOk (root_of m caps) → root_of m caps ≡ reading m caps most_levels 0 0 0
-unfolding root_of
-root_is m caps ok = cases (eqb (length (segment_of m 0)) 0) ok
-  where
-    cases : (b : Bool) → IsOk (cond b (Err OutOfBounds) (reading m caps most_levels 0 0 0)) → cond b (Err OutOfBounds) (reading m caps most_levels 0 0 0) ≡ reading m caps most_levels 0 0 0
-    cases true h = absurd cc
-    cases false h = refl

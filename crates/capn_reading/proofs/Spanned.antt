@@ -1,11 +1,12 @@
 -- What the index of a message says of its segments.
-use Rattle.std.proofs.Common.{◌≡◌, ℕ, zero, suc, ◌+◌, ◌*◌, ◌^◌, ◌<◌, ◌≤◌, List, [], ◌∷◌, length, take, drop, Option, Some, get_or, refl, ap, ◌∙◌, arith}
+use Rattle.std.proofs.Common.{◌≡◌, ℕ, zero, suc, ◌+◌, ◌*◌, ◌<◌, ◌≤◌, List, [], ◌∷◌, length, take, drop, Option, Some, get_or, refl, ap, ◌∙◌, arith}
 use Rattle.std.proofs.lemmas.Bool.{lt-ltb}
 use Rattle.std.proofs.lemmas.List.{drop-drop, get_or-map, get_or-take, length-map, length-take}
 use Rattle.byteorder.specs.Endian.{little_number}
 use Rattle.capn_reading.specs.declared.span.Span.{Span}
 use Rattle.capn_reading.specs.Segments.{segment_of, size_of, word_at, words, little_numbers}
-use Rattle.capn_reading.specs.Index.{span_words, spanned, EndBy, IsIndex}
+use Rattle.capn_reading.specs.Following.{most_counted}
+use Rattle.capn_reading.specs.Index.{span_words, spanned, LieBetween, IsIndex}
 
 -- a size that is there
 abbrev some : ℕ → Option ℕ
@@ -54,11 +55,11 @@ word-spanned bytes n k i spans d le lt inside =
     ∙ get_or-words span.size i (drop (8 * span.start) bytes) below
     ∙ ap (little_number 8) (drop-drop (8 * i) (8 * span.start) bytes ∙ ap (λ (j : ℕ). drop j bytes) place)
 
-pub IsIndex-made : (bytes : List ℕ) (n last : ℕ) (spans : List Span) → n ≤ length spans → 8 * last ≤ length bytes → last < 2 ^ 17 → EndBy n last spans → IsIndex bytes n spans
-IsIndex-made bytes n last spans few within small ends = record {
+pub IsIndex-made : (bytes : List ℕ) (n first last : ℕ) (spans : List Span) → n ≤ length spans → 8 * last ≤ length bytes → last ≤ first + most_counted → LieBetween first last n spans → IsIndex bytes n spans
+IsIndex-made bytes n first last spans few within small ends = record {
   few = few;
-  inside = λ k d lt. let h = ends k d lt in omega arith;
-  short = λ k d lt. let h = ends k d lt in omega arith;
+  inside = λ k d lt. let h = ends k d lt in omega (arith, h.0, h.1);
+  short = λ k d lt. let h = ends k d lt in omega (arith, h.0, h.1);
 }
 
 pub size_of-spanned : (bytes : List ℕ) (n k : ℕ) (spans : List Span) (d : Span) → n ≤ length spans → k < n

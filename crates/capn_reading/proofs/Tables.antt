@@ -6,7 +6,7 @@ use Rattle.std.proofs.lemmas.List.Sums.{sum_by-cons}
 use Rattle.byteorder.specs.Endian.{little_number}
 use Rattle.capn_reading.specs.declared.span.Span.{Span}
 use Rattle.capn_reading.specs.Segments.{words, numbers, little_numbers, segments_in}
-use Rattle.capn_reading.specs.Index.{span_words, spanned, EndBy}
+use Rattle.capn_reading.specs.Index.{span_words, spanned, LieBetween}
 
 pub numbers_next : (n k size : ℕ) (bytes : List ℕ) → k < n → size ≡ little_number 4 (drop (4 + 4 * k) bytes)
     → numbers (n - k) (drop (4 + 4 * k) bytes) ≡ size ∷ numbers (n - (k + 1)) (drop (4 + 4 * (k + 1)) bytes)
@@ -34,12 +34,12 @@ pub spanned_next : (bytes : List ℕ) (k : ℕ) (spans : List Span) (span : Span
     → spanned bytes (k + 1) (set spans k span) ≡ spanned bytes k spans ++ span_words bytes span ∷ []
 spanned_next bytes k spans span lt = ap (map (span_words bytes)) (take_more_set spans k span lt) ∙ map_push (span_words bytes) (take k spans) span
 
-pub EndBy_next : (k last next : ℕ) (spans : List Span) (span : Span) → k < length spans → last ≤ next → span.start + span.size ≤ next
-    → EndBy k last spans → EndBy (k + 1) next (set spans k span)
-EndBy_next k last next spans span lt le ends before j d below =
+pub LieBetween_next : (first k last next : ℕ) (spans : List Span) (span : Span) → k < length spans → last ≤ next → first ≤ span.start → span.start + span.size ≤ next
+    → LieBetween first last k spans → LieBetween first next (k + 1) (set spans k span)
+LieBetween_next first k last next spans span lt le begins ends before j d below =
     elim (cases_lt j k) [
-      | inl less ↦ let other : j ≡ k → ⊥ = λ e. omega arith in rw (get_or-set_other spans k j span d other) (let h = before j d less in omega arith)
-      | inr more ↦ let same : j ≡ k = omega arith in rw same (rw (get_or-set_same spans k span d lt) ends)
+      | inl less ↦ let other : j ≡ k → ⊥ = λ e. omega arith in rw (get_or-set_other spans k j span d other) (let h = before j d less in (h.0, omega (arith, h.1, le)))
+      | inr more ↦ let same : j ≡ k = omega arith in rw same (rw (get_or-set_same spans k span d lt) (begins, ends))
     ]
 
 -- what the table says from its number i on

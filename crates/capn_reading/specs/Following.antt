@@ -9,16 +9,23 @@ use Rattle.capn_reading.specs.declared.referent.Referent.{Referent}
 use Rattle.capn_reading.specs.declared.referent.Referent.TheVariants as referent
 use Rattle.capn_reading.specs.Pointers.{decoded}
 use Rattle.capn_reading.specs.Segments.{word_at, size_of}
-use Rattle.capn_trees.specs.Limits.{most_visited}
 
 infixl 10 ◌>>=◌
 abbrev pub ◌>>=◌ : {A B : Type 0} → Result A PayloadFault → (A → Result B PayloadFault) → Result B PayloadFault
 (Ok x) >>= f = f x
 (Err e) >>= f = Err e
 
--- the visited words after so many more
+-- Visited words are counted up to this number. A reader that may visit fewer counts the others before it begins.
+abbrev pub most_counted : ℕ
+most_counted = 4194304
+
+-- what is counted before the first word, where so many words may be visited
+abbrev pub counted_before : ℕ → ℕ
+counted_before words = most_counted - words
+
+-- the counted words after so many more
 abbrev pub visit : ℕ → ℕ → Result ℕ PayloadFault
-visit visited more = if nat_lt most_visited (visited + more) then Err Traversal else Ok (visited + more)
+visit visited more = if nat_lt most_counted (visited + more) then Err Traversal else Ok (visited + more)
 
 -- where the content of a pointer at word i begins, unless that is before the segment. The offset counts
 -- from the pointer's end, as a 30-bit number in two's complement.

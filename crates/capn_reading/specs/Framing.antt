@@ -22,21 +22,25 @@ table_words n = (n + 2) / 2
 abbrev pub is_padded : ℕ → List ℕ → Bool
 is_padded n bytes = if n % 2 == 0 then little_number 4 (drop (4 + 4 * n) bytes) == 0 else true
 
--- the checks on n segments of these sizes, in their order
-abbrev pub framed_as : ℕ → List ℕ → List ℕ → Result (List (List ℕ)) PayloadFault
-framed_as n ns bytes =
-    if nat_lt most_words (sum ns) then Err TooLarge
+-- the checks on n segments of these sizes, in their order, where a message may have so many words
+abbrev pub framed_as : ℕ → ℕ → List ℕ → List ℕ → Result (List (List ℕ)) PayloadFault
+framed_as most n ns bytes =
+    if nat_lt most (sum ns) then Err TooLarge
     else if nat_lt (length bytes) (8 * (table_words n + sum ns)) then Err Short
     else if nat_lt (8 * (table_words n + sum ns)) (length bytes) || not (is_padded n bytes) then Err Trailing
     else Ok (segments_in ns (drop (8 * table_words n) bytes))
 
--- the segments of a message, or the first check that fails
-unfoldable pub framing : List ℕ → Result (List (List ℕ)) PayloadFault
-framing bytes =
+-- the segments of a message of at most so many words, or the first check that fails
+abbrev pub framing_within : ℕ → List ℕ → Result (List (List ℕ)) PayloadFault
+framing_within most bytes =
     if nat_lt (length bytes) 4 then Err Short
     else if nat_lt 16 (segment_count bytes) then Err TooManySegments
     else if nat_lt (length bytes) (8 * table_words (segment_count bytes)) then Err Short
-    else framed_as (segment_count bytes) (sizes bytes) bytes
+    else framed_as most (segment_count bytes) (sizes bytes) bytes
+
+-- the same within the limit of docs/encoding.md
+unfoldable pub framing : List ℕ → Result (List (List ℕ)) PayloadFault
+framing bytes = framing_within most_words bytes
 
 -- all segments, word by word
 abbrev pub body_of : List (List ℕ) → List ℕ

@@ -1,5 +1,5 @@
 -- Where a content lies, and of what it consists: "Structs" and "Lists" of the encoding specification.
-use Rattle.std.specs.Prelude.{ℕ, ◌+◌, ◌*◌, ◌^◌, ◌≤◌, ◌==◌, if◌then◌else◌, nat_lt, List, length, Option, Some, None, Result, Ok, Err}
+use Rattle.std.specs.Prelude.{ℕ, ◌+◌, ◌*◌, ◌≤◌, ◌==◌, if◌then◌else◌, nat_lt, List, length, Option, Some, None, Result, Ok, Err}
 use Rattle.capn_trees.specs.declared.faults.PayloadFault.{PayloadFault}
 use Rattle.capn_trees.specs.declared.faults.PayloadFault.TheVariants.{OutOfBounds, BadTag}
 use Rattle.capn_reading.specs.declared.pointer.Shape.{Shape}
@@ -10,7 +10,7 @@ use Rattle.capn_reading.specs.declared.layout.Layout.{Layout}
 use Rattle.capn_reading.specs.declared.layout.Layout.TheVariants as layout
 use Rattle.capn_reading.specs.Pointers.{words_of, tag_of}
 use Rattle.capn_reading.specs.Segments.{segment_of, word_at}
-use Rattle.capn_reading.specs.Following.{◌>>=◌}
+use Rattle.capn_reading.specs.Following.{◌>>=◌, most_counted}
 
 -- the first word of a content of so many words, which lies in a segment of that size
 abbrev pub placed : Option ℕ → ℕ → ℕ → Result ℕ PayloadFault
@@ -47,7 +47,7 @@ weight (layout.Structs start count data_words pointer_words words) =
 -- the words before this one lie in a segment of that size, and in no more words than a message has
 pub record EndsIn (size end : ℕ) : Type 0 where
   pub inside : end ≤ size
-  pub small : end ≤ 2 ^ 17
+  pub small : end ≤ most_counted
 
 -- a content, behind its tag, lies in a segment of that size
 abbrev pub IsWithin : ℕ → Layout → Type 0

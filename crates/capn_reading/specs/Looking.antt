@@ -5,7 +5,8 @@ use Rattle.capn_reading.specs.declared.referent.Referent.{Referent}
 use Rattle.capn_trees.specs.Trees as tree
 use Rattle.capn_trees.specs.Trees.{Tree, null, struct, list, capability, Elements, Structs, no_structs, struct_of, trees_count, structs_count, pointer_at}
 use Rattle.capn_reading.specs.Following.{followed}
-use Rattle.capn_reading.specs.Reading.{Reading, shallow, deep, reading}
+use Rattle.capn_reading.specs.Reading.{Reading, shallow, deep, reading, root_up_to}
+use Rattle.capn_trees.specs.Limits.{most_levels}
 use Rattle.capn_reading.specs.declared.place.Kind.{Kind}
 use Rattle.capn_reading.specs.declared.place.Kind.TheVariants as kind
 
@@ -13,6 +14,16 @@ use Rattle.capn_reading.specs.declared.place.Kind.TheVariants as kind
 pub record Viewed : Type 0 where
   pub message : List (List ℕ)
   pub caps : ℕ
+
+-- a message of these segments, with so many capabilities, of which so many words may be visited
+pub record Limited : Type 0 where
+  pub message : List (List ℕ)
+  pub caps : ℕ
+  pub words : ℕ
+
+-- what it says
+abbrev pub said_within : Limited → Reading Tree
+said_within d = root_up_to d.words d.message d.caps most_levels
 
 -- a place in one
 pub record Spot : Type 0 where

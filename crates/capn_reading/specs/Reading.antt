@@ -9,11 +9,11 @@ use Rattle.capn_reading.specs.declared.layout.Layout.{Layout}
 use Rattle.capn_reading.specs.declared.layout.Layout.TheVariants as layout
 use Rattle.capn_trees.specs.Widths.{bits_of}
 use Rattle.capn_reading.specs.Segments.{segment_of}
-use Rattle.capn_reading.specs.Following.{◌>>=◌, visit, followed}
+use Rattle.capn_reading.specs.Following.{◌>>=◌, counted_before, visit, followed}
 use Rattle.capn_reading.specs.Layouts.{laid, weight}
-use Rattle.capn_reading.specs.Framing.{framing}
+use Rattle.capn_reading.specs.Framing.{framing, framing_within}
 use Rattle.capn_trees.specs.Trees.{Tree, null, struct, list, capability, Trees, no_trees, tree, packed, pointers, structs, Structs, no_structs, struct_of}
-use Rattle.capn_trees.specs.Limits.{most_levels}
+use Rattle.capn_trees.specs.Limits.{most_levels, most_visited}
 
 -- what is read, with the visited words after it
 abbrev pub Reading : Type 0 → Type 0
@@ -90,11 +90,20 @@ Reads read = (visited : ℕ) × IsOk (read visited)
 abbrev pub ReadsTo : {X : Type 0} → (ℕ → Reading X) → X → Type 0
 ReadsTo read x = (visited : ℕ) → IsOk (read visited) → (after : ℕ) × (read visited ≡ Ok (x, after))
 
--- what the root pointer leads to. It is the first word of segment 0.
-unfoldable pub root_of : List (List ℕ) → ℕ → Reading Tree
-root_of m caps =
+-- what the root pointer leads to, where so many words may be visited, and contents nest at most so deep. It is the first
+-- word of segment 0.
+abbrev pub root_up_to : ℕ → List (List ℕ) → ℕ → ℕ → Reading Tree
+root_up_to words m caps levels =
     if length (segment_of m 0) == 0 then Err OutOfBounds
-    else reading m caps most_levels 0 0 0
+    else reading m caps levels 0 0 (counted_before words)
+
+-- what a message of at most so many words says, of which at most so many are visited
+abbrev pub message_up_to : ℕ → List ℕ → ℕ → Reading Tree
+message_up_to words bytes caps = framing_within words bytes >>= λ m. root_up_to words m caps most_levels
+
+-- what the root pointer leads to, within the limits of docs/encoding.md
+unfoldable pub root_of : List (List ℕ) → ℕ → Reading Tree
+root_of m caps = root_up_to most_visited m caps most_levels
 
 -- what the bytes of a message say, for so many capabilities
 unfoldable pub message_of : List ℕ → ℕ → Reading Tree
@@ -102,14 +111,12 @@ message_of bytes caps = framing bytes >>= λ m. root_of m caps
 
 -- the same, where contents nest at most so deep
 unfoldable pub root_within : List (List ℕ) → ℕ → ℕ → Reading Tree
-root_within m caps levels =
-    if length (segment_of m 0) == 0 then Err OutOfBounds
-    else reading m caps levels 0 0 0
+root_within m caps levels = root_up_to most_visited m caps levels
 
 unfoldable pub message_within : List ℕ → ℕ → ℕ → Reading Tree
 message_within bytes caps levels = framing bytes >>= λ m. root_within m caps levels
 
--- the visited words alone
+-- the counted words alone
 abbrev pub visited_of : {X : Type 0} → Reading X → Result ℕ PayloadFault
 visited_of (Ok x) = Ok x.1
 visited_of (Err e) = Err e

@@ -112,7 +112,7 @@ pub fn build_tree(alloc: Global, message: &Message, caps: u32) -> Result<Tree, A
 
 /// The pointer at a place, which reads to a tree. The words that reading visits were counted when the message was read.
 #[cycle(build)]
-fn build_pointer(
+pub fn build_pointer(
     alloc: Global,
     message: &Message,
     caps: u32,

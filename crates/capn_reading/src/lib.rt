@@ -3,6 +3,7 @@
 #![tactic(auto)]
 
 mod build;
+mod document;
 mod layout;
 mod message;
 mod numbers;
@@ -15,7 +16,8 @@ mod view;
 mod walk;
 
 pub use build::build_tree;
+pub use document::Document;
 pub use message::Message;
 pub use place::{Kind, Place};
 pub use view::View;
-pub use walk::{visited_within, visited_words};
+pub use walk::{MOST_COUNTED, visited_within, visited_words};

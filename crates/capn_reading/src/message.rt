@@ -2,7 +2,8 @@
 ghost use Rattle.std.specs.Prelude.{◌≡◌, ◌+◌, ◌*◌, ◌^◌, ◌≤◌, ◌<◌, ◌/◌, length, drop, nat_lt, IfSome};
 ghost use Rattle.capn_reading.specs.Segments.{segment_of, word_at, size_of};
 ghost use Rattle.capn_reading.specs.Reading.{elements};
-ghost use Rattle.capn_reading.specs.Framing.{framing, table_words, is_padded};
+ghost use Rattle.capn_reading.specs.Framing.{framing, framing_within, table_words, is_padded};
+ghost use Rattle.capn_reading.specs.Following.{most_counted};
 
 use crate::numbers::{u32_at, u64_at};
 use crate::span::{Span, spans_of};
@@ -41,9 +42,18 @@ fn has_zero_padding(bytes: &[u8], count: usize) -> bool
 
 impl<'a> Message<'a> {
     /// Finds the segments, or the first check of the framing that fails.
-    #[tactic(auto, unfolding(crate::specs::Framing::framing, crate::specs::Framing::segment_count, crate::specs::Framing::sizes))]
+    #[tactic(auto, unfolding(crate::specs::Framing::framing))]
     pub fn parse(bytes: &'a [u8]) -> Result<Message<'a>, PayloadFault>
         ensures { result ≡ framing bytes.now }
+    {
+        Message::parse_within(bytes, MOST_WORDS as u32)
+    }
+
+    /// The same where all segments may have so many words together.
+    #[tactic(auto, unfolding(crate::specs::Framing::segment_count, crate::specs::Framing::sizes))]
+    pub fn parse_within(bytes: &'a [u8], words: u32) -> Result<Message<'a>, PayloadFault>
+        requires { words ≤ most_counted }
+        ensures { result ≡ framing_within words bytes.now }
     {
         if bytes.len() < 4 {
             return Err(PayloadFault::Short);
@@ -56,7 +66,7 @@ impl<'a> Message<'a> {
             return Err(PayloadFault::Short);
         }
         let (spans, end) = spans_of(bytes, count);
-        if MOST_WORDS < end - ((count + 2) / 2) as u64 {
+        if u64::from(words) < end - ((count + 2) / 2) as u64 {
             return Err(PayloadFault::TooLarge);
         }
         if (bytes.len() as u64) < 8 * end {
@@ -82,7 +92,7 @@ impl<'a> Message<'a> {
     /// The size of a segment in words, where there is such a segment.
     pub fn size(&self, segment: u32) -> Option<u32>
         ensures size { result ≡ size_of self.now segment }
-        ensures short { IfSome result (λ n. n < 2 ^ 17) }
+        ensures short { IfSome result (λ n. n ≤ most_counted) }
     {
         if segment as usize >= self.count {
             return None;

@@ -5,8 +5,8 @@ ghost use Rattle.capn_reading.specs.Following.{visit, target, single_pad, double
 
 use crate::message::Message;
 use crate::pointer::{Pointer, Shape};
+use crate::walk::MOST_COUNTED;
 use capn_trees::PayloadFault;
-use capn_trees::limits::MOST_VISITED;
 
 /// A struct or a list, somewhere in a segment.
 #[derive(Clone, Copy)]
@@ -31,7 +31,7 @@ pub fn visited_after(visited: u32, more: u64) -> Result<u32, PayloadFault>
     ensures { result ≡ visit visited more }
 {
     let total = u64::from(visited) + more;
-    if MOST_VISITED < total {
+    if u64::from(MOST_COUNTED) < total {
         return Err(PayloadFault::Traversal);
     }
     Ok(total as u32)

@@ -2,7 +2,7 @@
 ghost use Rattle.std.specs.Prelude.{◌≡◌, ◌+◌, ◌*◌, ◌^◌, ◌<◌, ◌≤◌, length, drop, sum};
 ghost use Rattle.capn_reading.specs.Segments.{numbers, segments_in};
 ghost use Rattle.capn_reading.specs.Framing.{table_words};
-ghost use Rattle.capn_reading.specs.Index.{spanned, EndBy};
+ghost use Rattle.capn_reading.specs.Index.{spanned, LieBetween};
 
 use crate::numbers::u32_at;
 use capn_trees::limits::MOST_SEGMENTS;
@@ -23,7 +23,7 @@ pub fn spans_of(bytes: &[u8], count: usize) -> ([Span; MOST_SEGMENTS], u64)
     ensures end { result.1 ≡ table_words count + sum (numbers count (drop 4 bytes.now)) }
     ensures places { length result.0 ≡ 16 }
     ensures small { result.1 < 2 ^ 40 }
-    ensures inside { EndBy count result.1 result.0 }
+    ensures inside { LieBetween (table_words count) result.1 count result.0 }
 {
     let mut spans = [Span { start: 0, size: 0 }; MOST_SEGMENTS];
     let mut start = (count as u64 + 2) / 2;

@@ -2,15 +2,21 @@
 ghost use Rattle.std.specs.Prelude.{◌≡◌, ◌+◌, ◌*◌, ◌^◌, ◌≤◌, ◌<◌, length};
 ghost use Rattle.capn_reading.specs.Segments.{segment_of};
 ghost use Rattle.capn_reading.specs.Layouts.{EndsIn, IsWithin};
-ghost use Rattle.capn_reading.specs.Reading.{pointers_at, structs_at, content_of, reading, message_of, visited_of, message_within};
+ghost use Rattle.capn_reading.specs.Reading.{pointers_at, structs_at, content_of, reading, message_of, visited_of, message_within, root_up_to};
+ghost use Rattle.capn_reading.specs.Following.{most_counted};
 
 use crate::layout::{Layout, Row, lay_out};
 use crate::message::Message;
 use crate::referent::{Referent, follow, visited_after};
 use capn_trees::PayloadFault;
-use capn_trees::limits::MOST_LEVELS;
+use capn_trees::limits::{MOST_LEVELS, MOST_VISITED};
 
-/// The visited words of a message, or the first check that fails.
+/// Visited words are counted up to here, so no limit on them is larger. Where the limit is smaller, the count begins at
+/// the difference.
+pub const MOST_COUNTED: u32 = 4_194_304;
+
+/// Where the count of visited words ends in a message, or the first check that fails. The limit is that of
+/// docs/encoding.md, so the count begins at `MOST_COUNTED - MOST_VISITED`.
 #[tactic(auto, unfolding(crate::specs::Reading::message_of, crate::specs::Reading::root_of, crate::specs::Reading::message_within, crate::specs::Reading::root_within))]
 pub fn visited_words(bytes: &[u8], caps: u32) -> Result<u32, PayloadFault>
     ensures { result ≡ visited_of (message_of bytes.now caps) }
@@ -18,16 +24,25 @@ pub fn visited_words(bytes: &[u8], caps: u32) -> Result<u32, PayloadFault>
     visited_within(bytes, caps, MOST_LEVELS)
 }
 
-/// The visited words of a message whose contents nest at most so deep, or the first check that fails.
+/// The same where contents nest at most so deep.
 #[tactic(auto, unfolding(crate::specs::Reading::message_within, crate::specs::Reading::root_within))]
 pub fn visited_within(bytes: &[u8], caps: u32, levels: u32) -> Result<u32, PayloadFault>
     ensures { result ≡ visited_of (message_within bytes.now caps levels) }
 {
     let message = Message::parse(bytes)?;
+    walk_root(&message, caps, levels, MOST_VISITED as u32)
+}
+
+/// Where the count ends in all that the root pointer leads to, if so many words may be visited, and contents nest at most
+/// so deep.
+pub fn walk_root(message: &Message, caps: u32, levels: u32, words: u32) -> Result<u32, PayloadFault>
+    requires { words ≤ most_counted }
+    ensures { result ≡ visited_of (root_up_to words message.now caps levels) }
+{
     if message.size(0).unwrap_or(0) == 0 {
         return Err(PayloadFault::OutOfBounds);
     }
-    walk_pointer(&message, caps, 0, 0, levels, 0)
+    walk_pointer(message, caps, 0, 0, levels, MOST_COUNTED - words)
 }
 
 /// The pointer at a place, with contents nested at most `levels` deep.

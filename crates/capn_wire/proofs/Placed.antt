@@ -15,8 +15,7 @@ use Rattle.capn_reading.specs.declared.layout.Layout.{Layout}
 use Rattle.capn_reading.specs.declared.layout.Layout.TheVariants as layout
 use Rattle.capn_trees.specs.Widths.{AreOf, bits_of, packed_size}
 use Rattle.capn_reading.specs.Pointers.{decoded, tag_of}
-use Rattle.capn_reading.specs.Following.{◌>>=◌, visit, target, leads, followed}
-use Rattle.capn_trees.specs.Limits.{most_visited}
+use Rattle.capn_reading.specs.Following.{◌>>=◌, most_counted, visit, target, leads, followed}
 use Rattle.capn_reading.specs.Layouts.{laid, weight, tagged}
 use Rattle.capn_trees.specs.Trees as tree
 use Rattle.capn_trees.specs.Trees.{Tree, Trees, Elements, Structs, trees_count, structs_count}
@@ -109,12 +108,12 @@ module _ (seg : List ℕ) (caps : ℕ) (few : length seg ≤ 65536) where
       ∙ ap (λ (p : Pointer). leads m caps 0 at p v) is_other
       ∙ rw below refl
 
-  visited_more : (v more : ℕ) → v + more ≤ 65536 → visit v more ≡ Ok (v + more)
-  visited_more v more le = let ok : ltb most_visited (v + more) ≡ false = le-ltb _ _ le in rw ok refl
+  visited_more : (v more : ℕ) → v + more ≤ 4194304 → visit v more ≡ Ok (v + more)
+  visited_more v more le = let ok : ltb most_counted (v + more) ≡ false = le-ltb _ _ le in rw ok refl
 
   -- the content of a pointer, where all checks pass
   content_reads : (levels at start v final : ℕ) (s : Shape) (place : Layout) (t : Tree) → levels ≡ suc (levels - 1) → followed m caps 0 at v ≡ Ok (content_at start s, v)
-      → laid m (record { segment = 0; start = Some start; shape = s }) ≡ Ok place → v + weight place ≤ 65536
+      → laid m (record { segment = 0; start = Some start; shape = s }) ≡ Ok place → v + weight place ≤ 4194304
       → content_of m (reading m caps (levels - 1)) 0 place (v + weight place) ≡ Ok (t, final) → reading m caps levels 0 at v ≡ Ok (t, final)
   content_reads levels at start v final s place t more found is_laid le content =
       sym (deep_content m caps (levels - 1) levels 0 at v (record { segment = 0; start = Some start; shape = s }) v (sym found) more place (v + weight place) (sym is_laid) (sym (visited_more v (weight place) le))) ∙ content
@@ -140,7 +139,7 @@ module _ (seg : List ℕ) (caps : ℕ) (few : length seg ≤ 65536) where
       rw ok (ap (tagged start (n * (d + p))) is_tag ∙ rw enough refl)
 
   struct_at : (levels at start v d p final : ℕ) (ds : List ℕ) (ts : Trees) → levels ≡ suc (levels - 1) → followed m caps 0 at v ≡ Ok (content_at start (shape.Struct d p), v)
-      → start + (d + p) ≤ length seg → v + (d + p) ≤ 65536 → take d (drop start seg) ≡ ds
+      → start + (d + p) ≤ length seg → v + (d + p) ≤ 4194304 → take d (drop start seg) ≡ ds
       → pointers_at (reading m caps (levels - 1)) 0 (start + d) p (v + (d + p)) ≡ Ok (ts, final) → reading m caps levels 0 at v ≡ Ok (tree.struct ds ts, final)
   struct_at levels at start v d p final ds ts more found inside le is_ds read =
       content_reads levels at start v final (shape.Struct d p) (layout.Struct start d p) (tree.struct ds ts) more found (laid_struct start d p inside) le
@@ -167,7 +166,7 @@ module _ (seg : List ℕ) (caps : ℕ) (few : length seg ≤ 65536) where
   same_read x r a b e same = e ∙ ap (λ (n : ℕ). read_as x n) same
 
   struct_case : (levels at next v : ℕ) (ds : List ℕ) (ts : Trees) → is_too_deep (record { levels = levels; what = tree.struct ds ts }) ≡ false → is_too_wide (tree.struct ds ts) ≡ false
-      → v + (length ds + trees_count ts) ≤ 65536 → at < next → get_or seg at 0 ≡ struct_pointer at next (length ds) (trees_count ts) → Has seg next ds → next + (length ds + trees_count ts) ≤ length seg
+      → v + (length ds + trees_count ts) ≤ 4194304 → at < next → get_or seg at 0 ≡ struct_pointer at next (length ds) (trees_count ts) → Has seg next ds → next + (length ds + trees_count ts) ≤ length seg
       → (final : ℕ) → pointers_at (reading m caps (levels - 1)) 0 (next + length ds) (trees_count ts) (v + (length ds + trees_count ts)) ≡ Ok (ts, final)
       → reading m caps levels 0 at v ≡ Ok (tree.struct ds ts, final)
   unfolding pointers_at
@@ -180,7 +179,7 @@ module _ (seg : List ℕ) (caps : ℕ) (few : length seg ≤ 65536) where
     where
       go : (d p : ℕ) (none : Bool) → eqb (d + p) 0 ≡ none → levels ≡ suc (levels - 1) → d ≤ 65535 → p ≤ 65535
           → get_or seg at 0 ≡ cond none (struct_word (2 ^ 30 - 1) 0 0) (struct_word (offset_of at next) d p)
-          → take d (drop next seg) ≡ ds → v + (d + p) ≤ 65536 → next + (d + p) ≤ length seg
+          → take d (drop next seg) ≡ ds → v + (d + p) ≤ 4194304 → next + (d + p) ≤ length seg
           → pointers_at (reading m caps (levels - 1)) 0 (next + d) p (v + (d + p)) ≡ Ok (ts, final) → reading m caps levels 0 at v ≡ Ok (tree.struct ds ts, final)
       go d p false e more nd np is_w is_ds le inside read =
           let some = eqb-false (d + p) 0 e in
@@ -198,10 +197,10 @@ module _ (seg : List ℕ) (caps : ℕ) (few : length seg ≤ 65536) where
   abbrev Packed : ℕ → ℕ → ℕ → ℕ → ℕ → List ℕ → Type 0
   Packed levels at next v b xs =
       AreOf b xs → is_too_deep (record { levels = levels; what = tree.list (tree.packed b xs) }) ≡ false → is_too_wide (tree.list (tree.packed b xs)) ≡ false
-      → v + packed_size b (length xs) ≤ 65536 → at < next → get_or seg at 0 ≡ list_word (offset_of at next) (size_number b) (length xs) → Has seg next (packed_words b (packed_size b (length xs)) xs)
+      → v + packed_size b (length xs) ≤ 4194304 → at < next → get_or seg at 0 ≡ list_word (offset_of at next) (size_number b) (length xs) → Has seg next (packed_words b (packed_size b (length xs)) xs)
       → reading m caps levels 0 at v ≡ Ok (tree.list (tree.packed b xs), v + packed_size b (length xs))
 
-  short_list : (w : Width) (xs : List ℕ) → is_too_wide (tree.list (tree.packed (bits_of w) xs)) ≡ false → packed_size (bits_of w) (length xs) ≤ 65536 → length xs < 2 ^ 29
+  short_list : (w : Width) (xs : List ℕ) → is_too_wide (tree.list (tree.packed (bits_of w) xs)) ≡ false → packed_size (bits_of w) (length xs) ≤ 4194304 → length xs < 2 ^ 29
   short_list width.Void xs narrow le = let n = ltb-false 536870911 (length xs) narrow in omega arith
   short_list width.Bit xs narrow le = omega arith
   short_list width.Byte xs narrow le = omega arith
@@ -248,7 +247,7 @@ module _ (seg : List ℕ) (caps : ℕ) (few : length seg ≤ 65536) where
       ∙ ap (λ (r : Reading Structs). r >>= λ y. read_as (tree.struct_of (take d (drop at seg)) ts y.0) y.1) rest
       ∙ ap (λ (l : List ℕ). read_as (tree.struct_of l ts ss) final) is_ws
 
-  pointers_case : (levels at next v count : ℕ) (ts : Trees) → is_too_deep (record { levels = levels; what = tree.list (tree.pointers ts) }) ≡ false → v + count ≤ 65536 → at < next
+  pointers_case : (levels at next v count : ℕ) (ts : Trees) → is_too_deep (record { levels = levels; what = tree.list (tree.pointers ts) }) ≡ false → v + count ≤ 4194304 → at < next
       → get_or seg at 0 ≡ list_word (offset_of at next) 6 count → next + count ≤ length seg → (final : ℕ) → pointers_at (reading m caps (levels - 1)) 0 next count (v + count) ≡ Ok (ts, final)
       → reading m caps levels 0 at v ≡ Ok (tree.list (tree.pointers ts), final)
   pointers_case levels at next v count ts shallow le ahead is_w inside final read =
@@ -259,25 +258,25 @@ module _ (seg : List ℕ) (caps : ℕ) (few : length seg ≤ 65536) where
       (pointers_is m (reading m caps (levels - 1)) 0 (v + count) next count ts final read)
 
   structs_case : (levels at next v n d p : ℕ) (ss : Structs) → is_too_deep (record { levels = levels; what = tree.list (tree.structs d p ss) }) ≡ false → d < 2 ^ 16 → p < 2 ^ 16
-      → v + (n * (d + p) + 1 + cond (eqb (d + p) 0) n 0) ≤ 65536 → at < next
+      → v + (n * (d + p) + 1 + cond (eqb (d + p) 0) n 0) ≤ 4194304 → at < next
       → get_or seg at 0 ≡ list_word (offset_of at next) 7 (n * (d + p)) → get_or seg next 0 ≡ struct_word n d p → next + (n * (d + p) + 1) ≤ length seg
       → (final : ℕ) → structs_at m (reading m caps (levels - 1)) 0 d p (next + 1) n (v + (n * (d + p) + 1 + cond (eqb (d + p) 0) n 0)) ≡ Ok (ss, final)
       → reading m caps levels 0 at v ≡ Ok (tree.list (tree.structs d p ss), final)
   structs_case levels at next v n d p ss shallow fd fp le ahead is_w is_tag inside final read =
       let more = levels_left (tree.list (tree.structs d p ss)) levels refl shallow in
-      let few_structs : n ≤ 65536 = counted (d + p) le in
+      let few_structs : n ≤ 4194304 = counted (d + p) le in
       content_reads levels at next v final (shape.Composite (n * (d + p))) (layout.Structs (next + 1) n d p (n * (d + p))) (tree.list (tree.structs d p ss)) more
       (content_follows at (list_word (offset_of at next) 7 (n * (d + p))) (offset_of at next) next v (shape.Composite (n * (d + p))) is_w (decoded_structs (offset_of at next) (n * (d + p)) (omega arith) (omega arith)) (target_ahead at next ahead (omega arith)))
       (laid_structs next n d p inside (ap tag_of is_tag ∙ tag_again n d p (omega arith) fd fp)) le
       (structs_is m (reading m caps (levels - 1)) 0 (v + (n * (d + p) + 1 + cond (eqb (d + p) 0) n 0)) (next + 1) n d p (n * (d + p)) ss final read)
     where
-      counted : (k : ℕ) → v + (n * k + 1 + cond (eqb k 0) n 0) ≤ 65536 → n ≤ 65536
+      counted : (k : ℕ) → v + (n * k + 1 + cond (eqb k 0) n 0) ≤ 4194304 → n ≤ 4194304
       counted zero h = omega arith
       counted (suc k) h = let split : n * suc k ≡ n * k + n = omega arith in omega (arith, split, h)
 
   mutual
     -- a pointer to a tree is read as that tree
-    pub reads : (t : Tree) (levels at next v : ℕ) → Fits t → AreGood caps (parts t levels) → v + more_of (parts t levels) ≤ 65536 → at < next
+    pub reads : (t : Tree) (levels at next v : ℕ) → Fits t → AreGood caps (parts t levels) → v + more_of (parts t levels) ≤ 4194304 → at < next
         → get_or seg at 0 ≡ (placed t at next).0 → Has seg next (placed t at next).1 → reading m caps levels 0 at v ≡ Ok (t, v + more_of (parts t levels))
     reads tree.null levels at next v fits good le ahead is_w has =
         same_read tree.null (reading m caps levels 0 at v) v (v + 0) (reading_null m caps levels 0 at v v (sym (null_follows at v is_w))) (omega arith)
@@ -297,7 +296,7 @@ module _ (seg : List ℕ) (caps : ℕ) (few : length seg ≤ 65536) where
         (same_read ts (pointers_at (reading m caps (levels - 1)) 0 (next + d) p (v + (d + p))) (v + (d + p) + more_of (parts_of_all ts (levels - 1))) (v + ((d + p) + more_of (parts_of_all ts (levels - 1)))) rest (omega arith))
     reads (tree.list es) levels at next v fits good le ahead is_w has = reads_list es levels at next v fits good.0 good.1 le ahead is_w has
 
-    pub reads_all : (ts : Trees) (levels at next v : ℕ) → FitsAll ts → AreGood caps (parts_of_all ts levels) → v + more_of (parts_of_all ts levels) ≤ 65536 → at + trees_count ts ≤ next
+    pub reads_all : (ts : Trees) (levels at next v : ℕ) → FitsAll ts → AreGood caps (parts_of_all ts levels) → v + more_of (parts_of_all ts levels) ≤ 4194304 → at + trees_count ts ≤ next
         → Has seg at (placed_all ts at next).0 → Has seg next (placed_all ts at next).1 → pointers_at (reading m caps levels) 0 at (trees_count ts) v ≡ Ok (ts, v + more_of (parts_of_all ts levels))
     reads_all tree.no_trees levels at next v fits good le ahead words has =
         same_read tree.no_trees (pointers_at (reading m caps levels) 0 at 0 v) v (v + 0) (pointers_none (reading m caps levels) at v) (omega arith)
@@ -312,7 +311,7 @@ module _ (seg : List ℕ) (caps : ℕ) (few : length seg ≤ 65536) where
         (omega (arith, both))
 
     pub reads_list : (es : Elements) (levels at next v : ℕ) → FitsList es → IsGood caps (record { levels = levels; what = tree.list es }) → AreGood caps (parts_of_list es (levels - 1))
-        → v + (words_visited (tree.list es) + more_of (parts_of_list es (levels - 1))) ≤ 65536 → at < next
+        → v + (words_visited (tree.list es) + more_of (parts_of_list es (levels - 1))) ≤ 4194304 → at < next
         → get_or seg at 0 ≡ (placed_list es at next).0 → Has seg next (placed_list es at next).1
         → reading m caps levels 0 at v ≡ Ok (tree.list es, v + (words_visited (tree.list es) + more_of (parts_of_list es (levels - 1))))
     reads_list (tree.packed b xs) levels at next v fits good below le ahead is_w has =
@@ -344,7 +343,7 @@ module _ (seg : List ℕ) (caps : ℕ) (few : length seg ≤ 65536) where
         structs_case levels at next v n d p ss good.0.1 fits.0.0 fits.0.1 (omega arith) ahead is_w (has_word seg next tag (found.0 ++ found.1) has) (omega (arith, room, is_size)) (v + (own + more_of (parts_of_structs ss (levels - 1))))
         (same_read ss (structs_at m (reading m caps (levels - 1)) 0 d p (next + 1) n (v + own)) (v + own + more_of (parts_of_structs ss (levels - 1))) (v + (own + more_of (parts_of_structs ss (levels - 1)))) rest (omega arith))
 
-    pub reads_structs : (ss : Structs) (d p levels at next v : ℕ) → FitsStructs ss → are_even d p ss ≡ true → AreGood caps (parts_of_structs ss levels) → v + more_of (parts_of_structs ss levels) ≤ 65536
+    pub reads_structs : (ss : Structs) (d p levels at next v : ℕ) → FitsStructs ss → are_even d p ss ≡ true → AreGood caps (parts_of_structs ss levels) → v + more_of (parts_of_structs ss levels) ≤ 4194304
         → at + structs_count ss * (d + p) ≤ next → Has seg at (placed_structs ss at next).0 → Has seg next (placed_structs ss at next).1
         → structs_at m (reading m caps levels) 0 d p at (structs_count ss) v ≡ Ok (ss, v + more_of (parts_of_structs ss levels))
     reads_structs tree.no_structs d p levels at next v fits even good le ahead words has =

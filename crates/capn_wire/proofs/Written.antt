@@ -10,6 +10,7 @@ use Rattle.std.proofs.lemmas.List.Sums.{sum_by-cons}
 use Rattle.byteorder.specs.Endian.{little_bytes}
 use Rattle.capn_trees.specs.Trees.{Tree}
 use Rattle.capn_reading.specs.Reading.{root_of}
+use Rattle.capn_reading.specs.Following.{counted_before}
 use Rattle.capn_reading.specs.Framing.{body_of, IsFramed}
 use Rattle.capn_wire.specs.Payloads.{Contents, IsEncoded, Says, tree_of}
 use Rattle.capn_wire.proofs.Saying.{says_encoded, says_tree}
@@ -49,11 +50,11 @@ written_says t caps fits good small few fit =
     let rest = (placed t 0 1).1 in
     let behind : Has (segment_for t) 1 rest = record { front = first ∷ []; back = []; whole = ap (λ (l : List ℕ). first ∷ l) (sym (append-nil rest)); place = refl } in
     let some : eqb (length (segment_for t)) 0 ≡ false = ne_eqb _ _ (λ e. omega arith) in
-    let nothing : 0 + all_words words_visited (parts t 64) ≤ 65536 = omega arith in
+    let nothing : counted_before 65536 + all_words words_visited (parts t 64) ≤ 4194304 = omega arith in
     record {
       framed = framed_one (segment_for t) short fit;
-      visited = 0 + all_words words_visited (parts t 64);
-      read = rw some (reads (segment_for t) caps short t 64 0 1 0 fits good nothing (omega arith) refl behind);
+      visited = counted_before 65536 + all_words words_visited (parts t 64);
+      read = rw some (reads (segment_for t) caps short t 64 0 1 (counted_before 65536) fits good nothing (omega arith) refl behind);
     }
 
 -- What is written reads as the tree.

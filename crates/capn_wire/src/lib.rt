@@ -27,7 +27,8 @@
 //!
 //! Read and written are at most 16 segments (written is one) of at most 65,536 words together, with contents that nest
 //! at most 64 levels deep and of which at most 65,536 words are visited, those of a content each time that a pointer
-//! leads to it. A tree may be 128 levels deep, and is refused where it is written if it has more than 64.
+//! leads to it. A tree may be 128 levels deep, and is refused where it is written if it has more than 64. A larger message,
+//! such as a schema, is read as a [`Document`], within a limit on its words that its reader gives.
 //!
 //! Bytes that are no payload are refused by the first check that fails, as a [`PayloadFault`] with its number; nothing is
 //! read of them. So a [`Payload`] can't be malformed, and `cap_at` and `tree` of one have no faults but want of memory.
@@ -41,7 +42,7 @@ pub mod laws;
 mod path;
 mod payload;
 
-pub use capn_reading::{Kind, Place, View};
+pub use capn_reading::{Document, Kind, MOST_COUNTED, Place, View};
 pub use capn_trees::{Element, Fields, Items, PayloadFault, Pointers, PushError, Tree, WriteFault};
 pub use faults::Memory;
 pub use path::{CapAt, Op};

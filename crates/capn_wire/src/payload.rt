@@ -7,7 +7,8 @@ ghost use Rattle.capn_trees.specs.declared.faults.WriteFault.TheVariants as writ
 use crate::faults::Memory;
 use crate::find::find;
 use crate::path::{CapAt, Op};
-use capn_reading::{Message, View, build_tree, visited_within, visited_words};
+use capn_reading::{MOST_COUNTED, Message, View, build_tree, visited_within, visited_words};
+use capn_trees::limits::MOST_VISITED;
 use capn_trees::{PayloadFault, Tree, WriteFault};
 use capn_writing::{message_of, write_tree};
 use std::alloc::{AllocError, Global};
@@ -152,7 +153,8 @@ impl Payload {
         ensures { IfSome result (λ n. FitsWithin self.now levels n) }
     {
         match visited_within(self.bytes(), self.caps(), levels) {
-            Ok(words) => Some(words),
+            // The count begins at the difference of these, so that it ends at the limit.
+            Ok(counted) => Some(counted.saturating_sub(MOST_COUNTED - MOST_VISITED as u32)),
             Err(_) => None,
         }
     }

@@ -17,13 +17,13 @@ use Rattle.capn_reading.specs.declared.layout.Layout.TheVariants as layout
 use Rattle.capn_reading.specs.Pointers.{decoded}
 use Rattle.capn_trees.specs.Widths.{bits_of}
 use Rattle.capn_reading.specs.Segments.{segment_of, word_at, size_of}
-use Rattle.capn_reading.specs.Following.{◌>>=◌, visit, pad_words, single_pad, pad_tag, double_pad, pad_at, far, capability, leads, followed, target}
+use Rattle.capn_reading.specs.Following.{◌>>=◌, counted_before, visit, pad_words, single_pad, pad_tag, double_pad, pad_at, far, capability, leads, followed, target}
 use Rattle.capn_reading.specs.Layouts.{laid, weight}
 use Rattle.capn_reading.specs.Framing.{framing}
 use Rattle.capn_trees.specs.Trees as tree
 use Rattle.capn_trees.specs.Trees.{Tree, Trees, Structs, Elements, pointer_at}
 use Rattle.capn_reading.specs.Reading.{Reading, elements, pointers_at, structs_at, content_of, shallow, deep, reading, root_of, message_of}
-use Rattle.capn_trees.specs.Limits.{most_levels}
+use Rattle.capn_trees.specs.Limits.{most_levels, most_visited}
 use Rattle.rpc_msg.specs.Walking.{capability_at}
 use Rattle.capn_reading.specs.Reading.{tree_read}
 use Rattle.laws_meanings.specs.WrittenCommands.{NamesItsCaps}
@@ -217,9 +217,9 @@ module _ (caps : ℕ) where
   unfolding root_of
   root_within m t after e = by (length (segment_of m 0) == 0) e
     where
-      by : (b : Bool) → (if b then Err OutOfBounds else reading m caps most_levels 0 0 0) ≡ Ok (t, after) → Within caps t
+      by : (b : Bool) → (if b then Err OutOfBounds else reading m caps most_levels 0 0 (counted_before most_visited)) ≡ Ok (t, after) → Within caps t
       by true e = absurd cc
-      by false e = all_within m most_levels 0 0 0 t after e
+      by false e = all_within m most_levels 0 0 (counted_before most_visited) t after e
 
   message_within : (bytes : List ℕ) (t : Tree) (after : ℕ) → message_of bytes caps ≡ Ok (t, after) → Within caps t
   unfolding message_of

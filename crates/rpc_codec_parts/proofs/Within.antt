@@ -17,9 +17,11 @@ use Rattle.rpc_codec_parts.specs.Descriptors.{descriptor_word, descriptor_pointe
 use Rattle.rpc_codec_parts.specs.Exceptions.{kind_number, text_tree, exception_tree}
 use Rattle.rpc_codec_parts.specs.Payloads.{payload_tree}
 use Rattle.rpc_codec_parts.specs.Fitting.{IsWithin, AreWithin}
+use Rattle.capn_reading.specs.Following.{counted_before}
 use Rattle.capn_reading.specs.Reading.{message_of, root_of, tree_read}
 use Rattle.capn_reading.proofs.Depths.{reading_shallow}
-use Rattle.capn_reading.proofs.Rooted.{root_read, root_is, framed_read, not_unframed}
+use Rattle.capn_reading.proofs.Rooted.{tree_read_is, framed_read, not_unframed}
+use Rattle.capn_reading.proofs.UpTo.{up_to_is}
 use Rattle.capn_reading.specs.Framing.{framing}
 use Rattle.capn_trees.specs.declared.faults.PayloadFault.{PayloadFault}
 
@@ -102,11 +104,12 @@ exception_within e = two_within 1 ((2 ^ 32 * kind_number e.kind) ∷ []) (text_t
 -- ---- payloads: what is read nests at most 64 deep
 
 content_framed : (p : Contents) (f : Result (List (List ℕ)) PayloadFault) → framing p.bytes ≡ f → IsOk (message_of p.bytes p.caps) → IsWithin 64 (tree_of p)
+unfolding root_of
 content_framed p (Err e) is ok = absurd (not_unframed p.bytes p.caps e ok (sym is))
 content_framed p (Ok m) is ok = λ n le.
     let found = framed_read p.bytes p.caps m ok (sym is) in
-    let read = root_read m p.caps found.0 in
-    let shallow = reading_shallow m p.caps 64 n le 0 0 0 (tree_read (root_of m p.caps)) read.0 (sym (root_is m p.caps found.0) ∙ read.1) in
+    let read = tree_read_is (root_of m p.caps) found.0 in
+    let shallow = reading_shallow m p.caps 64 n le 0 0 (counted_before 65536) (tree_read (root_of m p.caps)) read.0 (sym (up_to_is 65536 m p.caps 64 found.0) ∙ read.1) in
     ap (λ (t : Tree). is_deeper t n) (sym found.1) ∙ shallow
 
 pub content_within : (p : Contents) → IsPayload p → IsWithin 64 (tree_of p)

@@ -1,5 +1,6 @@
-//! Payloads: read, looked into, written, and as the `capnp` tool made them; streams of them; and values and entries. `stream` goes
-//! with refused allocations too (`scripts/refused`).
+//! Payloads: read, looked into, written, and as the `capnp` tool made them; documents; streams of frames; and values and entries.
+//! `stream` goes with refused allocations too (`scripts/refused`).
+mod documents;
 mod entries;
 mod places;
 mod reading;
@@ -33,7 +34,15 @@ fn bytes_of(alloc: Global, text: &str) -> Result<Vec<u8>, AllocError> {
     Ok(bytes)
 }
 
-// No clause says what these do: a test is proved quicker where nothing is known of what it compares.
+/// Bytes with so many zero words behind them.
+fn with_zeros(alloc: Global, text: &str, words: usize) -> Result<Vec<u8>, Fail> {
+    let mut bytes = bytes_of(alloc, text)?;
+    let len = bytes.len().saturating_add(words.saturating_mul(8));
+    bytes.resize(len, 0)?;
+    Ok(bytes)
+}
+
+// No clause says what these do: a test is proved quicker if nothing is known of what it compares.
 fn read(alloc: Global, bytes: &[u8], caps: u32) -> Result<Payload, Fail> {
     Ok(Payload::read(alloc, bytes, caps)?)
 }

@@ -107,7 +107,7 @@ fn entry(alloc: Global, number: u32) -> Result<JournalEntry, Memory> {
     }
 }
 
-// Where the first try has no memory for it, the second has.
+// If the first try has no memory for it, the second has.
 fn copied(alloc: Global, entry: &JournalEntry) -> Result<JournalEntry, Memory> {
     match entry.copy(alloc) {
         Ok(copy) => Ok(copy),

@@ -64,7 +64,7 @@ const IN_SAMPLE: [(&[Step], Seen); 27] = [
     (&[Field(4)], One(0, None)),
 ];
 
-// No clause says what the small functions here do: a test is proved quicker where nothing is known of what it compares.
+// No clause says what the small functions here do: a test is proved quicker if nothing is known of what it compares.
 fn kind(place: &Place) -> Kind {
     place.kind()
 }

@@ -1,5 +1,5 @@
 //! Payloads that are read, and what is found in them.
-use crate::tests::{bytes_of, cap_at, copied, is_made_of, read, read_text, tree_in};
+use crate::tests::{bytes_of, cap_at, copied, is_made_of, read, read_text, tree_in, with_zeros};
 use capn_wire::{CapAt, Memory, Op, Payload, PayloadFault, Tree, WriteFault};
 use std::alloc::Global;
 use std::process::Abort;
@@ -93,14 +93,6 @@ fn refuses_each_beginning(rt: HostRuntime) -> Result<(), Fail> {
         assert!(rt; fault == 2, "of the first {len} bytes");
     }
     Ok(())
-}
-
-/// Bytes with so many zero words behind them.
-fn with_zeros(alloc: Global, text: &str, words: usize) -> Result<Vec<u8>, Fail> {
-    let mut bytes = bytes_of(alloc, text)?;
-    let len = bytes.len().saturating_add(words.saturating_mul(8));
-    bytes.resize(len, 0)?;
-    Ok(bytes)
 }
 
 /// A struct and two lists over the same 32,767 words.
@@ -220,7 +212,7 @@ fn is_written(alloc: Global, tree: &Tree, bytes: &[u8], caps: u32) -> bool {
     }
 }
 
-/// Whether its tree is written as these bytes, and a copy is the same, where there is memory for them.
+/// Whether its tree is written as these bytes, and a copy is the same, if there is memory for them.
 fn is_used(alloc: Global, payload: &Payload, bytes: &[u8], caps: u32) -> bool {
     let is_written = match payload.tree(alloc) {
         Ok(tree) => is_written(alloc, &tree, bytes, caps),

@@ -75,7 +75,7 @@ fn stream(alloc: Global) -> Result<Vec<u8>, Fail> {
     Ok(bytes)
 }
 
-// Whether a stream gives these frames and has none waiting, where it comes in two pieces.
+// Whether a stream gives these frames and has none waiting, if it comes in two pieces.
 fn is_cut(alloc: Global, bytes: &[u8], cut: usize) -> Result<bool, Fail> {
     let (first, second) = bytes.split_at(cut.min(bytes.len()));
     let mut reader = FrameReader::new(alloc);
@@ -84,7 +84,7 @@ fn is_cut(alloc: Global, bytes: &[u8], cut: usize) -> Result<bool, Fail> {
     Ok(seen == 3 && reader.ended() == Ok(()))
 }
 
-// How many of these frames are seen, where the stream comes in pieces of so many bytes, and how many bytes wait then.
+// How many of these frames are seen, if the stream comes in pieces of so many bytes, and how many bytes wait then.
 fn in_pieces(
     alloc: Global,
     bytes: &[u8],

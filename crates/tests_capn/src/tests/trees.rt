@@ -58,7 +58,7 @@ fn is_shown(alloc: Global, tree: &Tree, wanted: &str) -> Result<bool, Fail> {
     Ok(shown.as_str() == wanted)
 }
 
-/// A copy is the tree, and neither is null but where both are.
+/// A copy is the tree, and neither is null unless both are.
 fn is_copied(alloc: Global, tree: &Tree) -> Result<bool, Fail> {
     let copy = tree.copy(alloc)?;
     Ok(copy == *tree && (copy == Tree::Null) == matches!(tree, Tree::Null))

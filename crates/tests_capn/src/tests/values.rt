@@ -14,7 +14,7 @@ const FIELDS: [(&[Op], &[Op]); 4] = [
     ),
 ];
 
-// No clause says what these do: a test is proved quicker where nothing is known of what it compares.
+// No clause says what these do: a test is proved quicker if nothing is known of what it compares.
 fn other(vat: Vat) -> Vat {
     vat.other()
 }

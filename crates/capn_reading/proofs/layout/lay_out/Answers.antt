@@ -1,4 +1,4 @@
-use Rattle.std.proofs.Common.{◌≡◌, ℕ, ◌+◌, ◌^◌, ◌<◌, ◌≤◌, Bool, true, false, cond, ltb, List, length, Option, Some, None, Result, Ok, Err, refl, sym, ap, subst, ◌∙◌, arith}
+use Rattle.std.proofs.Common.{◌≡◌, ℕ, ◌+◌, ◌≤◌, Bool, true, false, cond, ltb, List, length, Option, Some, None, Result, Ok, Err, refl, sym, ap, subst, ◌∙◌, arith}
 use Rattle.std.specs.Option.{IfSome, unwrap_or}
 use Rattle.std.specs.Prelude.{◌*◌, IfOk}
 use Rattle.std.proofs.lemmas.Bool.{ltb-false}
@@ -10,7 +10,7 @@ use Rattle.capn_reading.specs.declared.pointer.Tag.{Tag}
 use Rattle.capn_reading.specs.declared.referent.Content.{Content}
 use Rattle.capn_reading.specs.Pointers.{words_of, tag_of}
 use Rattle.capn_reading.specs.Segments.{segment_of, size_of}
-use Rattle.capn_reading.specs.Following.{◌>>=◌}
+use Rattle.capn_reading.specs.Following.{◌>>=◌, most_counted}
 use Rattle.capn_reading.specs.Layouts.{EndsIn, placed, shaped, tagged, laid, IsWithin}
 use Rattle.capn_reading.proofs.Steps.{ends_before}
 use Rattle.capn_reading.proofs.layout.lay_out.Goals as goal
@@ -31,17 +31,17 @@ size_by : (m : List (List ℕ)) (s : ℕ) (b : Bool) → ltb s (length m) ≡ b 
 size_by m s true e = refl
 size_by m s false e = sym (ap length (get_or_past m s _ (ltb-false s (length m) e)))
 
-short_by : (o : Option ℕ) → IfSome o (λ n. n < 2 ^ 17) → unwrap_or o 0 < 2 ^ 17
+short_by : (o : Option ℕ) → IfSome o (λ n. n ≤ most_counted) → unwrap_or o 0 ≤ most_counted
 short_by None h = omega arith
 short_by (Some n) h = h
 
 -- where a content lies, and what it consists of, once its place was found
-lies : (m : List (List ℕ)) (c : Content) (o : Option ℕ) (size words n : ℕ) (p : Result ℕ PayloadFault) → o ≡ size_of m c.segment → IfSome o (λ k. k < 2 ^ 17) → size ≡ unwrap_or o 0 → words ≡ words_of c.shape → p ≡ placed c.start words size → p ≡ Ok n
+lies : (m : List (List ℕ)) (c : Content) (o : Option ℕ) (size words n : ℕ) (p : Result ℕ PayloadFault) → o ≡ size_of m c.segment → IfSome o (λ k. k ≤ most_counted) → size ≡ unwrap_or o 0 → words ≡ words_of c.shape → p ≡ placed c.start words size → p ≡ Ok n
     → EndsIn (length (segment_of m c.segment)) (n + words_of c.shape) × (laid m c ≡ shaped m c.segment n c.shape)
 unfolding laid
 lies m c o size words n p is_o few is_size is_words is_p ok =
     let whole : size ≡ length (segment_of m c.segment) = is_size ∙ ap (λ (x : Option ℕ). unwrap_or x 0) is_o ∙ size_by m c.segment (ltb c.segment (length m)) refl in
-    let short : size < 2 ^ 17 = subst (λ (k : ℕ). k < 2 ^ 17) (sym is_size) (short_by o few) in
+    let short : size ≤ most_counted = subst (λ (k : ℕ). k ≤ most_counted) (sym is_size) (short_by o few) in
     let found : placed c.start (words_of c.shape) (length (segment_of m c.segment)) ≡ Ok n = sym (ap (λ (w : ℕ). placed c.start w size) is_words ∙ ap (placed c.start (words_of c.shape)) whole) ∙ sym is_p ∙ ok in
     let ends = placed_ends c.start (words_of c.shape) (length (segment_of m c.segment)) n found in
     (record { inside = ends; small = omega (arith, ends, whole, short) }, ap (λ (r : Result ℕ PayloadFault). r >>= λ i. shaped m c.segment i c.shape) found)

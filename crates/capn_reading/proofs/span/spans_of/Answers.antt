@@ -1,5 +1,6 @@
 use Rattle.std.proofs.Common.{◌+◌, arith, length-set}
-use Rattle.capn_reading.proofs.Tables.{segments_more, end_more, segments_done, end_done, EndBy_next}
+use Rattle.capn_reading.specs.Framing.{table_words}
+use Rattle.capn_reading.proofs.Tables.{segments_more, end_more, segments_done, end_done, LieBetween_next}
 use Rattle.capn_reading.proofs.span.spans_of.Goals as goal
 
 pub loop-k-preserved : goal.loop-k-preserved
@@ -11,7 +12,8 @@ loop-k-preserved c =
       end = end_more c.args.bytes.now c.args.count c.loop-k.k c.loop-k.start c.u32_at-size.result c.loop-k.spans _ lt is_size c.loop-k.invariant.end;
       small = omega arith;
       places = simp length-set c.loop-k.invariant.places;
-      inside = EndBy_next c.loop-k.k c.loop-k.start (c.loop-k.start + c.u32_at-size.result) c.loop-k.spans _ (omega arith) (omega arith) (omega arith) c.loop-k.invariant.inside;
+      first = let first = c.loop-k.invariant.first in omega (arith, first);
+      inside = LieBetween_next (table_words c.args.count) c.loop-k.k c.loop-k.start (c.loop-k.start + c.u32_at-size.result) c.loop-k.spans _ (omega arith) (omega arith) c.loop-k.invariant.first (omega arith) c.loop-k.invariant.inside;
     }
 
 pub returns-clause-segments : goal.returns-clause-segments

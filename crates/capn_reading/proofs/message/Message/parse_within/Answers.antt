@@ -1,5 +1,5 @@
 use Rattle.std.proofs.Common.{arith}
-use Rattle.capn_reading.proofs.message.Message.parse.Goals as goal
+use Rattle.capn_reading.proofs.message.Message.parse_within.Goals as goal
 
 pub overflow_cast-count : goal.overflow_cast-count
 overflow_cast-count c = omega arith
