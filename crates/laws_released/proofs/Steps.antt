@@ -139,19 +139,22 @@ empty_names v l b down =
       λ k. no_entry (λ o. AllIn P (entry named_by_export k o)) k (all_none P),
     )
 
+pub none_named : (v : Vat) (l : Level) (b : Option ObjectId) (down : Option ℕ) (o : ObjectId) → IsNamed (record (start v l b) { down = down }) o → ⊥
+none_named v l b down o h = of_set (λ x. ⊥) (record (start v l b) { down = down }) (empty_names v l b down) o h
+
 none_fallen : (s : State) (n : ℕ) (o : ObjectId) → IsNamed (fallen s n) o → ⊥
-none_fallen s n o h = of_set (λ x. ⊥) (fallen s n) (empty_names s.vat s.level s.bootstrap (Some n)) o h
+none_fallen s n o h = none_named s.vat s.level s.bootstrap (Some n) o h
 
 -- ---- Each step that is done
 
 -- What is read off the end of a step: objects of A are named, and deliveries are to objects of B.
-record Reads (s : State) (x : Effects) (t : State) (A B : ObjectId → Type 0) : Type 0 where
-  root : t.bootstrap ≡ s.bootstrap
-  names : (o : ObjectId) → IsNamed t o → A o
-  deliveries : (y : Delivery) → IsIn y x.deliveries → B y.object
+pub record Reads (s : State) (x : Effects) (t : State) (A B : ObjectId → Type 0) : Type 0 where
+  pub root : t.bootstrap ≡ s.bootstrap
+  pub names : (o : ObjectId) → IsNamed t o → A o
+  pub deliveries : (y : Delivery) → IsIn y x.deliveries → B y.object
 
 module _ (s : State) (c : Command) where
-  abbrev After : Result Granted Refusal → ObjectId → Type 0
+  abbrev pub After : Result Granted Refusal → ObjectId → Type 0
   After a o = IsNamed s o ⊎ Hosts c a o
 
   does : (g : Granted) (x : Effects) (t : State) → Does s c g x t → Reads s x t (After (Ok g)) (IsNamed s)
@@ -173,7 +176,7 @@ module _ (s : State) (c : Command) where
   shut A n None x t f h = fell A n x t h
   shut A n (Some k) x t f h = same A x t f h
 
-  of_command : (a : Result Granted Refusal) (x : Effects) (t : State) → Obeys s c a x t → Reads s x t (After a) (IsNamed s)
+  pub of_command : (a : Result Granted Refusal) (x : Effects) (t : State) → Obeys s c a x t → Reads s x t (After a) (IsNamed s)
   of_command a x t (Refuses r f g u) = same (After a) x t (λ o i. inl i) u
   of_command a x t (LacksMemory f g k u) = same (After a) x t (λ o i. inl i) u
   of_command a x t (GoesDown f g k u) = fell (After a) want_of_room x t u
@@ -181,7 +184,7 @@ module _ (s : State) (c : Command) where
   of_command a x t (IsDone given f g h w) = subst (λ (z : Result Granted Refusal). Reads s x t (After z) (IsNamed s)) (sym g) (does given x t h)
 
 module _ (s : State) (m : Message) where
-  abbrev Known : ObjectId → Type 0
+  abbrev pub Known : ObjectId → Type 0
   Known o = IsNamed s o ⊎ Opens s m o
 
   handles : (x : Effects) (t : State) → fault_of s m ≡ None → Handles s m x t → Reads s x t Known (IsNamed s)
@@ -194,7 +197,7 @@ module _ (s : State) (m : Message) where
       exactly y i (inl n) = n
       exactly y i (inr o) = let e = opens_quietly s m y.object x t o free h in absurd (subst (λ (ys : List Delivery). IsIn y ys) e i)
 
-  of_message : (x : Effects) (t : State) → Receives s m x t → Reads s x t Known (IsNamed s)
+  pub of_message : (x : Effects) (t : State) → Receives s m x t → Reads s x t Known (IsNamed s)
   of_message x t (WasDown d u) = rw (u.effects_are, u.new_is) (record { root = refl; names = λ o i. inl i; deliveries = λ y i. absurd i })
   of_message x t (FaultsBy n d f g h) = rw (g, h) (record { root = refl; names = λ o i. absurd (none_fallen s n o i); deliveries = λ y i. absurd (subst (λ (ys : List Delivery). IsIn y ys) (no_deliveries m n) i) })
   of_message x t (LacksRoom d f u) = rw (u.effects_are, u.new_is) (record { root = refl; names = λ o i. absurd (none_fallen s want_of_room o i); deliveries = λ y i. absurd i })

@@ -1,11 +1,10 @@
 -- Where calls are delivered, and how an object comes to be named, by the places of a vat (docs/laws/released.md;
 -- docs/protocol.md, "Places").
-use Rattle.std.specs.Prelude.{◌≡◌, ◌⊎◌, ◌<◌, Bool, false, nat_eq, Result, Ok, Err}
+use Rattle.std.specs.Prelude.{◌≡◌, ◌⊎◌, ◌<◌, Bool, Result, Ok, Err}
 use Rattle.rpc_msg.specs.declared.ids.ObjectId.{ObjectId}
 use Rattle.rpc_msg.specs.declared.message.Message.{Message}
 use Rattle.rpc_machine.specs.rpc_journal.specs.declared.report.Delivery.{Delivery}
 use Rattle.rpc_machine.specs.declared.node.Node.{Node}
-use Rattle.rpc_machine.specs.declared.node.Node.TheVariants as node
 use Rattle.rpc_machine.specs.declared.command.Command.{Command}
 use Rattle.rpc_machine.specs.declared.command.Command.TheVariants as command
 use Rattle.rpc_machine.specs.declared.command.Granted.{Granted}
@@ -14,6 +13,7 @@ use Rattle.rpc_machine.specs.declared.command.Effects.{Effects}
 use Rattle.rpc_machine.specs.State.{State}
 use Rattle.rpc_machine.specs.Places.{names}
 use Rattle.rpc_machine.specs.Steps.{Obeys, Receives}
+use Rattle.rpc_uses.specs.Objects.{is_the_object}
 use Rattle.laws_acts.specs.Moments.{Moment}
 use Rattle.laws_acts.specs.SmallActs.{Acts, DoesActs, HandlesActs}
 use Rattle.laws_authority.specs.Reach.{IsIn}
@@ -21,12 +21,7 @@ use Rattle.laws_authority.specs.Grants.{Opens}
 
 -- The node is that object.
 abbrev pub is_object : ObjectId → Node → Bool
-is_object o (node.Object x) = nat_eq x.0 o.0
-is_object o (node.Promise p) = false
-is_object o (node.Field q path) = false
-is_object o (node.Import e) = false
-is_object o (node.Pipe q path) = false
-is_object o (node.Broken reason) = false
+is_object o = is_the_object o.0
 
 -- A place of the vat names the object.
 abbrev pub IsNamed : State → ObjectId → Type 0

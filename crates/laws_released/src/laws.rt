@@ -1,5 +1,6 @@
 //! The functions run no code: what each ensures is the law.
 
+ghost use Rattle.laws_released.specs.Known.{StaysKnown, CountTells};
 ghost use Rattle.laws_released.specs.Names.{DeliveriesAreNamed, NamesComeByHost, HostedIsNamed, NamedWithin};
 ghost use Rattle.laws_released.specs.Released.{ReleasedStays, NoneIsMissed};
 
@@ -21,4 +22,12 @@ pub fn names_come_by_host()
 pub fn released_stays()
     ensures stays { ReleasedStays }
     ensures missed { NoneIsMissed }
+{}
+
+/// Who keeps a list with each object that a place names, and the bootstrap object, has a list of all of them after each step, if what
+/// was hosted is added. If there are no more on it than these, a place names each of them but the bootstrap object. So who takes those
+/// off that are released sees with no search that none is left.
+pub fn objects_stay_known()
+    ensures steps { StaysKnown }
+    ensures count { CountTells }
 {}

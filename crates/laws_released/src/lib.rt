@@ -4,4 +4,4 @@
 
 mod laws;
 
-pub use laws::{deliveries_are_named, names_come_by_host, released_stays};
+pub use laws::{deliveries_are_named, names_come_by_host, objects_stay_known, released_stays};
