@@ -7,7 +7,8 @@ use Rattle.rpc_machine.specs.declared.node.Node.{Node}
 use Rattle.rpc_machine.specs.declared.node.Node.TheVariants as node
 use Rattle.rpc_machine.specs.Lists.{how_many}
 use Rattle.rpc_machine.specs.Nodes.{is_promise, is_field, is_import, is_pipe}
-use Rattle.core_refcounts.specs.Names.{Counted, count_of, times, raised_by, lowered_by, noted_by, lowered, Names, named, unnamed, Counts}
+use Rattle.rpc_uses.specs.Objects.{is_the_object}
+use Rattle.core_refcounts.specs.Names.{Counted, count_of, times, raised_by, lowered_by, noted_by, lowered, Names, named, unnamed, Counts, Totals, totals_lowered}
 use Rattle.finite_maps.proofs.Tested.{itself}
 
 -- One more at the key k, in a count f.
@@ -48,6 +49,9 @@ lowers m k f h = lowers_by m k f (map.get m k) refl h
 abbrev pub counted_of : Map ℕ → List ℕ → ℕ → ℕ → Counted
 counted_of m noted spare room = record { counts = m; noted = noted; spare = spare; room = room }
 
+abbrev pub totals_of : Map ℕ → ℕ → Totals
+totals_of m room = record { counts = m; room = room }
+
 -- The last of a key goes, and the key is noted.
 pub lowers_last : (m new : Map ℕ) (noted more : List ℕ) (spare room k n : ℕ) → map.get m k ≡ Some n → n ≤ 1 → new ≡ map.remove (map.insert m k n) k → more ≡ noted ++ k ∷ []
     → counted_of new more spare room ≡ lowered (counted_of m noted spare room) k
@@ -59,23 +63,31 @@ lowers_last m new noted more spare room k n there last gone pushed =
     pushed ∙ sym (ap (λ o. noted ++ noted_by k o) there ∙ ap (λ b. noted ++ cond b (k ∷ []) []) one) in
     λ i. record { counts = counts i; noted = notes i; spare = spare; room = room }
 
+-- The same where none is noted.
+pub totals_last : (m new : Map ℕ) (room k n : ℕ) → map.get m k ≡ Some n → n ≤ 1 → new ≡ map.remove (map.insert m k n) k → totals_of new room ≡ totals_lowered (totals_of m room) k
+totals_last m new room k n there last gone =
+    let one : nat_le n 1 ≡ true = grind (arith, last) in
+    let counts : new ≡ lowered_by m k (map.get m k) =
+    gone ∙ ap (λ (x : Map ℕ). map.remove x k) (insert_same m k n there) ∙ sym (ap (lowered_by m k) there ∙ ap (λ b. cond b (map.remove m k) (map.insert m k (n - 1))) one) in
+    ap (λ (x : Map ℕ). totals_of x room) counts
+
 -- One more place names the node.
 pub counts_more : (c : Names) (ns : List Node) (n : Node) → Counts c ns → Counts (named c n) (n ∷ ns)
-counts_more c ns (node.Object o) h = record { promises = h.promises; outcomes = h.outcomes; imports = h.imports; questions = h.questions }
-counts_more c ns (node.Promise p) h = record { promises = raises c.promises.counts p (λ k. how_many (is_promise k) ns) h.promises; outcomes = h.outcomes; imports = h.imports; questions = h.questions }
-counts_more c ns (node.Field o path) h = record { promises = h.promises; outcomes = raises c.outcomes.counts o (λ k. how_many (is_field k) ns) h.outcomes; imports = h.imports; questions = h.questions }
-counts_more c ns (node.Import e) h = record { promises = h.promises; outcomes = h.outcomes; imports = raises c.imports.counts e.0 (λ k. how_many (is_import k) ns) h.imports; questions = h.questions }
-counts_more c ns (node.Pipe q path) h = record { promises = h.promises; outcomes = h.outcomes; imports = h.imports; questions = raises c.questions.counts q.0 (λ k. how_many (is_pipe k) ns) h.questions }
-counts_more c ns (node.Broken reason) h = record { promises = h.promises; outcomes = h.outcomes; imports = h.imports; questions = h.questions }
+counts_more c ns (node.Object o) h = record { promises = h.promises; outcomes = h.outcomes; imports = h.imports; questions = h.questions; objects = raises c.objects.counts o.0 (λ k. how_many (is_the_object k) ns) h.objects }
+counts_more c ns (node.Promise p) h = record { promises = raises c.promises.counts p (λ k. how_many (is_promise k) ns) h.promises; outcomes = h.outcomes; imports = h.imports; questions = h.questions; objects = h.objects }
+counts_more c ns (node.Field o path) h = record { promises = h.promises; outcomes = raises c.outcomes.counts o (λ k. how_many (is_field k) ns) h.outcomes; imports = h.imports; questions = h.questions; objects = h.objects }
+counts_more c ns (node.Import e) h = record { promises = h.promises; outcomes = h.outcomes; imports = raises c.imports.counts e.0 (λ k. how_many (is_import k) ns) h.imports; questions = h.questions; objects = h.objects }
+counts_more c ns (node.Pipe q path) h = record { promises = h.promises; outcomes = h.outcomes; imports = h.imports; questions = raises c.questions.counts q.0 (λ k. how_many (is_pipe k) ns) h.questions; objects = h.objects }
+counts_more c ns (node.Broken reason) h = record { promises = h.promises; outcomes = h.outcomes; imports = h.imports; questions = h.questions; objects = h.objects }
 
 -- One place less names it.
 pub counts_less : (c : Names) (ns : List Node) (n : Node) → Counts c (n ∷ ns) → Counts (unnamed c n) ns
-counts_less c ns (node.Object o) h = record { promises = h.promises; outcomes = h.outcomes; imports = h.imports; questions = h.questions }
-counts_less c ns (node.Promise p) h = record { promises = lowers c.promises.counts p (λ k. how_many (is_promise k) ns) h.promises; outcomes = h.outcomes; imports = h.imports; questions = h.questions }
-counts_less c ns (node.Field o path) h = record { promises = h.promises; outcomes = lowers c.outcomes.counts o (λ k. how_many (is_field k) ns) h.outcomes; imports = h.imports; questions = h.questions }
-counts_less c ns (node.Import e) h = record { promises = h.promises; outcomes = h.outcomes; imports = lowers c.imports.counts e.0 (λ k. how_many (is_import k) ns) h.imports; questions = h.questions }
-counts_less c ns (node.Pipe q path) h = record { promises = h.promises; outcomes = h.outcomes; imports = h.imports; questions = lowers c.questions.counts q.0 (λ k. how_many (is_pipe k) ns) h.questions }
-counts_less c ns (node.Broken reason) h = record { promises = h.promises; outcomes = h.outcomes; imports = h.imports; questions = h.questions }
+counts_less c ns (node.Object o) h = record { promises = h.promises; outcomes = h.outcomes; imports = h.imports; questions = h.questions; objects = lowers c.objects.counts o.0 (λ k. how_many (is_the_object k) ns) h.objects }
+counts_less c ns (node.Promise p) h = record { promises = lowers c.promises.counts p (λ k. how_many (is_promise k) ns) h.promises; outcomes = h.outcomes; imports = h.imports; questions = h.questions; objects = h.objects }
+counts_less c ns (node.Field o path) h = record { promises = h.promises; outcomes = lowers c.outcomes.counts o (λ k. how_many (is_field k) ns) h.outcomes; imports = h.imports; questions = h.questions; objects = h.objects }
+counts_less c ns (node.Import e) h = record { promises = h.promises; outcomes = h.outcomes; imports = lowers c.imports.counts e.0 (λ k. how_many (is_import k) ns) h.imports; questions = h.questions; objects = h.objects }
+counts_less c ns (node.Pipe q path) h = record { promises = h.promises; outcomes = h.outcomes; imports = h.imports; questions = lowers c.questions.counts q.0 (λ k. how_many (is_pipe k) ns) h.questions; objects = h.objects }
+counts_less c ns (node.Broken reason) h = record { promises = h.promises; outcomes = h.outcomes; imports = h.imports; questions = h.questions; objects = h.objects }
 
 -- Both lists name each kind of node as often.
 abbrev pub Alike : List Node → List Node → Type 0
@@ -88,4 +100,5 @@ counts_alike c xs ys same h = record {
   outcomes = λ k. h.outcomes k ∙ same (is_field k);
   imports = λ k. h.imports k ∙ same (is_import k);
   questions = λ k. h.questions k ∙ same (is_pipe k);
+  objects = λ k. h.objects k ∙ same (is_the_object k);
 }

@@ -2,3 +2,4 @@ pub mod Counting
 pub mod Listing
 pub mod Rooms
 pub mod Noted
+pub mod Zeros

@@ -2,20 +2,22 @@ ghost use Rattle.std.specs.Prelude.{◌≡◌, ◌==◌, ◌↔◌, ◌+◌, ◌
 ghost use Rattle.std.specs.FinMap as map;
 
 use crate::counter::Counter;
+use crate::object_counts::ObjectCounts;
 use rpc_machine::Node;
-use rpc_msg::{ExportId, Memory, QuestionId};
+use rpc_msg::{ExportId, Memory, ObjectId, QuestionId};
 use std::alloc::Global;
 use std::marker::Model;
 
-/// How many places of a vat name each of its promises, outcomes, imports and questions, and which of these are noted:
-/// those that were named last by a place that went, and those that were noted besides. So what may have to go is found
-/// with no search.
+/// How many places of a vat name each of its promises, outcomes, imports, questions and objects; and which of these, objects
+/// apart, are noted: those that were named last by a place that went, and those that were noted besides. So what may have to
+/// go is found with no search.
 #[derive(Drop)]
 pub struct Names {
     promises: Counter,
     outcomes: Counter,
     imports: Counter,
     questions: Counter,
+    objects: ObjectCounts,
 }
 
 impl Model for Names {
@@ -25,13 +27,13 @@ impl Model for Names {
 
     ghost coded = { names_code };
 
-    ghost view = { λ a. record { promises = a.promises; outcomes = a.outcomes; imports = a.imports; questions = a.questions } };
+    ghost view = { λ a. record { promises = a.promises; outcomes = a.outcomes; imports = a.imports; questions = a.questions; objects = a.objects } };
 
     ghost invariant = { λ a. HasIds a.imports.noted × HasIds a.questions.noted };
 }
 
 impl Names {
-    ghost use Rattle.core_refcounts.specs.Names.{no_names, times, times_named, named, unnamed, named_all, unnamed_all, noting, Takes, HasRoom, HasSpare, CanCount, all_roomier, all_with_rooms, export_key, question_key, HasIds};
+    ghost use Rattle.core_refcounts.specs.Names.{no_names, times, times_named, named, unnamed, named_all, unnamed_all, noting, Takes, HasRoom, HasSpare, CanCount, all_roomier, all_with_rooms, export_key, question_key, HasIds, HasNoZeros};
 
     /// Counts nothing. Takes no memory.
     pub fn new(alloc: Global) -> Self
@@ -42,10 +44,11 @@ impl Names {
             outcomes: Counter::new(alloc),
             imports: Counter::new(alloc),
             questions: Counter::new(alloc),
+            objects: ObjectCounts::new(alloc),
         }
     }
 
-    /// How many places name the promise. Takes no memory, as do the next five.
+    /// How many places name the promise. Takes no memory, as do the next seven.
     pub fn of_promise(&self, key: u64) -> u64
         ensures { result ≡ times self.now.promises.counts key }
     {
@@ -73,6 +76,21 @@ impl Names {
         self.questions.count(id.0 as u64)
     }
 
+    /// How many places name the object of the application.
+    pub fn of_object(&self, id: ObjectId) -> u64
+        ensures { result ≡ times self.now.objects.counts id.0 }
+    {
+        self.objects.count(id.0)
+    }
+
+    /// How many objects are named; each that has a count is.
+    pub fn objects(&self) -> usize
+        ensures value { result ≡ map.len self.now.objects.counts }
+        ensures each { HasNoZeros self.now.objects.counts }
+    {
+        self.objects.len()
+    }
+
     /// Whether no place names a Pipe of any question.
     pub fn names_no_question(&self) -> bool
         ensures { result ≡ (map.len self.now.questions.counts == 0) }
@@ -80,13 +98,13 @@ impl Names {
         self.questions.is_empty()
     }
 
-    /// How many places name the promise, the import, fields of the outcome or Pipes of the question that the node is of.
-    /// Objects and broken nodes are not counted.
+    /// How many places name the object, the promise, the import, fields of the outcome or Pipes of the question that the
+    /// node is of. Broken nodes are not counted.
     pub fn of_node(&self, node: &Node) -> u64
         ensures { result ≡ times_named self.now node.now }
     {
         match *node {
-            Node::Object(_) => 0,
+            Node::Object(id) => self.of_object(id),
             Node::Promise(key) => self.of_promise(key),
             Node::Field(key, _) => self.of_outcome(key),
             Node::Import(id) => self.of_import(id),
@@ -107,7 +125,8 @@ impl Names {
         self.promises.reserve(more)?;
         self.outcomes.reserve(more)?;
         self.imports.reserve(more)?;
-        self.questions.reserve(more)
+        self.questions.reserve(more)?;
+        self.objects.make_room(more)
     }
 
     // Makes room for so many names, and leaves what may be noted besides.
@@ -119,7 +138,8 @@ impl Names {
         self.promises.make_room(more)?;
         self.outcomes.make_room(more)?;
         self.imports.make_room(more)?;
-        self.questions.make_room(more)
+        self.questions.make_room(more)?;
+        self.objects.make_room(more)
     }
 
     /// One more place names the node. `Err` where it is named for the first time, there was no room and the growth was
@@ -129,9 +149,10 @@ impl Names {
         ensures had_room { HasRoom 1 self.old → times_named self.old node + 1 < 2 ^ 64 → IsOk result }
         ensures same { OnErr result (self.new ≡ self.old) }
     {
+        // A look at a field: without one, a body that only calls methods does not see the invariant of its type.
         let _ = &self.promises;
         match node {
-            Node::Object(_) => Ok(()),
+            Node::Object(id) => self.objects.raise(id.0),
             Node::Promise(key) => self.promises.raise(key),
             Node::Field(key, _) => self.outcomes.raise(key),
             Node::Import(id) => self.imports.raise(id.0 as u64),
@@ -144,9 +165,10 @@ impl Names {
     pub fn sub(&mut self, node: Node)
         ensures { self.new ≡ unnamed self.old node }
     {
+        // A look at a field: without one, a body that only calls methods does not see the invariant of its type.
         let _ = &self.promises;
         match node {
-            Node::Object(_) => {}
+            Node::Object(id) => self.objects.lower(id.0),
             Node::Promise(key) => self.promises.lower(key),
             Node::Field(key, _) => self.outcomes.lower(key),
             Node::Import(id) => self.imports.lower(id.0 as u64),
@@ -309,5 +331,15 @@ impl Names {
     {
         let key = self.questions.take_noted()?;
         Some(QuestionId(key as u32))
+    }
+
+    /// Takes out an object that lost its last name, perhaps, since it was asked last. It may be named again, and some may be
+    /// missing.
+    #[inline(always)]
+    pub fn take_lost_object(&mut self) -> Option<ObjectId>
+        ensures { self.new ≡ self.old }
+    {
+        let object = self.objects.take_lost()?;
+        Some(ObjectId(object))
     }
 }

@@ -54,7 +54,7 @@ module _ (x : Store) (ps os es : List ℕ) (a b d : ℕ) where
   -- Where no less is spare, and what is noted covers the state.
   sound_renoted : x.names.promises.spare ≤ a → x.names.outcomes.spare ≤ b → x.names.imports.spare ≤ d → IsCovered (state_of x) other → IsSound x → IsSound (record x { names = other })
   sound_renoted more_a more_b more_d covered h = record {
-    counted = record { promises = h.counted.promises; outcomes = h.counted.outcomes; imports = h.counted.imports; questions = h.counted.questions };
+    counted = record { promises = h.counted.promises; outcomes = h.counted.outcomes; imports = h.counted.imports; questions = h.counted.questions; objects = h.counted.objects };
     covered = covered;
     within = h.within;
     numbered = h.numbered;
@@ -71,7 +71,7 @@ module _ (x : Store) (ps os es : List ℕ) (a b d : ℕ) where
       tasks = h.room.tasks;
       unsettled = h.room.unsettled;
       waits = h.room.waits;
-      names = record { promises = h.room.names.promises; outcomes = h.room.names.outcomes; imports = h.room.names.imports; questions = h.room.names.questions };
+      names = record { promises = h.room.names.promises; outcomes = h.room.names.outcomes; imports = h.room.names.imports; questions = h.room.names.questions; objects = h.room.names.objects };
       notes = record {
         promises = let n = h.room.notes.promises in omega (arith, n, more_a);
         outcomes = let n = h.room.notes.outcomes in omega (arith, n, more_b);

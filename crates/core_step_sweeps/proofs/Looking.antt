@@ -39,7 +39,7 @@ none_such (n ∷ ns) = none_such ns
 
 -- Counts tell how many nodes are of the same thing.
 pub counts_of : (c : Names) (ns : List Node) → Counts c ns → (n : Node) → times_named c n ≡ how_many (is_of n) ns
-counts_of c ns h (node.Object o) = sym (none_such ns)
+counts_of c ns h (node.Object o) = h.objects o.0
 counts_of c ns h (node.Promise p) = h.promises p
 counts_of c ns h (node.Field o path) = h.outcomes o
 counts_of c ns h (node.Import e) = h.imports e.0
@@ -52,6 +52,7 @@ counts_none = record {
   outcomes = λ k. none_counted k;
   imports = λ k. none_counted k;
   questions = λ k. none_counted k;
+  objects = λ k. none_counted k;
 }
   where
     none_counted : (k : ℕ) → count_of (let m : Map ℕ = map.empty in map.get m k) ≡ 0

@@ -77,7 +77,7 @@ module _ (x : Store) (none : x.waits.taken ≡ []) (h : IsSound x) where
 
     dropped : IsSound (record x { names = renoted xs (x.names.questions.spare + 1) })
     dropped = record {
-      counted = record { promises = h.counted.promises; outcomes = h.counted.outcomes; imports = h.counted.imports; questions = h.counted.questions };
+      counted = record { promises = h.counted.promises; outcomes = h.counted.outcomes; imports = h.counted.imports; questions = h.counted.questions; objects = h.counted.objects };
       covered = record {
         promises = h.covered.promises;
         outcomes = h.covered.outcomes;
@@ -99,7 +99,7 @@ module _ (x : Store) (none : x.waits.taken ≡ []) (h : IsSound x) where
         tasks = h.room.tasks;
         unsettled = h.room.unsettled;
         waits = h.room.waits;
-        names = record { promises = h.room.names.promises; outcomes = h.room.names.outcomes; imports = h.room.names.imports; questions = h.room.names.questions };
+        names = record { promises = h.room.names.promises; outcomes = h.room.names.outcomes; imports = h.room.names.imports; questions = h.room.names.questions; objects = h.room.names.objects };
         notes = record {
           promises = h.room.notes.promises;
           outcomes = h.room.notes.outcomes;

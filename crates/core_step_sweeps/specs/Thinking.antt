@@ -16,6 +16,7 @@ use Rattle.rpc_machine.specs.Places.{places, named_by_value, named_by_returned, 
 use Rattle.rpc_machine.specs.Progress.{Progress}
 use Rattle.rpc_machine.specs.Collecting.{IsLoosePromise, IsLooseOutcome, IsLooseImport}
 use Rattle.rpc_machine.specs.Sweeping.{IsNotSent, IsToFinish, closed, Withers}
+use Rattle.rpc_uses.specs.Objects.{is_the_object}
 use Rattle.laws_acts.specs.Alike.{Alike}
 use Rattle.core_refcounts.specs.Names.{Counts, no_names}
 use Rattle.core_store.specs.Holding.{IsFixed, IsTold, IsThere}
@@ -26,9 +27,9 @@ use Rattle.core_step_sweeps.specs.declared.thought.Thought.{Thought}
 abbrev pub never : Node → Bool
 never n = false
 
--- Whether the second node is of the same promise, outcome, import or question as the first.
+-- Whether the second node is of the same object, promise, outcome, import or question as the first.
 abbrev pub is_of : Node → Node → Bool
-is_of (node.Object o) = never
+is_of (node.Object o) = is_the_object o.0
 is_of (node.Promise p) = is_promise p
 is_of (node.Field o path) = is_field o
 is_of (node.Import e) = is_import e.0

@@ -6,13 +6,14 @@ use rpc_msg::{Memory, QuestionId};
 use std::alloc::Global;
 use std::marker::Model;
 
-/// How often each promise, outcome, import and question was counted, until all counts are cleared.
+/// How often each object, promise, outcome, import and question was counted, until all counts are cleared.
 #[derive(Drop)]
 pub struct Tallies {
     promises: Tally,
     outcomes: Tally,
     imports: Tally,
     questions: Tally,
+    objects: Tally,
 }
 
 impl Model for Tallies {
@@ -22,7 +23,7 @@ impl Model for Tallies {
 
     ghost coded = { names_code };
 
-    ghost view = { λ a. record { promises = a.promises; outcomes = a.outcomes; imports = a.imports; questions = a.questions } };
+    ghost view = { λ a. record { promises = a.promises; outcomes = a.outcomes; imports = a.imports; questions = a.questions; objects = record { counts = a.objects.counts; room = a.objects.room } } };
 }
 
 impl Tallies {
@@ -37,16 +38,17 @@ impl Tallies {
             outcomes: Tally::new(alloc),
             imports: Tally::new(alloc),
             questions: Tally::new(alloc),
+            objects: Tally::new(alloc),
         }
     }
 
-    /// How often the promise, the import, fields of the outcome or Pipes of the question that the node is of were counted.
+    /// How often the object, the promise, the import, fields of the outcome or Pipes of the question that the node is of were counted.
     /// Takes no memory.
     pub fn of_node(&self, node: &Node) -> u64
         ensures { result ≡ times_named self.now node.now }
     {
         match *node {
-            Node::Object(_) => 0,
+            Node::Object(id) => self.objects.count(id.0),
             Node::Promise(key) => self.promises.count(key),
             Node::Field(key, _) => self.outcomes.count(key),
             Node::Import(id) => self.imports.count(id.0 as u64),
@@ -67,7 +69,7 @@ impl Tallies {
         ensures { OnOk result (self.new ≡ named self.old node) }
     {
         match node {
-            Node::Object(_) => Ok(()),
+            Node::Object(id) => self.objects.raise(id.0),
             Node::Promise(key) => self.promises.raise(key),
             Node::Field(key, _) => self.outcomes.raise(key),
             Node::Import(id) => self.imports.raise(id.0 as u64),
@@ -84,6 +86,7 @@ impl Tallies {
             && self.outcomes.is_clear()
             && self.imports.is_clear()
             && self.questions.is_clear()
+            && self.objects.is_clear()
     }
 
     /// Counts nothing any more. Takes no memory, and keeps what it has.
@@ -97,5 +100,6 @@ impl Tallies {
         self.outcomes.clear();
         self.imports.clear();
         self.questions.clear();
+        self.objects.clear();
     }
 }

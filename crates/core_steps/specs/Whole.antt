@@ -20,15 +20,15 @@ use Rattle.core_step.specs.InProgress.{IsIdle}
 use Rattle.core_steps.specs.declared.machine.Machine.{Machine}
 use Rattle.core_steps.specs.declared.machine.Named.{Named}
 
--- A vat that is up: no step is in progress, no call is taken out to be routed, and the memory of an Abort is there.
+-- A vat that is up: no step is in progress, and the memory of an Abort is there.
 pub record IsUp (x : Machine) : Type 0 where
   pub idle : IsIdle x.step
-  pub none_taken : x.step.store.waits.taken ≡ []
   pub can_abort : x.spare.can_abort ≡ true
 
--- A vat between its steps.
+-- A vat between its steps. No call is taken out to be routed, whether it is up or not.
 pub record IsResting (x : Machine) : Type 0 where
   pub sound : IsSound x.step.store
+  pub none_taken : x.step.store.waits.taken ≡ []
   pub up : x.step.store.down ≡ None → IsUp x
 
 -- Nothing is left but its names, and the number with which it went down.

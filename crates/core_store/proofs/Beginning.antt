@@ -21,6 +21,7 @@ use Rattle.rpc_machine.specs.declared.entries.Reference.{Reference}
 use Rattle.rpc_machine.specs.State.{State, start}
 use Rattle.rpc_machine.specs.Nodes.{all_links, links, is_promise, is_field, is_import, is_pipe}
 use Rattle.rpc_machine.specs.Limits.{IsWithin, held, held_for_promise, held_for_outcome, held_under, import_count, export_count, made_through}
+use Rattle.rpc_uses.specs.Objects.{is_the_object}
 use Rattle.laws_acts.specs.Alike.{places_beside}
 use Rattle.laws_acts.proofs.Nothing.{nothing_named}
 use Rattle.core_refcounts.specs.Names.{Names, Counts, no_names, count_of, times_named}
@@ -87,13 +88,14 @@ module _ (vat : Vat) (level : Level) (bootstrap : Option ObjectId) where
         outcomes = λ k. none_counted k ∙ sym (none (is_field k));
         imports = λ k. none_counted k ∙ sym (none (is_import k));
         questions = λ k. none_counted k ∙ sym (none (is_pipe k));
+        objects = λ k. none_counted k ∙ sym (none (is_the_object k));
       }
 
   numbered_new : IsNumbered new
   numbered_new = record { refs = λ k _. map.get-empty nat_cmp k; calls = λ k _. map.get-empty nat_cmp k; tasks = λ k _. map.get-empty nat_cmp k; unsettled = λ k _. map.get-empty nat_cmp k }
 
 none_named : (n : Node) → times_named no_names n ≡ 0
-none_named (node.Object o) = refl
+none_named (node.Object o) = none_counted o.0
 none_named (node.Promise p) = none_counted p
 none_named (node.Field o path) = none_counted o
 none_named (node.Import e) = none_counted e.0
@@ -111,7 +113,7 @@ no_room x none = record {
   tasks = omega (arith, none);
   unsettled = omega (arith, none);
   waits = omega (arith, none);
-  names = record { promises = omega (arith, none); outcomes = omega (arith, none); imports = omega (arith, none); questions = omega (arith, none) };
+  names = record { promises = omega (arith, none); outcomes = omega (arith, none); imports = omega (arith, none); questions = omega (arith, none); objects = omega (arith, none) };
   notes = record { promises = omega (arith, none); outcomes = omega (arith, none); imports = omega (arith, none); questions = omega (arith, none) };
 }
 

@@ -78,7 +78,7 @@ still_noted c k j h = Contains-append_left c.noted (noted_by k (map.get c.counts
 
 -- One more place names the node, and one less.
 covered_named : (s : State) (c : Names) (n : Node) → IsCovered s c → IsCovered s (named c n)
-covered_named s c (node.Object o) h = h
+covered_named s c (node.Object o) h = record { promises = h.promises; outcomes = h.outcomes; imports = h.imports; questions = h.questions }
 covered_named s c (node.Promise p) h = record { promises = λ k e. noted_raised c.promises p k (h.promises k e); outcomes = h.outcomes; imports = h.imports; questions = h.questions }
 covered_named s c (node.Field o path) h = record { promises = h.promises; outcomes = λ k e. noted_raised c.outcomes o k (h.outcomes k e); imports = h.imports; questions = h.questions }
 covered_named s c (node.Import i) h = record { promises = h.promises; outcomes = h.outcomes; imports = λ k e. noted_raised c.imports i.0 k (h.imports k e); questions = h.questions }
@@ -91,7 +91,7 @@ covered_named s c (node.Pipe q path) h = record {
 covered_named s c (node.Broken reason) h = h
 
 covered_unnamed : (s : State) (c : Names) (n : Node) → IsCovered s c → IsCovered s (unnamed c n)
-covered_unnamed s c (node.Object o) h = h
+covered_unnamed s c (node.Object o) h = record { promises = h.promises; outcomes = h.outcomes; imports = h.imports; questions = h.questions }
 covered_unnamed s c (node.Promise p) h = record { promises = λ k e. noted_lowered c.promises p k (h.promises k e); outcomes = h.outcomes; imports = h.imports; questions = h.questions }
 covered_unnamed s c (node.Field o path) h = record { promises = h.promises; outcomes = λ k e. noted_lowered c.outcomes o k (h.outcomes k e); imports = h.imports; questions = h.questions }
 covered_unnamed s c (node.Import i) h = record { promises = h.promises; outcomes = h.outcomes; imports = λ k e. noted_lowered c.imports i.0 k (h.imports k e); questions = h.questions }

@@ -10,6 +10,7 @@ use Rattle.rpc_machine.specs.Lists.{how_many}
 use Rattle.rpc_machine.specs.Nodes.{is_promise, is_field, is_import, is_pipe}
 use Rattle.rpc_machine.specs.Places.{places}
 use Rattle.rpc_machine.specs.Limits.{made_through, number_limit}
+use Rattle.rpc_uses.specs.Objects.{is_the_object}
 use Rattle.laws_acts.specs.Alike.{Alike, places_beside}
 use Rattle.laws_acts.proofs.Likeness.{alike_beside}
 use Rattle.laws_acts.proofs.Parts.{how_many_append}
@@ -54,7 +55,7 @@ module _ (ns ms come gone : List Node) (alike : Alike (come ++ ns) (gone ++ ms))
 
   -- No count grows by more than the places that come.
   pub times_kept : (c d : Names) → Counts c ns → Counts d ms → (n : Node) → times_named d n ≤ times_named c n + length come
-  times_kept c d old new (node.Object o) = omega arith
+  times_kept c d old new (node.Object o) = let a = old.objects o.0 in let b = new.objects o.0 in let e = no_more (is_the_object o.0) in omega (arith, a, b, e)
   times_kept c d old new (node.Promise p) = let a = old.promises p in let b = new.promises p in let e = no_more (is_promise p) in omega (arith, a, b, e)
   times_kept c d old new (node.Field o path) = let a = old.outcomes o in let b = new.outcomes o in let e = no_more (is_field o) in omega (arith, a, b, e)
   times_kept c d old new (node.Import i) = let a = old.imports i.0 in let b = new.imports i.0 in let e = no_more (is_import i.0) in omega (arith, a, b, e)
@@ -64,15 +65,15 @@ module _ (ns ms come gone : List Node) (alike : Alike (come ++ ns) (gone ++ ms))
 -- ---- Rooms
 
 room_unnamed : (n : ℕ) (c : Names) (m : Node) → HasRoom n c → HasRoom n (unnamed c m)
-room_unnamed n c (node.Object o) h = h
-room_unnamed n c (node.Promise p) h = record { promises = h.promises; outcomes = h.outcomes; imports = h.imports; questions = h.questions }
-room_unnamed n c (node.Field o path) h = record { promises = h.promises; outcomes = h.outcomes; imports = h.imports; questions = h.questions }
-room_unnamed n c (node.Import e) h = record { promises = h.promises; outcomes = h.outcomes; imports = h.imports; questions = h.questions }
-room_unnamed n c (node.Pipe q path) h = record { promises = h.promises; outcomes = h.outcomes; imports = h.imports; questions = h.questions }
+room_unnamed n c (node.Object o) h = record { promises = h.promises; outcomes = h.outcomes; imports = h.imports; questions = h.questions; objects = h.objects }
+room_unnamed n c (node.Promise p) h = record { promises = h.promises; outcomes = h.outcomes; imports = h.imports; questions = h.questions; objects = h.objects }
+room_unnamed n c (node.Field o path) h = record { promises = h.promises; outcomes = h.outcomes; imports = h.imports; questions = h.questions; objects = h.objects }
+room_unnamed n c (node.Import e) h = record { promises = h.promises; outcomes = h.outcomes; imports = h.imports; questions = h.questions; objects = h.objects }
+room_unnamed n c (node.Pipe q path) h = record { promises = h.promises; outcomes = h.outcomes; imports = h.imports; questions = h.questions; objects = h.objects }
 room_unnamed n c (node.Broken reason) h = h
 
 spare_named : (n : ℕ) (c : Names) (m : Node) → HasSpare n c → HasSpare n (named c m)
-spare_named n c (node.Object o) h = h
+spare_named n c (node.Object o) h = record { promises = h.promises; outcomes = h.outcomes; imports = h.imports; questions = h.questions }
 spare_named n c (node.Promise p) h = record { promises = h.promises; outcomes = h.outcomes; imports = h.imports; questions = h.questions }
 spare_named n c (node.Field o path) h = record { promises = h.promises; outcomes = h.outcomes; imports = h.imports; questions = h.questions }
 spare_named n c (node.Import e) h = record { promises = h.promises; outcomes = h.outcomes; imports = h.imports; questions = h.questions }
@@ -80,7 +81,7 @@ spare_named n c (node.Pipe q path) h = record { promises = h.promises; outcomes 
 spare_named n c (node.Broken reason) h = h
 
 spare_unnamed : (n : ℕ) (c : Names) (m : Node) → HasSpare n c → HasSpare n (unnamed c m)
-spare_unnamed n c (node.Object o) h = h
+spare_unnamed n c (node.Object o) h = record { promises = h.promises; outcomes = h.outcomes; imports = h.imports; questions = h.questions }
 spare_unnamed n c (node.Promise p) h = record { promises = h.promises; outcomes = h.outcomes; imports = h.imports; questions = h.questions }
 spare_unnamed n c (node.Field o path) h = record { promises = h.promises; outcomes = h.outcomes; imports = h.imports; questions = h.questions }
 spare_unnamed n c (node.Import e) h = record { promises = h.promises; outcomes = h.outcomes; imports = h.imports; questions = h.questions }

@@ -15,7 +15,7 @@ use Rattle.core_store.specs.Holding.{state_of, IsCovered, IsNumbered, HoldsCalls
 
 -- Rooms count nothing.
 counts_over : (c d : Names) (ns : List Node) → Counts c ns → Counts (all_with_rooms c d) ns
-counts_over c d ns h = record { promises = h.promises; outcomes = h.outcomes; imports = h.imports; questions = h.questions }
+counts_over c d ns h = record { promises = h.promises; outcomes = h.outcomes; imports = h.imports; questions = h.questions; objects = h.objects }
 
 times_over : (c d : Names) (n : Node) → times_named (all_with_rooms c d) n ≡ times_named c n
 times_over c d (node.Object o) = refl

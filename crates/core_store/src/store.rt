@@ -31,7 +31,7 @@ pub struct Store {
     pub unsettled: Rising<u64>,
     /// Own promises, kept outcomes and embargoes, with the calls that wait there.
     pub waits: Waits,
-    /// How many places name each promise, outcome, import and question.
+    /// How many places name each promise, outcome, import, question and object.
     pub names: Names,
     pub next_ref: u64,
     pub next_call: u64,

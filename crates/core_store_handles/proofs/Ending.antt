@@ -201,12 +201,12 @@ times_noted c (own.Kept key) (node.Pipe k path) = refl
 times_noted c (own.Kept key) (node.Broken reason) = refl
 
 counts_noted : (c : Names) (from : OwnCall) (ns : List Node) → Counts c ns → Counts (noted_for c from) ns
-counts_noted c (own.Direct q) ns h = record { promises = h.promises; outcomes = h.outcomes; imports = h.imports; questions = λ k. ap (λ (m : Map ℕ). times m k) (same_counts c.questions q.0) ∙ h.questions k }
-counts_noted c (own.Kept key) ns h = record { promises = h.promises; outcomes = λ k. ap (λ (m : Map ℕ). times m k) (same_counts c.outcomes key) ∙ h.outcomes k; imports = h.imports; questions = h.questions }
+counts_noted c (own.Direct q) ns h = record { promises = h.promises; outcomes = h.outcomes; imports = h.imports; questions = λ k. ap (λ (m : Map ℕ). times m k) (same_counts c.questions q.0) ∙ h.questions k; objects = h.objects }
+counts_noted c (own.Kept key) ns h = record { promises = h.promises; outcomes = λ k. ap (λ (m : Map ℕ). times m k) (same_counts c.outcomes key) ∙ h.outcomes k; imports = h.imports; questions = h.questions; objects = h.objects }
 
 room_noted : (c : Names) (from : OwnCall) (more : ℕ) → HasRoom more c → HasRoom more (noted_for c from)
-room_noted c (own.Direct q) more h = record { promises = h.promises; outcomes = h.outcomes; imports = h.imports; questions = let a = same_room c.questions q.0 in let b = h.questions in omega (arith, a, b) }
-room_noted c (own.Kept key) more h = record { promises = h.promises; outcomes = let a = same_room c.outcomes key in let b = h.outcomes in omega (arith, a, b); imports = h.imports; questions = h.questions }
+room_noted c (own.Direct q) more h = record { promises = h.promises; outcomes = h.outcomes; imports = h.imports; questions = let a = same_room c.questions q.0 in let b = h.questions in omega (arith, a, b); objects = h.objects }
+room_noted c (own.Kept key) more h = record { promises = h.promises; outcomes = let a = same_room c.outcomes key in let b = h.outcomes in omega (arith, a, b); imports = h.imports; questions = h.questions; objects = h.objects }
 
 spare_noted : (c : Names) (from : OwnCall) (more less : ℕ) → less + 1 ≤ more → HasSpare more c → HasSpare less (noted_for c from)
 spare_noted c (own.Direct q) more less few h = record {

@@ -24,7 +24,7 @@ use Rattle.rpc_machine.specs.Collecting.{CallerIsDone, AnswerIsOther}
 use Rattle.laws_acts.specs.Alike.{Alike, places_beside}
 use Rattle.laws_acts.proofs.Likeness.{alike_beside}
 use Rattle.vat_tables.specs.Table.{Table}
-use Rattle.core_refcounts.specs.Names.{Counted, Names, Counts, times, times_named, noting, HasRoom, HasSpare}
+use Rattle.core_refcounts.specs.Names.{Counted, Names, Counts, times, times_named, noting, HasRoom, HasSpare, Totals}
 use Rattle.core_refcounts.proofs.Rooms.{room_fewer}
 use Rattle.core_store.specs.declared.store.Store.{Store}
 use Rattle.core_store.specs.Holding.{state_of, all_named, IsFresh, IsTold, IsToldTo, IsNoted, IsNotedFor, IsNotedAs, IsCovered, IsSound}
@@ -46,6 +46,7 @@ pub record NotesMore (c d : Names) : Type 0 where
   pub outcomes : MoreNoted c.outcomes d.outcomes
   pub imports : MoreNoted c.imports d.imports
   pub questions : MoreNoted c.questions d.questions
+  pub objects : d.objects ≡ c.objects
 
 none_more : (a : Counted) → MoreNoted a a
 none_more a = record { counts = refl; noted = λ k h. h; room = omega arith; spare = omega arith }
@@ -54,17 +55,17 @@ one_more : (a : Counted) (k : ℕ) → MoreNoted a (noting a k)
 one_more a k = record { counts = refl; noted = λ j h. Contains-append_left a.noted (k ∷ []) j h; room = omega arith; spare = omega arith }
 
 pub no_note : (c : Names) → NotesMore c c
-no_note c = record { promises = none_more c.promises; outcomes = none_more c.outcomes; imports = none_more c.imports; questions = none_more c.questions }
+no_note c = record { promises = none_more c.promises; outcomes = none_more c.outcomes; imports = none_more c.imports; questions = none_more c.questions; objects = refl }
 
 pub question_note : (c : Names) (q : ℕ) → NotesMore c (record c { questions = noting c.questions q })
-question_note c q = record { promises = none_more c.promises; outcomes = none_more c.outcomes; imports = none_more c.imports; questions = one_more c.questions q }
+question_note c q = record { promises = none_more c.promises; outcomes = none_more c.outcomes; imports = none_more c.imports; questions = one_more c.questions q; objects = refl }
 
 pub outcome_note : (c : Names) (o : ℕ) (b : Bool) → NotesMore c (cond b (record c { outcomes = noting c.outcomes o }) c)
-outcome_note c o true = record { promises = none_more c.promises; outcomes = one_more c.outcomes o; imports = none_more c.imports; questions = none_more c.questions }
+outcome_note c o true = record { promises = none_more c.promises; outcomes = one_more c.outcomes o; imports = none_more c.imports; questions = none_more c.questions; objects = refl }
 outcome_note c o false = no_note c
 
 pub import_note : (c : Names) (e : ℕ) (b : Bool) → NotesMore c (cond b (record c { imports = noting c.imports e }) c)
-import_note c e true = record { promises = none_more c.promises; outcomes = none_more c.outcomes; imports = one_more c.imports e; questions = none_more c.questions }
+import_note c e true = record { promises = none_more c.promises; outcomes = none_more c.outcomes; imports = one_more c.imports e; questions = none_more c.questions; objects = refl }
 import_note c e false = no_note c
 
 counts_noted : (c d : Names) (ns : List Node) → NotesMore c d → Counts c ns → Counts d ns
@@ -73,6 +74,7 @@ counts_noted c d ns more h = record {
   outcomes = λ k. ap (λ (m : Map ℕ). times m k) more.outcomes.counts ∙ h.outcomes k;
   imports = λ k. ap (λ (m : Map ℕ). times m k) more.imports.counts ∙ h.imports k;
   questions = λ k. ap (λ (m : Map ℕ). times m k) more.questions.counts ∙ h.questions k;
+  objects = λ k. ap (λ (t : Totals). times t.counts k) more.objects ∙ h.objects k;
 }
 
 room_noted : (n : ℕ) (c d : Names) → NotesMore c d → HasRoom n c → HasRoom n d
@@ -81,6 +83,7 @@ room_noted n c d more h = record {
   outcomes = let a = more.outcomes.room in let b = h.outcomes in omega (arith, a, b);
   imports = let a = more.imports.room in let b = h.imports in omega (arith, a, b);
   questions = let a = more.questions.room in let b = h.questions in omega (arith, a, b);
+  objects = let a = ap (λ (t : Totals). t.room) more.objects in let b = h.objects in omega (arith, a, b);
 }
 
 pub spare_noted : (m n : ℕ) (c d : Names) → NotesMore c d → m < n → HasSpare n c → HasSpare m d
@@ -111,7 +114,7 @@ covered_noted s c d more h = record {
 }
 
 times_noted : (c d : Names) → NotesMore c d → (n : Node) → times_named d n ≡ times_named c n
-times_noted c d more (node.Object o) = refl
+times_noted c d more (node.Object o) = ap (λ (t : Totals). times t.counts o.0) more.objects
 times_noted c d more (node.Promise p) = ap (λ (m : Map ℕ). times m p) more.promises.counts
 times_noted c d more (node.Field o path) = ap (λ (m : Map ℕ). times m o) more.outcomes.counts
 times_noted c d more (node.Import e) = ap (λ (m : Map ℕ). times m e.0) more.imports.counts

@@ -86,15 +86,15 @@ module _ (c : Names) (o : ℕ) (ns : List Node) (slack added : ℕ) (h : NamesFi
 
   fit_at : (k : ℕ) → NamesFit (with_note k) ns slack added
   fit_at zero = record {
-    counted = record { promises = h.counted.promises; outcomes = h.counted.outcomes; imports = h.counted.imports; questions = h.counted.questions };
+    counted = record { promises = h.counted.promises; outcomes = h.counted.outcomes; imports = h.counted.imports; questions = h.counted.questions; objects = h.counted.objects };
     times = still_times 0;
-    room = record { promises = omega (arith, h.room.promises); outcomes = omega (arith, h.room.outcomes); imports = omega (arith, h.room.imports); questions = omega (arith, h.room.questions) };
+    room = record { promises = omega (arith, h.room.promises); outcomes = omega (arith, h.room.outcomes); imports = omega (arith, h.room.imports); questions = omega (arith, h.room.questions); objects = omega (arith, h.room.objects) };
     spare = record { promises = omega (arith, h.spare.promises); outcomes = omega (arith, h.spare.outcomes); imports = omega (arith, h.spare.imports); questions = omega (arith, h.spare.questions) };
   }
   fit_at (suc k) = record {
-    counted = record { promises = h.counted.promises; outcomes = h.counted.outcomes; imports = h.counted.imports; questions = h.counted.questions };
+    counted = record { promises = h.counted.promises; outcomes = h.counted.outcomes; imports = h.counted.imports; questions = h.counted.questions; objects = h.counted.objects };
     times = still_times (suc k);
-    room = record { promises = omega (arith, h.room.promises); outcomes = omega (arith, h.room.outcomes); imports = omega (arith, h.room.imports); questions = omega (arith, h.room.questions) };
+    room = record { promises = omega (arith, h.room.promises); outcomes = omega (arith, h.room.outcomes); imports = omega (arith, h.room.imports); questions = omega (arith, h.room.questions); objects = omega (arith, h.room.objects) };
     spare = record { promises = omega (arith, h.spare.promises); outcomes = omega (arith, h.spare.outcomes); imports = omega (arith, h.spare.imports); questions = omega (arith, h.spare.questions) };
   }
 

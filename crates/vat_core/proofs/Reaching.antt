@@ -48,6 +48,7 @@ pub begins_standing : (vat : Vat) (level : Level) (bootstrap : Option ObjectId) 
 begins_standing vat level bootstrap x state sound none_taken said arisen spare = record {
   resting = record {
     sound = sound;
+    none_taken = none_taken;
     up = λ alive. record {
       idle = record {
         sound = sound;
@@ -57,7 +58,6 @@ begins_standing vat level bootstrap x state sound none_taken said arisen spare =
         releases = ap (λ (o : Outgoing). o.releases) said;
         can_abort = ap (λ (o : Outgoing). o.can_abort) said;
       };
-      none_taken = none_taken;
       can_abort = ap (λ (o : Outgoing). o.can_abort) spare;
     };
   };

@@ -1,9 +1,10 @@
 -- What can be told of a message of the peer before the core has it.
-use Rattle.std.specs.Prelude.{Bool, true, false, Option, None, Some}
+use Rattle.std.specs.Prelude.{Bool, true, false, is_some, Option, None, Some}
 use Rattle.rpc_machine.specs.declared.entries.Question.{Question}
 use Rattle.rpc_machine.specs.declared.entries.Finishing.{Finishing}
 use Rattle.rpc_machine.specs.declared.entries.Finishing.TheVariants as finishing
 use Rattle.rpc_machine.specs.declared.entries.Import.{Import}
+use Rattle.rpc_machine.specs.declared.entries.SenderKind.{SenderKind}
 use Rattle.rpc_machine.specs.declared.entries.Resolution.{Resolution}
 use Rattle.rpc_machine.specs.declared.entries.Resolution.TheVariants as resolution
 
@@ -16,6 +17,11 @@ is_exception (Some (resolution.Exception e)) = true
 abbrev pub is_broken : Option Import → Bool
 is_broken None = false
 is_broken (Some x) = is_exception x.resolution
+
+-- The kind in which the peer named it first, and whether a Resolve of it came.
+abbrev pub named_as : Option Import → Option (SenderKind × Bool)
+named_as None = None
+named_as (Some x) = Some (x.kind, is_some x.resolution)
 
 abbrev pub is_sent : Finishing → Bool
 is_sent finishing.Owed = false

@@ -1,10 +1,10 @@
 ghost use Rattle.std.specs.Prelude.{◌≡◌};
 ghost use Rattle.std.specs.FinMap as map;
 ghost use Rattle.rpc_machine.specs.Fullness.{has_no_room};
-ghost use Rattle.vat_core.specs.Foreseen.{is_broken, is_exception, is_finished, is_sent};
+ghost use Rattle.vat_core.specs.Foreseen.{is_broken, is_exception, is_finished, is_sent, named_as};
 
 use crate::vat::Core;
-use rpc_machine::{Finishing, Resolution};
+use rpc_machine::{Finishing, Resolution, SenderKind};
 use rpc_msg::{ExportId, QuestionId};
 use vat_tables::TABLE_LIMIT;
 
@@ -17,6 +17,17 @@ impl Core {
         match self.machine.step.store.imports.get(export.0) {
             None => false,
             Some(import) => is_exception(&import.resolution),
+        }
+    }
+
+    /// The kind in which the peer's export of that id was named first, where it is an import here, and whether a Resolve of it came.
+    /// Takes no memory.
+    pub fn named_as(&self, export: ExportId) -> Option<(SenderKind, bool)>
+        ensures { result ≡ named_as (map.get self.now.imports export.0) }
+    {
+        match self.machine.step.store.imports.get(export.0) {
+            None => None,
+            Some(import) => Some((import.kind, import.resolution.is_some())),
         }
     }
 

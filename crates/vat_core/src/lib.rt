@@ -11,6 +11,8 @@
 //! - `queries.rt`: what can be asked of a core without a step, in the words of `Queries`; `counts.rt` the counts of
 //!   exports and imports; `foresight.rt` what takes a vat down and can be told before it hears of it; `fallen.rt` whether a
 //!   vat that went down met a limit.
+//! - `holdings.rt`: what an application asks to know what it can let go: which of its objects are named, whether anybody has
+//!   use for a task's results, where its references lead (`core_queries`).
 //! - `refused.rt`: a command that is refused hands its arguments back in a `Refused`, which is an error with the refusal's
 //!   text, so that an application may pass it on by `?`.
 //! - `contents.rt`: the payload and references of a message that gives one capability or none (`contents`).
@@ -27,6 +29,7 @@ mod contents;
 mod counts;
 mod fallen;
 mod foresight;
+mod holdings;
 mod promises;
 mod queries;
 mod refs;
@@ -35,5 +38,6 @@ mod tasks;
 mod vat;
 
 pub use commands::Answer;
+pub use core_queries::{ImportKind, Place, TableSizes};
 pub use refused::Refused;
 pub use vat::Core;
