@@ -1,5 +1,5 @@
--- Of a peer that makes no tail call and names no broken promise, a vat that has room for its calls hears what came, and it is told
--- what the vat says. Each count that a peer gives is heard, owed or given back.
+-- Of a peer that makes no tail call, names each export in one kind and names no broken promise, a vat that has room for its calls
+-- hears what came, and it is told what the vat says. Each count that a peer gives is heard, owed or given back.
 use Rattle.std.specs.Prelude.{◌≡◌, ℕ, ◌+◌, false, IfOk, [], ◌∷◌, Option, Some, None, Ok}
 use Rattle.std.specs.FinMap as finite
 use Rattle.rpc_msg.specs.declared.ids.ExportId.{ExportId}
@@ -10,6 +10,7 @@ use Rattle.rpc_msg.specs.declared.message.Message.TheVariants as message
 use Rattle.rpc_codec.specs.Envelopes.{What, profile}
 use Rattle.rpc_codec.specs.Carried.{gives}
 use Rattle.peer_overload.specs.Laws.{flag_gives_back, gives_back}
+use Rattle.peer_kinds.specs.Laws.{NamesAlike}
 use Rattle.peer_broken.specs.Naming.{Naming, flagged, names_of, owed_under}
 use Rattle.peer_broken.specs.Laws.{owed, times}
 use Rattle.peer_tail_calls.specs.declared.heard.Said.{Said}
@@ -22,7 +23,7 @@ use Rattle.peer_adapter.specs.Peering.{Besides, Coming, Going, Peering, Tables, 
 use Rattle.peer_adapter.specs.Peering.Besides.{Tells, Keeps}
 
 pub record StandsAside : Type 0 where
-  pub heard : (t : Tables) (m : Message) → t.is_full ≡ false → names_of t.broken (profile m) ≡ []
+  pub heard : (t : Tables) (m : Message) → t.is_full ≡ false → NamesAlike t.standing (profile m) → names_of t.broken (profile m) ≡ []
       → comes t fresh (profile m) ≡ Ok (record { state = fresh; besides = Tells (record { given_back = []; said = None }); heard = m ∷ [] })
   pub said : (m : Message) → goes fresh m ≡ record { state = fresh; told = record { given_back = []; said = told_of m }; heard = [] }
 

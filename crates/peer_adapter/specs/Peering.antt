@@ -1,12 +1,14 @@
 -- What stands between a peer of another make and a vat (docs/messages.md, "Peers of other make"): first a call more than the vat may
--- answer is refused; then what names a broken promise again names nothing; then tail calls become calls.
-use Rattle.std.specs.Prelude.{◌≡◌, Bool, true, List, [], Option, Some, None, Result, Ok, Err, refl}
+-- answer is refused; then each export is named in one kind; then what names a broken promise again names nothing; then tail calls
+-- become calls. A Finish goes out behind its Return, where that is asked for.
+use Rattle.std.specs.Prelude.{◌≡◌, Bool, true, List, [], Option, Some, None, Result, Ok, Err, option_to_list, refl}
 use Rattle.std.specs.Coded.{Coded, code_by, coded×}
 use Rattle.capn_trees.specs.Trees.{Tree}
 use Rattle.capn_trees.specs.Views.{view}
 use Rattle.rpc_msg.specs.Memory.{Memory}
 use Rattle.rpc_msg.specs.declared.ids.ExportId.{ExportId}
 use Rattle.rpc_msg.specs.declared.ids.QuestionId.{QuestionId}
+use Rattle.rpc_msg.specs.declared.message.Finish.{Finish}
 use Rattle.rpc_msg.specs.declared.message.Message.{Message}
 use Rattle.rpc_msg.specs.declared.message.Message.TheVariants as message
 use Rattle.rpc_msg.specs.declared.message.PlainMessage.{PlainMessage}
@@ -18,6 +20,8 @@ use Rattle.peer_overload.specs.declared.errors.OverloadFault.{OverloadFault}
 use Rattle.peer_overload.specs.Overloading.{Overloading, Outcome, admitted, refused, refused_tail, nothing, overloaded}
 use Rattle.peer_overload.specs.contracts.overload.Overload as overload_row
 use Rattle.peer_overload.specs.Overloading as overload
+use Rattle.peer_kinds.specs.Kinds.{Standings}
+use Rattle.peer_kinds.specs.Kinds as kinds
 use Rattle.peer_broken.specs.Naming.{Naming, naming_code, nothing_owed}
 use Rattle.peer_broken.specs.Naming as names
 use Rattle.peer_tail_calls.specs.declared.errors.AdapterFault.{AdapterFault}
@@ -25,32 +29,39 @@ use Rattle.peer_tail_calls.specs.declared.heard.Said.{Said}
 use Rattle.peer_tail_calls.specs.declared.heard.Said.TheVariants as said
 use Rattle.peer_tail_calls.specs.Adapting.{Adapting, adapting_code, messages_in}
 use Rattle.peer_tail_calls.specs.Adapting as tails
+use Rattle.peer_finishes.specs.Finishing.{Finishing, finishing_code}
+use Rattle.peer_finishes.specs.Finishing as finishes
+use Rattle.peer_finishes.specs.Laws.{asked_by}
 use Rattle.peer_adapter.specs.declared.errors.PeerFault.{PeerFault}
 use Rattle.peer_adapter.specs.declared.errors.PeerFault.TheVariants as fault
 use Rattle.peer_adapter.specs.declared.errors.PeerError.{PeerError}
 use Rattle.peer_adapter.specs.declared.errors.PeerError.TheVariants as error
+use Rattle.peer_adapter.specs.declared.role.Role.{Role}
+use Rattle.peer_adapter.specs.declared.role.Role.TheVariants as role
 use Rattle.peer_adapter.specs.declared.told.Told.{Told}
 use Rattle.peer_adapter.specs.declared.told.Aside.{Aside}
 use Rattle.peer_adapter.specs.declared.told.Aside.TheVariants as aside
 use Rattle.peer_adapter.specs.declared.told.Inbound.{Inbound}
 use Rattle.peer_adapter.specs.declared.told.Outbound.{Outbound}
 
--- The peer's questions that were refused; what is owed to it for names of broken promises; and its tail calls.
+-- The peer's questions that were refused; what is owed to it for names of broken promises; its tail calls; and the Finishes that are
+-- held back.
 pub record Peering : Type 0 where
   pub overload : Overloading
   pub names : Naming
   pub tails : Adapting
+  pub finishes : Finishing
 
 abbrev pub peering_code : Coded Peering
 peering_code =
-    code_by (Overloading × (Naming × Adapting))
-    (coded× overload_row.the_row.coded (coded× naming_code adapting_code))
-    (λ s. (s.overload, (s.names, s.tails)))
-    (λ p. record { overload = p.0; names = p.1.0; tails = p.1.1 })
+    code_by (Overloading × (Naming × (Adapting × Finishing)))
+    (coded× overload_row.the_row.coded (coded× naming_code (coded× adapting_code finishing_code)))
+    (λ s. (s.overload, (s.names, (s.tails, s.finishes))))
+    (λ p. record { overload = p.0; names = p.1.0; tails = p.1.1.0; finishes = p.1.1.1 })
     (λ _. refl)
 
 abbrev pub fresh : Peering
-fresh = record { overload = overload.fresh; names = nothing_owed; tails = tails.fresh }
+fresh = record { overload = overload.fresh; names = nothing_owed; tails = tails.fresh; finishes = finishes.fresh }
 
 -- one of an export is given back
 abbrev pub release_of : ExportId → Message
@@ -58,10 +69,11 @@ release_of e = message.Plain (plain.Release (record { export = e; count = 1 }))
 
 -- ---- what comes from the peer
 
--- What the vat says of its tables: whether it has as many answers as it may have, which exports of the peer are promises that a
--- Resolve has said to be broken, and of which of its questions the Finish was sent.
+-- What the vat says of its tables: whether it has as many answers as it may have, how the exports of the peer stand that it has as
+-- imports, which of them are promises that a Resolve has said to be broken, and of which of its questions the Finish was sent.
 pub record Tables : Type 0 where
   pub is_full : Bool
+  pub standing : Standings
   pub broken : ExportId → Bool
   pub finished : QuestionId → Bool
 
@@ -95,8 +107,13 @@ heard_by s es (Err f) = Err (fault.Tail f)
 abbrev pub names_by : Peering → names.Coming → Result Coming PeerFault
 names_by s c = heard_by (record s { names = c.state }) c.given_back (tails.comes s.tails c.came)
 
+-- It is heard in the kinds of the first names, or it is set aside.
+abbrev pub kinds_by : Tables → Peering → kinds.Outcome → Result Coming PeerFault
+kinds_by t s (kinds.heard w) = names_by s (names.comes t.broken t.finished s.names w)
+kinds_by t s (kinds.set_aside given) = Ok (record { state = s; besides = Tells (record { given_back = option_to_list given; said = None }); heard = [] })
+
 abbrev pub admits : Tables → Peering → Outcome → Result Coming PeerFault
-admits t s (admitted w) = names_by s (names.comes t.broken t.finished s.names w)
+admits t s (admitted w) = kinds_by t s (kinds.comes t.standing w)
 admits t s (refused q) = Ok (tells s (said.Message (overloaded q)))
 admits t s (refused_tail q) = Ok (tells s (said.SentElsewhere (record { answer = q; release_param_caps = true })))
 admits t s nothing = Ok (record { state = s; besides = Tells (record { given_back = []; said = None }); heard = [] })
@@ -105,9 +122,25 @@ abbrev pub admits_by : Tables → Peering → Result overload.Coming OverloadFau
 admits_by t s (Ok c) = admits t (record s { overload = c.state }) c.outcome
 admits_by t s (Err f) = Err (fault.Overload f)
 
+abbrev pub hears : Tables → Peering → What → Result Coming PeerFault
+hears t s w = admits_by t s (overload.comes s.overload t.is_full w)
+
+-- A Finish that was held back goes behind what comes. What is not understood is the end of no question.
+abbrev pub besides_with : Option Finish → Besides → Besides
+besides_with None b = b
+besides_with (Some f) (Tells told) = Tells (record told { said = Some (said.Message (message.Plain (plain.Finish f))) })
+besides_with (Some f) (Keeps original) = Keeps original
+
+abbrev pub finished_by : Option Finish → Result Coming PeerFault → Result Coming PeerFault
+finished_by f (Ok c) = Ok (record c { besides = besides_with f c.besides })
+finished_by f (Err e) = Err e
+
+abbrev pub comes_by : Tables → Peering → What → finishes.Coming → Result Coming PeerFault
+comes_by t s w c = finished_by c.told (hears t (record s { finishes = c.state }) w)
+
 -- An envelope comes to a vat with these tables.
 abbrev pub comes : Tables → Peering → What → Result Coming PeerFault
-comes t s w = admits_by t s (overload.comes s.overload t.is_full w)
+comes t s w = comes_by t s w (finishes.comes s.finishes w)
 
 -- ---- what goes to the peer
 
@@ -146,9 +179,17 @@ gives_with s g due = record {
 abbrev pub says_by : Peering → tails.Going → Going
 says_by s g = gives_with s g (gives s.names g.said)
 
+-- A message is said, if any is.
+abbrev pub passes : Peering → Option Message → Going
+passes s None = record { state = s; told = record { given_back = []; said = None }; heard = [] }
+passes s (Some m) = says_by s (tails.goes s.tails m)
+
+abbrev pub goes_by : Peering → finishes.Going → Going
+goes_by s g = passes (record s { finishes = g.state }) g.said
+
 -- A message of the vat goes.
 abbrev pub goes : Peering → Message → Going
-goes s m = says_by s (tails.goes s.tails m)
+goes s m = goes_by s (finishes.goes s.finishes m)
 
 -- ---- what the functions answer
 
@@ -161,6 +202,12 @@ seen_inbound new i = record { state = new; besides = seen_aside i.aside; heard =
 
 abbrev pub seen_outbound : Peering → Outbound → Going
 seen_outbound new o = record { state = new; told = o.told; heard = messages_in o.heard }
+
+-- A message has that part in a question of the vat.
+abbrev pub IsRole : Message → Role → Type 0
+IsRole m (role.Asks q) = asked_by m ≡ Some q
+IsRole m (role.Finishes f) = m ≡ message.Plain (plain.Finish f)
+IsRole m role.Other = (s : Finishing) → finishes.goes s m ≡ record { state = s; said = Some m }
 
 -- The vat does not hear of it.
 abbrev pub IsRefused : Admission → Type 0

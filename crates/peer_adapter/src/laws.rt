@@ -1,15 +1,17 @@
 //! What is proved of adapters. The functions run no code: what they ensure are the theorems.
 ghost use Rattle.peer_adapter.specs.Laws.{CountsOnce, StandsAside};
 
-/// Where the peer made no tail call, a message that names no broken promise is heard as it came by a vat that has room for one
-/// answer more, and the peer is told each of the vat's as it went, but for a Release that is sent back, and for pointers to
-/// capabilities that are not there, which are null.
+/// Where the peer made no tail call, a message that names each export in one kind and no broken promise is heard as it came by a
+/// vat that has room for one answer more. Where Finishes go at once, the peer is told each of the vat's as it went, but for a Release
+/// that is sent back, and for pointers to capabilities that are not there, which are null.
 pub fn stands_aside()
     ensures { StandsAside }
 {
     peer_overload::stands_aside();
     peer_broken::stands_aside();
     peer_tail_calls::stands_aside();
+    peer_kinds::stands_aside();
+    peer_finishes::stands_aside();
 }
 
 /// Each count that a peer gives is heard, owed or given back: of each of its exports, what a message gave and what was owed is what
@@ -22,4 +24,5 @@ pub fn counts_once()
     peer_overload::counts_once();
     peer_broken::counts_once();
     peer_tail_calls::counts_once();
+    peer_kinds::counts_once();
 }

@@ -1,22 +1,29 @@
 //! The adapter.
-ghost use Rattle.std.specs.Prelude.{◌≡◌, []};
+ghost use Rattle.std.specs.Prelude.{◌≡◌, [], Some, Ok, Err, IfOk, IfErr, OnOk, option_to_list};
 ghost use Rattle.std.specs.Option.{option_map};
 ghost use Rattle.capn_trees.specs.Views.{view};
 ghost use Rattle.rpc_codec.specs.Envelopes.{seen_envelope};
+ghost use Rattle.rpc_msg.specs.declared.message.Message.TheVariants as message;
+ghost use Rattle.rpc_msg.specs.declared.message.PlainMessage.TheVariants as plain;
+ghost use Rattle.peer_finishes.specs.Laws.{asked_by};
 ghost use Rattle.peer_overload.specs.Overloading.{admitted, seen_admission};
+ghost use Rattle.peer_kinds.specs.Kinds.{Tells as Stands, heard, seen_kinds, set_aside};
 ghost use Rattle.peer_broken.specs.Naming.{Tells};
 ghost use Rattle.peer_tail_calls.specs.Adapting as tails;
-ghost use Rattle.peer_tail_calls.specs.declared.heard.Heard.TheVariants as heard;
+ghost use Rattle.peer_tail_calls.specs.declared.heard.Heard.TheVariants as hearing;
 ghost use Rattle.peer_adapter.specs.declared.told.Aside.TheVariants as aside;
-ghost use Rattle.peer_adapter.specs.Peering.{Comes, GivesBack, Goes, IsRefused, Tables, admits, besides_of, comes, fresh, gives, gives_plain, goes, heard_by, seen_aside};
+ghost use Rattle.peer_adapter.specs.Peering.{Comes, GivesBack, Goes, IsRefused, IsRole, Tables, admits, besides_of, besides_with, comes, fresh, gives, gives_plain, goes, heard_by, hears, kinds_by, passes, seen_aside};
 
 use crate::errors::{PeerError, PeerFault};
+use crate::role::{Role, role_of};
 use crate::told::{Aside, Inbound, Outbound, Told};
 use peer_broken::{BrokenNames, Named};
+use peer_finishes::{Finishes, HeldFinishes};
+use peer_kinds::{Kinds, Standing, hear_kinds};
 use peer_overload::{Admission, Overload, OverloadError, overloaded};
 use peer_tail_calls::{Adapter, AdapterError, Heard, Said};
 use rpc_codec::{Envelope, SentElsewhere};
-use rpc_msg::{ExportId, Items, Memory, Message, PlainMessage, QuestionId, Tree};
+use rpc_msg::{ExportId, Finish, Items, Memory, Message, PlainMessage, QuestionId, Tree};
 use std::alloc::Global;
 use std::marker::Model;
 
@@ -28,6 +35,7 @@ pub struct PeerAdapter {
     overload: Overload,
     names: BrokenNames,
     tails: Adapter,
+    finishes: HeldFinishes,
 }
 
 impl Model for PeerAdapter {
@@ -37,7 +45,7 @@ impl Model for PeerAdapter {
 
     ghost coded = { peering_code };
 
-    ghost view = { λ a. record { overload = a.overload; names = a.names; tails = a.tails } };
+    ghost view = { λ a. record { overload = a.overload; names = a.names; tails = a.tails; finishes = a.finishes } };
 }
 
 impl PeerAdapter {
@@ -50,17 +58,109 @@ impl PeerAdapter {
             overload: Overload::new(alloc),
             names: BrokenNames::new(alloc),
             tails: Adapter::new(alloc),
+            finishes: HeldFinishes::new(alloc),
         }
     }
 
+    /// From now on the Finish of a question that the vat asks goes at once, or behind its Return. Takes no memory.
+    pub fn set_finishes(&mut self, finishes: Finishes)
+        ensures { self.new ≡ record self.old { finishes = record (self.old.finishes) { finishes = finishes } } }
+    {
+        self.finishes.set(finishes);
+    }
+
     /// What comes of an envelope for a vat that has heard all that came before and has nothing left to say. `is_full` says whether
-    /// it has as many answers as it may have, `is_broken` of an export of the peer whether it is a promise that a Resolve has
-    /// said to be broken, and `is_finished` of a question of the vat whether its Finish was sent. A `Fault` where the connection
-    /// can't go on, and `Memory`: the adapter is not to be asked again then.
-    pub fn inbound<B: Fn(ExportId) -> bool, F: Fn(QuestionId) -> bool>(
+    /// it has as many answers as it may have, `standing` of an export of the peer how it stands at the vat as an import, `is_broken`
+    /// whether it is a promise that a Resolve has said to be broken, and `is_finished` of a question of the vat whether its Finish was
+    /// sent. A `Fault` where the connection can't go on, and `Memory`: the adapter is not to be asked again then.
+    pub fn inbound<
+        K: Fn(ExportId) -> Option<Standing>,
+        B: Fn(ExportId) -> bool,
+        F: Fn(QuestionId) -> bool,
+    >(
         &mut self,
         came: Envelope,
         is_full: bool,
+        standing: K,
+        is_broken: B,
+        is_finished: F,
+    ) -> Result<Inbound, PeerError>
+    where
+        K: Drop,
+        B: Drop,
+        F: Drop,
+        requires standing { K.IsAlwaysCallable standing }
+        requires broken { B.IsAlwaysCallable is_broken }
+        requires finished { F.IsAlwaysCallable is_finished }
+        ensures { (t : Tables) → is_full ≡ t.is_full → Stands (K.post standing) t.standing → Tells (B.post is_broken) t.broken → Tells (F.post is_finished) t.finished
+            → Comes (comes t self.old (seen_envelope came)) result self.new }
+    {
+        let finish = self.finishes.inbound(&came);
+        match self.admit(came, is_full, standing, is_broken, is_finished) {
+            Ok(inbound) => Ok(finish_behind(inbound, finish)),
+            Err(refused) => Err(refused),
+        }
+    }
+
+    fn admit<
+        K: Fn(ExportId) -> Option<Standing>,
+        B: Fn(ExportId) -> bool,
+        F: Fn(QuestionId) -> bool,
+    >(
+        &mut self,
+        came: Envelope,
+        is_full: bool,
+        standing: K,
+        is_broken: B,
+        is_finished: F,
+    ) -> Result<Inbound, PeerError>
+    where
+        K: Drop,
+        B: Drop,
+        F: Drop,
+        requires standing { K.IsAlwaysCallable standing }
+        requires broken { B.IsAlwaysCallable is_broken }
+        requires finished { F.IsAlwaysCallable is_finished }
+        ensures { (t : Tables) → is_full ≡ t.is_full → Stands (K.post standing) t.standing → Tells (B.post is_broken) t.broken → Tells (F.post is_finished) t.finished
+            → Comes (hears t self.old (seen_envelope came)) result self.new }
+    {
+        match self.overload.inbound(came, is_full) {
+            Ok(Admission::Admitted(came)) => self.turn(came, standing, is_broken, is_finished),
+            Ok(refused) => self.refuse(refused),
+            Err(OverloadError::Memory) => Err(PeerError::Memory),
+            Err(OverloadError::Fault(fault)) => Err(PeerError::Fault(PeerFault::Overload(fault))),
+        }
+    }
+
+    // An envelope that is admitted is heard in the kinds of the first names.
+    fn turn<
+        K: Fn(ExportId) -> Option<Standing>,
+        B: Fn(ExportId) -> bool,
+        F: Fn(QuestionId) -> bool,
+    >(
+        &mut self,
+        came: Envelope,
+        standing: K,
+        is_broken: B,
+        is_finished: F,
+    ) -> Result<Inbound, PeerError>
+    where
+        K: Drop,
+        B: Drop,
+        F: Drop,
+        requires standing { K.IsAlwaysCallable standing }
+        requires broken { B.IsAlwaysCallable is_broken }
+        requires finished { F.IsAlwaysCallable is_finished }
+        ensures { (t : Tables) → Stands (K.post standing) t.standing → Tells (B.post is_broken) t.broken → Tells (F.post is_finished) t.finished
+            → Comes (admits t self.old (admitted (seen_envelope came))) result self.new }
+    {
+        let kinds = hear_kinds(self.alloc, came, standing)?;
+        self.hear_outcome(kinds, is_broken, is_finished)
+    }
+
+    fn hear_outcome<B: Fn(ExportId) -> bool, F: Fn(QuestionId) -> bool>(
+        &mut self,
+        kinds: Kinds,
         is_broken: B,
         is_finished: F,
     ) -> Result<Inbound, PeerError>
@@ -69,15 +169,28 @@ impl PeerAdapter {
         F: Drop,
         requires broken { B.IsAlwaysCallable is_broken }
         requires finished { F.IsAlwaysCallable is_finished }
-        ensures { (t : Tables) → is_full ≡ t.is_full → Tells (B.post is_broken) t.broken → Tells (F.post is_finished) t.finished
-            → Comes (comes t self.old (seen_envelope came)) result self.new }
+        ensures { (t : Tables) → Tells (B.post is_broken) t.broken → Tells (F.post is_finished) t.finished
+            → Comes (kinds_by t self.old (seen_kinds kinds)) result self.new }
     {
-        match self.overload.inbound(came, is_full) {
-            Ok(Admission::Admitted(came)) => self.name(came, is_broken, is_finished),
-            Ok(refused) => self.refuse(refused),
-            Err(OverloadError::Memory) => Err(PeerError::Memory),
-            Err(OverloadError::Fault(fault)) => Err(PeerError::Fault(PeerFault::Overload(fault))),
+        match kinds {
+            Kinds::Heard(came) => self.name(came, is_broken, is_finished),
+            Kinds::SetAside(given) => self.set_aside(given),
         }
+    }
+
+    // One of an export is given back, if there is any.
+    fn set_aside(&mut self, given: Option<ExportId>) -> Result<Inbound, PeerError>
+        ensures { (t : Tables) → Comes (kinds_by t self.old (set_aside given)) result self.new }
+    {
+        let given_back = one_of(self.alloc, given)?;
+        let told = Told {
+            given_back,
+            said: None,
+        };
+        Ok(Inbound {
+            aside: Aside::Told(told),
+            heard: Heard::Nothing,
+        })
     }
 
     fn name<B: Fn(ExportId) -> bool, F: Fn(QuestionId) -> bool>(
@@ -92,7 +205,7 @@ impl PeerAdapter {
         requires broken { B.IsAlwaysCallable is_broken }
         requires finished { F.IsAlwaysCallable is_finished }
         ensures { (t : Tables) → Tells (B.post is_broken) t.broken → Tells (F.post is_finished) t.finished
-            → Comes (admits t self.old (admitted (seen_envelope came))) result self.new }
+            → Comes (kinds_by t self.old (heard (seen_envelope came))) result self.new }
     {
         let named = self.names.inbound(came, is_broken, is_finished)?;
         let Named { came, given_back } = named;
@@ -140,6 +253,41 @@ impl PeerAdapter {
     pub fn outbound(&mut self, message: Message) -> Result<Outbound, Memory>
         ensures { Goes self.old (goes self.old message) result self.new }
     {
+        match role_of(&message) {
+            Role::Asks(question) => self.ask(question, message),
+            Role::Finishes(finish) => self.finish(finish),
+            Role::Other => self.pass(message),
+        }
+    }
+
+    fn ask(&mut self, question: QuestionId, message: Message) -> Result<Outbound, Memory>
+        requires { asked_by message ≡ Some question }
+        ensures { Goes self.old (goes self.old message) result self.new }
+    {
+        let outbound = self.pass(message)?;
+        let asked = self.finishes.ask(question);
+        if_asked(outbound, asked)
+    }
+
+    fn finish(&mut self, finish: Finish) -> Result<Outbound, Memory>
+        ensures { Goes self.old (goes self.old (message.Plain (plain.Finish finish))) result self.new }
+    {
+        if self.finishes.finish(finish) {
+            return self.pass(Message::Plain(PlainMessage::Finish(finish)));
+        }
+        let told = Told {
+            given_back: Items::new(self.alloc),
+            said: None,
+        };
+        Ok(Outbound {
+            told,
+            heard: Heard::Nothing,
+        })
+    }
+
+    fn pass(&mut self, message: Message) -> Result<Outbound, Memory>
+        ensures { Goes self.old (passes self.old (Some message)) result self.new }
+    {
         let outbound = self.tails.outbound(message)?;
         let peer_tail_calls::Outbound { said, heard } = outbound;
         let given_back = self.give_back(&said);
@@ -176,10 +324,21 @@ impl PeerAdapter {
     }
 }
 
+// What comes of a question, where it was asked.
+fn if_asked(outbound: Outbound, asked: Result<(), Memory>) -> Result<Outbound, Memory>
+    ensures ok { OnOk asked (result ≡ Ok outbound) }
+    ensures err { IfErr asked (λ refused. result ≡ Err refused) }
+{
+    match asked {
+        Ok(()) => Ok(outbound),
+        Err(refused) => Err(refused),
+    }
+}
+
 // The peer is told that, if anything, and the vat hears nothing.
 fn tells(alloc: Global, said: Option<Said>) -> Inbound
     ensures aside { result.aside ≡ aside.Told (record { given_back = []; said = said }) }
-    ensures heard { result.heard ≡ heard.Nothing }
+    ensures heard { result.heard ≡ hearing.Nothing }
 {
     let given_back = Items::new(alloc);
     Inbound {
@@ -198,5 +357,45 @@ fn aside_of(given_back: Items<ExportId>, unknown: Option<Tree>) -> Aside
             given_back,
             said: None,
         }),
+    }
+}
+
+// The list of it, if it is there.
+fn one_of(alloc: Global, given: Option<ExportId>) -> Result<Items<ExportId>, Memory>
+    ensures { IfOk result (λ items. items ≡ option_to_list given) }
+{
+    let Some(export) = given else {
+        return Ok(Items::new(alloc));
+    };
+    let items = Items::one(alloc, export)?;
+    Ok(items)
+}
+
+// The Finish that was held back, if any was, goes behind what came.
+fn finish_behind(inbound: Inbound, finish: Option<Finish>) -> Inbound
+    ensures aside { seen_aside result.aside ≡ besides_with finish (seen_aside inbound.aside) }
+    ensures heard { result.heard ≡ inbound.heard }
+{
+    let Inbound { aside, heard } = inbound;
+    let aside = aside_behind(aside, finish);
+    Inbound { aside, heard }
+}
+
+fn aside_behind(aside: Aside, finish: Option<Finish>) -> Aside
+    ensures { seen_aside result ≡ besides_with finish (seen_aside aside) }
+{
+    let Some(finish) = finish else {
+        return aside;
+    };
+    match aside {
+        Aside::Told(told) => {
+            let Told {
+                given_back,
+                said: _,
+            } = told;
+            let said = Some(Said::Message(Message::Plain(PlainMessage::Finish(finish))));
+            Aside::Told(Told { given_back, said })
+        }
+        Aside::Unknown(original) => Aside::Unknown(original),
     }
 }

@@ -1,5 +1,6 @@
 //! What comes and what goes are frames, and what is wanted of them too: a frame shows the whole message.
 mod broken;
+mod composed;
 mod finishes;
 mod frames;
 mod kinds;

@@ -282,7 +282,7 @@ fn is_refused(alloc: Global, overload: &mut Overload, id: u32) -> Result<bool, F
     }
 }
 
-/// Whether 65,536 questions are refused, and the next is a fault where there is no room, and heard where there is.
+/// Whether 65,536 questions are refused, and the next is a fault if there is no room, and heard if there is.
 fn most_are_refused(alloc: Global) -> Result<bool, Fail> {
     let mut overload = Overload::new(alloc);
     let mut is_wanted = true;

@@ -56,7 +56,7 @@ const NOTHING_TO_TAKE: Step = (Act::Comes(Frame(TAKES, 5)), Outcome::Fault(66));
 
 /// The results are taken before they are there, after it, and after the Finish of the tail call; they are not taken; the call is
 /// canceled; there is no tail call; the results can't be taken any more; none are kept; a Release is not understood; a capability is
-/// named by its path, goes as null where it is not there, and can't be named in a list.
+/// named by its path, goes as null if it is not there, and can't be named in a list.
 const SCENES: [&[Step]; 15] = [
     &[ASKS, WAITS, GIVES, FINISHES],
     &[
@@ -127,7 +127,7 @@ const SCENES: [&[Step]; 15] = [
     ],
 ];
 
-fn are_heard(alloc: Global, heard: &Heard, wanted: &[Frame]) -> Result<bool, Fail> {
+pub fn are_heard(alloc: Global, heard: &Heard, wanted: &[Frame]) -> Result<bool, Fail> {
     match (heard, wanted) {
         (Heard::Nothing, []) => Ok(true),
         (Heard::One(message), [frame]) => is_frame(alloc, message, *frame),
@@ -138,7 +138,7 @@ fn are_heard(alloc: Global, heard: &Heard, wanted: &[Frame]) -> Result<bool, Fai
     }
 }
 
-fn is_said(alloc: Global, said: &Option<Said>, wanted: &[Frame]) -> Result<bool, Fail> {
+pub fn is_said(alloc: Global, said: &Option<Said>, wanted: &[Frame]) -> Result<bool, Fail> {
     match (said, wanted) {
         (None, []) => Ok(true),
         (Some(Said::Message(message)), [frame]) => is_frame(alloc, message, *frame),
@@ -182,7 +182,7 @@ fn message_of(envelope: Envelope) -> Option<Message> {
     }
 }
 
-fn message(alloc: Global, frame: Frame) -> Result<Message, Fail> {
+pub fn message(alloc: Global, frame: Frame) -> Result<Message, Fail> {
     let envelope = envelope(alloc, frame)?;
     match message_of(envelope) {
         Some(message) => Ok(message),

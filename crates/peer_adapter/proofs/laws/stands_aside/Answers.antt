@@ -14,7 +14,9 @@ use Rattle.peer_tail_calls.specs.declared.heard.Said.{Said}
 use Rattle.peer_tail_calls.specs.declared.heard.Said.TheVariants as said
 use Rattle.peer_tail_calls.specs.Laws.{told_of}
 use Rattle.peer_tail_calls.specs.Adapting as tails
-use Rattle.peer_adapter.specs.Peering.{admits_by, fresh, gives, gives_message, gives_plain, gives_with, heard_by, names_by, owes_still, says_by}
+use Rattle.peer_kinds.specs.Kinds as kinds
+use Rattle.peer_finishes.specs.Finishing as finishes
+use Rattle.peer_adapter.specs.Peering.{admits_by, comes_by, finished_by, fresh, gives, gives_message, gives_plain, gives_with, goes_by, heard_by, kinds_by, names_by, owes_still, says_by}
 use Rattle.peer_adapter.proofs.laws.stands_aside.Goals as goal
 
 -- Where nothing is owed nothing is due.
@@ -41,13 +43,16 @@ none_due law (Some (said.SentElsewhere x)) = law.returned x.answer x.release_par
 pub returns : goal.returns
 returns c = record {
   heard =
-      λ t m room none.
-      ap (λ (full : Bool). admits_by t fresh (overload.comes overload.fresh full (profile m))) room
-      ∙ ap (λ (r : Result overload.Coming OverloadFault). admits_by t fresh r) (c.stands_aside.ensures (profile m))
-      ∙ ap (λ (n : names.Coming). names_by fresh n) (c.stands_aside-2.ensures.handed_on t.broken t.finished nothing_owed (profile m) none)
-      ∙ ap (λ (r : Result tails.Coming AdapterFault). heard_by fresh [] r) (c.stands_aside-3.ensures.heard m);
+      λ t m room alike none.
+      ap (λ (f : finishes.Coming). comes_by t fresh (profile m) f) (c.stands_aside-5.ensures.comes (profile m))
+      ∙ ap (λ (full : Bool). finished_by None (admits_by t fresh (overload.comes overload.fresh full (profile m)))) room
+      ∙ ap (λ (r : Result overload.Coming OverloadFault). finished_by None (admits_by t fresh r)) (c.stands_aside.ensures (profile m))
+      ∙ ap (λ (o : kinds.Outcome). finished_by None (kinds_by t fresh o)) (c.stands_aside-4.ensures t.standing (profile m) alike)
+      ∙ ap (λ (n : names.Coming). finished_by None (names_by fresh n)) (c.stands_aside-2.ensures.handed_on t.broken t.finished nothing_owed (profile m) none)
+      ∙ ap (λ (r : Result tails.Coming AdapterFault). finished_by None (heard_by fresh [] r)) (c.stands_aside-3.ensures.heard m);
   said =
       λ m.
-      ap (λ (g : tails.Going). says_by fresh g) (c.stands_aside-3.ensures.said m)
+      ap (λ (g : finishes.Going). goes_by fresh g) (c.stands_aside-5.ensures.goes m)
+      ∙ ap (λ (g : tails.Going). says_by fresh g) (c.stands_aside-3.ensures.said m)
       ∙ ap (λ (due : names.Going). gives_with fresh (record { state = tails.fresh; said = told_of m; heard = [] }) due) (none_due c.stands_aside-2.ensures (told_of m));
 }

@@ -1,18 +1,22 @@
-use Rattle.std.proofs.Common.{Bool, Result, sym, subst}
+use Rattle.std.proofs.Common.{Ok, Err, subst}
 use Rattle.rpc_codec.specs.Envelopes.{seen_envelope}
-use Rattle.peer_overload.specs.declared.admission.Admission.{Admission}
-use Rattle.peer_overload.specs.declared.errors.OverloadFault.{OverloadFault}
-use Rattle.peer_overload.specs.Overloading.{seen_admission}
-use Rattle.peer_overload.specs.Overloading as overload
-use Rattle.peer_adapter.specs.Peering.{Peering, Comes, admits, admits_by, comes}
+use Rattle.peer_finishes.specs.Finishing as finishes
+use Rattle.peer_adapter.specs.Peering.{Peering, Comes, comes}
+use Rattle.peer_adapter.proofs.Behind.{behind_ok, behind_err}
 use Rattle.peer_adapter.proofs.peer.PeerAdapter.inbound.Goals as goal
 
-pub returns-in-Ok-Admitted : goal.returns-in-Ok-Admitted
-returns-in-Ok-Admitted g c =
-    λ t full broken finished.
-    let start : Peering = record { overload = c.self.inside.overload; names = c.self.inside.names; tails = c.self.inside.tails } in
-    let admitting : Peering = record { overload = c.inbound.new.self; names = c.self.inside.names; tails = c.self.inside.tails } in
-    subst (λ (s : Peering). Comes (comes t s (seen_envelope c.args.came)) c.name.result c.name.new.self) c.self.view_is
-    (subst (λ (b : Bool). Comes (admits_by t start (overload.comes start.overload b (seen_envelope c.args.came))) c.name.result c.name.new.self) full
-    (subst (λ (r : Result overload.Coming OverloadFault). Comes (admits_by t start r) c.name.result c.name.new.self) (sym c.in-Ok-Admitted.ensures)
-    (subst (λ (a : Admission). Comes (admits t admitting (seen_admission a)) c.name.result c.name.new.self) (sym c.in-Ok-Admitted.field-0-is) (c.name.ensures t broken finished))))
+pub returns-in-Ok : goal.returns-in-Ok
+returns-in-Ok g c =
+    λ t full standing broken finished.
+    let start : Peering = record { overload = c.self.inside.overload; names = c.self.inside.names; tails = c.self.inside.tails; finishes = c.self.inside.finishes } in
+    let came : finishes.Coming = record { state = c.inbound-finish.new.self; told = c.inbound-finish.result } in
+    subst (λ (s : Peering). Comes (comes t s (seen_envelope c.args.came)) (Ok c.finish_behind.result) c.admit.new.self) c.self.view_is
+    (behind_ok t start (seen_envelope c.args.came) came c.inbound-finish.ensures c.in-Ok.inbound c.finish_behind.result c.admit.new.self (c.in-Ok.ensures t full standing broken finished) c.finish_behind.ensures.aside c.finish_behind.ensures.heard)
+
+pub returns-in-Err : goal.returns-in-Err
+returns-in-Err g c =
+    λ t full standing broken finished.
+    let start : Peering = record { overload = c.self.inside.overload; names = c.self.inside.names; tails = c.self.inside.tails; finishes = c.self.inside.finishes } in
+    let came : finishes.Coming = record { state = c.inbound-finish.new.self; told = c.inbound-finish.result } in
+    subst (λ (s : Peering). Comes (comes t s (seen_envelope c.args.came)) (Err c.in-Err.refused) c.admit.new.self) c.self.view_is
+    (behind_err t start (seen_envelope c.args.came) came c.inbound-finish.ensures c.in-Err.refused c.admit.new.self (c.in-Err.ensures t full standing broken finished))
