@@ -1,0 +1,6 @@
+mod Returning
+mod Stepping
+mod Waiting
+mod Answering
+mod Adapting
+mod Talking
