@@ -1,5 +1,5 @@
-//! The tests of `vat_connection` and of `vat`: two connections that exchange bytes, cut in pieces of any length, streams that are at
-//! fault or end, calls that are open where a vat goes down, and two hosts of which one is refused memory.
+//! Tests of `vat_connection` and `vat`: bytes in pieces of any length, streams that end or are at fault, and calls that are open when
+//! a vat goes down. Two connections exchange bytes, and two hosts messages, of which one is refused memory.
 #![tactic(auto)]
 
 #[cfg(test)]

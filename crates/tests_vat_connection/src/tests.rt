@@ -3,12 +3,13 @@
 //!
 //! - `asks.rt`: what is asked of a vat. `told.rt`: what it tells. `scene.rt`: what is done with a connection, and how a scene is
 //!   played.
-//! - The scenes: `conversations.rt`, `streams.rt`, `limits.rt`, `going_down.rt`, and `hosts.rt` with hosts in the place of connections.
+//! - The scenes: `conversations.rt`, `streams.rt`, `limits.rt`, `released.rt`, `going_down.rt`, and `hosts.rt` with hosts in the place of connections.
 mod asks;
 mod conversations;
 mod going_down;
 mod hosts;
 mod limits;
+mod released;
 mod scene;
 mod streams;
 mod told;

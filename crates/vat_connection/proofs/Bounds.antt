@@ -1,5 +1,5 @@
 -- The words of what is held.
-use Rattle.std.proofs.Common.{◌≡◌, ℕ, ◌+◌, ◌-◌, ◌*◌, ◌/◌, ◌≤◌, ◌<◌, Bool, true, false, not, nat_lt, ◌&&◌, List, [], ◌∷◌, ◌++◌, length, sum, Option, Some, None, Result, Ok, Err, ◌⊎◌, inl, inr, IsSome, refl, sym, ap, subst, ◌∙◌, arith}
+use Rattle.std.proofs.Common.{◌≡◌, ℕ, ◌+◌, ◌*◌, ◌≤◌, Bool, true, false, List, [], ◌∷◌, ◌++◌, length, sum, Option, Some, None, Result, Ok, Err, inl, inr, IsSome, refl, sym, ap, subst, ◌∙◌, arith}
 use Rattle.std.proofs.lemmas.Bool.Decides.{nat_tests}
 use Rattle.rpc_msg.specs.declared.ids.QuestionId.{QuestionId}
 use Rattle.rpc_msg.specs.declared.message.Message.{Message}
@@ -15,16 +15,15 @@ use Rattle.rpc_codec.specs.Envelopes.{What}
 use Rattle.rpc_codec.specs.Decoding.{Came, envelope_at}
 use Rattle.peer_adapter.specs.declared.errors.PeerFault.{PeerFault}
 use Rattle.peer_adapter.specs.Peering.{Coming, comes}
-use Rattle.capn_trees.specs.Limits.{most_words}
-use Rattle.capn_reading.specs.Framing.{segment_count, sizes, table_words}
+use Rattle.capn_reading.specs.Framing.{segment_count, sizes}
 use Rattle.capn_stream.specs.declared.front.Front.{Front}
 use Rattle.capn_stream.specs.declared.front.Front.TheVariants as front
 use Rattle.capn_stream.specs.Fronts.{front_at, front_of, IsFrame}
 use Rattle.vat_connection.specs.declared.load.Limits.{Limits}
-use Rattle.vat_connection.specs.Load.{Intake, question_in, with_frame, weighed, without_call}
+use Rattle.vat_connection.specs.Load.{Intake, question_in, weighed, without_call}
 use Rattle.vat_connection.specs.Speaking.{Speaking, Breaks, Falls, Fails, HearsCame, HearsAll, HearsComing, HearsUp, Says, SaysTo, saying, stamp_of, tables_of, without, words_in}
 use Rattle.vat_connection.specs.Speaking.SaysTo.{Nothing, Oldest, Broken}
-use Rattle.vat_connection.specs.Hearing.{Comes, Ends, EndsBy, FollowsBy, HearsInTurn, Inflow, IsOver, Leaves, Proceeds, Rests, may_hear}
+use Rattle.vat_connection.specs.Hearing.{Ends, EndsBy, FollowsBy, HearsInTurn, Inflow, IsOver, Leaves, Proceeds, Rests, may_hear}
 use Rattle.vat_connection.specs.Hearing.HearsInTurn.{All, Saying, Above, Down, Lacking, Oldest as OldestHeard}
 use Rattle.vat_connection.specs.Connecting.{Connected, WorksOn, down}
 use Rattle.vat_connection.specs.Laws.{LoadIsBounded, most_frame_words}

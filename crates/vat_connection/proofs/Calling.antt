@@ -1,5 +1,5 @@
 -- What a call of a command's name answers, and what comes of the command.
-use Rattle.std.proofs.Common.{◌≡◌, ℕ, List, Result, Ok, Err, ◌⊎◌, inl, inr, refl, ap, subst, ◌∙◌}
+use Rattle.std.proofs.Common.{◌≡◌, ℕ, List, Result, Ok, Err, ◌⊎◌, inl, inr, refl, ap, subst, sym, ◌∙◌}
 use Rattle.std.specs.Prelude.{IfOk, IfErr}
 use Rattle.rpc_msg.specs.declared.ids.CallId.{CallId}
 use Rattle.rpc_journal.specs.declared.report.Advanced.{Advanced}
@@ -11,7 +11,8 @@ use Rattle.rpc_machine.specs.declared.command.Granted.TheVariants as granted
 use Rattle.rpc_machine.specs.declared.command.Refusal.{Refusal}
 use Rattle.rpc_machine.specs.declared.command.Refusal.TheVariants as refusal
 use Rattle.rpc_machine.specs.Steps.{Shuts}
-use Rattle.vat_host.specs.Hosting.{Hosted, Does, Refuses}
+use Rattle.vat_host.specs.Hosting.{Hosted, Does, Refuses, hosted_by, stepped}
+use Rattle.vat_host.specs.Objects.{with_object}
 use Rattle.peer_adapter.specs.Peering.{Peering}
 use Rattle.rpc_codec_fits.specs.Carrying.{Carries}
 use Rattle.rpc_outgoing.specs.Outflows.{Outflow}
@@ -45,7 +46,10 @@ lacks_place old c = (old, Err refusal.Memory, (inr (refl, refl), refl), (inr (re
 
 -- A shut, of which nothing follows but an Abort.
 pub shuts : (old new : Hosted) (c : Command) (n : ℕ) → c ≡ command.Shut n → IsShut old n new → Does old c granted.Done new × Fits c
-shuts old new c n is falls = ((falls.0, Shuts n is refl falls.1, falls.2), λ m carries. absurd (subst (λ (k : Command). Carries k m) is carries))
+shuts old new c n is falls = (
+  (falls.0, Shuts n is refl falls.1, falls.2 ∙ ap (λ (k : Command). record (stepped old falls.0 new.core) { objects = with_object (hosted_by k) old.objects }) (sym is)),
+  λ m carries. absurd (subst (λ (k : Command). Carries k m) is carries),
+)
 
 -- ---- of a connection
 

@@ -1,7 +1,5 @@
 -- Bytes come: what is parted of them is heard in turn.
-use Rattle.std.proofs.Common.{◌≡◌, ℕ, List, [], ◌∷◌, ◌++◌, Option, Some, None, ◌⊎◌, inl, inr, IsSome, refl, sym, ap, subst, ◌∙◌, append-nil}
-use Rattle.std.specs.List.{concat}
-use Rattle.capn_trees.specs.Numbers.{number_of}
+use Rattle.std.proofs.Common.{◌≡◌, ℕ, List, [], ◌∷◌, ◌++◌, Option, Some, None, inl, inr, refl, sym, ap, subst}
 use Rattle.capn_stream.specs.declared.front.Front.{Front}
 use Rattle.capn_stream.specs.declared.front.Front.TheVariants as front
 use Rattle.capn_stream.specs.Fronts.{front_of}

@@ -1,7 +1,7 @@
 -- More bytes come, or the stream ends.
-use Rattle.std.proofs.Common.{◌≡◌, ℕ, Bool, true, false, ◌||◌, List, [], ◌∷◌, ◌++◌, Option, Some, None, is_some, refl, sym, ap, subst, ◌∙◌}
+use Rattle.std.proofs.Common.{◌≡◌, ℕ, Bool, true, false, List, [], ◌++◌, Option, Some, None, is_some, refl, sym, subst}
 use Rattle.vat_connection.specs.declared.load.Limits.{Limits}
-use Rattle.vat_connection.specs.Speaking.{Speaking, Falls}
+use Rattle.vat_connection.specs.Speaking.{Speaking}
 use Rattle.vat_connection.specs.Hearing.{Comes, Follows, FollowsBy, Inflow, IsOver, Rests, ends_with}
 use Rattle.vat_connection.specs.Connecting.{Connected, EndsStream, Finishes, down}
 

@@ -1,5 +1,5 @@
 -- What a vat hears of a frame, by what the frame says.
-use Rattle.std.proofs.Common.{◌≡◌, ◌⊎◌, ℕ, List, Result, Ok, Err, inl, inr, refl, sym, subst}
+use Rattle.std.proofs.Common.{◌≡◌, ℕ, List, Result, Ok, Err, inl, inr, refl, sym, subst}
 use Rattle.vat_host.specs.Hosting.{Hosted}
 use Rattle.rpc_codec.specs.declared.envelope.Envelope.{Envelope}
 use Rattle.rpc_codec.specs.Envelopes.{What, seen_envelope}
@@ -7,7 +7,7 @@ use Rattle.rpc_codec.specs.Decoding.{Came, envelope_at}
 use Rattle.peer_tail_calls.specs.Adapting.{messages_in}
 use Rattle.peer_adapter.specs.declared.errors.PeerFault.{PeerFault}
 use Rattle.peer_adapter.specs.declared.told.Inbound.{Inbound}
-use Rattle.peer_adapter.specs.Peering.{Peering, Coming, comes, seen_aside, seen_inbound}
+use Rattle.peer_adapter.specs.Peering.{Peering, Coming, comes, seen_aside}
 use Rattle.rpc_outgoing.specs.Outflows.{Outflow}
 use Rattle.vat_connection.specs.Load.{Intake, with_frame}
 use Rattle.vat_connection.specs.Speaking.{Speaking, Fails, Falls, HearsAll, HearsCame, HearsComing, HearsUp, IsAside, Shuts, stamp_of, tables_of, want_of_room, words_in}

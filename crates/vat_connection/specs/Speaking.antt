@@ -10,6 +10,8 @@ use Rattle.rpc_codec_parts.specs.Numbers.{number_of}
 use Rattle.rpc_codec.specs.Envelopes.{What}
 use Rattle.rpc_codec.specs.Decoding.{Came, envelope_at}
 use Rattle.rpc_msg.specs.declared.ids.ExportId.{ExportId}
+use Rattle.peer_finishes.specs.declared.held.Finishes.{Finishes}
+use Rattle.peer_kinds.specs.Standings.{standings_in}
 use Rattle.peer_tail_calls.specs.declared.heard.Said.{Said}
 use Rattle.peer_tail_calls.specs.declared.heard.Said.TheVariants as said
 use Rattle.peer_adapter.specs.declared.errors.PeerFault.{PeerFault}
@@ -41,6 +43,10 @@ speaking_code =
     (λ s. (s.host, (s.out, (s.adapter, s.heard))))
     (λ p. record { host = p.0; out = p.1.0; adapter = p.1.1.0; heard = p.1.1.1 })
     (λ _. refl)
+
+-- From now on the Finish of a question that it asks goes then.
+abbrev pub finishing : Speaking → Finishes → Speaking
+finishing s f = record s { adapter = record (s.adapter) { finishes = record (s.adapter.finishes) { finishes = f } } }
 
 -- the number with which a vat goes down that finds no room, or no memory
 abbrev pub want_of_room : ℕ
@@ -142,6 +148,7 @@ stamp_of s = record { vat = other_vat s.host.core.vat; reference = record { 0 = 
 abbrev pub tables_of : State → Tables
 tables_of s = record {
   is_full = has_no_room s.answers;
+  standing = standings_in s;
   broken = λ e. is_broken (map.get s.imports e.0);
   finished = λ q. is_finished (map.get s.questions q.0);
 }

@@ -124,9 +124,10 @@ impl Connection {
         self.speaker.take_bytes()
     }
 
-    /// What there is to tell, the oldest first, as `Host::next_event`. Of a vat that is down, before that is told, each own call that
-    /// is open, as one that ended with `Disconnected`. Frames that wait unheard are heard before, as the load allows it, and what the
-    /// vat has to say becomes frames, as by `outgoing`, since the vat may hear something of it.
+    /// What there is to tell, as `Host::next_event`: what the steps left, the oldest first, and behind that each object that is
+    /// released. Of a vat that is down, before that is told, each own call that is open, as one that ended with `Disconnected`. Frames
+    /// that wait unheard are heard before, as the load allows it, and what the vat has to say becomes frames, as by `outgoing`, since
+    /// the vat may hear something of it.
     pub fn next_event(&mut self) -> Option<Event>
         ensures { Tells self.old result self.new }
     {

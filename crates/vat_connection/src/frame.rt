@@ -3,13 +3,14 @@ ghost use Rattle.std.specs.Prelude.{◌≡◌};
 ghost use Rattle.rpc_codec.specs.Envelopes.{seen_envelope};
 ghost use Rattle.rpc_codec.specs.Decoding.{envelope_at};
 ghost use Rattle.peer_adapter.specs.Peering.{comes};
+ghost use Rattle.peer_kinds.specs.Standings.{standings_in};
 ghost use Rattle.vat_connection.specs.Speaking.{HearsUp, stamp_of, tables_of};
 ghost use Rattle.vat_connection.specs.Framing.{HearsEnvelope, HearsInbound, Opens, Turned};
 
 use crate::departures::{hear_each, put_aside};
 use crate::load::question_in;
 use crate::speaker::{Speaker, lack_room};
-use peer_adapter::{Inbound, PeerAdapter, PeerError};
+use peer_adapter::{Inbound, PeerAdapter, PeerError, Standing};
 use rpc_codec::{DecodeError, Envelope, decode};
 use rpc_machine::Fault;
 use rpc_msg::{ExportId, QuestionId, RefId, Stamp};
@@ -86,9 +87,24 @@ fn turn(adapter: &mut PeerAdapter, core: &Core, came: Envelope) -> Result<Inboun
 {
     let is_broken = |export: ExportId| core.is_broken(export);
     let is_finished = |question: QuestionId| core.is_finished(question);
-    match adapter.inbound(came, core.has_all_answers(), is_broken, is_finished) {
+    let standing = |export: ExportId| standing_of(core, export);
+    match adapter.inbound(
+        came,
+        core.has_all_answers(),
+        standing,
+        is_broken,
+        is_finished,
+    ) {
         Ok(inbound) => Ok(inbound),
         Err(PeerError::Memory) => Err(Fault::WantOfRoom.code()),
         Err(PeerError::Fault(fault)) => Err(fault.code()),
     }
+}
+
+// How an export of the peer stands at the vat, if it is an import there.
+fn standing_of(core: &Core, export: ExportId) -> Option<Standing>
+    ensures { result ≡ standings_in core.now export }
+{
+    let (kind, is_resolved) = core.named_as(export)?;
+    Some(Standing::of(kind, is_resolved))
 }

@@ -8,6 +8,7 @@
 //! - `inflow.rt`: what came and was not heard. `arrivals.rt`: the vat hears each frame in its turn. `load.rt`: how much of what came is
 //!   held, and how much may be.
 //! - `open_calls.rt`: the own calls that are open, which end when the vat goes down.
+//! - `finishes.rt`: when a Finish goes.
 //! - `laws.rt`: that pieces do not matter, and that the load is bounded, as contracts of functions that do nothing.
 //!
 //! Contracts see a connection as `Connected` (`specs/Connecting.antt`). What its calls name of the crates below is given out here.
@@ -17,6 +18,7 @@ mod arrivals;
 mod calls;
 mod connection;
 mod departures;
+mod finishes;
 mod frame;
 mod inflow;
 mod laws;
@@ -30,10 +32,11 @@ mod tasks;
 pub use connection::Connection;
 pub use laws::{load_is_bounded, pieces_are_one};
 pub use load::{Limits, Load};
+pub use peer_adapter::Finishes;
 pub use rpc_journal::{Advanced, Delivery, Ended, Outcome};
 pub use rpc_machine::{CallCommand, Command, Granted, Level, Refusal};
 pub use rpc_msg::{
     CallId, Exception, ExceptionKind, Items, Memory, ObjectId, Op, Payload, PromiseId, RefId,
     TaskId, Text, Vat,
 };
-pub use vat_host::{Core, Event, Refused};
+pub use vat_host::{Core, Event, ImportKind, PeerPlace, Place, Refused, TableSizes};

@@ -9,10 +9,10 @@ ghost use Rattle.peer_adapter.specs.Peering.{fresh as fresh_adapter};
 ghost use Rattle.vat_connection.specs.Calling.{Calls, Fits, IsTooLarge, call_of};
 ghost use Rattle.vat_connection.specs.Load.{nothing_heard};
 ghost use Rattle.vat_connection.specs.Hearing.{IsReady, may_hear};
-ghost use Rattle.vat_connection.specs.Speaking.{Falls, Shuts, given, want_of_room};
+ghost use Rattle.vat_connection.specs.Speaking.{Falls, Shuts, finishing, given, want_of_room};
 
 use crate::load::{Intake, Limits};
-use peer_adapter::PeerAdapter;
+use peer_adapter::{Finishes, PeerAdapter};
 use rpc_codec_fits::fits_envelope;
 use rpc_machine::{CallCommand, Command, Fault, Granted, Level, Refusal};
 use rpc_msg::{CallId, Memory, ObjectId, Vat};
@@ -93,6 +93,13 @@ impl Speaker {
         ensures { Falls self.old number self.new }
     {
         self.host.shut(number);
+    }
+
+    /// From now on the Finish of a question that the vat asks goes at once, or behind its Return. Takes no memory.
+    pub(crate) fn set_finishes(&mut self, finishes: Finishes)
+        ensures { self.new ≡ finishing self.old finishes }
+    {
+        self.adapter.set_finishes(finishes);
     }
 
     /// Takes a command of any kind, unless what it gives may be too large for the frames that carry it.

@@ -1,5 +1,5 @@
 -- What holds of lists that wait.
-use Rattle.std.proofs.Common.{arith, ◌≡◌, ◌∙◌, ℕ, suc, Bool, true, false, ◌==◌, List, [], ◌∷◌, ◌++◌, map, length, refl, sym, ap, subst}
+use Rattle.std.proofs.Common.{arith, ◌≡◌, ◌∙◌, ℕ, suc, Bool, true, false, ◌==◌, List, [], ◌∷◌, ◌++◌, map, length, Option, None, Some, is_some, is_none, refl, sym, ap, subst}
 use Rattle.std.proofs.Math.Dec.{eqb-suc-zero}
 use Rattle.std.proofs.lemmas.List.{map-append}
 use Rattle.std.specs.List.{flat_map}
@@ -8,7 +8,7 @@ use Rattle.rpc_journal.specs.declared.report.Ended.{Ended}
 use Rattle.vat_host.specs.declared.event.Event.{Event}
 use Rattle.vat_host.specs.declared.event.Event.TheVariants as event
 use Rattle.vat_host.specs.declared.event_queue.StepEvents.{StepEvents}
-use Rattle.vat_host.specs.Queues.{EachTells, NoneIsEmpty, told_by, told_by_all, told_of}
+use Rattle.vat_host.specs.Queues.{EachTells, NoneIsEmpty, listed, told_by, told_by_all, told_of}
 
 pub one_more : {T : Type 0} (lists : List (List T)) (list : List T) → NoneIsEmpty lists → (length list == 0) ≡ false → NoneIsEmpty (lists ++ list ∷ [])
 one_more [] [] n e = absurd (let f : ◌≡◌ {A = Bool} true false = e in cc)
@@ -42,25 +42,38 @@ pub one_more_tells : (steps : List StepEvents) (s : StepEvents) → EachTells st
 one_more_tells steps s h e = subst NoneIsEmpty (sym (map-append told_by steps (s ∷ []))) (one_more (map told_by steps) (told_by s) h e)
 
 -- Something is told where a call is to be served.
-pub serves : (ds : List Delivery) (es : List Ended) (more : List Event) → (length ds == 0) ≡ false → false ≡ (length (told_of ds es ++ more) == 0)
-serves [] es more e = absurd (let f : ◌≡◌ {A = Bool} true false = e in cc)
-serves (d ∷ ds) es more e = sym (eqb-suc-zero (length (told_of ds es ++ more)))
+pub serves : (ds : List Delivery) (es : List Ended) (k : Option Event) (more : List Event) → (length ds == 0) ≡ false → false ≡ (length (told_of ds es k ++ more) == 0)
+serves [] es k more e = absurd (let f : ◌≡◌ {A = Bool} true false = e in cc)
+serves (d ∷ ds) es k more e = sym (eqb-suc-zero (length (told_of ds es k ++ more)))
 
 -- Something is told where a call ended.
-pub ends : (ds : List Delivery) (es : List Ended) (more : List Event) → (length ds == 0) ≡ true → (length es == 0) ≡ false → false ≡ (length (told_of ds es ++ more) == 0)
-ends [] [] more d e = absurd (let f : ◌≡◌ {A = Bool} true false = e in cc)
-ends [] (x ∷ xs) more d e = sym (eqb-suc-zero (length (map event.Ended xs ++ more)))
-ends (y ∷ ys) es more d e = absurd (let f : ◌≡◌ {A = Bool} true false = sym d ∙ eqb-suc-zero (length ys) in cc)
+pub ends : (ds : List Delivery) (es : List Ended) (k : Option Event) (more : List Event) → (length ds == 0) ≡ true → (length es == 0) ≡ false → false ≡ (length (told_of ds es k ++ more) == 0)
+ends [] [] k more d e = absurd (let f : ◌≡◌ {A = Bool} true false = e in cc)
+ends [] (x ∷ xs) k more d e = sym (eqb-suc-zero (length (map event.Ended xs ++ listed k ++ more)))
+ends (y ∷ ys) es k more d e = absurd (let f : ◌≡◌ {A = Bool} true false = sym d ∙ eqb-suc-zero (length ys) in cc)
 
-pub serves_one : (ds : List Delivery) (es : List Ended) → (length ds == 0) ≡ false → false ≡ (length (told_of ds es) == 0)
-serves_one [] es e = absurd (let f : ◌≡◌ {A = Bool} true false = e in cc)
-serves_one (d ∷ ds) es e = sym (eqb-suc-zero (length (told_of ds es)))
+-- Something is told where a message made something known.
+pub makes_known : (ds : List Delivery) (es : List Ended) (k : Option Event) (more : List Event) → (length ds == 0) ≡ true → (length es == 0) ≡ true → is_some k ≡ true → false ≡ (length (told_of ds es k ++ more) == 0)
+makes_known [] [] None more d e s = absurd (let f : ◌≡◌ {A = Bool} false true = s in cc)
+makes_known [] [] (Some event) more d e s = sym (eqb-suc-zero (length more))
+makes_known [] (x ∷ xs) k more d e s = absurd (let f : ◌≡◌ {A = Bool} true false = sym e ∙ eqb-suc-zero (length xs) in cc)
+makes_known (y ∷ ys) es k more d e s = absurd (let f : ◌≡◌ {A = Bool} true false = sym d ∙ eqb-suc-zero (length ys) in cc)
 
--- No call is to be served.
-pub ends_alone : (ds : List Delivery) (es : List Ended) → (length ds == 0) ≡ true → (length es == 0) ≡ (length (told_of ds es) == 0)
-ends_alone [] [] d = refl
-ends_alone [] (x ∷ xs) d = same_at_one (length xs) (length (map event.Ended xs))
-ends_alone (y ∷ ys) es d = absurd (let f : ◌≡◌ {A = Bool} true false = sym d ∙ eqb-suc-zero (length ys) in cc)
+pub serves_one : (ds : List Delivery) (es : List Ended) (k : Option Event) → (length ds == 0) ≡ false → false ≡ (length (told_of ds es k) == 0)
+serves_one [] es k e = absurd (let f : ◌≡◌ {A = Bool} true false = e in cc)
+serves_one (d ∷ ds) es k e = sym (eqb-suc-zero (length (told_of ds es k)))
+
+pub ends_one : (ds : List Delivery) (es : List Ended) (k : Option Event) → (length ds == 0) ≡ true → (length es == 0) ≡ false → false ≡ (length (told_of ds es k) == 0)
+ends_one [] [] k d e = absurd (let f : ◌≡◌ {A = Bool} true false = e in cc)
+ends_one [] (x ∷ xs) k d e = sym (eqb-suc-zero (length (map event.Ended xs ++ listed k)))
+ends_one (y ∷ ys) es k d e = absurd (let f : ◌≡◌ {A = Bool} true false = sym d ∙ eqb-suc-zero (length ys) in cc)
+
+-- No call is to be served, and none ended.
+pub known_alone : (ds : List Delivery) (es : List Ended) (k : Option Event) → (length ds == 0) ≡ true → (length es == 0) ≡ true → is_none k ≡ (length (told_of ds es k) == 0)
+known_alone [] [] None d e = refl
+known_alone [] [] (Some event) d e = sym (eqb-suc-zero 0)
+known_alone [] (x ∷ xs) k d e = absurd (let f : ◌≡◌ {A = Bool} true false = sym e ∙ eqb-suc-zero (length xs) in cc)
+known_alone (y ∷ ys) es k d e = absurd (let f : ◌≡◌ {A = Bool} true false = sym d ∙ eqb-suc-zero (length ys) in cc)
 
 first_tells : (events more : List Event) (lists : List (List Event)) (n : ℕ) → NoneIsEmpty (events ∷ lists) → (suc n == 0) ≡ (length (events ++ more) == 0)
 first_tells [] more lists n h = absurd h
@@ -71,8 +84,9 @@ none_tell [] h = refl
 none_tell (s ∷ steps) h = first_tells (told_by s) (told_by_all steps) (map told_by steps) (length steps) h
 
 -- Nothing is left where nothing is of the oldest step and no step waits.
-pub none_left : (ds : List Delivery) (es : List Ended) (steps : List StepEvents) (n : ℕ) → (length ds == 0) ≡ true → (length es == 0) ≡ true → n ≡ length steps → EachTells steps
-    → (n == 0) ≡ (length (told_of ds es ++ told_by_all steps) == 0)
-none_left [] [] steps n d e w h = ap (λ k. k == 0) w ∙ none_tell steps h
-none_left [] (x ∷ xs) steps n d e w h = absurd (let f : ◌≡◌ {A = Bool} true false = sym e ∙ eqb-suc-zero (length xs) in cc)
-none_left (y ∷ ys) es steps n d e w h = absurd (let f : ◌≡◌ {A = Bool} true false = sym d ∙ eqb-suc-zero (length ys) in cc)
+pub none_left : (ds : List Delivery) (es : List Ended) (k : Option Event) (steps : List StepEvents) (n : ℕ) → (length ds == 0) ≡ true → (length es == 0) ≡ true → is_some k ≡ false → n ≡ length steps → EachTells steps
+    → (n == 0) ≡ (length (told_of ds es k ++ told_by_all steps) == 0)
+none_left [] [] None steps n d e s w h = ap (λ k. k == 0) w ∙ none_tell steps h
+none_left [] [] (Some event) steps n d e s w h = absurd (let f : ◌≡◌ {A = Bool} true false = s in cc)
+none_left [] (x ∷ xs) k steps n d e s w h = absurd (let f : ◌≡◌ {A = Bool} true false = sym e ∙ eqb-suc-zero (length xs) in cc)
+none_left (y ∷ ys) es k steps n d e s w h = absurd (let f : ◌≡◌ {A = Bool} true false = sym d ∙ eqb-suc-zero (length ys) in cc)

@@ -1,11 +1,14 @@
 -- A core with what its steps left to do, and what each call does to both.
-use Rattle.std.specs.Prelude.{◌≡◌, ℕ, Bool, ◌&&◌, ◌==◌, length, not, is_some, List, [], ◌∷◌, ◌++◌, Option, Some, None, Ok, Err, Result, ◌⊎◌, true, false, refl}
+use Rattle.std.specs.Prelude.{◌≡◌, ℕ, ◌<◌, Bool, ◌&&◌, ◌==◌, length, not, is_some, is_none, IsSome, IsTrue, ◌≢◌, List, [], ◌∷◌, ◌++◌, Option, Some, None, Ok, Err, Result, ◌⊎◌, true, false, refl}
+use Rattle.std.specs.FinMap as map
 use Rattle.std.specs.Coded.{Coded, code_by, coded×, coded_list}
 use Rattle.rpc_msg.specs.contracts.message.Message as message_row
+use Rattle.rpc_msg.specs.declared.ids.ObjectId.{ObjectId}
 use Rattle.rpc_msg.specs.declared.message.Message.{Message}
 use Rattle.rpc_msg.specs.declared.message.Message.TheVariants as message
 use Rattle.rpc_msg.specs.declared.message.PlainMessage.TheVariants as plain
 use Rattle.rpc_machine.specs.declared.command.Command.{Command}
+use Rattle.rpc_machine.specs.declared.command.Command.TheVariants as command
 use Rattle.rpc_machine.specs.declared.command.Effects.{Effects}
 use Rattle.rpc_machine.specs.declared.command.Granted.{Granted}
 use Rattle.rpc_machine.specs.declared.command.Refusal.{Refusal}
@@ -14,53 +17,78 @@ use Rattle.rpc_machine.specs.Progress.{quiet}
 use Rattle.rpc_machine.specs.Refusals.{is_shut}
 use Rattle.rpc_machine.specs.State.{State, state_code}
 use Rattle.rpc_machine.specs.Steps.{Obeys, Receives}
+use Rattle.rpc_uses.specs.Objects.{names_object}
+use Rattle.laws_released.specs.Known.{least_known}
 use Rattle.vat_core.specs.declared.refused.Refused.{Refused}
 use Rattle.vat_host.specs.contracts.event.Event as event_row
 use Rattle.vat_host.specs.contracts.event.DownNotice as notice_row
 use Rattle.vat_host.specs.declared.event.DownNotice.{DownNotice}
 use Rattle.vat_host.specs.declared.event.Event.{Event}
 use Rattle.vat_host.specs.declared.event.Event.TheVariants as event
+use Rattle.vat_host.specs.Objects.{Objects, no_objects, objects_code, with_object}
 use Rattle.vat_host.specs.Queues.{told}
+use Rattle.vat_host.specs.Watching.{known_by}
 
--- The state of the core, and what is to be done, the oldest first: messages to send to the peer, and what its steps left to tell;
--- and whether the application was told that the vat is down, with the reason that is to be told with it.
+-- The state of the core, and what is to be done, the oldest first: messages to send to the peer, and what its steps left to tell; the
+-- objects that the application hosted and was not told that they are released, and the bootstrap object; and whether the application
+-- was told that the vat is down, with the reason that is to be told with it.
 pub record Hosted : Type 0 where
   pub core : State
   pub messages : List Message
   pub events : List Event
+  pub objects : Objects
   pub down_notice : DownNotice
 
 abbrev pub hosted_code : Coded Hosted
 hosted_code =
-    code_by ((State × List Message) × (List Event × DownNotice))
-    (coded× (coded× state_code (coded_list message_row.the_row.coded)) (coded× (coded_list event_row.the_row.coded) notice_row.the_row.coded))
-    (λ h. ((h.core, h.messages), (h.events, h.down_notice)))
-    (λ p. record { core = p.0.0; messages = p.0.1; events = p.1.0; down_notice = p.1.1 })
+    code_by ((State × List Message) × (List Event × (Objects × DownNotice)))
+    (coded× (coded× state_code (coded_list message_row.the_row.coded)) (coded× (coded_list event_row.the_row.coded) (coded× objects_code notice_row.the_row.coded)))
+    (λ h. ((h.core, h.messages), (h.events, (h.objects, h.down_notice))))
+    (λ p. record { core = p.0.0; messages = p.0.1; events = p.1.0; objects = p.1.1.0; down_notice = p.1.1.1 })
     (λ _. refl)
 
--- Nothing is to be done.
+-- What a host keeps room for: one message more, while its vat is up, which is its Abort.
+abbrev pub HasPlaceForAbort : State → ℕ → Type 0
+HasPlaceForAbort s room = s.down ≡ None → 0 < room
+
+-- Nothing is to be done, and nothing was hosted.
 abbrev pub idle : State → Hosted
-idle s = record { core = s; messages = []; events = []; down_notice = record { told = false; reason = [] } }
+idle s = record { core = s; messages = []; events = []; objects = with_object s.bootstrap no_objects; down_notice = record { told = false; reason = [] } }
 
 -- All that the steps left was told; that the vat is down was not, and it is.
 abbrev pub has_only_down : Hosted → Bool
 has_only_down h = (length h.events == 0) && is_some h.core.down && not h.down_notice.told
 
-abbrev pub is_idle : Hosted → Bool
-is_idle h = (length h.messages == 0) && (length h.events == 0) && not (has_only_down h)
+-- An object of a vat that is up is released, and that was not told.
+abbrev pub has_released : Hosted → Bool
+has_released h = is_none h.core.down && not (map.len h.objects == least_known h.core)
 
--- The core took a step: what follows of it stands behind what was to be done.
-abbrev pub stepped : Hosted → Effects → State → Hosted
-stepped old effects s = record {
+abbrev pub is_idle : Hosted → Bool
+is_idle h = (length h.messages == 0) && (length h.events == 0) && not (has_only_down h) && not (has_released h)
+
+-- The core took a step: what follows of it stands behind what was to be done, and behind that what its message made known.
+abbrev pub stepped_so : Hosted → Effects → Option Event → State → Hosted
+stepped_so old effects known s = record {
   core = s;
   messages = old.messages ++ effects.sends;
-  events = old.events ++ told effects;
+  events = old.events ++ told effects known;
+  objects = old.objects;
   down_notice = old.down_notice;
 }
 
--- A command is done, as the core does it.
+abbrev pub stepped : Hosted → Effects → State → Hosted
+stepped old effects s = stepped_so old effects None s
+
+-- the object that a command hosts
+abbrev pub hosted_by : Command → Option ObjectId
+hosted_by (command.Host o) = Some o
+hosted_by c = None
+
+-- A command is done, as the core does it. What it hosts is one of the objects from then on.
 abbrev pub Does : Hosted → Command → Granted → Hosted → Type 0
-Does old c granted new = (effects : Effects) × Obeys old.core c (Ok granted) effects new.core × (new ≡ stepped old effects new.core)
+Does old c granted new =
+    (effects : Effects) × Obeys old.core c (Ok granted) effects new.core
+    × (new ≡ record (stepped old effects new.core) { objects = with_object (hosted_by c) old.objects })
 
 -- A command is refused and nothing is changed: by the core, or for want of memory for what would follow. A shut needs none.
 abbrev pub Refuses : Hosted → Command → Refusal → Hosted → Type 0
@@ -93,7 +121,7 @@ abbrev pub NotesReason : Hosted → Message → Hosted → Type 0
 NotesReason old m new = (reason : List ℕ) × IsReason old.core.down (reason_of m) old.down_notice.reason reason × (new ≡ with_reason old reason)
 
 abbrev pub HearsSilently : Hosted → Message → Hosted → Type 0
-HearsSilently old m new = (effects : Effects) × Receives old.core m effects new.core × (new ≡ stepped old effects new.core)
+HearsSilently old m new = (effects : Effects) × Receives old.core m effects new.core × (new ≡ stepped_so old effects (known_by m old.core new.core) new.core)
 
 -- A message comes, as the core receives it, and the reason of an Abort is kept.
 abbrev pub Hears : Hosted → Message → Hosted → Type 0
@@ -111,11 +139,39 @@ TellsDown old (event.Down number reason) new =
     (old.events ≡ []) × (old.down_notice.told ≡ false) × (old.core.down ≡ Some number) × (reason ≡ old.down_notice.reason) × (new ≡ record old { down_notice = record { told = true; reason = [] } })
 TellsDown old e new = ⊥
 
+-- One of them but the root that no place of a vat names; and that there is none.
+pub record IsUnnamedAmong (s : State) (objects : Objects) (root : Option ObjectId) (o : ObjectId) : Type 0 where
+  pub there : IsSome (map.get objects o.0)
+  pub unnamed : names_object s o ≡ false
+  pub other : root ≢ Some o
+
+abbrev pub AreNamedBut : State → Objects → Option ObjectId → Type 0
+AreNamedBut s objects root = (o : ObjectId) → IsSome (map.get objects o.0) → root ≢ Some o → IsTrue (names_object s o)
+
+-- The object was hosted, no place of the vat names it any more, and it is not the bootstrap object.
+abbrev pub IsReleased : Hosted → ObjectId → Type 0
+IsReleased h o = IsUnnamedAmong h.core h.objects h.core.bootstrap o
+
+-- All else was told, the vat is up, and it is told that an object is released.
+abbrev pub TellsReleased : Hosted → Event → Hosted → Type 0
+TellsReleased old (event.Released o) new = (old.events ≡ []) × (old.core.down ≡ None) × IsReleased old o × (new ≡ record old { objects = map.remove old.objects o.0 })
+TellsReleased old e new = ⊥
+
+-- A place of the vat names each object that was hosted and not told as released, but for the bootstrap object.
+abbrev pub AllAreNamed : Hosted → Type 0
+AllAreNamed h = AreNamedBut h.core h.objects h.core.bootstrap
+
+-- A vat that is down was told to be; of one that is up no object is released.
+abbrev pub NoneIsReleased : Option ℕ → Hosted → Type 0
+NoneIsReleased (Some n) h = h.down_notice.told ≡ true
+NoneIsReleased None h = AllAreNamed h
+
 -- Nothing is to be told.
 abbrev pub TellsNothing : Hosted → Hosted → Type 0
-TellsNothing old new = (old.events ≡ []) × ((old.down_notice.told ≡ true) ⊎ (old.core.down ≡ None)) × (new ≡ old)
+TellsNothing old new = (old.events ≡ []) × NoneIsReleased old.core.down old × (new ≡ old)
 
--- What is told: the oldest event that a step left; behind them once that the vat is down, if it is.
+-- What is told: the oldest event that a step left. Behind them, of a vat that is up, each object that is released; once it is down,
+-- that.
 abbrev pub Tells : Hosted → Option Event → Hosted → Type 0
-Tells old (Some e) new = TellsOldest old e new ⊎ TellsDown old e new
+Tells old (Some e) new = TellsOldest old e new ⊎ (TellsReleased old e new ⊎ TellsDown old e new)
 Tells old None new = TellsNothing old new

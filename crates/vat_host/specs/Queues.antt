@@ -1,5 +1,5 @@
 -- Lists and events that wait, what is told of a step, and the room that its effects need.
-use Rattle.std.specs.Prelude.{ℕ, List, [], ◌∷◌, ◌++◌, map, flat_map, length, ◌<◌}
+use Rattle.std.specs.Prelude.{ℕ, List, [], ◌∷◌, ◌++◌, map, flat_map, length, ◌<◌, Option, None, Some}
 use Rattle.rpc_journal.specs.declared.report.Delivery.{Delivery}
 use Rattle.rpc_journal.specs.declared.report.Ended.{Ended}
 use Rattle.rpc_machine.specs.declared.command.Effects.{Effects}
@@ -18,15 +18,19 @@ HasPlace list room = 0 < length list → 0 < room
 
 -- ---- what is told of a step
 
--- the calls to serve, and then the own calls that ended
-abbrev pub told_of : List Delivery → List Ended → List Event
-told_of deliveries ended = map event.Served deliveries ++ map event.Ended ended
+abbrev pub listed : {T : Type 0} → Option T → List T
+listed None = []
+listed (Some x) = x ∷ []
 
-abbrev pub told : Effects → List Event
-told effects = told_of effects.deliveries effects.answers
+-- the calls to serve, then the own calls that ended, and then what its message made known
+abbrev pub told_of : List Delivery → List Ended → Option Event → List Event
+told_of deliveries ended known = map event.Served deliveries ++ (map event.Ended ended ++ listed known)
+
+abbrev pub told : Effects → Option Event → List Event
+told effects known = told_of effects.deliveries effects.answers known
 
 abbrev pub told_by : StepEvents → List Event
-told_by step = told_of step.deliveries step.ended
+told_by step = told_of step.deliveries step.ended step.known
 
 abbrev pub told_by_all : List StepEvents → List Event
 told_by_all = flat_map told_by

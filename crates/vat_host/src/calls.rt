@@ -20,7 +20,7 @@ impl Host {
             Ok(done) => done,
             Err(refusal) => return Err(refusal),
         };
-        self.kept.keep(effects);
+        self.kept.keep(effects, None);
         Ok(call)
     }
 
@@ -41,7 +41,7 @@ impl Host {
             Ok(done) => done,
             Err(refused) => return Err(refused),
         };
-        self.kept.keep(effects);
+        self.kept.keep(effects, None);
         Ok(call)
     }
 
@@ -55,7 +55,7 @@ impl Host {
             Ok(effects) => effects,
             Err(refusal) => return Err(refusal),
         };
-        self.kept.keep(effects);
+        self.kept.keep(effects, None);
         Ok(())
     }
 }

@@ -14,15 +14,17 @@ use std::mem;
 pub(crate) struct StepEvents {
     deliveries: Items<Delivery>,
     ended: Items<Ended>,
+    known: Option<Event>,
 }
 
-/// Events that come step by step and go one by one, the oldest first; of one step the calls to serve, and then the own calls that
-/// ended. Seen by contracts as the events, and for how many more steps there is room at least.
+/// Events that come step by step and go one by one, the oldest first; of one step the calls to serve, then the own calls that
+/// ended, and then what its message made known. Seen by contracts as the events, and for how many more steps there is room at least.
 #[derive(Drop)]
 pub(crate) struct EventQueue {
     // What is left of the oldest step, and the steps behind it.
     deliveries: VecDeque<Delivery>,
     ended: VecDeque<Ended>,
+    known: Option<Event>,
     later: VecDeque<StepEvents>,
 }
 
@@ -34,7 +36,7 @@ impl Model for EventQueue {
 
     ghost Value = { List Event × ℕ };
 
-    ghost view = { λ a. (told_of a.deliveries.items a.ended.items ++ told_by_all a.later.items, deque_capacity a.later - deque_len a.later) };
+    ghost view = { λ a. (told_of a.deliveries.items a.ended.items a.known ++ told_by_all a.later.items, deque_capacity a.later - deque_len a.later) };
 
     ghost invariant = { λ a. EachTells a.later.items };
 }
@@ -47,6 +49,7 @@ impl EventQueue {
         EventQueue {
             deliveries: VecDeque::new(alloc),
             ended: VecDeque::new(alloc),
+            known: None,
             later: VecDeque::new(alloc),
         }
     }
@@ -63,15 +66,23 @@ impl EventQueue {
     }
 
     /// Puts what a step left to tell at the end, where there is room unless it is nothing. Takes no memory.
-    pub(crate) fn append(&mut self, deliveries: Items<Delivery>, ended: Items<Ended>)
-        requires { 0 < length (told_of deliveries ended) → 0 < self.old.1 }
-        ensures { self.new.0 ≡ self.old.0 ++ told_of deliveries ended }
+    pub(crate) fn append(
+        &mut self,
+        deliveries: Items<Delivery>,
+        ended: Items<Ended>,
+        known: Option<Event>,
+    )
+        requires { 0 < length (told_of deliveries ended known) → 0 < self.old.1 }
+        ensures { self.new.0 ≡ self.old.0 ++ told_of deliveries ended known }
     {
-        if tells_nothing(&deliveries, &ended) {
+        if tells_nothing(&deliveries, &ended, &known) {
             return;
         }
-        self.later
-            .push_back_reserved(StepEvents { deliveries, ended });
+        self.later.push_back_reserved(StepEvents {
+            deliveries,
+            ended,
+            known,
+        });
     }
 
     /// Takes the oldest event out, if there is one.
@@ -79,13 +90,18 @@ impl EventQueue {
         ensures oldest { IfSome result (λ event. self.old.0 ≡ event ∷ self.new.0) }
         ensures empty { IfNone result ((self.old.0 ≡ []) × (self.new.0 ≡ [])) }
     {
-        if let Some(event) = oldest(&mut self.deliveries, &mut self.ended) {
+        if let Some(event) = oldest(&mut self.deliveries, &mut self.ended, &mut self.known) {
             return Some(event);
         }
-        let StepEvents { deliveries, ended } = self.later.pop_front()?;
+        let StepEvents {
+            deliveries,
+            ended,
+            known,
+        } = self.later.pop_front()?;
         self.deliveries = VecDeque::from(deliveries.into_vec());
         self.ended = VecDeque::from(ended.into_vec());
-        oldest(&mut self.deliveries, &mut self.ended)
+        self.known = known;
+        oldest(&mut self.deliveries, &mut self.ended, &mut self.known)
     }
 
     /// Whether there is no event.
@@ -96,6 +112,9 @@ impl EventQueue {
             return false;
         }
         if !self.ended.is_empty() {
+            return false;
+        }
+        if self.known.is_some() {
             return false;
         }
         self.later.is_empty()
@@ -118,25 +137,33 @@ impl EventQueue {
 }
 
 // Takes the oldest event of a step out, if one is left.
-fn oldest(deliveries: &mut VecDeque<Delivery>, ended: &mut VecDeque<Ended>) -> Option<Event>
-    ensures oldest { IfSome result (λ event. told_of deliveries.old.items ended.old.items ≡ event ∷ told_of deliveries.new.items ended.new.items) }
-    ensures none { IfNone result ((deliveries.old.items ≡ []) × (ended.old.items ≡ []) × (deliveries.new.items ≡ []) × (ended.new.items ≡ [])) }
+fn oldest(
+    deliveries: &mut VecDeque<Delivery>,
+    ended: &mut VecDeque<Ended>,
+    known: &mut Option<Event>,
+) -> Option<Event>
+    ensures oldest { IfSome result (λ event. told_of deliveries.old.items ended.old.items known.old ≡ event ∷ told_of deliveries.new.items ended.new.items known.new) }
+    ensures none_before { IfNone result (told_of deliveries.old.items ended.old.items known.old ≡ []) }
+    ensures none { IfNone result (told_of deliveries.new.items ended.new.items known.new ≡ []) }
 {
     if let Some(delivery) = deliveries.pop_front() {
         return Some(Event::Served(delivery));
     }
-    match ended.pop_front() {
-        Some(call) => Some(Event::Ended(call)),
-        None => None,
+    if let Some(call) = ended.pop_front() {
+        return Some(Event::Ended(call));
     }
+    known.take()
 }
 
 // Whether a step left nothing to tell.
-fn tells_nothing(deliveries: &Items<Delivery>, ended: &Items<Ended>) -> bool
-    ensures { result ≡ (length (told_of deliveries.now ended.now) == 0) }
+fn tells_nothing(deliveries: &Items<Delivery>, ended: &Items<Ended>, known: &Option<Event>) -> bool
+    ensures { result ≡ (length (told_of deliveries.now ended.now known.now) == 0) }
 {
     if !deliveries.is_empty() {
         return false;
     }
-    ended.is_empty()
+    if !ended.is_empty() {
+        return false;
+    }
+    known.is_none()
 }

@@ -1,11 +1,17 @@
-ghost use Rattle.std.specs.Prelude.{◌≡◌, ◌⊎◌, ◌==◌, not, length, [], ◌∷◌, IfOk, IfSome, IfNone, option_copied};
+ghost use Rattle.std.specs.Prelude.{◌≡◌, ◌⊎◌, ◌==◌, not, length, [], ◌∷◌, None, Some, true, false, IfOk, IfSome, IfNone, option_copied};
 ghost use Rattle.rpc_machine.specs.State.{start};
 ghost use Rattle.rpc_machine.specs.Down.{ShutsFrom};
 ghost use Rattle.rpc_machine.specs.declared.command.Effects.{Effects};
-ghost use Rattle.vat_host.specs.Hosting.{Commands, Hears, HearsSilently, NotesReason, Tells, reason_of, has_only_down, idle, is_abort, is_idle, stepped};
+ghost use Rattle.rpc_machine.specs.declared.command.Command.TheVariants as command;
+ghost use Rattle.std.specs.FinMap as map;
+ghost use Rattle.laws_released.specs.Known.{least_known, unnamed_root};
+ghost use Rattle.vat_host.specs.Hosting.{AllAreNamed, Commands, Hears, HearsSilently, IsReleased, NotesReason, Tells, reason_of, has_only_down, has_released, hosted_by, idle, is_abort, is_idle, stepped};
+ghost use Rattle.vat_host.specs.Objects.{no_objects, with_object};
 
 use crate::event::{DownNotice, Event};
+use crate::hosted_objects::{HostedObjects, is_unnamed};
 use crate::kept::Kept;
+use crate::watched::Watched;
 use rpc_machine::{Command, Effects, Fault, Granted, Level, Refusal};
 use rpc_msg::{Items, Memory, Message, ObjectId, PlainMessage, Text, Vat};
 use std::alloc::Global;
@@ -17,6 +23,7 @@ use vat_core::{Answer, Core, Refused};
 pub struct Host {
     pub(crate) core: Core,
     pub(crate) kept: Kept,
+    pub(crate) objects: HostedObjects,
     down_notice: DownNotice,
     alloc: Global,
 }
@@ -27,6 +34,7 @@ impl Drop for Host {
         let Host {
             core: _,
             kept: _,
+            objects: _,
             down_notice: _,
             alloc: _,
         } = self;
@@ -34,16 +42,16 @@ impl Drop for Host {
 }
 
 impl Model for Host {
-    ghost use Rattle.std.specs.Prelude.{◌≡◌, ◌<◌, None};
-    ghost use Rattle.vat_host.specs.Hosting.{Hosted, hosted_code};
+    ghost use Rattle.laws_released.specs.Known.{KnowsAll};
+    ghost use Rattle.vat_host.specs.Hosting.{HasPlaceForAbort, Hosted, hosted_code};
 
     ghost Value = { Hosted };
 
     ghost coded = { hosted_code };
 
-    ghost view = { λ a. record { core = a.core; messages = a.kept.messages.0; events = a.kept.events.0; down_notice = a.down_notice } };
+    ghost view = { λ a. record { core = a.core; messages = a.kept.messages.0; events = a.kept.events.0; objects = a.objects; down_notice = a.down_notice } };
 
-    ghost invariant = { λ a. a.core.down ≡ None → 0 < a.kept.messages.1 };
+    ghost invariant = { λ a. HasPlaceForAbort a.core a.kept.messages.1 × KnowsAll a.core a.objects };
 }
 
 impl Host {
@@ -59,9 +67,11 @@ impl Host {
     {
         let kept = Kept::new(alloc)?;
         let core = Core::new(alloc, vat, level, bootstrap)?;
+        let objects = first_objects(alloc, bootstrap)?;
         Ok(Host {
             core,
             kept,
+            objects,
             down_notice: DownNotice {
                 told: false,
                 reason: Text::from_string(String::new(alloc)),
@@ -81,7 +91,10 @@ impl Host {
     pub fn is_idle(&self) -> bool
         ensures { result ≡ is_idle self.now }
     {
-        self.kept.messages.is_empty() && self.kept.events.is_empty() && !self.has_only_down()
+        self.kept.messages.is_empty()
+            && self.kept.events.is_empty()
+            && !self.has_only_down()
+            && !self.has_released()
     }
 
     /// Whether a message is to be sent.
@@ -100,6 +113,9 @@ impl Host {
             self.shut(number);
             return Ok(Granted::Done);
         }
+        if let Some(object) = hosted_by(&command) {
+            return self.host_by(object, command);
+        }
         let Ok(()) = self.kept.make_place() else {
             return Err(Refused {
                 refusal: Refusal::Memory,
@@ -108,10 +124,24 @@ impl Host {
         };
         match self.core.command(command) {
             Answer::Done(granted, effects) => {
-                self.kept.keep(effects);
+                self.kept.keep(effects, None);
                 Ok(granted)
             }
             Answer::Refused(refusal, back) => Err(Refused { refusal, back }),
+        }
+    }
+
+    // Makes a reference to an object that a command hosts.
+    fn host_by(&mut self, object: ObjectId, asked: Command) -> Result<Granted, Refused<Command>>
+        requires { asked ≡ command.Host object }
+        ensures { Commands self.old asked result self.new }
+    {
+        match self.host(object) {
+            Ok(made) => Ok(Granted::Reference(made)),
+            Err(refusal) => Err(Refused {
+                refusal,
+                back: asked,
+            }),
         }
     }
 
@@ -124,8 +154,9 @@ impl Host {
         let Ok(()) = self.kept.make_place() else {
             return self.receive_last(message);
         };
+        let watched = Watched::by(&message, &self.core);
         let effects = self.core.receive(message);
-        self.kept.keep(effects);
+        self.kept.keep(effects, watched.made_known(&self.core));
     }
 
     // The reason of an Abort is kept for the application of a vat that is up.
@@ -148,7 +179,7 @@ impl Host {
     {
         if is_abort(&message) {
             let effects = self.core.receive(message);
-            self.kept.keep(effects);
+            self.kept.keep(effects, None);
             return;
         }
         self.shut(Fault::WantOfRoom.code());
@@ -159,7 +190,7 @@ impl Host {
         ensures { (effects : Effects) × ShutsFrom self.old.core number self.old.core.down effects self.new.core × (self.new ≡ stepped self.old effects self.new.core) }
     {
         let effects = self.core.shut(number);
-        self.kept.keep(effects);
+        self.kept.keep(effects, None);
     }
 
     /// Takes out the oldest message that is to be sent to the peer.
@@ -180,20 +211,104 @@ impl Host {
     }
 
     /// Takes out the oldest event that is to be told: those of one step behind those of the steps before; of one step the calls to
-    /// be served, in their order, and then the own calls that ended. Behind them all, once, that the vat is down, if it is.
+    /// be served, in their order, then the own calls that ended, and then what its message made known. Behind them all, of a vat that
+    /// is up, each object that is released; once it is down, that.
     pub fn next_event(&mut self) -> Option<Event>
         ensures { Tells self.old result self.new }
     {
         if let Some(event) = self.next_of_steps() {
             return Some(event);
         }
+        match self.core.down() {
+            Some(number) => self.next_down(number),
+            None => self.next_released(),
+        }
+    }
+
+    // That the vat is down, once.
+    fn next_down(&mut self, number: u16) -> Option<Event>
+        requires told { self.old.events ≡ [] }
+        requires down { self.old.core.down ≡ Some number }
+        ensures { Tells self.old result self.new }
+    {
         if self.down_notice.told {
             return None;
         }
-        let number = self.core.down()?;
         self.down_notice.told = true;
         let none = Text::from_string(String::new(self.alloc));
         Some(Event::Down(number, mem::replace(&mut self.down_notice.reason, none)))
+    }
+
+    // An object that is released, if there is one.
+    fn next_released(&mut self) -> Option<Event>
+        requires told { self.old.events ≡ [] }
+        requires up { self.old.core.down ≡ None }
+        ensures { Tells self.old result self.new }
+    {
+        let object = self.released()?;
+        self.objects.take(object);
+        Some(Event::Released(object))
+    }
+
+    // An object that is released and was not told to be, if there is one: found by what the core noted; or by a search, if it noted too
+    // little.
+    fn released(&mut self) -> Option<ObjectId>
+        requires { self.old.core.down ≡ None }
+        ensures same { self.new ≡ self.old }
+        ensures some { IfSome result (λ object. IsReleased self.old object) }
+        ensures none { IfNone result (AllAreNamed self.old) }
+    {
+        if let Some(object) = self.released_of_noted() {
+            return Some(object);
+        }
+        if !self.has_released() {
+            return None;
+        }
+        self.objects
+            .first_unnamed(&self.core, self.core.bootstrap_object())
+    }
+
+    // One of those that the core noted that is released.
+    fn released_of_noted(&mut self) -> Option<ObjectId>
+        ensures same { self.new ≡ self.old }
+        ensures some { IfSome result (λ object. IsReleased self.old object) }
+    {
+        for _ in 0..u64::MAX {
+            let object = self.core.noted_object()?;
+            if self.is_released(object) {
+                return Some(object);
+            }
+        }
+        None
+    }
+
+    // Whether the object is released, and that was not told.
+    fn is_released(&self, object: ObjectId) -> bool
+        ensures { result ≡ true → IsReleased self.now object }
+    {
+        self.objects.has(object) && is_unnamed(&self.core, self.core.bootstrap_object(), object)
+    }
+
+    /// Whether an object of a vat that is up is released, which is to be told.
+    pub fn has_released(&self) -> bool
+        ensures value { result ≡ has_released self.now }
+        ensures none { self.now.core.down ≡ None → result ≡ false → AllAreNamed self.now }
+    {
+        if self.core.down().is_some() {
+            return false;
+        }
+        self.knows_more()
+    }
+
+    // Whether it knows more objects than places name, beside the bootstrap object.
+    fn knows_more(&self) -> bool
+        ensures { result ≡ not (map.len self.now.objects == least_known self.now.core) }
+    {
+        let (known, named) = (self.objects.len(), self.core.named_objects());
+        let Some(least) = named.checked_add(unnamed_root(&self.core)) else {
+            return true;
+        };
+        known != least
     }
 
     // Takes out the oldest event that a step left.
@@ -238,6 +353,38 @@ fn copied(alloc: Global, text: &Text) -> Text
     match text.copy(alloc) {
         Ok(copy) => copy,
         Err(_) => Text::from_string(String::new(alloc)),
+    }
+}
+
+// The bootstrap object, if there is one.
+fn first_objects(alloc: Global, bootstrap: Option<ObjectId>) -> Result<HostedObjects, Memory>
+    ensures { IfOk result (λ objects. objects ≡ with_object bootstrap no_objects) }
+{
+    let mut objects = HostedObjects::new(alloc);
+    if let Some(object) = bootstrap {
+        objects.put(object)?;
+    }
+    Ok(objects)
+}
+
+// The object that a command hosts.
+fn hosted_by(asked: &Command) -> Option<ObjectId>
+    ensures value { result ≡ hosted_by asked.now }
+    ensures host { IfSome result (λ object. asked.now ≡ command.Host object) }
+{
+    match asked {
+        Command::Host(object) => Some(*object),
+        _other => None,
+    }
+}
+
+// 1 if there is a bootstrap object that no place names, else 0.
+fn unnamed_root(core: &Core) -> usize
+    ensures { result ≡ unnamed_root core.now core.now.bootstrap }
+{
+    match core.bootstrap_object() {
+        None => 0,
+        Some(object) => !core.names_object(object) as usize,
     }
 }
 

@@ -1,6 +1,7 @@
 ghost use Rattle.std.specs.Prelude.{◌≡◌, ◌≤◌, ◌+◌, ◌<◌, [], ◌++◌, length, OnOk, IfOk};
 ghost use Rattle.vat_host.specs.Queues.{HasPlace, told};
 
+use crate::event::Event;
 use crate::event_queue::EventQueue;
 use crate::list_queue::ListQueue;
 use rpc_machine::Effects;
@@ -42,12 +43,12 @@ impl Kept {
         Ok(())
     }
 
-    /// Keeps what a step left to do, where there is a place for it. Takes no memory.
-    pub(crate) fn keep(&mut self, effects: Effects)
+    /// Keeps what a step left to do, and what its message made known, where there is a place for it. Takes no memory.
+    pub(crate) fn keep(&mut self, effects: Effects, known: Option<Event>)
         requires messages_place { HasPlace effects.sends self.old.messages.1 }
-        requires events_place { HasPlace (told effects) self.old.events.1 }
+        requires events_place { HasPlace (told effects known) self.old.events.1 }
         ensures messages { self.new.messages.0 ≡ self.old.messages.0 ++ effects.sends }
-        ensures events { self.new.events.0 ≡ self.old.events.0 ++ told effects }
+        ensures events { self.new.events.0 ≡ self.old.events.0 ++ told effects known }
         ensures room { self.old.messages.1 ≤ self.new.messages.1 + 1 }
         ensures kept { effects.sends ≡ [] → self.old.messages.1 ≤ self.new.messages.1 }
     {
@@ -58,6 +59,6 @@ impl Kept {
             down: _,
         } = effects;
         self.messages.append(sends);
-        self.events.append(deliveries, answers);
+        self.events.append(deliveries, answers, known);
     }
 }

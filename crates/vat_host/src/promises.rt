@@ -33,7 +33,7 @@ impl Host {
             Ok(effects) => effects,
             Err(refusal) => return Err(refusal),
         };
-        self.kept.keep(effects);
+        self.kept.keep(effects, None);
         Ok(())
     }
 
@@ -58,7 +58,7 @@ impl Host {
             Ok(effects) => effects,
             Err(refused) => return Err(refused),
         };
-        self.kept.keep(effects);
+        self.kept.keep(effects, None);
         Ok(())
     }
 }

@@ -1,5 +1,6 @@
 //! References are made, take the shorter path, and are let go.
-ghost use Rattle.std.specs.Prelude.{◌≡◌, [], IfOk, IfErr};
+ghost use Rattle.std.specs.Prelude.{◌≡◌, [], IfOk, IfErr, IsSome};
+ghost use Rattle.std.specs.FinMap as map;
 ghost use Rattle.rpc_machine.specs.declared.command.Command.TheVariants as command;
 ghost use Rattle.rpc_machine.specs.declared.command.Granted.TheVariants as granted;
 ghost use Rattle.vat_host.specs.Hosting.{Does, Refuses};
@@ -11,8 +12,28 @@ use rpc_msg::{CallId, Items, ObjectId, Op, RefId};
 use vat_core::Refused;
 
 impl Host {
-    /// Makes a reference to an object of the application, as `Core::host` does: gives its number. Nothing follows.
+    /// Makes a reference to an object of the application, as `Core::host` does: gives its number. Nothing follows. From now on it is
+    /// told when the object is released.
     pub fn host(&mut self, object: ObjectId) -> Result<RefId, Refusal>
+        ensures done { IfOk result (λ id. Does self.old (command.Host object) (granted.Reference id) self.new) }
+        ensures refused { IfErr result (λ r. Refuses self.old (command.Host object) r self.new) }
+    {
+        if self.objects.has(object) {
+            return self.host_again(object);
+        }
+        self.objects.put(object)?;
+        match self.core.host(object) {
+            Ok(made) => return Ok(made),
+            Err(refusal) => {
+                self.objects.take(object);
+                return Err(refusal);
+            }
+        }
+    }
+
+    // Makes one more reference to an object that it knows.
+    fn host_again(&mut self, object: ObjectId) -> Result<RefId, Refusal>
+        requires { IsSome (map.get self.old.objects object.0) }
         ensures done { IfOk result (λ id. Does self.old (command.Host object) (granted.Reference id) self.new) }
         ensures refused { IfErr result (λ r. Refuses self.old (command.Host object) r self.new) }
     {
@@ -71,7 +92,7 @@ impl Host {
             Ok(done) => done,
             Err(refusal) => return Err(refusal),
         };
-        self.kept.keep(effects);
+        self.kept.keep(effects, None);
         Ok(became)
     }
 
@@ -85,7 +106,7 @@ impl Host {
             Ok(effects) => effects,
             Err(refusal) => return Err(refusal),
         };
-        self.kept.keep(effects);
+        self.kept.keep(effects, None);
         Ok(())
     }
 }

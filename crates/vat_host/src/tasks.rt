@@ -32,7 +32,7 @@ impl Host {
             Ok(effects) => effects,
             Err(refused) => return Err(refused),
         };
-        self.kept.keep(effects);
+        self.kept.keep(effects, None);
         Ok(())
     }
 
@@ -53,7 +53,7 @@ impl Host {
             Ok(effects) => effects,
             Err(refused) => return Err(refused),
         };
-        self.kept.keep(effects);
+        self.kept.keep(effects, None);
         Ok(())
     }
 }

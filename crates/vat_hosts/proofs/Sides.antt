@@ -34,7 +34,7 @@ way_up d inbox ms up way = subst (λ (d : Option ℕ). IsOnWay d inbox ms) up wa
 
 -- ---- one side
 
--- A host with this core, which was told `before` and has these events to tell, and for which these messages are in hand, where the
+-- A host with this core, which was told `before` of calls and has these events of calls to tell, and for which these messages are in hand, where the
 -- other has those to say; and, of its vat in a run, what the run tells, the state and the inbox.
 pub record IsTied (before events : List Event) (c : State) (hand said : List Message) (tells : List Event) (s : State) (inbox : List Message) : Type 0 where
   pub told : before ++ events ≡ tells
@@ -94,7 +94,7 @@ pub take_tied : (before events : List Event) (c : State) (m : Message) (hand sai
 take_tied before events c m hand said tells s inbox tie =
     record { told = tie.told; core = tie.core; way = subst (λ (l : List Message). IsOnWay c.down inbox l) (sym (append_assoc hand (m ∷ []) said)) tie.way }
 
--- The oldest of its events is told.
-pub tell_tied : (before : List Event) (e : Event) (events : List Event) (c : State) (hand said : List Message) (tells : List Event) (s : State) (inbox : List Message)
-    → IsTied before (e ∷ events) c hand said tells s inbox → IsTied (before ++ e ∷ []) events c hand said tells s inbox
-tell_tied before e events c hand said tells s inbox tie = record { told = append_assoc before (e ∷ []) events ∙ tie.told; core = tie.core; way = tie.way }
+-- What its oldest event says of calls is told.
+pub tell_tied : (before out events : List Event) (c : State) (hand said : List Message) (tells : List Event) (s : State) (inbox : List Message)
+    → IsTied before (out ++ events) c hand said tells s inbox → IsTied (before ++ out) events c hand said tells s inbox
+tell_tied before out events c hand said tells s inbox tie = record { told = append_assoc before out events ∙ tie.told; core = tie.core; way = tie.way }

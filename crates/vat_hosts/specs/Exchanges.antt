@@ -1,5 +1,5 @@
 -- To exchange messages is to hand them over.
-use Rattle.std.specs.Prelude.{◌≡◌, ℕ, List, []}
+use Rattle.std.specs.Prelude.{ℕ, List, []}
 use Rattle.vat_host.specs.Hosting.{Hosted}
 use Rattle.vat_host.specs.Exchanging.{Exchanges}
 use Rattle.vat_hosts.specs.Hosts.{Act, ActsAll, Hosts}

@@ -1,5 +1,5 @@
 -- Two hosts whose messages are handed over, in any way that keeps the order of each vat's messages.
-use Rattle.std.specs.Prelude.{◌≡◌, Bool, true, false, cond, Option, None, Some, Result, Ok, Err, List, [], ◌∷◌, ◌++◌, flat_map}
+use Rattle.std.specs.Prelude.{◌≡◌, cond, Option, Some, Result, Ok, Err, List, [], ◌∷◌, ◌++◌, flat_map}
 use Rattle.rpc_msg.specs.Vats.{other_vat}
 use Rattle.rpc_msg.specs.declared.ids.ObjectId.{ObjectId}
 use Rattle.rpc_msg.specs.declared.ids.Vat.{Vat}
@@ -12,8 +12,8 @@ use Rattle.rpc_machine.specs.declared.command.Refusal.{Refusal}
 use Rattle.rpc_machine.specs.declared.command.Level.TheVariants.{One}
 use Rattle.rpc_machine.specs.State.{start}
 use Rattle.vat_host.specs.declared.event.Event.{Event}
-use Rattle.vat_host.specs.declared.event.Event.TheVariants as event
 use Rattle.vat_host.specs.Hosting.{Hosted, Does, Hears, Refuses, Tells, idle}
+use Rattle.vat_hosts.specs.Calls.{of_calls}
 
 -- A host, and the messages that were taken from the other and are still to be handed to it, the oldest first.
 pub record Party : Type 0 where
@@ -101,15 +101,10 @@ abbrev pub done_by : Act → List Done
 done_by (Commands v c (Ok granted)) = record { vat = v; command = c; granted = granted } ∷ []
 done_by x = []
 
--- What was told, but for that a vat is down.
-abbrev pub but_down : Event → List Event
-but_down (event.Down number reason) = []
-but_down e = e ∷ []
-
 abbrev pub told_by : Vat → Act → List Event
-told_by v (Asks u (Some e)) = cond (same_vat v u) (but_down e) []
+told_by v (Asks u (Some e)) = cond (same_vat v u) (of_calls e) []
 told_by v x = []
 
--- what the application of a vat was told, and what it is still to be told
+-- what the application of a vat was told of calls, and what it is still to be told of them
 abbrev pub told_to : Hosts → List Act → Vat → List Event
-told_to p xs v = flat_map (told_by v) xs ++ (host p v).events
+told_to p xs v = flat_map (told_by v) xs ++ flat_map of_calls (host p v).events

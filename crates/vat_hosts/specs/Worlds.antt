@@ -1,5 +1,5 @@
 -- Two hosts are two vats in one world.
-use Rattle.std.specs.Prelude.{◌≡◌, ℕ, Bool, cond, Option, None, Some, Result, Ok, Err, List, [], ◌∷◌, ◌++◌, flat_map}
+use Rattle.std.specs.Prelude.{◌≡◌, ℕ, cond, Option, None, Some, Ok, List, [], ◌∷◌, ◌++◌, flat_map}
 use Rattle.rpc_msg.specs.Vats.{other_vat}
 use Rattle.rpc_msg.specs.declared.ids.ObjectId.{ObjectId}
 use Rattle.rpc_msg.specs.declared.ids.Vat.{Vat}
@@ -13,7 +13,7 @@ use Rattle.rpc_machine.specs.Journal.{journal}
 use Rattle.rpc_machine.specs.World.{World, Happening, StepAnswer, Answered, Handled, Empty, Run, core, inbox, new_world}
 use Rattle.rpc_machine.specs.Claims.{IsSound, history}
 use Rattle.vat_host.specs.declared.event.Event.{Event}
-use Rattle.vat_host.specs.Queues.{told}
+use Rattle.vat_hosts.specs.Calls.{calls_told}
 use Rattle.vat_hosts.specs.Hosts.{Act, ActsAll, Done, Hosts, done_by, host, in_hand, new_hosts, told_to}
 
 -- ---- what is told of a run
@@ -29,7 +29,7 @@ effects_of Empty = quiet
 
 -- the calls to serve of that vat, and its own calls that ended
 abbrev pub told_in : Vat → Happening → List Event
-told_in v x = cond (same_vat v (vat_of x.event)) (told (effects_of x.answer)) []
+told_in v x = cond (same_vat v (vat_of x.event)) (calls_told (effects_of x.answer)) []
 
 abbrev pub done_by_answer : Happens → StepAnswer → List Done
 done_by_answer (happens.Command v c) (Answered (Ok granted) effects) = record { vat = v; command = c; granted = granted } ∷ []
@@ -47,7 +47,7 @@ IsOnWay None inbox ms = inbox ≡ ms
 IsOnWay (Some n) inbox ms = (dropped : List Message) × (inbox ≡ dropped ++ ms)
 
 -- A run of two vats in one world, of which all holds that is promised: of those commands, in their order, with these answers; it leads
--- to where both hosts are; and what each application was told, or is still to be told, is what the run tells of its vat.
+-- to where both hosts are; and what each application was told of calls, or is still to be told, is what the run tells of its vat.
 pub record AreOneWorld (root_a root_b : Option ObjectId) (xs : List Act) (p : Hosts) : Type 0 where
   pub happened : List Happening
   pub world : World

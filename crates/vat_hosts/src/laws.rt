@@ -1,8 +1,12 @@
 //! The functions run no code: what each ensures is the law.
 
 ghost use Rattle.vat_hosts.specs.Exchanges.{ExchangesHand};
+ghost use Rattle.vat_hosts.specs.Released.{ReleasedAreNotServed};
+ghost use Rattle.vat_hosts.specs.Served.{HostsServeWhatIsGiven};
 ghost use Rattle.vat_hosts.specs.Worlds.{HostsAreWorlds};
 
+use laws_authority::{all_at_most_once, authority_is_given, authority_is_kept};
+use laws_released::released_stays;
 use laws_sound::every_run_is_sound;
 
 /// Whatever is done with two new hosts of level 1, if the messages of each reach the other in order: it is a run of two vats in one
@@ -17,3 +21,22 @@ pub fn hosts_are_worlds()
 pub fn exchange_hands_over()
     ensures { ExchangesHand }
 {}
+
+/// Whatever is done with a new host, and whatever its peer sends: it is a run of one vat, and what its application is told of calls is
+/// what the run tells. Each call that it is to serve is its own, or is for an object that the peer was given and has not given back. No
+/// own call ends twice.
+pub fn hosts_serve_what_is_given()
+    ensures { HostsServeWhatIsGiven }
+{
+    authority_is_given();
+    authority_is_kept();
+    all_at_most_once();
+}
+
+/// After a host told that an object is released, whatever is done with it, and whatever its peer sends: it has no call to that object
+/// served, until the application hosts the object again.
+pub fn released_are_not_served()
+    ensures { ReleasedAreNotServed }
+{
+    released_stays();
+}

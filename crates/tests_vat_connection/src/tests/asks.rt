@@ -17,6 +17,8 @@ pub(crate) enum Ask {
     Answer(TaskId, &'static [RefId]),
     Finish(CallId),
     DropRef(RefId),
+    Promise,
+    Resolve(PromiseId, RefId),
 }
 
 /// A call of a connection. A call says so many sevens and a word, an answer nothing.
@@ -42,6 +44,8 @@ pub(crate) fn command_of(alloc: Global, ask: Ask) -> Option<Command> {
         Ask::Answer(task, given) => answer_of(alloc, task, given),
         Ask::Finish(call) => Some(Command::Finish(call)),
         Ask::DropRef(reference) => Some(Command::DropRef(reference)),
+        Ask::Promise => Some(Command::Promise),
+        Ask::Resolve(promise, reference) => Some(Command::Resolve(promise, reference)),
     }
 }
 
@@ -69,7 +73,7 @@ fn sevens(alloc: Global, count: usize, given: &[RefId]) -> Option<(Payload, Item
     contents(alloc, &numbers, "seven", given).ok()
 }
 
-/// What a command grants; None where there is no memory for it.
+/// What a command grants; None if there is no memory for it.
 pub(crate) fn asks(
     alloc: Global,
     connection: &mut Connection,
@@ -82,7 +86,7 @@ pub(crate) fn asks(
     }
 }
 
-/// What a call grants; None where there is no memory for what it takes.
+/// What a call grants; None if there is no memory for what it takes.
 pub(crate) fn calls(
     alloc: Global,
     connection: &mut Connection,

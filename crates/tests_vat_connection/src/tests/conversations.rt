@@ -1,7 +1,7 @@
 //! Two vats that understand one another.
 use crate::tests::asks::{Ask, Named};
 use crate::tests::scene::{DONE, ROOT, Step, Steps, scene};
-use crate::tests::told::{Came, Given, Told};
+use crate::tests::told::{Came, Given, RESOLVED, Told};
 use rpc_machine::{Granted, Refusal};
 use rpc_msg::{CallId, ObjectId, PromiseId, RefId, TaskId, Vat};
 
@@ -52,6 +52,7 @@ pub(crate) const LET_GO: Steps<'static> = &[
         Vat::A,
         Step::Tells(Told::Ended(CallId(0), Came::Results, Given::One(RefId(2)))),
     ),
+    (Vat::A, Step::Tells(RESOLVED)),
     (Vat::A, Step::Asks(Ask::Finish(CallId(0)), DONE)),
     (Vat::A, Step::Asks(Ask::DropRef(RefId(2)), DONE)),
     (
@@ -67,6 +68,9 @@ pub(crate) const LET_GO: Steps<'static> = &[
 
 const RELEASED: Steps<'static> = &[
     (Vat::B, Step::Carries),
+    (Vat::A, Step::Tells(Told::Released(ObjectId(1)))),
+    (Vat::A, Step::Tells(Told::Nothing)),
+    (Vat::B, Step::Tells(Told::Nothing)),
     (Vat::A, Step::SharesNothing),
     (Vat::B, Step::SharesNothing),
 ];
@@ -99,6 +103,7 @@ const ANSWERED_THEN_CALLED: Steps<'static> = &[
         Vat::A,
         Step::Tells(Told::Ended(CallId(0), Came::Results, Given::One(RefId(2)))),
     ),
+    (Vat::A, Step::Tells(RESOLVED)),
     (
         Vat::A,
         Step::Tells(Told::Ended(CallId(1), Came::Results, Given::Nothing)),
@@ -165,6 +170,7 @@ const BROKEN: Steps<'static> = &[
         Vat::A,
         Step::Tells(Told::Ended(CallId(0), Came::Results, Given::One(RefId(2)))),
     ),
+    (Vat::A, Step::Tells(RESOLVED)),
     (
         Vat::A,
         Step::Tells(Told::Ended(CallId(1), Came::NullFirst, Given::More)),

@@ -1,7 +1,7 @@
 //! What becomes of the own calls of a vat that goes down.
 use crate::tests::asks::{Ask, Named, calls};
 use crate::tests::scene::{DONE, ROOT, Step, Steps, scene};
-use crate::tests::told::{Came, Given, Told, next};
+use crate::tests::told::{Came, Given, RESOLVED, Told, next};
 use rpc_machine::{Granted, Level, Refusal};
 use rpc_msg::{CallId, RefId, TaskId, Vat};
 use std::alloc::Global;
@@ -30,6 +30,7 @@ const ONE_OVER: Steps<'static> = &[
         Vat::A,
         Step::Tells(Told::Ended(CallId(0), Came::Results, Given::One(RefId(1)))),
     ),
+    (Vat::A, Step::Tells(RESOLVED)),
 ];
 
 /// A bootstrap and a call are open. One that was made between these two was finished.
@@ -94,7 +95,7 @@ fn open_calls_end_disconnected(rt: HostRuntime) {
     }
 }
 
-/// Whether a bootstrap object is asked for under that number, a second time where the first was refused for memory.
+/// Whether a bootstrap object is asked for under that number, a second time if the first was refused for memory.
 fn makes(alloc: Global, connection: &mut Connection, number: u64) -> bool {
     let mut asked = calls(alloc, connection, Named::Bootstrap);
     if asked == Some(Err(Refusal::Memory)) {

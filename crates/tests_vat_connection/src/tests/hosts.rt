@@ -28,7 +28,7 @@ fn command(alloc: Global, ask: Ask) -> Option<Command> {
     }
 }
 
-/// What a command grants. One that is refused for want of memory leaves nothing to do, comes back, and is taken then.
+/// What a command grants. One that is refused for lack of memory leaves nothing to do, comes back, and is taken then.
 fn obeys(alloc: Global, host: &mut Host, ask: Ask) -> Option<Granted> {
     let command = command(alloc, ask)?;
     let was_idle = host.is_idle();
@@ -57,7 +57,7 @@ fn holds(alloc: Global, host: &mut Host, step: &Step<'_>) -> bool {
     }
 }
 
-/// Whether want of memory took one of the two down, and its Abort the other.
+/// Whether running out of memory took one of the two down, and its Abort the other.
 fn are_down(rt: &impl Abort, a: &mut Host, b: &mut Host) -> bool {
     exchange(a, b, 9);
     match (a.core().down(), b.core().down()) {

@@ -1,7 +1,7 @@
 //! A load above the limits: what comes waits.
 use crate::tests::asks::{Ask, Named};
 use crate::tests::scene::{DONE, ROOT, Step, Steps, scene};
-use crate::tests::told::{Came, Given, Told};
+use crate::tests::told::{Came, Given, RESOLVED, Told};
 use rpc_machine::Granted;
 use rpc_msg::{CallId, RefId, TaskId, Vat};
 
@@ -48,6 +48,7 @@ const WAITED: Steps<'static> = &[
         Vat::A,
         Step::Tells(Told::Ended(CallId(0), Came::Results, Given::One(RefId(1)))),
     ),
+    (Vat::A, Step::Tells(RESOLVED)),
     (
         Vat::A,
         Step::Tells(Told::Ended(CallId(1), Came::Results, Given::Nothing)),

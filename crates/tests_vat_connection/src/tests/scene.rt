@@ -86,7 +86,7 @@ fn carry(from: &mut Connection, to: &mut Connection, piece: usize) -> usize {
     bytes.len()
 }
 
-// How many bytes went over. None where the step does not hold.
+// How many bytes went over. None if the step does not hold.
 fn take(
     alloc: Global,
     vat: &mut Connection,

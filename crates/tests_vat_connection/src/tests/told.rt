@@ -1,6 +1,6 @@
 //! What a vat tells, in short.
-use rpc_msg::{CallId, CapAt, Exception, ExceptionKind, Op, Payload, RefId, TaskId};
-use vat_connection::{Connection, Delivery, Ended, Event, Outcome};
+use rpc_msg::{CallId, CapAt, Exception, ExceptionKind, Op, Payload, QuestionId, RefId, TaskId};
+use vat_connection::{Connection, Delivery, Ended, Event, ObjectId, Outcome, PeerPlace};
 
 /// The number with which a vat goes down by its peer's Abort.
 const ABORTED: u16 = 34;
@@ -11,6 +11,9 @@ pub(crate) enum Told {
     Nothing,
     Served(TaskId, Given),
     Ended(CallId, Came, Given),
+    Resolved(PeerPlace),
+    Lifted(RefId),
+    Released(ObjectId),
     Down(u16),
     /// It went down by the peer's Abort, whose reason says that fault.
     Aborted(u16),
@@ -37,6 +40,9 @@ pub(crate) enum Came {
     Exception,
 }
 
+/// The results of the first question are known.
+pub(crate) const RESOLVED: Told = Told::Resolved(PeerPlace::Question(QuestionId(0)));
+
 /// What a connection tells next.
 pub(crate) fn next(connection: &mut Connection) -> Told {
     match connection.next_event() {
@@ -49,6 +55,9 @@ pub(crate) fn said_by(event: &Event) -> Told {
     match event {
         Event::Served(task) => served(task),
         Event::Ended(call) => ended(call),
+        Event::Resolved(place) => Told::Resolved(*place),
+        Event::Lifted(reference) => Told::Lifted(*reference),
+        Event::Released(object) => Told::Released(*object),
         Event::Down(number, reason) => down(*number, reason.as_str()),
     }
 }

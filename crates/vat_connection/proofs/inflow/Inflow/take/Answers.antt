@@ -1,7 +1,7 @@
-use Rattle.std.proofs.Common.{◌≡◌, ◌+◌, ◌-◌, ◌≤◌, ℕ, List, [], drop, length, take, sym, ap, subst, arith}
-use Rattle.std.proofs.lemmas.List.{drop-drop, drop_all, length-drop, take_all}
-use Rattle.vat_connection.specs.Hearing.{Inflow as In, IsParted, PartsOn}
-use Rattle.vat_connection.proofs.Pushing.{none_more, over_takes}
+use Rattle.std.proofs.Common.{◌≡◌, ℕ, List, [], drop, sym, subst, arith}
+use Rattle.std.proofs.lemmas.List.{drop_all}
+use Rattle.vat_connection.specs.Hearing.{PartsOn}
+use Rattle.vat_connection.proofs.Pushing.{none_more}
 use Rattle.vat_connection.proofs.inflow.Inflow.take.Goals as goal
 
 pub returns : goal.returns

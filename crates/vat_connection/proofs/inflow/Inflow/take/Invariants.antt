@@ -1,4 +1,4 @@
-use Rattle.std.proofs.Common.{ℕ, ◌-◌, ◌≤◌, drop, length}
+use Rattle.std.proofs.Common.{◌-◌, ◌≤◌, drop, length}
 use Rattle.vat_connection.specs.Hearing.{Inflow as In, IsParted, PartsOn}
 use Rattle.vat_connection.proofs.inflow.Inflow.take.Given as goal
 
