@@ -1,4 +1,4 @@
-// What a number is put into stays as it is where a command is refused, and so does the vat.
+// What a number is put into stays as it is if a command is refused, and so does the vat.
 ghost use Rattle.rpc_machine.specs.declared.command.Command.TheVariants as command;
 ghost use Rattle.lovendak_c_desk.specs.Commands.{CallsWith, IsAsked, a_call, call_of, nothing};
 ghost use Rattle.lovendak_c.specs.Calls.{GivesOn, AsksOn};
@@ -20,7 +20,7 @@ pub extern "C" fn lovendak_bootstrap(alloc: Global, vat: &mut Handle, call: &mut
     done_with(answer, call)
 }
 
-/// Makes a call through a reference, which takes the shorter path before, if one is known: gives the number of the call. 102 where the
+/// Makes a call through a reference, which takes the shorter path before, if one is known: gives the number of the call. 102 if the
 /// payload is none that goes with so many references.
 #[unsafe(no_mangle)]
 pub extern "C" fn lovendak_call(

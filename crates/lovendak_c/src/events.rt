@@ -8,8 +8,8 @@ use crate::handle::Handle;
 use lovendak_c_desk::Notice;
 use std::alloc::Global;
 
-/// Hands out the next event, once: what it says in numbers, and copies of the bytes and of the references that came with it. Where
-/// there is too little room for these (103) the event says how much they need, and it stays the next one. 104 where there is none.
+/// Hands out the next event, once: what it says in numbers, and copies of the bytes and of the references that came with it. If
+/// there is too little room for these (103) the event says how much they need, and it stays the next one. 104 if there is none.
 #[unsafe(no_mangle)]
 pub extern "C" fn lovendak_next_event(
     alloc: Global,

@@ -12,7 +12,7 @@ use std::mem;
 /// What stands in a handle that has a vat, and not by chance in memory that nobody wrote.
 const MAGIC: u32 = 0x4c6f_7665;
 
-/// A vat with its desk; or none, where the magic number does not stand in it: only where it does is the address followed. C
+/// A vat with its desk; or none, if the magic number does not stand in it: only if it does is the address followed. C
 /// keeps it, and neither changes nor copies it.
 #[repr(C)]
 #[derive(Drop)]

@@ -19,7 +19,7 @@ pub extern "C" fn lovendak_version() -> u32
     VERSION
 }
 
-/// Puts a new vat into an empty handle: of that level, and with that bootstrap object where `has_root` is not 0. Where the handle
+/// Puts a new vat into an empty handle: of that level, and with that bootstrap object if `has_root` is not 0. If the handle
 /// has a vat (101), the level is neither 0 nor 1 (105), or memory is refused (1), the handle stays as it is.
 #[unsafe(no_mangle)]
 pub extern "C" fn lovendak_new(
@@ -64,7 +64,7 @@ pub extern "C" fn lovendak_free(alloc: Global, vat: &mut Handle) -> u32
     DONE
 }
 
-/// Takes a vat that is up down with that number (105 where it is above 65,535). Its Abort is to be sent.
+/// Takes a vat that is up down with that number (105 if it is above 65,535). Its Abort is to be sent.
 #[unsafe(no_mangle)]
 pub extern "C" fn lovendak_shut(alloc: Global, vat: &mut Handle, number: u32) -> u32
     ensures { AsksOn vat.old.raw.desk vat.new.raw.desk result (Unit {0}) (λ old answer new. ShutsWith old number answer new) }

@@ -7,8 +7,8 @@ ghost use Rattle.lovendak_c.specs.Calls.{Gives, Tells, text_of};
 use crate::codes::{done, done_with};
 use std::alloc::Global;
 
-/// Hands out the bytes of a payload: a struct whose data words are these numbers, with the text as its pointer 0 where `has_text` is
-/// not 0, and so many capabilities as the pointers behind it. Where there is too little room (103) nothing is handed out but the
+/// Hands out the bytes of a payload: a struct whose data words are these numbers, with the text as its pointer 0 if `has_text` is
+/// not 0, and so many capabilities as the pointers behind it. If there is too little room (103) nothing is handed out but the
 /// length.
 #[unsafe(no_mangle)]
 pub extern "C" fn lovendak_contents(
@@ -36,8 +36,8 @@ fn text_of(has_text: u32, text: &[u8]) -> Option<&[u8]>
     Some(text)
 }
 
-/// Says the data word of that index of a payload's root, a struct: 0 past its end. 104 where the root is a list or a capability,
-/// 102 where the bytes are no payload of so many capabilities.
+/// Says the data word of that index of a payload's root, a struct: 0 past its end. 104 if the root is a list or a capability,
+/// 102 if the bytes are no payload of so many capabilities.
 #[unsafe(no_mangle)]
 pub extern "C" fn lovendak_number_at(
     alloc: Global,
@@ -54,8 +54,8 @@ pub extern "C" fn lovendak_number_at(
     )
 }
 
-/// Hands out the text at that pointer of a payload's root, a struct: none past the end. 104 where something else stands there, 102
-/// where the bytes are no payload. Where there is too little room (103) nothing is handed out but the length.
+/// Hands out the text at that pointer of a payload's root, a struct: none past the end. 104 if something else stands there, 102
+/// if the bytes are no payload. If there is too little room (103) nothing is handed out but the length.
 #[unsafe(no_mangle)]
 pub extern "C" fn lovendak_text_at(
     alloc: Global,
@@ -70,7 +70,7 @@ pub extern "C" fn lovendak_text_at(
     done(lovendak_c_desk::text_at(alloc, payload, caps, pointer, out, text_len))
 }
 
-/// Says which of the references that came with a payload stands at that path. 104 where no capability does, 102 where the bytes are
+/// Says which of the references that came with a payload stands at that path. 104 if no capability does, 102 if the bytes are
 /// no payload.
 #[unsafe(no_mangle)]
 pub extern "C" fn lovendak_ref_at(

@@ -1,4 +1,4 @@
-// What a number is put into stays as it is where a command is refused, and so does the vat.
+// What a number is put into stays as it is if a command is refused, and so does the vat.
 ghost use Rattle.rpc_machine.specs.declared.command.Command.TheVariants as command;
 ghost use Rattle.lovendak_c_desk.specs.Commands.{IsAsked, a_promise, Rejects, nothing};
 ghost use Rattle.lovendak_c.specs.Calls.{GivesOn, AsksOn};
@@ -50,7 +50,7 @@ pub extern "C" fn lovendak_resolve(
     done(answer)
 }
 
-/// Breaks a promise with an exception of that kind (105 where it is above 3) with that reason (102 where it is not UTF-8).
+/// Breaks a promise with an exception of that kind (105 if it is above 3) with that reason (102 if it is not UTF-8).
 #[unsafe(no_mangle)]
 pub extern "C" fn lovendak_reject(
     alloc: Global,

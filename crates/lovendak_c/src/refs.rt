@@ -1,7 +1,7 @@
-// What a number is put into stays as it is where a command is refused, and so does the vat.
+// What a number is put into stays as it is if a command is refused, and so does the vat.
 ghost use Rattle.std.specs.Prelude.{[]};
 ghost use Rattle.rpc_machine.specs.declared.command.Command.TheVariants as command;
-ghost use Rattle.lovendak_c_desk.specs.Commands.{Advances, IsAsked, a_reference, nothing};
+ghost use Rattle.lovendak_c_desk.specs.Commands.{Advances, Hosts, IsAsked, a_reference, nothing};
 ghost use Rattle.lovendak_c_desk.specs.Given.{path};
 ghost use Rattle.lovendak_c.specs.Calls.{GivesOn, AsksOn};
 
@@ -17,7 +17,7 @@ pub extern "C" fn lovendak_host(
     object: u64,
     reference: &mut u64,
 ) -> u32
-    ensures { GivesOn vat.old.raw.desk vat.new.raw.desk result reference.old reference.new (λ old answer new. IsAsked old (command.Host (record { 0 = object })) a_reference answer new) }
+    ensures { GivesOn vat.old.raw.desk vat.new.raw.desk result reference.old reference.new (λ old answer new. Hosts old object answer new) }
 {
     let Some(mut desk) = vat.take(alloc) else {
         return EMPTY;

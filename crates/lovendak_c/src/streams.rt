@@ -2,11 +2,12 @@
 ghost use Rattle.std.specs.Prelude.{◌≡◌, ◌+◌, Bool, length, min};
 ghost use Rattle.vat_connection.specs.Connecting.{Finishes, Receives, wants_bytes};
 ghost use Rattle.vat_connection.specs.Load.{greatest};
+ghost use Rattle.lovendak_c_desk.specs.Commands.{SetsFinishes};
 ghost use Rattle.lovendak_c_desk.specs.Desks.{Awaits, HandsOut, with_connection};
-ghost use Rattle.lovendak_c.specs.Calls.{DoesOn, HandsOn};
+ghost use Rattle.lovendak_c.specs.Calls.{AsksOn, DoesOn, HandsOn};
 ghost use Rattle.lovendak_c.specs.Codes.{bit};
 
-use crate::codes::{DONE, EMPTY, bit};
+use crate::codes::{DONE, EMPTY, bit, done};
 use crate::handle::Handle;
 use std::alloc::Global;
 
@@ -37,7 +38,7 @@ pub extern "C" fn lovendak_ended(alloc: Global, vat: &mut Handle) -> u32
     DONE
 }
 
-/// Hands out bytes that are to be sent, once, as many as wait and there is room for, and says how many: none only where none are to
+/// Hands out bytes that are to be sent, once, as many as wait and there is room for, and says how many: none only if none are to
 /// be sent, or there is no room.
 #[unsafe(no_mangle)]
 pub extern "C" fn lovendak_outgoing(
@@ -56,7 +57,7 @@ pub extern "C" fn lovendak_outgoing(
     DONE
 }
 
-/// Says how many bytes wait to be sent, none only where none are to be, and whether there is an event (1 or 0).
+/// Says how many bytes wait to be sent, none only if none are to be, and whether there is an event (1 or 0).
 #[unsafe(no_mangle)]
 pub extern "C" fn lovendak_pending(
     alloc: Global,
@@ -113,6 +114,19 @@ pub extern "C" fn lovendak_set_limits(
     desk.set_limits(words, bytes);
     *vat = Handle::of(desk);
     DONE
+}
+
+/// When the Finish of a call goes from now on: at once (0), as in the beginning, or behind its Return (1). 105 of another number.
+#[unsafe(no_mangle)]
+pub extern "C" fn lovendak_set_finishes(alloc: Global, vat: &mut Handle, when: u32) -> u32
+    ensures { AsksOn vat.old.raw.desk vat.new.raw.desk result (Unit {0}) (λ old answer new. SetsFinishes old when answer new) }
+{
+    let Some(mut desk) = vat.take(alloc) else {
+        return EMPTY;
+    };
+    let answer = desk.set_finishes(when);
+    *vat = Handle::of(desk);
+    done(answer)
 }
 
 /// Says whether more bytes of the peer would be heard (1 or 0).

@@ -1,4 +1,4 @@
-// Where a command is refused, the vat stays as it is.
+// If a command is refused, the vat stays as it is.
 ghost use Rattle.lovendak_c_desk.specs.Commands.{Answers, Fails};
 ghost use Rattle.lovendak_c.specs.Calls.{AsksOn};
 
@@ -6,7 +6,7 @@ use crate::codes::{EMPTY, done};
 use crate::handle::Handle;
 use std::alloc::Global;
 
-/// Gives a task its results. 102 where the payload is none that goes with so many references.
+/// Gives a task its results. 102 if the payload is none that goes with so many references.
 #[unsafe(no_mangle)]
 pub extern "C" fn lovendak_answer(
     alloc: Global,
@@ -25,7 +25,7 @@ pub extern "C" fn lovendak_answer(
     done(answer)
 }
 
-/// Gives a task an exception of that kind (105 where it is above 3) with that reason (102 where it is not UTF-8).
+/// Gives a task an exception of that kind (105 if it is above 3) with that reason (102 if it is not UTF-8).
 #[unsafe(no_mangle)]
 pub extern "C" fn lovendak_fail(
     alloc: Global,

@@ -43,6 +43,7 @@ const SILENT: Notice = Notice {
     method: 0,
     is_exception: 0,
     exception: 0,
+    place: 0,
     number: 0,
     object: 0,
     interface_id: 0,

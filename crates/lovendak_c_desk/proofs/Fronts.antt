@@ -1,5 +1,5 @@
 -- One more number is copied.
-use Rattle.std.proofs.Common.{◌≡◌, ℕ, suc, ◌+◌, ◌<◌, ◌≤◌, List, [], ◌∷◌, ◌++◌, length, take, drop, map, get_or, set, refl, sym, ap, ◌∙◌, arith}
+use Rattle.std.proofs.Common.{◌≡◌, ℕ, suc, ◌+◌, ◌<◌, ◌≤◌, List, [], ◌∷◌, ◌++◌, length, take, drop, get_or, set, sym, ap, ◌∙◌, arith}
 use Rattle.std.proofs.lemmas.List.{map_push, take_more, length-take-le, length-map, append_assoc}
 use Rattle.std.proofs.Math.Seq.{set-append_seam, drop-cons}
 use Rattle.rpc_msg.specs.declared.ids.RefId.{RefId}

@@ -1,5 +1,5 @@
 -- The next event is told, or stays.
-use Rattle.std.proofs.Common.{◌≡◌, Bool, true, false, Option, Some, None, Result, Ok, Err, refl, sym, subst}
+use Rattle.std.proofs.Common.{◌≡◌, Bool, true, false, Option, Some, None, Ok, Err, refl, sym, subst}
 use Rattle.vat_host.specs.declared.event.Event.{Event}
 use Rattle.lovendak_c_desk.specs.declared.desk.Desk.{Desk}
 use Rattle.lovendak_c_desk.specs.declared.not_done.NotDone.TheVariants as not_done

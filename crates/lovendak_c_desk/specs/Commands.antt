@@ -1,5 +1,5 @@
 -- Commands by numbers and bytes: what comes of each is what comes of the connection's.
-use Rattle.std.specs.Prelude.{◌≡◌, ◌⊎◌, ◌<◌, ◌≤◌, ℕ, List, Option, Some, None, Result, Ok, Err}
+use Rattle.std.specs.Prelude.{◌≡◌, ◌⊎◌, ◌<◌, ◌≤◌, ℕ, cond, nat_eq, List, Option, Some, None, Result, Ok, Err}
 use Rattle.rpc_msg.specs.declared.exception.ExceptionKind.{ExceptionKind}
 use Rattle.rpc_journal.specs.declared.report.Advanced.{Advanced}
 use Rattle.rpc_journal.specs.declared.report.Advanced.TheVariants as advanced
@@ -8,13 +8,17 @@ use Rattle.rpc_machine.specs.declared.command.Command.{Command}
 use Rattle.rpc_machine.specs.declared.command.Command.TheVariants as command
 use Rattle.rpc_machine.specs.declared.command.Granted.{Granted}
 use Rattle.rpc_machine.specs.declared.command.Granted.TheVariants as granted
+use Rattle.vat_host.specs.declared.event.Event.{Event}
+use Rattle.vat_host.specs.declared.event.Event.TheVariants as event
+use Rattle.peer_finishes.specs.declared.held.Finishes.{Finishes}
+use Rattle.vat_connection.specs.Speaking.{finishing}
 use Rattle.vat_connection.specs.Calling.{Calls, Fits, IsTooLarge}
 use Rattle.vat_connection.specs.Connecting.{Asks, AsksToFit, IsShut, answered_by}
 use Rattle.lovendak_c_desk.specs.declared.desk.Desk.{Desk}
 use Rattle.lovendak_c_desk.specs.declared.not_done.NotDone.{NotDone}
 use Rattle.lovendak_c_desk.specs.declared.not_done.NotDone.TheVariants as not_done
 use Rattle.lovendak_c_desk.specs.Desks.{with_connection}
-use Rattle.lovendak_c_desk.specs.Given.{IsNoPayload, IsNoText, kind_at, reference, references, with_refs}
+use Rattle.lovendak_c_desk.specs.Given.{IsNoPayload, IsNoText, finishes_at, kind_at, reference, references, with_refs}
 
 -- ---- what is granted, in numbers
 
@@ -101,6 +105,39 @@ CallsWith old c (Err (not_done.Refused r)) new =
 CallsWith old c (Err e) new = IsNoPayload c.payload e × (new ≡ old)
 
 -- ---- shut
+
+-- ---- when a Finish goes
+
+abbrev pub SetsBy : {A : Type 0} → Option Finishes → Desk → Result A NotDone → Desk → Type 0
+SetsBy (Some f) old (Ok u) new = new ≡ with_connection old (record (old.connection) { speaker = finishing old.connection.speaker f })
+SetsBy (Some f) old (Err e) new = ⊥
+SetsBy None old (Ok u) new = ⊥
+SetsBy None old (Err e) new = (e ≡ not_done.NoSuchNumber) × (new ≡ old)
+
+-- From now on a Finish goes at once, or behind its Return, by that number.
+abbrev pub SetsFinishes : {A : Type 0} → Desk → ℕ → Result A NotDone → Desk → Type 0
+SetsFinishes old n answer new = SetsBy (finishes_at n) old answer new
+
+-- ---- host
+
+-- That this object is released is not told, if it was looked at: it is hosted again.
+abbrev pub unless_released : ℕ → Option Event → Option Event
+unless_released object None = None
+unless_released object (Some (event.Released o)) = cond (nat_eq o.0 object) None (Some (event.Released o))
+unless_released object (Some (event.Served call)) = Some (event.Served call)
+unless_released object (Some (event.Ended call)) = Some (event.Ended call)
+unless_released object (Some (event.Resolved place)) = Some (event.Resolved place)
+unless_released object (Some (event.Lifted reference)) = Some (event.Lifted reference)
+unless_released object (Some (event.Down number reason)) = Some (event.Down number reason)
+
+-- A reference to an object is made.
+abbrev pub Hosts : Desk → ℕ → Result ℕ NotDone → Desk → Type 0
+Hosts old object (Ok made) new =
+    Asks old.connection (command.Host (record { 0 = object })) (Ok (a_reference made)) new.connection
+    × (new ≡ record old { connection = new.connection; event = unless_released object old.event })
+Hosts old object (Err (not_done.Refused r)) new =
+    Asks old.connection (command.Host (record { 0 = object })) (Err r) new.connection × (new ≡ with_connection old new.connection)
+Hosts old object (Err e) new = ⊥
 
 -- The vat goes down with a number of 16 bits.
 abbrev pub ShutsWith : {A : Type 0} → Desk → ℕ → Result A NotDone → Desk → Type 0

@@ -10,6 +10,8 @@ use Rattle.rpc_msg.specs.declared.exception.ExceptionKind.TheVariants as kind
 use Rattle.rpc_machine.specs.declared.command.Level.{Level}
 use Rattle.rpc_machine.specs.declared.command.Level.TheVariants as level
 use Rattle.rpc_machine.specs.declared.command.Refusal.TheVariants as refusal
+use Rattle.peer_finishes.specs.declared.held.Finishes.{Finishes}
+use Rattle.peer_finishes.specs.declared.held.Finishes.TheVariants as finishes
 use Rattle.lovendak_c_desk.specs.declared.not_done.NotDone.{NotDone}
 use Rattle.lovendak_c_desk.specs.declared.not_done.NotDone.TheVariants as not_done
 
@@ -30,6 +32,12 @@ kind_at (suc zero) = Some kind.Overloaded
 kind_at (suc (suc zero)) = Some kind.Disconnected
 kind_at (suc (suc (suc zero))) = Some kind.Unimplemented
 kind_at (suc (suc (suc (suc n)))) = None
+
+-- When a Finish goes: at once, or behind its Return.
+abbrev pub finishes_at : ℕ → Option Finishes
+finishes_at zero = Some finishes.AtOnce
+finishes_at (suc zero) = Some finishes.AfterReturn
+finishes_at (suc (suc n)) = None
 
 abbrev pub reference : ℕ → RefId
 reference n = record { 0 = n }

@@ -7,6 +7,9 @@ use Rattle.rpc_journal.specs.declared.report.Outcome.{Outcome}
 use Rattle.rpc_journal.specs.declared.report.Outcome.TheVariants as outcome
 use Rattle.vat_host.specs.declared.event.Event.{Event}
 use Rattle.vat_host.specs.declared.event.Event.TheVariants as event
+use Rattle.vat_host.specs.declared.event.PeerPlace.{PeerPlace}
+use Rattle.vat_host.specs.declared.event.PeerPlace.TheVariants as place
+use Rattle.lovendak_c_desk.specs.Leading.{answer_kind, import_kind}
 use Rattle.lovendak_c_desk.specs.declared.notice.Notice.{Notice}
 
 -- as `Exception.Type` of rpc.capnp counts them
@@ -24,11 +27,17 @@ bytes_of_outcome (outcome.Exception exception) = exception.reason
 abbrev pub bytes_of : Event → List ℕ
 bytes_of (event.Served call) = call.payload.bytes
 bytes_of (event.Ended call) = bytes_of_outcome call.outcome
+bytes_of (event.Resolved place) = []
+bytes_of (event.Lifted reference) = []
+bytes_of (event.Released object) = []
 bytes_of (event.Down number reason) = reason
 
 abbrev pub refs_of : Event → List RefId
 refs_of (event.Served call) = call.refs
 refs_of (event.Ended call) = call.refs
+refs_of (event.Resolved place) = []
+refs_of (event.Lifted reference) = []
+refs_of (event.Released object) = []
 refs_of (event.Down number reason) = []
 
 abbrev pub numbers : List RefId → List ℕ
@@ -50,12 +59,22 @@ silent = record {
   method = 0;
   is_exception = 0;
   exception = 0;
+  place = 0;
   number = 0;
   object = 0;
   interface_id = 0;
   payload_len = 0;
   refs_len = 0;
 }
+
+-- the kind of a place of the peer, as of where a reference leads
+abbrev pub number_of_place : PeerPlace → ℕ
+number_of_place (place.Import e) = import_kind
+number_of_place (place.Question q) = answer_kind
+
+abbrev pub id_of_place : PeerPlace → ℕ
+id_of_place (place.Import e) = e.0
+id_of_place (place.Question q) = q.0
 
 -- What an event says. What its kind doesn't have is 0.
 abbrev pub notice_of : Event → Notice
@@ -76,4 +95,7 @@ notice_of (event.Ended call) = record silent {
   payload_len = length (bytes_of_outcome call.outcome);
   refs_len = length call.refs;
 }
+notice_of (event.Resolved p) = record silent { kind = 6; place = number_of_place p; number = id_of_place p }
+notice_of (event.Lifted r) = record silent { kind = 7; number = r.0 }
+notice_of (event.Released o) = record silent { kind = 4; object = o.0 }
 notice_of (event.Down number reason) = record silent { kind = 3; number = number; payload_len = length reason }

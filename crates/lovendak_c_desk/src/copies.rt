@@ -6,7 +6,7 @@ ghost use Rattle.lovendak_c_desk.specs.Notices.{numbers};
 use crate::not_done::NotDone;
 use rpc_msg::RefId;
 
-/// Copies bytes to the front of `out`, where there is room for them, and says how many they are.
+/// Copies bytes to the front of `out`, if there is room for them, and says how many they are.
 pub(crate) fn copy_out(bytes: &[u8], out: &mut [u8], len: &mut usize) -> Result<(), NotDone>
     ensures { CopiesOut bytes.now out.old result out.new len.new }
 {

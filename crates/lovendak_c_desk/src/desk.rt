@@ -3,10 +3,10 @@ ghost use Rattle.vat_connection.specs.Connecting.{Finishes, Receives, wants_byte
 ghost use Rattle.vat_connection.specs.Load.{greatest};
 ghost use Rattle.lovendak_c_desk.specs.Desks.{Awaits, HandsOut, IsNotMade, Looks, Says, idle, with_connection};
 ghost use Rattle.lovendak_c_desk.specs.Given.{level_at};
-ghost use Rattle.lovendak_c_desk.specs.Commands.{ShutsWith};
+ghost use Rattle.lovendak_c_desk.specs.Commands.{SetsFinishes, ShutsWith};
 
 use crate::byte_queue::Waiting;
-use crate::given::level_of;
+use crate::given::{finishes_of, level_of};
 use crate::not_done::NotDone;
 use std::alloc::Global;
 use vat_connection::{Connection, Event, Level, Limits, Load, Memory, ObjectId, Vat};
@@ -14,7 +14,7 @@ use vat_connection::{Connection, Event, Level, Limits, Load, Memory, ObjectId, V
 /// Which of the two vats it is says nothing over bytes.
 const VAT: Vat = Vat::A;
 
-/// A connection, with the bytes that are to be sent and were not taken, and the oldest event, where it was looked at and not
+/// A connection, with the bytes that are to be sent and were not taken, and the oldest event, if it was looked at and not
 /// taken. What is done to the connection itself changes neither.
 pub struct Desk {
     pub connection: Connection,
@@ -34,7 +34,7 @@ impl Drop for Desk {
 }
 
 impl Desk {
-    /// A new vat in a box, of the level of that number and with that bootstrap object if it has one. `NoSuchNumber` where the level is
+    /// A new vat in a box, of the level of that number and with that bootstrap object if it has one. `NoSuchNumber` if the level is
     /// neither 0 nor 1, `Memory`.
     pub fn boxed(
         alloc: Global,
@@ -52,7 +52,7 @@ impl Desk {
         }
     }
 
-    /// A new vat, of that level and with that bootstrap object if it has one, of whose stream nothing has come. `Memory` where
+    /// A new vat, of that level and with that bootstrap object if it has one, of whose stream nothing has come. `Memory` if
     /// the memory of its Abort was refused.
     pub fn new(alloc: Global, level: Level, bootstrap: Option<ObjectId>) -> Result<Desk, Memory>
         ensures { IfOk result (λ desk. desk ≡ idle level bootstrap) }
@@ -65,7 +65,7 @@ impl Desk {
         })
     }
 
-    /// Where no bytes wait, what the vat has said by now becomes bytes, as `Connection::outgoing` hands them out, and they wait.
+    /// If no bytes wait, what the vat has said by now becomes bytes, as `Connection::outgoing` hands them out, and they wait.
     pub fn say(&mut self)
         ensures { Says self.old self.new }
     {
@@ -75,7 +75,7 @@ impl Desk {
         self.waiting = Waiting::new(self.connection.outgoing());
     }
 
-    /// Where no event was looked at, the oldest is, if there is one: it is that which `Connection::next_event` tells.
+    /// If no event was looked at, the oldest is, if there is one: it is that which `Connection::next_event` tells.
     pub fn look(&mut self)
         ensures { Looks self.old self.new }
     {
@@ -120,6 +120,16 @@ impl Desk {
         self.connection.set_limits(Limits { words, bytes });
     }
 
+    /// When the Finish of a call goes from now on, as `Connection::set_finishes`: 0 at once, 1 behind its Return. `NoSuchNumber` of
+    /// another number.
+    pub fn set_finishes(&mut self, when: u32) -> Result<(), NotDone>
+        ensures { SetsFinishes self.old when result self.new }
+    {
+        let finishes = finishes_of(when)?;
+        self.connection.set_finishes(finishes);
+        Ok(())
+    }
+
     /// Whether more bytes of the peer would be heard, as `Connection::wants_bytes`.
     pub fn wants_bytes(&self) -> bool
         ensures { result ≡ wants_bytes self.now.connection }
@@ -127,7 +137,7 @@ impl Desk {
         self.connection.wants_bytes()
     }
 
-    /// Hands out bytes that are to be sent, once, as many as wait and there is room for, and gives how many: none only where none
+    /// Hands out bytes that are to be sent, once, as many as wait and there is room for, and gives how many: none only if none
     /// are to be sent, or there is no room.
     pub fn outgoing(&mut self, out: &mut [u8]) -> usize
         ensures { HandsOut self.old out.old result out.new self.new }
@@ -136,7 +146,7 @@ impl Desk {
         self.waiting.take(out)
     }
 
-    /// How many bytes wait to be sent, none only where none are to be; and whether there is an event.
+    /// How many bytes wait to be sent, none only if none are to be; and whether there is an event.
     pub fn pending(&mut self) -> (usize, bool)
         ensures { Awaits self.old result.0 result.1 self.new }
     {
@@ -145,7 +155,7 @@ impl Desk {
         (self.waiting.len(), self.event.is_some())
     }
 
-    /// Takes a vat that is up down with that number. `NoSuchNumber` where it is above 65,535.
+    /// Takes a vat that is up down with that number. `NoSuchNumber` if it is above 65,535.
     pub fn shut(&mut self, number: u32) -> Result<(), NotDone>
         ensures { ShutsWith self.old number result self.new }
     {

@@ -9,8 +9,8 @@ use vat_connection::Event;
 
 impl Desk {
     /// Hands out the next event, once: what it says in numbers, and copies of the bytes and the references that came with it.
-    /// Where there is too little room for these (`NoRoom`), what it says in numbers is handed out and it stays the next. `Nothing`
-    /// where there is none.
+    /// If there is too little room for these (`NoRoom`), what it says in numbers is handed out and it stays the next. `Nothing`
+    /// if there is none.
     pub fn next_event(
         &mut self,
         notice: &mut Notice,
@@ -31,7 +31,7 @@ impl Desk {
     }
 }
 
-// Writes what an event says, and what came with it where there is room for that: says whether there is.
+// Writes what an event says, and what came with it if there is room for that: says whether there is.
 fn hand_over(event: &Event, notice: &mut Notice, bytes: &mut [u8], refs: &mut [u64]) -> bool
     ensures { HandsOver event.now (record { notice = notice.old; bytes = bytes.old; refs = refs.old }) result (record { notice = notice.new; bytes = bytes.new; refs = refs.new }) }
 {

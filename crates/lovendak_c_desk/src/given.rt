@@ -1,14 +1,14 @@
 // What is given by numbers and bytes becomes what the connection takes.
 ghost use Rattle.std.specs.Prelude.{◌≡◌, ◌⊎◌, IfOk, IfErr, map};
 ghost use Rattle.rpc_msg.specs.Payloads.{IsEncoded};
-ghost use Rattle.lovendak_c_desk.specs.Given.{IsNoPayload, IsNoText, kind_at, known_or, lacks_memory, level_at, path, references};
+ghost use Rattle.lovendak_c_desk.specs.Given.{finishes_at, IsNoPayload, IsNoText, kind_at, known_or, lacks_memory, level_at, path, references};
 ghost use Rattle.rpc_msg.specs.Op.TheVariants.{Field};
 ghost use Rattle.lovendak_c_desk.specs.declared.not_done.NotDone.TheVariants as not_done;
 
 use crate::not_done::NotDone;
 use rpc_msg::{ExceptionKind, Items, Memory, Op, Payload, PayloadFault, RefId, Text};
 use std::alloc::{AllocError, Global};
-use vat_connection::Level;
+use vat_connection::{Finishes, Level};
 
 /// No payload has as many capabilities.
 const TOO_MANY_CAPS: usize = 4_294_967_296;
@@ -33,6 +33,17 @@ pub(crate) fn kind_of(number: u32) -> Result<ExceptionKind, NotDone>
         1 => Ok(ExceptionKind::Overloaded),
         2 => Ok(ExceptionKind::Disconnected),
         3 => Ok(ExceptionKind::Unimplemented),
+        _ => Err(NotDone::NoSuchNumber),
+    }
+}
+
+/// When a Finish goes, by that number.
+pub(crate) fn finishes_of(number: u32) -> Result<Finishes, NotDone>
+    ensures { result ≡ known_or not_done.NoSuchNumber (finishes_at number) }
+{
+    match number {
+        0 => Ok(Finishes::AtOnce),
+        1 => Ok(Finishes::AfterReturn),
         _ => Err(NotDone::NoSuchNumber),
     }
 }

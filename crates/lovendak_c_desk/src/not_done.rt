@@ -10,7 +10,7 @@ use vat_connection::Refusal;
 /// Why a call is not done.
 #[derive(Clone, Copy, Debug, PartialEq, Eq, Drop, Error)]
 pub enum NotDone {
-    /// The vat refuses it, or memory is wanting, or a limit of payloads is passed.
+    /// The vat refuses it, or memory runs out, or a limit of payloads is passed.
     #[error("{0}")]
     Refused(Refusal),
     /// There is no vat.

@@ -3,24 +3,28 @@ ghost use Rattle.std.specs.Prelude.{◌≡◌};
 ghost use Rattle.vat_host.specs.declared.event.Event.TheVariants as event;
 ghost use Rattle.lovendak_c_desk.specs.Notices.{bytes_of, bytes_of_outcome, notice_of, number_of_kind, refs_of, silent};
 
+use crate::lead::{ANSWER, IMPORT};
 use rpc_msg::{ExceptionKind, RefId};
-use vat_connection::{Delivery, Ended, Event, Outcome};
+use vat_connection::{Delivery, Ended, Event, Outcome, PeerPlace};
 
 /// What an event says in numbers. Fields that a kind doesn't have are 0.
 #[repr(C)]
 #[derive(Clone, Copy, Debug, PartialEq, Eq, Drop)]
 pub struct Notice {
-    /// 1 a call to serve, 2 an own call that ended, 3 the vat is down.
+    /// 1 a call to serve, 2 an own call that ended, 3 the vat is down, 4 an object is released, 6 what stands at a place of the peer is
+    /// known, 7 the embargo of a reference is over.
     pub kind: u32,
     /// Of 1: its method.
     pub method: u32,
-    /// Of 2: 1 where it ended with an exception.
+    /// Of 2: 1 if it ended with an exception.
     pub is_exception: u32,
     /// Of 2 with an exception: its kind, as `Exception.Type` counts them.
     pub exception: u32,
-    /// Of 1 the task, of 2 the call, of 3 the number with which the vat went down.
+    /// Of 6: which kind of place it is, as `Lead::kind`.
+    pub place: u32,
+    /// Of 1 the task, of 2 the call, of 3 the number with which the vat went down, of 6 the number of the place, of 7 the reference.
     pub number: u64,
-    /// Of 1: the object that is called.
+    /// Of 1: the object that is called. Of 4: the object.
     pub object: u64,
     /// Of 1: its interface.
     pub interface_id: u64,
@@ -40,6 +44,7 @@ impl Notice {
             method: 0,
             is_exception: 0,
             exception: 0,
+            place: 0,
             number: 0,
             object: 0,
             interface_id: 0,
@@ -55,6 +60,17 @@ impl Notice {
         match event {
             Event::Served(delivery) => Notice::of_delivery(delivery),
             Event::Ended(ended) => Notice::of_ended(ended),
+            Event::Resolved(place) => Notice::of_place(*place),
+            Event::Lifted(reference) => Notice {
+                kind: 7,
+                number: reference.0,
+                ..Notice::new()
+            },
+            Event::Released(object) => Notice {
+                kind: 4,
+                object: object.0,
+                ..Notice::new()
+            },
             Event::Down(number, reason) => Notice {
                 kind: 3,
                 number: u64::from(*number),
@@ -76,6 +92,27 @@ impl Notice {
             payload_len: delivery.payload.bytes().len(),
             refs_len: delivery.refs.len(),
             ..Notice::new()
+        }
+    }
+
+    fn of_place(place: PeerPlace) -> Notice
+        ensures { result ≡ notice_of (event.Resolved place) }
+    {
+        let notice = Notice {
+            kind: 6,
+            ..Notice::new()
+        };
+        match place {
+            PeerPlace::Import(id) => Notice {
+                place: IMPORT,
+                number: u64::from(id.0),
+                ..notice
+            },
+            PeerPlace::Question(id) => Notice {
+                place: ANSWER,
+                number: u64::from(id.0),
+                ..notice
+            },
         }
     }
 
@@ -120,6 +157,7 @@ pub(crate) fn bytes_of(event: &Event) -> &[u8]
         Event::Served(delivery) => delivery.payload.bytes(),
         Event::Ended(ended) => bytes_of_outcome(&ended.outcome),
         Event::Down(_, reason) => reason.as_str().as_bytes(),
+        Event::Resolved(_) | Event::Lifted(_) | Event::Released(_) => &[],
     }
 }
 
@@ -139,6 +177,6 @@ pub(crate) fn refs_of(event: &Event) -> &[RefId]
     match event {
         Event::Served(delivery) => delivery.refs.as_slice(),
         Event::Ended(ended) => ended.refs.as_slice(),
-        Event::Down(..) => &[],
+        Event::Resolved(_) | Event::Lifted(_) | Event::Released(_) | Event::Down(..) => &[],
     }
 }

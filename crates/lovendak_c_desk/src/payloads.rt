@@ -17,10 +17,9 @@ use vat_connection::Refusal;
 /// No number of a payload has such an index.
 const TOO_HIGH: usize = 4_294_967_296;
 
-/// Hands out the bytes of a payload, and says how many they are: a struct whose data words are these numbers, with the text as its
-/// pointer 0, if there is one, and so many capabilities as the pointers behind it. `NoRoom` where there is too little room, and
-/// nothing is handed out but the length; `Malformed` where the text is no UTF-8, `Full` where a limit of payloads is passed,
-/// `Memory`.
+/// Hands out the bytes of a payload, and says how many they are. It is a struct whose data words are these numbers, with the text
+/// as its pointer 0, if there is one, and so many capabilities as the pointers behind it. `NoRoom` if there is too little room:
+/// only the length is handed out. `Malformed` if the text is no UTF-8, `Full` if a limit of payloads is passed, `Memory`.
 pub fn contents(
     alloc: Global,
     numbers: &[u64],
@@ -39,7 +38,7 @@ pub fn contents(
     copy_out(payload.bytes(), out, len)
 }
 
-// The text of these bytes, where there are any.
+// The text of these bytes, if there are any.
 fn letters_of(bytes: Option<&[u8]>) -> Result<Option<&str>, NotDone>
     ensures read { IfOk result (λ text. option_map (λ t. t.now) text ≡ option_map (λ t. t.now) bytes.entry) }
     ensures not_read { IfErr result (λ why. (why ≡ not_done.Malformed) × IsNotUtf8 (option_map (λ t. t.now) bytes.entry)) }
@@ -64,8 +63,8 @@ fn not_written(fault: WriteFault) -> NotDone
     }
 }
 
-/// The data word of that index of a payload's root, a struct; 0 past its end and behind null. `Nothing` where the root is a list or
-/// a capability, `NoSuchNumber` where the index is above 4,294,967,295, `Malformed` where the bytes are no payload of so many
+/// The data word of that index of a payload's root, a struct; 0 past its end and behind null. `Nothing` if the root is a list or
+/// a capability, `NoSuchNumber` if the index is above 4,294,967,295, `Malformed` if the bytes are no payload of so many
 /// capabilities, `Memory`.
 pub fn number_at(alloc: Global, bytes: &[u8], caps: u32, index: usize) -> Result<u64, NotDone>
     ensures { NumberAt (record { bytes = bytes.now; caps = caps }) index result }
@@ -82,7 +81,7 @@ pub fn number_at(alloc: Global, bytes: &[u8], caps: u32, index: usize) -> Result
 }
 
 /// Hands out the text at that pointer of a payload's root, a struct, and says how many bytes it has: none past the end and behind
-/// null. `NoRoom` where there is too little room, and nothing is handed out but the length; `Nothing` where something else stands
+/// null. `NoRoom` if there is too little room, and nothing is handed out but the length; `Nothing` if something else stands
 /// there; `Malformed` and `Memory` as for a number.
 pub fn text_at(
     alloc: Global,
@@ -105,7 +104,7 @@ pub fn text_at(
     copy_out(text.as_bytes(), out, len)
 }
 
-/// Which of the references that came with a payload stands at that path. `Nothing` where no capability does; `Malformed` and `Memory`
+/// Which of the references that came with a payload stands at that path. `Nothing` if no capability does; `Malformed` and `Memory`
 /// as for a number.
 pub fn reference_at(alloc: Global, bytes: &[u8], caps: u32, steps: &[u16]) -> Result<usize, NotDone>
     ensures { ReferenceAt (record { bytes = bytes.now; caps = caps }) (path steps.now) result }

@@ -1,6 +1,6 @@
 ghost use Rattle.std.specs.Prelude.{◌≡◌, []};
 ghost use Rattle.rpc_machine.specs.declared.command.Command.TheVariants as command;
-ghost use Rattle.lovendak_c_desk.specs.Commands.{Advances, IsAsked, a_reference, number_of, nothing};
+ghost use Rattle.lovendak_c_desk.specs.Commands.{Advances, Hosts, IsAsked, a_reference, number_of, nothing, unless_released};
 ghost use Rattle.lovendak_c_desk.specs.Given.{path, reference};
 
 use crate::desk::Desk;
@@ -8,16 +8,31 @@ use crate::given::path_of;
 use crate::not_done::NotDone;
 use rpc_msg::{CallId, ObjectId, RefId};
 use std::alloc::Global;
-use vat_connection::Advanced;
+use vat_connection::{Advanced, Event};
 
 impl Desk {
-    /// Makes a reference to an object of the application: gives its number.
+    /// Makes a reference to an object of the application: gives its number. If it was looked at that the object is released, that is
+    /// not told.
     pub fn host(&mut self, object: u64) -> Result<u64, NotDone>
-        ensures { IsAsked self.old (command.Host (record { 0 = object })) a_reference result self.new }
+        ensures { Hosts self.old object result self.new }
     {
         match self.connection.host(ObjectId(object)) {
-            Ok(made) => Ok(made.0),
+            Ok(made) => {
+                self.keep(object);
+                Ok(made.0)
+            }
             Err(refusal) => Err(NotDone::Refused(refusal)),
+        }
+    }
+
+    // That the object is released is not told, if it was looked at.
+    fn keep(&mut self, object: u64)
+        ensures { self.new ≡ record self.old { event = unless_released object self.old.event } }
+    {
+        if let Some(Event::Released(released)) = &self.event {
+            if released.0 == object {
+                self.event = None;
+            }
         }
     }
 

@@ -7,7 +7,7 @@ use rpc_msg::{Exception, TaskId};
 use std::alloc::Global;
 
 impl Desk {
-    /// Gives a task its results. `Malformed` where the bytes are no payload with so many capabilities.
+    /// Gives a task its results. `Malformed` if the bytes are no payload with so many capabilities.
     pub fn answer(
         &mut self,
         alloc: Global,
@@ -25,7 +25,7 @@ impl Desk {
         }
     }
 
-    /// Gives a task an exception of that kind with that reason. `NoSuchNumber` where the kind is none, and `Malformed` where the
+    /// Gives a task an exception of that kind with that reason. `NoSuchNumber` if the kind is none, and `Malformed` if the
     /// reason is no text.
     pub fn fail(
         &mut self,

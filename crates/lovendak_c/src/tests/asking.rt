@@ -3,15 +3,22 @@ use crate::calls::{lovendak_bootstrap, lovendak_call, lovendak_finish};
 use crate::handle::Handle;
 use crate::life::{lovendak_free, lovendak_new, lovendak_shut};
 use crate::promises::{lovendak_promise, lovendak_reject, lovendak_resolve};
-use crate::queries::{lovendak_calls_made, lovendak_down, lovendak_shares_nothing};
+use crate::queries::{
+    lovendak_calls_made, lovendak_down, lovendak_leads_to, lovendak_shares_nothing,
+    lovendak_table_sizes,
+};
 use crate::refs::{
     lovendak_advance, lovendak_clone_ref, lovendak_drop_ref, lovendak_field, lovendak_host,
     lovendak_result_of,
 };
-use crate::streams::{lovendak_ended, lovendak_load, lovendak_set_limits, lovendak_wants_bytes};
+use crate::streams::{
+    lovendak_ended, lovendak_load, lovendak_pending, lovendak_set_finishes, lovendak_set_limits,
+    lovendak_wants_bytes,
+};
 use crate::tasks::{lovendak_answer, lovendak_fail};
 use crate::tests::UNTOUCHED;
 use crate::tests::payloads::{NULL, payload};
+use lovendak_c_desk::Lead;
 use std::alloc::Global;
 
 /// A call with what it takes.
@@ -46,6 +53,13 @@ pub(crate) enum Call {
     /// Gives the words.
     Load,
     WantsBytes,
+    /// Whether there is an event.
+    HasEvent,
+    /// The number of the place.
+    LeadsTo(u64),
+    /// How many questions there are.
+    Questions,
+    SetFinishes(u32),
 }
 
 /// The code that a call answers, and the number that it gives.
@@ -55,9 +69,10 @@ pub(crate) fn answer(alloc: Global, vat: &mut Handle, call: Call) -> (u32, u64) 
             (lovendak_new(alloc, vat, level, has_root, root), UNTOUCHED)
         }
         Call::Free => (lovendak_free(alloc, vat), UNTOUCHED),
-        Call::Advance(_) | Call::Down | Call::SharesNothing | Call::WantsBytes => {
-            queried(alloc, vat, call)
-        }
+        Call::Advance(_) | Call::Down | Call::SharesNothing | Call::WantsBytes | Call::HasEvent =>
+            queried(alloc, vat, call),
+        Call::LeadsTo(reference) => leads_to(alloc, vat, reference),
+        Call::Questions => questions(alloc, vat),
         Call::Answer(_)
         | Call::Fail(..)
         | Call::DropRef(_)
@@ -66,6 +81,7 @@ pub(crate) fn answer(alloc: Global, vat: &mut Handle, call: Call) -> (u32, u64) 
         | Call::Reject(..)
         | Call::Shut(_)
         | Call::Ended
+        | Call::SetFinishes(_)
         | Call::SetLimits(..) => (settled(alloc, vat, call), UNTOUCHED),
         _ => asked(alloc, vat, call),
     }
@@ -109,9 +125,28 @@ fn queried(alloc: Global, vat: &mut Handle, call: Call) -> (u32, u64) {
         Call::Advance(reference) => lovendak_advance(alloc, vat, reference, &mut number),
         Call::Down => lovendak_down(alloc, vat, &mut number),
         Call::WantsBytes => lovendak_wants_bytes(alloc, vat, &mut number),
+        Call::HasEvent => lovendak_pending(alloc, vat, &mut 0, &mut number),
         _ => lovendak_shares_nothing(alloc, vat, &mut number),
     };
     (code, u64::from(number))
+}
+
+fn leads_to(alloc: Global, vat: &mut Handle, reference: u64) -> (u32, u64) {
+    let mut lead = Lead {
+        kind: 0,
+        is_embargoed: 0,
+        is_promise: 0,
+        reason: 0,
+        number: UNTOUCHED,
+    };
+    let code = lovendak_leads_to(alloc, vat, reference, &mut lead);
+    (code, lead.number)
+}
+
+fn questions(alloc: Global, vat: &mut Handle) -> (u32, u64) {
+    let mut questions = 99;
+    let code = lovendak_table_sizes(alloc, vat, &mut questions, &mut 0, &mut 0, &mut 0);
+    (code, questions as u64)
 }
 
 fn settled(alloc: Global, vat: &mut Handle, call: Call) -> u32 {
@@ -124,6 +159,7 @@ fn settled(alloc: Global, vat: &mut Handle, call: Call) -> u32 {
         Call::Resolve(promise, reference) => lovendak_resolve(alloc, vat, promise, reference),
         Call::Reject(promise, kind, reason) => lovendak_reject(alloc, vat, promise, kind, reason),
         Call::Shut(number) => lovendak_shut(alloc, vat, number),
+        Call::SetFinishes(when) => lovendak_set_finishes(alloc, vat, when),
         _ => lovendak_ended(alloc, vat),
     }
 }

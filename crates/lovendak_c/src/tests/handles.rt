@@ -74,6 +74,19 @@ const BOOTSTRAPPED: Tells = Tells {
     refs: &[1],
 };
 
+/// The results of the bootstrap, question 0, are known.
+const KNOWN: Tells = Tells {
+    room: 0,
+    code: 0,
+    notice: Notice {
+        kind: 6,
+        place: 5,
+        ..SILENT
+    },
+    bytes: Bytes::These(&[]),
+    refs: &[],
+};
+
 const ANSWERED: Tells = Tells {
     room: 200,
     code: 0,
@@ -94,6 +107,7 @@ const IS_ANSWERED: Steps = &[
     (Vat::B, Step::Does(Call::Answer(0), 6)),
     (Vat::B, Step::Carries),
     (Vat::A, Step::Next(BOOTSTRAPPED)),
+    (Vat::A, Step::Next(KNOWN)),
     (Vat::A, Step::Does(Call::DropRef(1), 0)),
     (Vat::A, Step::Next(ANSWERED)),
 ];
@@ -128,6 +142,7 @@ const LET_GO: Steps = &[
     (Vat::A, Step::Carries),
     (Vat::B, Step::Carries),
     (Vat::A, Step::Next(BOOTSTRAPPED)),
+    (Vat::A, Step::Next(KNOWN)),
     (Vat::A, Step::Does(Call::DropRef(1), 0)),
     (Vat::A, Step::Gives(Call::CloneRef(0), 2)),
     (Vat::A, Step::Does(Call::DropRef(0), 0)),
@@ -142,6 +157,48 @@ const LET_GO: Steps = &[
 #[test]
 fn what_is_let_go_leaves_nothing(rt: HostRuntime) {
     play(&rt, rt.alloc(), &[MEET, LET_GO, FREE]);
+}
+
+/// Object 4 is released.
+const RELEASED: Tells = Tells {
+    room: 0,
+    code: 0,
+    notice: Notice {
+        kind: 4,
+        object: 4,
+        ..SILENT
+    },
+    bytes: Bytes::These(&[]),
+    refs: &[],
+};
+
+/// It was looked at that the object is released, and it is hosted again; and then it is released.
+const HOSTED_AGAIN: Steps = &[
+    (Vat::A, Step::Does(Call::New(1, 1, 7), 0)),
+    (Vat::A, Step::Gives(Call::Host(4), 0)),
+    (Vat::A, Step::Gives(Call::LeadsTo(0), 4)),
+    (Vat::A, Step::Gives(Call::HasEvent, 0)),
+    (Vat::A, Step::Does(Call::DropRef(0), 0)),
+    (Vat::A, Step::Does(Call::LeadsTo(0), 4)),
+    (Vat::A, Step::Gives(Call::HasEvent, 1)),
+    (Vat::A, Step::Gives(Call::Host(4), 1)),
+    (Vat::A, Step::Next(NONE)),
+    (Vat::A, Step::Gives(Call::Host(7), 2)),
+    (Vat::A, Step::Does(Call::DropRef(2), 0)),
+    (Vat::A, Step::Does(Call::DropRef(1), 0)),
+    (Vat::A, Step::Gives(Call::HasEvent, 1)),
+    (Vat::A, Step::Next(RELEASED)),
+    (Vat::A, Step::Next(NONE)),
+    (Vat::A, Step::Does(Call::SetFinishes(1), 0)),
+    (Vat::A, Step::Does(Call::SetFinishes(2), 105)),
+    (Vat::A, Step::Gives(Call::Bootstrap, 0)),
+    (Vat::A, Step::Gives(Call::Questions, 1)),
+    (Vat::A, Step::Does(Call::Free, 0)),
+];
+
+#[test]
+fn an_object_is_released(rt: HostRuntime) {
+    play(&rt, rt.alloc(), &[HOSTED_AGAIN]);
 }
 
 const RESOLVED: Steps = &[
@@ -212,6 +269,7 @@ const FAILS: Steps = &[
     (Vat::B, Step::Does(Call::Fail(0, 2, b"gone"), 0)),
     (Vat::B, Step::Carries),
     (Vat::A, Step::Next(BOOTSTRAPPED_LATER)),
+    (Vat::A, Step::Next(KNOWN)),
     (Vat::A, Step::Next(GONE)),
     (Vat::A, Step::Gives(Call::Advance(3), 3)),
 ];

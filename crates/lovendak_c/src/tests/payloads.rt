@@ -7,7 +7,7 @@ use std::process::Abort;
 /// The payload that says null.
 pub(crate) const NULL: [u8; 16] = [0, 0, 0, 0, 1, 0, 0, 0, 0, 0, 0, 0, 0, 0, 0, 0];
 
-/// One with so many capabilities and nothing else: null with none. Empty where none is made.
+/// One with so many capabilities and nothing else: null with none. Empty if none is made.
 pub(crate) fn payload(alloc: Global, caps: u32, bytes: &mut [u8; 200]) -> &[u8] {
     if caps == 0 {
         bytes[..16].copy_from_slice(&NULL);

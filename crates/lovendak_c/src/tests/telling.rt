@@ -11,7 +11,7 @@ use std::alloc::Global;
 pub(crate) struct Tells {
     pub(crate) room: usize,
     pub(crate) code: u32,
-    /// What it says, but for the number of bytes.
+    /// What it says, except for the number of bytes.
     pub(crate) notice: Notice,
     pub(crate) bytes: Bytes,
     pub(crate) refs: &'static [u64],
