@@ -71,8 +71,8 @@ impl Side {
 
     /// The call that came.
     pub(crate) fn served(&mut self) -> Result<Task> {
-        match self.connection.next_event() {
-            Some(Event::Served(task)) => Ok(Task {
+        match self.next()? {
+            Event::Served(task) => Ok(Task {
                 id: task.task,
                 given: task.refs.first().copied(),
             }),
@@ -80,10 +80,22 @@ impl Side {
         }
     }
 
+    // The next event of a call.
+    fn next(&mut self) -> Result<Event> {
+        for _ in 0..u64::MAX {
+            match self.connection.next_event() {
+                Some(Event::Resolved(_)) | Some(Event::Lifted(_)) | Some(Event::Released(_)) => {}
+                Some(event) => return Ok(event),
+                None => break,
+            }
+        }
+        bail!("nothing came")
+    }
+
     /// Finishes the own call that has ended: the reference that it gave, if it gave one.
     pub(crate) fn ended(&mut self) -> Result<Option<RefId>> {
-        match self.connection.next_event() {
-            Some(Event::Ended(ended)) => {
+        match self.next()? {
+            Event::Ended(ended) => {
                 self.connection.finish(ended.call)?;
                 Ok(ended.refs.first().copied())
             }

@@ -64,7 +64,7 @@ pub(crate) fn did<V>(end: &mut VatEnd<V>, effects: Effects) -> Done {
     Done { task, ended, given }
 }
 
-/// A turn, or nothing where no frame is there.
+/// A turn, or nothing if no frame is there.
 #[inline(always)]
 pub(crate) fn turn<V>(end: &mut VatEnd<V>) -> Result<Option<Done>, Astray> {
     match end.turn() {

@@ -36,7 +36,7 @@ fn main(rt: HostRuntime) -> Result<ExitCode> {
     Ok(ExitCode::SUCCESS)
 }
 
-/// The next word as a number, or that one where there is no word.
+/// The next word as a number, or that one if there is no word.
 fn number(words: &mut Args, or: u32) -> Result<u32> {
     match words.next() {
         Some(word) => Ok(word.as_str().parse()?),

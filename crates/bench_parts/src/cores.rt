@@ -8,10 +8,10 @@ use std::alloc::Global;
 use std::rt::Clock;
 use std::time::Instant;
 
-/// How many round trips there are, where no number is given.
+/// How many round trips there are, if no number is given.
 pub const TRIPS: u32 = 400_000;
 
-/// How many cycles there are, where no number is given.
+/// How many cycles there are, if no number is given.
 pub const CYCLES: u32 = 40_000;
 
 /// What there is beside what is measured.

@@ -1,4 +1,4 @@
-//! What a step did, where that is at most one thing.
+//! What a step did, if that is at most one thing.
 
 use crate::astray::Astray;
 use rpc_journal::{Delivery, Ended};
@@ -28,7 +28,7 @@ pub(crate) enum Done {
 }
 
 impl Done {
-    /// What these effects are, where they are no others and no more.
+    /// What these effects are, if they are no others and no more.
     #[inline(always)]
     pub(crate) fn of(effects: &Effects) -> Result<Done, Astray> {
         if let Some(number) = effects.down {

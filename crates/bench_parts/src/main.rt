@@ -94,7 +94,7 @@ fn measure_core(rt: &HostRuntime, words: &mut Args) -> Result<ExitCode> {
     Ok(ExitCode::SUCCESS)
 }
 
-/// The number that the next word is, or another where there is none.
+/// The number that the next word is, or another if there is none.
 fn count(words: &mut Args, other: u32) -> Result<u32> {
     match words.next() {
         Some(word) => Ok(word.as_str().parse()?),

@@ -10,7 +10,7 @@ use std::mem;
 use vat_core::Core;
 
 /// A vat, and the payloads of its calls and results, whose copies share their bytes: one is null, the other a capability.
-/// Each of its steps does the one thing that the caller says, or the vat is `Astray`. Where a call has another vat `to`,
+/// Each of its steps does the one thing that the caller says, or the vat is `Astray`. If a call has another vat `to`,
 /// that is a message, which goes straight there, and what is answered is what it leads to.
 #[derive(Drop)]
 pub(crate) struct Side {
@@ -33,7 +33,7 @@ impl Side {
         })
     }
 
-    // What these effects are, where nothing was sent.
+    // What these effects are, if nothing was sent.
     #[inline(always)]
     fn look(&mut self, effects: Effects) -> Result<Done, Astray> {
         let done = Done::of(&effects);
@@ -75,7 +75,7 @@ impl Side {
         to.look(effects)
     }
 
-    // The same, where what it leads to is still to be looked at. It says itself what `sent` says, since a message that is
+    // The same, if what it leads to is still to be looked at. It says itself what `sent` says, since a message that is
     // handed on in a `Result` is copied several times, which takes a tenth of a round trip.
     #[inline(always)]
     fn pass(&mut self, to: &mut Side, mut effects: Effects) -> Result<Effects, Astray> {
@@ -86,7 +86,7 @@ impl Side {
         Ok(to.core.receive(message))
     }
 
-    // The same, where it leads to nothing.
+    // The same, if it leads to nothing.
     #[inline(always)]
     fn tell(&mut self, to: &mut Side, effects: Effects) -> Result<(), Astray> {
         self.send(to, effects)?.nothing()

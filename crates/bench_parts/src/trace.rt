@@ -27,7 +27,7 @@ impl Follower for Entries {
 }
 
 /// Prints how long a trace's lines take to be read as entries, how long the entries take to be checked, and how long
-/// both take where no entry is kept.
+/// both take if no entry is kept.
 pub fn measure(rt: &HostRuntime, file: &str) -> Result<()> {
     let trace = fs::read_to_string(rt, file)?;
     println!(rt; "trace: {} bytes", trace.len())?;

@@ -105,7 +105,7 @@ fn tell(rt: &HostRuntime, ended: &Ended) -> Result<()> {
     Ok(())
 }
 
-/// The first number of a struct, and its first pointer as a text: 0 and nothing where there is none.
+/// The first number of a struct, and its first pointer as a text: 0 and nothing if there is none.
 fn values<'m>(root: &Place<'m>) -> (u64, &'m str) {
     let text = root.field(0).and_then(|first| first.text());
     (root.number::<u64>(0).unwrap_or(0), text.unwrap_or(""))
@@ -119,7 +119,7 @@ struct Counter {
 }
 
 impl Counter {
-    /// Adds a number, and answers with the sum; fails where it is too large.
+    /// Adds a number, and answers with the sum; fails if it is too large.
     fn add(&mut self, alloc: Global, task: TaskId, number: u64) -> Result<Command> {
         let Some(sum) = self.sums.last().and_then(|last| last.checked_add(number)) else {
             return failed(alloc, task, ExceptionKind::Failed, "the sum is too large");

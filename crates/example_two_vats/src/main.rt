@@ -108,7 +108,8 @@ impl Side {
         match self.host.next_event() {
             Some(Event::Served(task)) => self.serve(rt, task),
             Some(Event::Ended(ended)) => self.finish(rt, &ended),
-            Some(Event::Down(_number, _reason)) => Ok(()),
+            // Both objects stay as long as their vats, and no reference is asked to lead on.
+            Some(_other) => Ok(()),
             None => Ok(()),
         }
     }

@@ -23,11 +23,11 @@ pub struct PairRun {
     pub gathered: Gathered,
 }
 
-/// Works both ends of one link, A's on a thread of its own and B's on this one, until each worker has ended: each plays the lines
+/// Works both ends of one link, A's on a thread of its own and B's on this one, until each worker has ended. Each plays the lines
 /// of its vat, and then takes turns in which it answers each open task, as `link_workers::work` does. At most `max_turns` turns
-/// in a row find no frame, and each of them sleeps by the clock. The gate is asked round each answer of a task.
+/// in a row find no frame, and each of them sleeps by the clock. The gate is asked before and after each answer of a task.
 ///
-/// `NoThread` where there is no thread: both ends come back as they were.
+/// `NoThread` if there is no thread: both ends come back as they were.
 pub fn run_pair<R: Threads + Wait + Sync, G: Gate, C: Clock + Sync>(
     alloc: Global,
     rt: &R,

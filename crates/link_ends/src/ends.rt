@@ -39,8 +39,8 @@ pub struct VatEnd<V> {
 }
 
 impl<V> VatEnd<V> {
-    /// Has the core obey a command, and answers what it answers, with its effects but for the messages, which wait as frames
-    /// for `flush`. One entry is added to the log. Where log or waiting frames can't grow for it, the vat goes down with fault
+    /// Has the core obey a command, and answers what it answers, with its effects except for the messages, which wait as frames
+    /// for `flush`. One entry is added to the log. If log or waiting frames can't grow for it, the vat goes down with fault
     /// 33, and the command is refused with `Down`, as is each command of a vat that is down, which changes nothing.
     pub fn command(&mut self, command: Command) -> Answer
         ensures end { IsSameEnd self.old.end self.new.end }
@@ -50,8 +50,8 @@ impl<V> VatEnd<V> {
         self.end.command(command)
     }
 
-    /// Pops one frame, where it finds one, and has the core receive its message: one entry is added to the log. `Idle` where it
-    /// found none, else the effects but for the messages, or the number with which the vat is down. One that is down pops none.
+    /// Pops one frame, if it finds one, and has the core receive its message: one entry is added to the log. `Idle` if it
+    /// found none, else the effects except for the messages, or the number with which the vat is down. One that is down pops none.
     pub fn turn(&mut self) -> Turn
         ensures end { IsSameEnd self.old.end self.new.end }
         ensures turns { TurnsSo self.old.end result self.new.end }

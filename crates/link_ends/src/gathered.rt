@@ -65,7 +65,7 @@ impl Gathered {
         self.both.sides()
     }
 
-    /// Has the entries of both logs read, in their one order, A's as those of the first; none is copied. `AllocError` where the
+    /// Has the entries of both logs read, in their one order, A's as those of the first; none is copied. `AllocError` if the
     /// reader answered it: then it was not handed all.
     pub fn read<V: Reads<Note>>(&self, reader: &mut V) -> Result<(), AllocError>
         ensures { OnOk result (ReadsAll V.reads reader.old (order input_of sends_of self.now.both.log_a self.now.both.log_b) reader.new) }
@@ -74,9 +74,9 @@ impl Gathered {
     }
 
     /// The entries of all that happened at both vats, the oldest first: what both ends wrote, put together in the one order of
-    /// both logs. They are the journal of a run of two new vats (`reached`), in whatever order they were worked, so all that is promised of
-    /// the journal of two vats in one thread (`vat_world::World::journal`) is promised of it, by the same names. `Memory` where a
-    /// growth was refused.
+    /// both logs. They are the journal of a run of two new vats (`reached`), in whatever order they were worked. So all that is
+    /// promised of the journal of two vats in one thread (`vat_world::World::journal`) is promised of it, by the same names.
+    /// `Memory` if a growth was refused.
     pub fn journal(&self, alloc: Global) -> Result<Vec<JournalEntry>, Memory>
         ensures reached { IfOk result (λ journal. IsTold self.now.both journal.items) }
         ensures in_order { IfOk result (λ journal. IsInOrder journal.items) }
@@ -142,7 +142,7 @@ impl Gathered {
         let _ = self.both.log_b();
     }
 
-    /// The entry of the counts of both vats' exports and imports. `Memory` where a growth was refused.
+    /// The entry of the counts of both vats' exports and imports. `Memory` if a growth was refused.
     pub fn tables(&self) -> Result<JournalEntry, Memory>
         ensures { IfOk result (λ entry. entry ≡ tables_entry (world_of self.now.both)) }
     {

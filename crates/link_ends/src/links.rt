@@ -12,7 +12,7 @@ use std::alloc::Global;
 use std::marker::PhantomData;
 
 /// Two ends of one link, of two new cores of level 1, with rings of that many places. At a fault both cores come back:
-/// `BadCapacity` where no ring may have so many places, else `Memory`.
+/// `BadCapacity` if no ring may have so many places, else `Memory`.
 pub fn link(
     alloc: Global,
     core_a: Core,

@@ -27,7 +27,7 @@ pub struct Seat {
 }
 
 impl Seat {
-    /// A seat of a new core, with an empty log. Where a growth was refused the core comes back, with `Memory`.
+    /// A seat of a new core, with an empty log. If a growth was refused the core comes back, with `Memory`.
     pub fn new(alloc: Global, core: Core) -> Result<Seat, (LinkFault, Core)>
         requires { is_new core ≡ true }
         ensures seat { IfOk result (λ seat. seat.seat ≡ new_seat core) }
@@ -54,9 +54,9 @@ impl Seat {
         self.seat.command(command)
     }
 
-    /// Hands the core a frame: one entry is added to the log. Gives the effects but for the messages, or the number with which
-    /// the vat is down: 41 where the frame's number is not the count of those received, else 42 where it acknowledges more
-    /// than was made, and such a frame is not received. One that is down stays as it is. Never `Idle`.
+    /// Hands the core a frame: one entry is added to the log. Gives the effects except for the messages, or the number with which
+    /// the vat is down. That is 41 if the frame's number is not the count of those received, else 42 if it acknowledges more
+    /// than was made. Such a frame is not received. A vat that is down stays as it is. Never `Idle`.
     pub fn take(&mut self, frame: Frame) -> Turn
         ensures { TakesSo self.old.seat frame result self.new.seat }
     {

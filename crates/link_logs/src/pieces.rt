@@ -42,7 +42,7 @@ impl Reads<Note> for Pieces {
 }
 
 /// Copies of the pieces of two journals, one after the other, each from where the last one of its journal ended. `Memory`
-/// where a growth was refused.
+/// if a growth was refused.
 pub fn pieced(
     alloc: Global,
     pieces: &[Piece],

@@ -5,9 +5,8 @@ ghost use Rattle.link_logs.specs.Promises.{OrdersKeepPromises};
 use crate::laws::orders_are_runs;
 use laws_sound::worlds_keep_promises;
 
-/// Two logs of two new vats of level 1 that have one order, whatever two threads did: what the ends wrote, put together in
-/// that order, is the journal of a run of two vats that ends where the ends do, and all that is promised of every run holds
-/// of it.
+/// Two logs of two new vats of level 1 have one order, whatever two threads did. What the ends wrote, put together in that
+/// order, is the journal of a run of two vats, which ends where the ends do. All that is promised of every run holds of it.
 pub fn orders_keep_promises()
     ensures { OrdersKeepPromises }
 {

@@ -51,7 +51,7 @@ impl<P: Party<N, M>, N: Drop, M: Drop> End<P, N, M> {
         }
     }
 
-    /// Pops one frame, where it finds one, and takes it: one entry is added to the log, of the frame or of a shut for it. One
+    /// Pops one frame, if it finds one, and takes it: one entry is added to the log, of the frame or of a shut for it. One
     /// that is down pops none.
     pub fn turn(&mut self) -> Turn<P::Effects>
         ensures end { IsSameEnd self.old self.new }
@@ -79,7 +79,7 @@ impl<P: Party<N, M>, N: Drop, M: Drop> End<P, N, M> {
         before - self.waiting()
     }
 
-    // Pushes the oldest frame that waits, where a slot is free.
+    // Pushes the oldest frame that waits, if a slot is free.
     fn flush_one(&mut self) -> bool
         ensures end { IsSameEnd self.old self.new }
         ensures side { self.new.side ≡ self.old.side }

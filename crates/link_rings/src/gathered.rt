@@ -76,7 +76,7 @@ impl<P: Party<N, M>, N: Drop, M: Drop> Gathered<P, N, M> {
         &self.b.log
     }
 
-    /// Has the entries of both logs read, in their one order; none is copied. `AllocError` where the reader answered it:
+    /// Has the entries of both logs read, in their one order; none is copied. `AllocError` if the reader answered it:
     /// then it was not handed all.
     pub fn read<V: Reads<N>>(&self, reader: &mut V) -> Result<(), AllocError>
         ensures { OnOk result (ReadsAll V.reads reader.old (order P.input P.sends self.now.log_a self.now.log_b) reader.new) }

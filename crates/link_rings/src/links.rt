@@ -14,7 +14,7 @@ use std::snapshot::Snapshot;
 pub const MOST_PLACES: usize = 65536;
 
 /// Two ends of one link, each with its side, an empty log, and rings of that many places. At a fault both sides come back:
-/// `BadCapacity` where no ring may have so many places, else `Memory`.
+/// `BadCapacity` if no ring may have so many places, else `Memory`.
 pub fn link<P: Party<N, M>, N: Drop, M: Drop>(
     alloc: Global,
     side_a: P,

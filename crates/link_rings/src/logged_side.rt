@@ -20,7 +20,7 @@ pub(crate) struct LoggedSide<P, N, M> {
 }
 
 impl<P: Party<N, M>, N: Drop, M: Drop> LoggedSide<P, N, M> {
-    /// A side with an empty log. Where a growth was refused the side comes back.
+    /// A side with an empty log. If a growth was refused the side comes back.
     pub(crate) fn new(alloc: Global, side: P) -> Result<Self, P>
         ensures side { IfOk result (λ d. d.side ≡ side) }
         ensures log { IfOk result (λ d. d.log.items ≡ []) }

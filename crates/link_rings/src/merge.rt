@@ -14,7 +14,7 @@ pub trait Reads<N> {
     /// How an entry changes it.
     ghost reads: { Self → OneOf (Entry N) (Entry N) → Self → Type 0 };
 
-    /// An entry of the first log. `AllocError` where a growth was refused.
+    /// An entry of the first log. `AllocError` if a growth was refused.
     fn first(&mut self, entry: &Entry<N>) -> Result<(), AllocError>
         ensures { OnOk result (reads self.old (First entry.now) self.new) };
 
@@ -56,8 +56,8 @@ fn first_is_next<P: Party<N, M>, N, M>(
     is_ready::<P, N, M>(&first[i], made)
 }
 
-/// Has the entries of both logs read: the next of the first log where it received no frame, or one that the second has
-/// made by then; else the next of the second. Where the reader fails it stops.
+/// Has the entries of both logs read: the next of the first log if it received no frame, or one that the second has
+/// made by then; else the next of the second. If the reader fails it stops.
 pub(crate) fn read_both<P: Party<N, M>, N, M, V: Reads<N>>(
     first: &[Entry<N>],
     second: &[Entry<N>],

@@ -42,7 +42,7 @@ pub trait Party<N, M>: Drop {
     /// What may be told of a message whose step is noted so.
     ghost tells: { N → Self.Effects → Type 0 };
 
-    /// The number with which it went down, where it is down.
+    /// The number with which it went down, if it is down.
     fn down(&self) -> Option<u16>
         ensures { result ≡ down_by (state self.now) };
 

@@ -32,7 +32,7 @@ impl<M> Model for Waiting<M> {
 }
 
 impl<M: Drop> Waiting<M> {
-    /// No frames, with room for one. `AllocError` where a growth was refused.
+    /// No frames, with room for one. `AllocError` if a growth was refused.
     pub(crate) fn new(alloc: Global) -> Result<Self, AllocError>
         ensures empty { IfOk result (λ w. w ≡ record { frames = []; made = 0; heard = 0; room = 1 }) }
     {
@@ -46,7 +46,7 @@ impl<M: Drop> Waiting<M> {
         })
     }
 
-    /// Makes room for that many frames and one more. `AllocError` where a growth was refused, or where the numbers of
+    /// Makes room for that many frames and one more. `AllocError` if a growth was refused, or if the numbers of
     /// frames would pass the greatest; the frames and their numbers stay then, and no room is lost.
     pub fn prepare(&mut self, more: usize) -> Result<(), AllocError>
         ensures frames { self.new.frames ≡ self.old.frames }

@@ -34,7 +34,7 @@ impl<P: Party<N, M>, N: Drop, M: Drop> Seat<P, N, M> {
     ghost use Rattle.link_rings.specs.Logs.{log_of, framed};
     ghost use Rattle.link_rings.specs.Seats.{place, CommandsAt, TakesAt, Sits};
 
-    /// A seat of a side that is up, with an empty log. Where a growth was refused the side comes back.
+    /// A seat of a side that is up, with an empty log. If a growth was refused the side comes back.
     pub fn new(alloc: Global, side: P) -> Result<Self, P>
         requires up { P.down_by (P.state side) ≡ None }
         ensures ok { IfOk result (λ seat. seat ≡ record { start = side; side = side; log = []; waiting = record { frames = []; made = 0; heard = 0; room = 1 } }) }
@@ -69,7 +69,7 @@ impl<P: Party<N, M>, N: Drop, M: Drop> Seat<P, N, M> {
         answer
     }
 
-    /// Hands the side a frame. While it is up one entry is added to the log: of the frame; or of a shut, where its number is
+    /// Hands the side a frame. While it is up one entry is added to the log: of the frame; or of a shut, if its number is
     /// not the count of those received (41) or it acknowledges more than was made (42). One that is down stays as it is.
     /// Never `Idle`.
     pub fn take(&mut self, frame: Frame<M>) -> Turn<P::Effects>

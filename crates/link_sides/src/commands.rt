@@ -23,7 +23,7 @@ use rpc_msg::{Memory, Message};
 use std::alloc::Global;
 use std::snapshot::Snapshot;
 
-/// A command to the end of a vat that is up: what its core answers, with its effects but for the messages. Where there is no
+/// A command to the end of a vat that is up: what its core answers, with its effects except for the messages. If there is no
 /// room for all that it says, the vat is shut with fault 33 in its place, and the command is refused as that of a vat which is
 /// down.
 pub(crate) fn obey(
@@ -124,7 +124,7 @@ fn obey_shut(
     )
 }
 
-// Room for a command's own entry, which it has whatever it says; none where the log has none.
+// Room for a command's own entry, which it has whatever it says; none if the log has none.
 fn prepare(kept: &mut Kept, room: bool) -> Result<(), Memory>
     requires { IsReady kept.old }
     ensures held { held_of kept.new ≡ held_of kept.old }
@@ -212,7 +212,7 @@ fn tell_refused(
     }
 }
 
-// Tells a command that was done. Where there is no room for all that it says, the vat goes down with fault 33, as if it had
+// Tells a command that was done. If there is no room for all that it says, the vat goes down with fault 33, as if it had
 // been shut in its place, and the command is handed back.
 fn tell_done(
     kept: &mut Kept,

@@ -60,7 +60,7 @@ pub(crate) fn tell_whole(
     send(kept.alloc, effects, waiting);
 }
 
-/// Makes room for all that a step says, and copies its entries into their list. `Memory` where a growth is refused, or the log
+/// Makes room for all that a step says, and copies its entries into their list. `Memory` if a growth is refused, or the log
 /// has no room (`room`): then none is copied.
 pub(crate) fn make_room(
     kept: &mut Kept,

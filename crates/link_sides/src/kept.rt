@@ -32,7 +32,7 @@ impl Kept {
     ghost use Rattle.std.specs.Prelude.{◌≡◌, [], IfOk, IfErr};
     ghost use Rattle.link_sides.specs.Rooms.{held_of, IsReady};
 
-    /// A core that is up, with nothing written. Where a growth is refused it comes back.
+    /// A core that is up, with nothing written. If a growth is refused it comes back.
     pub(crate) fn new(alloc: Global, core: Core) -> Result<Kept, Core>
         ensures held { IfOk result (λ kept. held_of kept ≡ record { core = core; journal = [] }) }
         ensures ready { IfOk result IsReady }

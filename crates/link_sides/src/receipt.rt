@@ -13,7 +13,7 @@ use rpc_machine::Effects;
 use rpc_msg::{Memory, Message};
 use std::snapshot::Snapshot;
 
-/// A message that the end of a vat which is up receives: its effects, but for the messages, or the number with which the vat
+/// A message that the end of a vat which is up receives: its effects, except for the messages, or the number with which the vat
 /// is then down.
 pub(crate) fn receive(
     kept: &mut Kept,

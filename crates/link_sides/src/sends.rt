@@ -8,7 +8,7 @@ use rpc_msg::{Items, Message};
 use std::alloc::Global;
 use std::mem;
 
-/// Puts the messages of a step behind the frames that wait, where there is room; the other effects stay.
+/// Puts the messages of a step behind the frames that wait, if there is room; the other effects stay.
 pub(crate) fn send(alloc: Global, effects: &mut Effects, waiting: &mut Waiting<Message>)
     requires { length effects.old.sends ≤ waiting.old.room }
     ensures queued { Queues waiting.old effects.old.sends waiting.new }

@@ -43,7 +43,7 @@ impl VatSide {
     ghost use Rattle.rpc_machine.specs.Queries.{counts_of};
     ghost use Rattle.link_sides.specs.Sides.{down_by};
 
-    /// A side of that core, which is up, with nothing written. Where a growth is refused the core comes back.
+    /// A side of that core, which is up, with nothing written. If a growth is refused the core comes back.
     pub fn new(alloc: Global, core: Core) -> Result<VatSide, Core>
         ensures side { IfOk result (λ side. side ≡ record { core = core; journal = [] }) }
         ensures back { IfErr result (λ back. back ≡ core) }
@@ -69,7 +69,7 @@ impl VatSide {
         self.kept.journal.entries()
     }
 
-    /// Whether its vat went down with 33 and met a limit then (`Core::met_limit`): where it says no of one that is down with 33,
+    /// Whether its vat went down with 33 and met a limit then (`Core::met_limit`): if it says no of one that is down with 33,
     /// memory was wanting. Takes no memory.
     pub fn met_limit(&self) -> bool
         ensures { IsTrue result → down_by self.now ≡ Some want_of_room }
@@ -77,7 +77,7 @@ impl VatSide {
         self.kept.core.met_limit()
     }
 
-    /// The counts of its exports and imports. `Memory` where a growth was refused.
+    /// The counts of its exports and imports. `Memory` if a growth was refused.
     pub fn counts(&self) -> Result<Counts, Memory>
         ensures { IfOk result (λ counts. counts ≡ counts_of self.now.core) }
     {

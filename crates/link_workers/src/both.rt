@@ -28,7 +28,7 @@ impl<'s, A: PairEnd> Promise<(A, Option<WorkerEnd>)> for Given<'s, A> {
 }
 
 /// Works both ends at once, the first on a thread of its own and the second on this one. None is worked before both threads
-/// are there: where there is no thread, both ends come back as they were.
+/// are there: if there is no thread, both ends come back as they were.
 pub fn work_both<R: Threads + Wait + Sync, A: PairEnd + Send, B: PairEnd, G: Gate, C: Clock + Sync>(
     rt: &R,
     job_a: &Job<G, C>,
@@ -113,6 +113,7 @@ fn work_late<R: Wait, A: PairEnd, G: Gate, C: Clock>(
     ensures end { A.same start.value result.0 }
     ensures ending { IsEnding job.now.lines.now (A.down_by result.0) result.1 }
 {
+    // Only the contract speaks of it, and the compiler counts it as unused.
     let _ = start;
     match why {
         Some(why) => (end, why),

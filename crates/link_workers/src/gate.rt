@@ -1,6 +1,6 @@
 use rpc_msg::{Stamp, Vat};
 
-/// Is asked round each answer of a task, on the thread of the vat that answers it.
+/// Is asked before and after each answer of a task, on the thread of the vat that answers it.
 pub trait Gate: Sync {
     /// A vat is about to answer a task, whose call has that stamp. With `false` the task is not answered, and the run ends.
     fn before_answer(&self, vat: Vat, stamp: Stamp) -> bool;

@@ -11,7 +11,7 @@ pub struct Job<'s, G, C> {
     /// Those of both vats, in the order of the script.
     pub lines: &'s [Line],
     pub gate: &'s G,
-    /// To sleep by, where there was no frame.
+    /// To sleep by, if there was no frame.
     pub clock: &'s C,
     /// What it tells the other worker, and hears from it.
     pub signals: &'s Signals,

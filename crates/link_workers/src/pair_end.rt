@@ -10,7 +10,7 @@ pub trait PairEnd: Drop {
     /// The number with which its vat is down.
     ghost down_by: { Self → Option ℕ };
 
-    /// The number with which its vat is down, where it is down.
+    /// The number with which its vat is down, if it is down.
     fn down(&self) -> Option<u16>
         ensures { result ≡ down_by self.now };
 
@@ -18,7 +18,7 @@ pub trait PairEnd: Drop {
     fn command(&mut self, command: Command) -> Result<(Granted, Effects), Refusal>
         ensures { same self.old self.new };
 
-    /// Takes a frame, where there is one: what came of it, or the number with which the vat is down then.
+    /// Takes a frame, if there is one: what came of it, or the number with which the vat is down then.
     fn turn(&mut self) -> Result<Option<Effects>, u16>
         ensures end { same self.old self.new }
         ensures down { IfErr result (λ number. down_by self.new ≡ Some number) };

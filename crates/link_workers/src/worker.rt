@@ -19,8 +19,8 @@ use std::time::{Clock, Duration};
 const PAUSE: u64 = 1;
 
 /// Works one end: plays the lines of its vat, each flushed, and then takes turns, each flushed, in which each open task is
-/// answered with the null payload, until both workers are done or one of them ends otherwise, which the other then hears of
-/// where it next finds no frame. The same end comes back, with how the work ended.
+/// answered with the null payload. It goes on until both workers are done, or one of them ends otherwise. The other notices
+/// that when it next finds no frame. The same end comes back, with how the work ended.
 pub fn work<R: Wait, E: PairEnd, G: Gate, C: Clock>(
     rt: &R,
     job: &Job<G, C>,
@@ -142,7 +142,7 @@ impl<E: PairEnd> Worker<E> {
         Err(WorkerEnd::Limit)
     }
 
-    /// Answers the oldest open task, or else takes a turn. `Done` where both workers are.
+    /// Answers the oldest open task, or else takes a turn. `Done` if both workers are.
     fn go_on<G: Gate, C: Clock>(&mut self, job: &Job<G, C>, null: &Payload) -> Result<(), WorkerEnd>
         ensures end { E.same self.old.end self.new.end }
         ensures ending { IfErr result (AtStep (E.down_by self.new.end)) }
@@ -264,7 +264,7 @@ impl<E: PairEnd> Worker<E> {
         }
     }
 
-    /// Has the vat obey, and keeps what it grants. A refusal is nothing to the worker, but for want of memory.
+    /// Has the vat obey, and keeps what it grants. A refusal is nothing to the worker, except for lack of memory.
     fn obey<G: Gate, C: Clock>(
         &mut self,
         job: &Job<G, C>,

@@ -14,7 +14,7 @@ pub(crate) fn read_number(word: &[u8]) -> Option<u64>
     number(word)
 }
 
-/// The number that digits say, where it has no more than 64 bits.
+/// The number that digits say, if it has no more than 64 bits.
 fn number(digits: &[u8]) -> Option<u64>
     requires { all_ascii_digits digits.now ≡ true }
     ensures { result ≡ (if nat_lt (digits_value 10 digits.now) (2 ^ 64) then Some (digits_value 10 digits.now) else None) }

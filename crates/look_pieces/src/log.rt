@@ -168,8 +168,8 @@ impl Log {
     /// Takes the next line, without its newline, and gives the piece that ends with it, if one does. Between pieces a
     /// line that is no head is passed over.
     ///
-    /// A `Fault` where the lines are no log: in a piece a line has no bytes or too many, or a piece does not begin where
-    /// the bytes of its end ended. `Memory` where a growth was refused. An error leaves the reader as it was.
+    /// A `Fault` if the lines are no log: in a piece a line has no bytes or too many, or a piece does not begin where
+    /// the bytes of its end ended. `Memory` if a growth was refused. An error leaves the reader as it was.
     pub fn take_line(&mut self, line: &[u8]) -> Result<Option<Piece>, LogError>
         ensures { Takes self.old line.now result self.new }
     {

@@ -19,7 +19,7 @@ use std::fmt;
 pub enum NumberedFault {
     /// Bytes are no message of the encoding: 2 to 12.
     Encoding(PayloadFault),
-    /// A message breaks the protocol, or room is wanting: 20 to 34.
+    /// A message breaks the protocol, or there is no room: 20 to 34.
     Machine(Fault),
     /// A frame is no message of the protocol: 60 to 65.
     Envelope(EnvelopeFault),

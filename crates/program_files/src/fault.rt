@@ -19,7 +19,7 @@ pub enum TextFault {
 #[derive(Clone, Copy, Debug, PartialEq, Eq, Drop)]
 pub struct Unwritten;
 
-/// Why something could not be opened or read: for want of memory, or `otherwise`.
+/// Why something could not be opened or read: for lack of memory, or `otherwise`.
 pub fn unread<F: From<AllocError> + Drop>(error: &io::Error, otherwise: F) -> F
     ensures { (result ≡ otherwise) ⊎ F.from_gives (record {}) result }
 {

@@ -6,8 +6,8 @@ use crate::fault::{TextFault, Unwritten};
 use std::alloc::Global;
 use std::io::{ErrorKind, Read, Write};
 
-/// The whole text that a reader gives. `Unreadable` where the reader fails, `NotText` where the bytes are not UTF-8, `Memory`
-/// where a growth was refused.
+/// The whole text that a reader gives. `Unreadable` if the reader fails, `NotText` if the bytes are not UTF-8, `Memory`
+/// if a growth was refused.
 pub fn read_text<R: Read>(alloc: Global, reader: &mut R) -> Result<String, TextFault>
     ensures text { IfOk result (λ text. IsInput (R.remaining reader.old) (string_bytes text)) }
     ensures fails { IfErr result (λ why. HasNoText (R.remaining reader.old) why) }
@@ -26,7 +26,7 @@ pub fn read_text<R: Read>(alloc: Global, reader: &mut R) -> Result<String, TextF
     }
 }
 
-/// Writes a text. `Unwritten` where that fails, which may have taken a part of it.
+/// Writes a text. `Unwritten` if that fails, which may have taken a part of it.
 pub fn write_text<W: Write>(out: &mut W, text: &str) -> Result<(), Unwritten>
     ensures { OnOk result (Appends (W.contents out.old) (W.contents out.new) text.now) }
 {

@@ -1,13 +1,15 @@
 //! Says what a captured conversation says: a line of JSON for each message (docs/messages.md).
 #![tactic(auto)]
 
+use program_faults::ShownFault;
 use program_files::unread;
 use rpc_dump_lib::{Failure, Options, dump, status, tell};
 use std::alloc::AllocError;
-use std::env;
 use std::env::Args;
 use std::fs::File;
+use std::io::Write;
 use std::process::ExitCode;
+use std::{env, io};
 
 /// `rpc_dump [--hex] [--payloads] [FILE]`; without a file the bytes are read from standard input.
 fn main(rt: HostRuntime) -> ExitCode {
@@ -49,7 +51,7 @@ fn run(rt: &HostRuntime, words: &[String]) -> ExitCode {
     }
 }
 
-/// What the words ask for; none where one asks for nothing.
+/// What the words ask for; none if one asks for nothing.
 fn options_of(words: &[String]) -> Option<Options> {
     let mut options = Options::new();
     for word in words {
@@ -68,6 +70,15 @@ fn on_file(rt: &HostRuntime, options: Options, name: &str) -> Result<(), Failure
 fn ended(rt: &HostRuntime, dumped: Result<(), Failure>, name: &str) -> ExitCode {
     if let Err(failure) = dumped {
         let _told = tell(failure, name, &mut rt.stderr());
+        let _explained = explain(failure, &mut rt.stderr());
     }
     ExitCode::from(status(dumped))
+}
+
+/// Says the name and the meaning of a fault, on a line of its own.
+fn explain<E: Write>(failure: Failure, err: &mut E) -> io::Result<()> {
+    match failure {
+        Failure::Message(_, fault) => writeln!(err, "fault {}", ShownFault(fault)),
+        _ => Ok(()),
+    }
 }

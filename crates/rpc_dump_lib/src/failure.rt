@@ -67,7 +67,7 @@ pub fn status(dumped: Result<(), Failure>) -> u8
     }
 }
 
-/// Says a failure on `err`, where the input has that name; of an output that failed nothing.
+/// Says a failure on `err`, for an input of that name; of an output that failed nothing.
 pub fn tell<E: Write>(failure: Failure, name: &str, err: &mut E) -> io::Result<()>
     ensures { OnOk result (Appends (E.contents err.old) (E.contents err.new) (said_of name.now failure)) }
 {

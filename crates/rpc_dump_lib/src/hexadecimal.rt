@@ -34,7 +34,7 @@ fn read_all<R: Read>(alloc: Global, reader: &mut R) -> Result<Vec<u8>, Failure>
     }
 }
 
-/// Where the first newline stands.
+/// Where the first newline is.
 fn newline_in(input: &[u8]) -> Option<usize>
     ensures first { result ≡ position is_newline input.now }
     ensures within { IfSome result (λ at. at < length input.now) }

@@ -10,7 +10,7 @@ use std::alloc::{AllocError, Global};
 use trace_write::write_number;
 
 /// The line of what a frame says, without a newline, as traces have messages; with `trees` each payload has its tree, too.
-/// It fails only where memory is refused.
+/// It fails only if memory is refused.
 pub fn line_of(alloc: Global, envelope: &Envelope, trees: bool) -> Result<String, AllocError>
     ensures { IfOk result (λ line. string_bytes line ≡ line_text trees (seen_envelope envelope.now)) }
 {

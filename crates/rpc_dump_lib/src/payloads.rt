@@ -1,4 +1,4 @@
-//! Payloads, with their trees where they are asked for.
+//! Payloads, with their trees if they are asked for.
 ghost use Rattle.std.specs.Prelude.{◌≡◌, true, IfOk};
 ghost use Rattle.serde_json.specs.View.{view};
 ghost use Rattle.trace_write.specs.Parts.{payload_data, in_base64};
@@ -63,7 +63,7 @@ fn write_body(alloc: Global, body: &ReturnBody, trees: bool) -> Result<Value, Al
     }
 }
 
-/// A Return, with the tree of its payload where `trees` are asked for.
+/// A Return, with the tree of its payload if `trees` are asked for.
 pub fn write_return(alloc: Global, said: &Return, trees: bool) -> Result<Value, AllocError>
     ensures { IfOk result (λ v. view v ≡ return_as trees said.now) }
 {

@@ -18,11 +18,11 @@ use std::io::{ErrorKind, Read, Write};
 /// How many bytes are read at a time.
 const PIECE: usize = 16_384;
 
-/// Says each message that the reader's bytes hold, in order, a line each, and ends at the first that is none, with its
-/// number and its fault; or, of lines in hexadecimal, says the fault in its place and goes on.
+/// Says each message that the reader's bytes hold, in order, a line each. It ends at the first that is none, with its number and
+/// its fault. Of lines in hexadecimal it says the fault in place of the message, and goes on.
 ///
-/// `Unreadable` where the reader fails, `NotHex` for a line that is no hexadecimal, `Unwritten` where `out` fails, and
-/// `Memory` where a growth was refused. What was said before stands.
+/// `Unreadable` if the reader fails, `NotHex` for a line that is no hexadecimal, `Unwritten` if `out` fails, and
+/// `Memory` if a growth was refused. What was said before stands.
 pub fn dump<R: Read, W: Write>(
     alloc: Global,
     options: Options,

@@ -6,7 +6,7 @@ use rpc_machine::{Command, Effects, Granted};
 use rpc_msg::{CallId, PromiseId, RefId, TaskId};
 use std::alloc::Global;
 
-/// What a command lets go, where it is obeyed.
+/// What a command lets go, if it is obeyed.
 #[derive(Clone, Copy, Drop)]
 pub enum Gone {
     Nothing,

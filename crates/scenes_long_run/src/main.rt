@@ -1,6 +1,6 @@
 //! A long run of two vats: 20,000 events, drawn by a fixed rule from every command and delivery, and then all is answered,
 //! settled and let go; first in a world, then over the rings of a link. What it says is so whatever was drawn: no vat goes
-//! down, the trace breaks no law, nothing is left in the tables, over rings each vat does what it does in a world, and the
+//! down, the trace breaks no law, and nothing is left in the tables. Over rings each vat does what it does in a world. The
 //! journal of both ends is that of a world in which all happens in the one order of both logs.
 //!
 //! `draws.rt` draws, `run.rt` makes the event of it and lets all go at the end, `application.rt` is what each vat's

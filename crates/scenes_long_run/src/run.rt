@@ -201,7 +201,7 @@ fn answering(alloc: Global, draws: &mut Draws, held: &Application) -> Result<Opt
     Ok(Some(Command::Answer(task, payload, refs)))
 }
 
-/// A call, with a reference where one is drawn.
+/// A call, with a reference if one is drawn.
 fn calling(alloc: Global, draws: &mut Draws, held: &Application) -> Result<Option<Command>> {
     let Some(reference) = pick(draws, &held.refs) else {
         return Ok(None);

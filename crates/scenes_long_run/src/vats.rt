@@ -13,11 +13,11 @@ pub trait Vats: Drop {
     /// The second are the first, later.
     ghost same: { Self → Self → Type 0 };
 
-    /// What a vat grants for a command, with what followed, or nothing where it refuses.
+    /// What a vat grants for a command, with what followed, or nothing if it refuses.
     fn command(&mut self, vat: Vat, command: Command) -> Result<Option<(Granted, Effects)>>
         ensures { same self.old self.new };
 
-    /// What followed from the oldest message to a vat, or nothing where there is none.
+    /// What followed from the oldest message to a vat, or nothing if there is none.
     fn deliver(&mut self, vat: Vat) -> Result<Option<Effects>>
         ensures { same self.old self.new };
 

@@ -2,7 +2,7 @@
 //! has what they print, worked out by hand.
 //!
 //! A scene is a text and no test, since each test is a function to be proved. What needs little below it is played by a
-//! library, which is proved beside others as soon as what it stands on is; `script_scenes.rt` plays scripts, each a `Scene`
+//! library, which is proved beside others as soon as what it depends on is; `script_scenes.rt` plays scripts, each a `Scene`
 //! of `script_scene.rt`.
 #![tactic(auto)]
 

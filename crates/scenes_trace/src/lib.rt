@@ -1,7 +1,7 @@
 //! Lines of traces, and verdicts of traces. Behind each line stands, further in, what is answered; both are worked out by
 //! hand from docs/trace.md.
 //!
-//! - `one LINE`, `two LINE`: what the entry says that is read from that line of version 1 or 2, and its line where that is
+//! - `one LINE`, `two LINE`: what the entry says that is read from that line of version 1 or 2, and its line if that is
 //!   another one; or the fault.
 //! - `own LINE`: the own line of the entry of a line of version 2, with whatever characters.
 //! - `first LINE`: the version that the first line of a trace says, or the fault.

@@ -8,7 +8,7 @@ use std::alloc::{AllocError, Global};
 use std::fmt::Write;
 use trace_json::{TraceFault, TraceVersion, entry_of, line_of, version_of};
 
-/// What the entry of a line says, and its own line where that is another; or the fault.
+/// What the entry of a line says, and its own line if that is another; or the fault.
 pub fn read(alloc: Global, version: TraceVersion, line: &str) -> Result<String> {
     match entry_of(alloc, line, version) {
         Ok(entry) => told(alloc, version, line, &entry),

@@ -26,9 +26,9 @@ pub enum Act {
 }
 
 impl Names {
-    /// What a line does. Where its command carries no capabilities, its payload shares the bytes of the null payload that
+    /// What a line does. If its command carries no capabilities, its payload shares the bytes of the null payload that
     /// is given. It takes memory for what the command carries. `Name` with the first thing that it names and that is not
-    /// bound or not there, where there is one; `Memory` as in `command`.
+    /// bound or not there, if there is one; `Memory` as in `command`.
     pub fn act(&self, alloc: Global, null: &Payload, line: &Line) -> Result<Act, GiveFault>
         requires { null.now ≡ null_payload }
         ensures { Gives (act_for self.now line.now) result }

@@ -43,7 +43,7 @@ impl<Id: Copy> Bound<Id> {
         self.ordered.get(&name).copied()
     }
 
-    /// Lets the name stand for that id, and for no other. `Memory` where a growth was refused; nothing is changed then.
+    /// Lets the name stand for that id, and for no other. `Memory` if a growth was refused; nothing is changed then.
     pub(crate) fn bind(&mut self, name: Name, id: Id) -> Result<(), Memory>
     where
         Id: Drop,

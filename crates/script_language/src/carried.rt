@@ -8,8 +8,8 @@ ghost use Rattle.script_language.specs.Carried.{caps_tree, carrying, script_exce
 use rpc_msg::{Exception, ExceptionKind, Memory, Payload, Pointers, Text, Tree};
 use std::alloc::Global;
 
-/// The payload that carries so many capabilities: null where there are none, of which this is one, else a struct without
-/// data whose pointers they are. `Memory` where a growth was refused; no payload carries more than 65,535 so.
+/// The payload that carries so many capabilities: null if there are none, of which this is one, else a struct without
+/// data whose pointers they are. `Memory` if a growth was refused; no payload carries more than 65,535 so.
 pub(crate) fn payload_carrying(
     alloc: Global,
     null: &Payload,

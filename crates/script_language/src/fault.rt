@@ -2,7 +2,7 @@ use rpc_msg::Memory;
 use std::alloc::AllocError;
 use thiserror::Error;
 
-/// Why a text is no line of a script. Where several things are wrong, the first from the left is answered, after the
+/// Why a text is no line of a script. If several things are wrong, the first from the left is answered, after the
 /// byte order mark and the carriage return.
 #[derive(Clone, Copy, Debug, PartialEq, Eq, Drop, Error)]
 pub enum LineFault {

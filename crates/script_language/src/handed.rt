@@ -44,7 +44,7 @@ impl Handed {
         self.lists.get(number)
     }
 
-    /// Notes what was handed over under that number. `Memory` where a growth was refused; nothing is changed then.
+    /// Notes what was handed over under that number. `Memory` if a growth was refused; nothing is changed then.
     pub(crate) fn put(&mut self, number: u64, refs: Items<RefId>) -> Result<(), Memory>
         ensures ok { OnOk result (self.new ≡ map.insert self.old number refs) }
         ensures err { OnErr result (self.new ≡ self.old) }

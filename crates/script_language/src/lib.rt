@@ -5,8 +5,8 @@
 //!   one word says, `commands.rt` what is asked of a vat, `reading.rt` what the words of a line say together, `script.rt` a
 //!   whole script.
 //! - `names.rt` is what a script's user sees of names. Beneath it `bound.rt` is one table of names, an ordered map that
-//!   contracts see as a finite map, `handed.rt` keeps which references came with tasks and outcomes, `bindings.rt` finds and
-//!   binds at one vat, and `given_commands.rt` makes the commands, with the payloads and the exception of `carried.rt`.
+//!   contracts see as a finite map. `handed.rt` keeps which references came with tasks and outcomes. `bindings.rt` finds and
+//!   binds at one vat. `given_commands.rt` makes the commands, with the payloads and the exception of `carried.rt`.
 //! - `act.rt`: what a line of any kind does.
 //!
 //! The definitions are functions of the line's bytes: `Words` has each word, or what is wrong with it, `Lines` each line,

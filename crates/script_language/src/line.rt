@@ -111,7 +111,7 @@ pub enum Line {
 
 impl Line {
     /// What a line says: its text stands without the newline, and may be of any length. `Line` with the first thing
-    /// that is wrong where it is no line of that program, and there alone; `Memory` where a growth was refused.
+    /// that is wrong if it is no line of that program, and there alone; `Memory` if a growth was refused.
     pub fn read(alloc: Global, program: Program, text: &str) -> Result<Line, ReadFault>
         ensures { Reads (line_of program text.now) result }
     {
@@ -143,7 +143,7 @@ impl Line {
         read_for(alloc, program, words)
     }
 
-    /// The line, where it is one of that program.
+    /// The line, if it is one of that program.
     fn of(self, program: Program) -> Result<Line, LineFault>
         ensures { result ≡ line_for program self }
     {

@@ -76,7 +76,7 @@ impl Ord for Name {
 }
 
 impl Name {
-    /// The name that a word is. `LongName` where it has more than 16 bytes, else `Name` where it is none.
+    /// The name that a word is. `LongName` if it has more than 16 bytes, else `Name` if it is none.
     pub fn read(word: &str) -> Result<Self, LineFault>
         ensures { result ≡ name_of word.now }
     {

@@ -48,7 +48,7 @@ impl Names {
 
     /// What a line asks of a vat. A call or an answer without capabilities carries a copy of the null payload that is given,
     /// which shares its bytes; all else that a command carries takes memory. `Name` with the first thing that the line names
-    /// and that is not bound there, where there is one; `Memory` where a growth was refused, or more than 65,535
+    /// and that is not bound there, if there is one; `Memory` if a growth was refused, or more than 65,535
     /// capabilities are named, which no line that was read does.
     pub fn command(
         &self,
@@ -66,7 +66,7 @@ impl Names {
         }
     }
 
-    /// The reference that a line `take` gives a name. `Task` where no such task was delivered to the vat, `Index` where
+    /// The reference that a line `take` gives a name. `Task` if no such task was delivered to the vat, `Index` if
     /// it came with fewer references. Takes no memory.
     pub fn taken(&self, vat: Vat, line: TakeLine) -> Result<RefId, NameFault>
         ensures { result ≡ taken (names_of vat self.now) line }
@@ -77,8 +77,8 @@ impl Names {
         }
     }
 
-    /// The reference that a line `got` gives a name. `Call` where its call is not bound at the vat, `Outcome` where that
-    /// has none yet, `Index` where the outcome came with fewer references. Takes no memory.
+    /// The reference that a line `got` gives a name. `Call` if its call is not bound at the vat, `Outcome` if that
+    /// has none yet, `Index` if the outcome came with fewer references. Takes no memory.
     pub fn got(&self, vat: Vat, line: GotLine) -> Result<RefId, NameFault>
         ensures { result ≡ got (names_of vat self.now) line }
     {
@@ -88,7 +88,7 @@ impl Names {
         }
     }
 
-    /// Lets a name stand for a reference of that vat, and for no other. `Memory` where a growth was refused; nothing is
+    /// Lets a name stand for a reference of that vat, and for no other. `Memory` if a growth was refused; nothing is
     /// changed then.
     pub fn name(&mut self, vat: Vat, name: Name, reference: RefId) -> Result<(), Memory>
         ensures ok { OnOk result (self.new ≡ with_names_of vat (bind_reference (names_of vat self.old) (Some name) reference) self.old) }
@@ -101,7 +101,7 @@ impl Names {
     }
 
     /// Binds the names that a line gives to what its vat granted; a name that was bound is bound anew. A refusal binds
-    /// nothing: there is no call for it. `Memory` where a growth was refused; nothing is changed then, but that the
+    /// nothing: there is no call for it. `Memory` if a growth was refused; nothing is changed then, but that the
     /// promise of a line `promise` may be bound.
     pub fn bind(&mut self, vat: Vat, said: &LineCommand, granted: Granted) -> Result<(), Memory>
         ensures ok { OnOk result (self.new ≡ binds self.old vat said.now granted) }
@@ -113,7 +113,7 @@ impl Names {
         }
     }
 
-    /// Keeps which references came with the calls that were delivered to a vat's application. `Memory` where a growth
+    /// Keeps which references came with the calls that were delivered to a vat's application. `Memory` if a growth
     /// was refused; some of them may be kept then, and the names are only to be dropped.
     pub fn note_deliveries(
         &mut self,

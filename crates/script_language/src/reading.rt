@@ -38,7 +38,7 @@ fn read_deliver(rest: &[&[u8]]) -> Result<Line, LineFault>
     Ok(Line::Deliver(vat))
 }
 
-/// The line, where no word follows.
+/// The line, if no word follows.
 fn read_alone(line: Line, rest: &[&[u8]]) -> Result<Line, LineFault>
     ensures { result ≡ alone line (map (λ word. word.now) rest.now) }
 {

@@ -12,8 +12,8 @@ use std::alloc::Global;
 use std::str;
 
 /// The lines of a script for that program, which newlines part; the last one needs none behind it. All of it is read
-/// before it is answered. `NotText` where the bytes are not UTF-8, else `Line` with the number of the first line that is
-/// none, and what is wrong with it; `Memory` where a growth was refused. The work grows with the length.
+/// before it is answered. `NotText` if the bytes are not UTF-8, else `Line` with the number of the first line that is
+/// none, and what is wrong with it; `Memory` if a growth was refused. The work grows with the length.
 pub fn read_script(
     alloc: Global,
     program: Program,

@@ -1,5 +1,5 @@
 //! What no clause says. Of the merge: the one order of two logs. Of rings: what stands in frames and logs, that frames come
-//! through rings of one place, and what becomes of ends where memory is refused. Of workers: in which order lines and turns are
+//! through rings of one place, and what becomes of ends if memory is refused. Of workers: in which order lines and turns are
 //! played, how the work of a vat ends, and what the gate is asked.
 mod endings;
 mod ends;

@@ -1,5 +1,5 @@
 //! What no clause says: the numbers of frames, what two vats say to each other over rings of any size, frames that are handed to a
-//! seat, want of memory, and that each call of an end or a seat can succeed.
+//! seat, running out of memory, and that each call of an end or a seat can succeed.
 mod acts;
 mod by_name;
 mod commands;

@@ -7,7 +7,7 @@ use std::alloc::Global;
 #[derive(Clone, Copy, Drop)]
 pub(crate) struct Embargo {
     pub(crate) id: EmbargoId,
-    /// The reference that was advanced, where the trace says it.
+    /// The reference that was advanced, if the trace says it.
     pub(crate) reference: Option<RefId>,
     /// How many calls through it were counted as the embargo began.
     before: u64,
@@ -138,7 +138,7 @@ impl Bars {
         Ok(())
     }
 
-    /// A call is made, which waits where its reference has an embargo.
+    /// A call is made, which waits if its reference has an embargo.
     pub(crate) fn count(&mut self, vat: Vat, reference: RefId) {
         self.at_mut(vat).count(reference);
     }

@@ -21,7 +21,7 @@ use trace_file::Follower;
 /// A message whose ends are more rows apart is said at both of them.
 const LONG: usize = 4;
 
-/// A message, from the row in which it was sent to the one in which it was received, where these are drawn.
+/// A message, from the row in which it was sent to the one in which it was received, if these are drawn.
 #[derive(Drop)]
 pub(crate) struct Arrow {
     pub(crate) from: Vat,
@@ -61,7 +61,7 @@ struct OnItsWay {
     sent: Option<usize>,
     label: String,
     marked: bool,
-    /// The embargo that it lifts where it is received.
+    /// The embargo that it lifts when it is received.
     lifts: Option<EmbargoId>,
     /// The call that comes with it.
     call: Option<CallAt>,
@@ -72,7 +72,7 @@ struct OnItsWay {
 struct Sender {
     /// What it sent and the other vat did not receive yet.
     ways: VecDeque<OnItsWay>,
-    /// The reference that it advanced last, where the Disembargo is not sent yet.
+    /// The reference that it advanced last, if the Disembargo is not sent yet.
     embargoed: Option<RefId>,
 }
 
@@ -85,14 +85,14 @@ impl Sender {
     }
 }
 
-/// The call that came with the newest step, where that did not say yet where it goes.
+/// The call that came with the newest step, if that did not say yet where it goes.
 #[derive(Clone, Copy, Drop)]
 struct Arrived {
     vat: Vat,
     call: CallAt,
     entry: u64,
     row: Option<usize>,
-    /// What is said in its row, where anything is.
+    /// What is said in its row, if anything is.
     note: Option<usize>,
     marked: bool,
 }
@@ -153,7 +153,7 @@ impl Chart {
         }
     }
 
-    /// The row of the entry that comes now, where it is drawn.
+    /// The row of the entry that comes now, if it is drawn.
     fn row(&mut self) -> Result<Option<usize>, Memory> {
         if !self.options.draws(self.entries) {
             self.left_out = self.left_out.saturating_add(1);
@@ -164,7 +164,7 @@ impl Chart {
         Ok(Some(row))
     }
 
-    /// Says something in a row, where there is one. Which note it is.
+    /// Says something in a row, if there is one. Which note it is.
     fn note(
         &mut self,
         row: Option<usize>,
@@ -209,7 +209,7 @@ impl Chart {
         Ok(())
     }
 
-    /// The call that came with the step that is over waits, where that did not say where it goes.
+    /// The call that came with the step that is over waits, if that did not say where it goes.
     fn wait(&mut self, alloc: Global) -> Result<(), Memory> {
         let Some(arrived) = self.arrived.take() else {
             return Ok(());
@@ -358,7 +358,7 @@ impl Chart {
         draw_arrow(&mut self.arrows, vat.other(), &way, got)
     }
 
-    /// What is said where a message is received: the embargo that it lifts, and what it is, where it comes from afar.
+    /// What is said where a message is received: the embargo that it lifts, and what it is, if it comes from afar.
     fn received_label(
         &mut self,
         alloc: Global,
@@ -519,7 +519,7 @@ fn draw_open(arrows: &mut Vec<Arrow>, from: Vat, ways: VecDeque<OnItsWay>) -> Re
     Ok(())
 }
 
-/// An arrow, where one of its ends is drawn.
+/// An arrow, if one of its ends is drawn.
 fn draw_arrow(
     arrows: &mut Vec<Arrow>,
     from: Vat,

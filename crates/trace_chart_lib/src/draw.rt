@@ -114,7 +114,7 @@ fn end_of(chart: &Chart) -> u64 {
     }
 }
 
-/// The height of the first drawn entry with that number or a later one; where there is none, of the lifelines' end.
+/// The height of the first drawn entry with that number or a later one; if there is none, of the lifelines' end.
 fn y_from(chart: &Chart, number: u64) -> u64 {
     let row = match chart.rows.binary_search(&number) {
         Ok(row) => row,
@@ -211,7 +211,7 @@ fn write_bar_sign(svg: &mut String, x: u64, fill: &str) -> Result<(), AllocError
     )
 }
 
-/// The reference that stands out, and where no entry names it, that.
+/// The reference that stands out, and if no entry names it, that.
 fn write_marked_sign(
     svg: &mut String,
     vat: Vat,
@@ -479,7 +479,7 @@ fn write_column(svg: &mut String, chart: &Chart, vat: Vat, height: u64) -> Resul
     svg.push_str("</svg>\n")
 }
 
-/// The sign on the lifeline: a dot, which is hollow where a call waits, a cross, or none.
+/// The sign on the lifeline: a dot, which is hollow if a call waits, a cross, or none.
 fn write_mark(svg: &mut String, note: &Note) -> Result<(), AllocError> {
     let (x, y) = (lifeline(note.vat), y_of(note.row));
     let ink = if note.marked { MARKED } else { EVENT };

@@ -5,7 +5,7 @@ use rpc_msg::{Exception, ExceptionKind, ExportId, Items, Op, Path, RefId, Stamp,
 use std::alloc::{AllocError, Global};
 use std::fmt::Write;
 
-/// The capabilities of a payload, as an application has them; nothing where there are none.
+/// The capabilities of a payload, as an application has them; nothing if there are none.
 fn write_references(
     text: &mut String,
     which: &str,
@@ -208,7 +208,7 @@ pub(crate) fn lifted_label(alloc: Global, embargo: &Embargo) -> Result<String, A
     Ok(text)
 }
 
-/// An embargo by its id and its reference, where that is known.
+/// An embargo by its id and its reference, if that is known.
 pub(crate) fn write_embargo(text: &mut String, embargo: &Embargo) -> Result<(), AllocError> {
     write!(text, "embargo {}", embargo.id.0)?;
     if let Some(reference) = embargo.reference {

@@ -2,11 +2,11 @@
 //! does with a file, a reader and a writer.
 //!
 //! - `chart.rt`: the follower that gathers what is drawn of a trace: rows with their notes, arrows. `bars.rt` keeps the
-//!   embargoes and the calls that wait, `durations.rt` which of them last and by what they end, `over.rt` says what an entry
-//!   ends, `followed.rt` keeps the names of the calls through the reference that stands out, `questions.rt` what each
-//!   question is of, and `entries.rt` says what of an entry the others want to know.
+//!   embargoes and the calls that wait, `durations.rt` which of them last and by what they end, and `over.rt` says what an entry
+//!   ends. `followed.rt` keeps the names of the calls through the reference that stands out, and `questions.rt` what each
+//!   question is of. `entries.rt` says what of an entry the others want to know.
 //! - `labels.rt` says an entry in words and `messages.rt` a message (`reasons.rt` refusals and faults), `text.rt` writes a
-//!   text as SVG has it, cut where it is too wide, `draw.rt` draws, and `foot.rt` the labels that were cut.
+//!   text as SVG has it, cut if it is too wide, `draw.rt` draws, and `foot.rt` the labels that were cut.
 //! - `options.rt`: the program's options; `fault.rt`: why it fails; `program.rt`: the program without its handles:
 //!   `trace_chart` gives it arguments, files and streams.
 #![tactic(auto)]

@@ -7,7 +7,7 @@ use rpc_msg::{
 use std::alloc::{AllocError, Global};
 use std::fmt::Write;
 
-/// What is said of a message, where the question is known that it asks, answers or finishes. Capabilities and flags stand
+/// What is said of a message, if the question is known that it asks, answers or finishes. Capabilities and flags stand
 /// before what may be long.
 pub(crate) fn message_label(
     alloc: Global,
@@ -121,7 +121,7 @@ fn write_finish(
     write_flag(text, finish.release_result_caps)
 }
 
-/// The capabilities of a payload, as the wire has them; nothing where there are none.
+/// The capabilities of a payload, as the wire has them; nothing if there are none.
 fn write_descriptors(text: &mut String, descriptors: &Items<Descriptor>) -> Result<(), AllocError> {
     for (place, descriptor) in descriptors.iter().enumerate() {
         text.push_str(if place == 0 { " with " } else { ", " })?;

@@ -5,14 +5,14 @@ ghost use Rattle.trace_chart_lib.specs.Choices.{with_choice, with_choices, choic
 use rpc_journal::{JournalEntry, Origin};
 use rpc_msg::{Items, Message, PlainMessage, RefId, Stamp, Vat};
 
-/// How many entries a picture has where nothing else is asked for.
+/// How many entries a picture has if nothing else is asked for.
 const LEGIBLE: u64 = 60;
 
 /// Which entries are drawn, counted from 1, and whose calls stand out.
 #[derive(Clone, Copy, Debug, PartialEq, Eq, Drop)]
 pub struct Options {
     pub(crate) from: u64,
-    /// Where none is asked for, 60 entries are drawn.
+    /// If none is asked for, 60 entries are drawn.
     pub(crate) to: Option<u64>,
     pub(crate) reference: Option<(Vat, RefId)>,
 }
@@ -29,7 +29,7 @@ impl Options {
         }
     }
 
-    /// These with one more, said by its word and value; none where they say nothing.
+    /// These with one more, said by its word and value; none if they say nothing.
     pub fn with(self, word: &str, value: &str) -> Option<Options>
         ensures { result ≡ with_choice self word.now value.now }
     {
@@ -54,7 +54,7 @@ impl Options {
         None
     }
 
-    /// These with all that words say, each option before its value; none where they say nothing.
+    /// These with all that words say, each option before its value; none if they say nothing.
     fn with_all(self, words: &[String]) -> Option<Options>
         ensures { result ≡ with_choices self (map string_bytes words.now) }
     {
@@ -67,7 +67,7 @@ impl Options {
         Some(options)
     }
 
-    /// What the words behind the trace's name say, each option before its value; none where they say nothing, or ask for
+    /// What the words behind the trace's name say, each option before its value; none if they say nothing, or ask for
     /// no entry.
     pub fn of(words: &[String]) -> Option<Options>
         ensures { result ≡ choices (map string_bytes words.now) }

@@ -29,8 +29,8 @@ const HELP: &str =
 
 /// Draws the trace that a file has, whose bytes the reader gives, to `out`.
 ///
-/// `Unreadable` where the reader fails, `NotText` where the bytes are not UTF-8, `Line` with the first line that is none of
-/// a trace, `Memory` where a growth was refused: then nothing is written. `Unwritten` where `out` fails, which may have
+/// `Unreadable` if the reader fails, `NotText` if the bytes are not UTF-8, `Line` with the first line that is none of
+/// a trace, `Memory` if a growth was refused: then nothing is written. `Unwritten` if `out` fails, which may have
 /// taken a part of the picture.
 pub fn draw_trace<R: Read, W: Write>(
     alloc: Global,
@@ -48,7 +48,7 @@ pub fn draw_trace<R: Read, W: Write>(
     Ok(())
 }
 
-/// Writes what the program is for. `Unwritten` where `out` fails, which may have taken a part of it.
+/// Writes what the program is for. `Unwritten` if `out` fails, which may have taken a part of it.
 pub fn write_help<W: Write>(out: &mut W) -> Result<(), Failure>
     ensures written { OnOk result (Appends (W.contents out.old) (W.contents out.new) help_text) }
     ensures fails { IfErr result (λ why. why ≡ Failure.Unwritten) }
@@ -57,7 +57,7 @@ pub fn write_help<W: Write>(out: &mut W) -> Result<(), Failure>
     Ok(())
 }
 
-/// The status with which the program ends. A failure is said on `err`, where that can be written.
+/// The status with which the program ends. A failure is said on `err`, if that can be written.
 pub fn status<E: Write>(drawn: Result<(), Failure>, name: &str, err: &mut E) -> u8
     ensures { result ≡ status_of drawn }
 {
@@ -70,7 +70,7 @@ pub fn status<E: Write>(drawn: Result<(), Failure>, name: &str, err: &mut E) -> 
     }
 }
 
-/// Says a failure on `err`, where the file has that name.
+/// Says a failure on `err`, for a file of that name.
 fn tell<E: Write>(failure: Failure, name: &str, err: &mut E) -> io::Result<()>
     ensures { OnOk result (Appends (E.contents err.old) (E.contents err.new) (said_of name.now failure)) }
 {

@@ -8,7 +8,7 @@ use std::mem;
 #[derive(Clone, Copy, Drop)]
 pub(crate) enum Asked {
     Call(Stamp),
-    /// With the number that the application has for it, where the trace says it.
+    /// With the number that the application has for it, if the trace says it.
     Bootstrap(Option<CallId>),
 }
 
@@ -16,7 +16,7 @@ pub(crate) enum Asked {
 #[derive(Drop)]
 struct Own {
     by_id: BTreeMap<u32, Asked>,
-    /// The Bootstrap that the application asked for, where it is not sent yet.
+    /// The Bootstrap that the application asked for, if it is not sent yet.
     bootstrap: Option<CallId>,
 }
 

@@ -37,7 +37,7 @@ pub(crate) fn is_cut(label: &str) -> bool
     false
 }
 
-/// A label as SVG has it, behind a text. Where there is no place for all of it, it is cut.
+/// A label as SVG has it, behind a text. If there is no place for all of it, it is cut.
 pub fn write_label(svg: &mut String, label: &str) -> Result<(), AllocError>
     ensures { OnOk result ((shown : List ℕ) × IsShown (chars label.now) shown × (string_bytes svg.new ≡ string_bytes svg.old ++ shown)) }
 {

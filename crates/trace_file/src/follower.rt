@@ -16,7 +16,7 @@ pub trait Follower {
     /// How an entry changes it.
     ghost takes: { Self → JournalEntry → Self → Type 0 };
 
-    /// Takes the next entry. `Memory` where a growth was refused.
+    /// Takes the next entry. `Memory` if a growth was refused.
     fn take(&mut self, alloc: Global, entry: JournalEntry) -> Result<(), Memory>
         ensures { OnOk result (takes self.old entry self.new) };
 }
@@ -24,9 +24,9 @@ pub trait Follower {
 /// Reads a trace line by line and hands each entry to the follower, the head first; answers the version of the trace.
 ///
 /// The lines are parted by newlines; the last may lack its own. `Line` for the first line that is none of the trace, with
-/// its number, counted from 1, and its fault: of the first line what `version_of` says (a trace without lines has the
-/// fault `WrongShape` at line 1), of a later one what `entry_of` says, but for a head, which has the fault `WrongShape`
-/// there. `Memory` where a growth was refused. The follower has then taken some of the entries.
+/// its number, counted from 1, and its fault. Of the first line that is what `version_of` says; a trace without lines has the
+/// fault `WrongShape` at line 1. Of a later line it is what `entry_of` says, but a head has the fault `WrongShape` there.
+/// `Memory` if a growth was refused. The follower has then taken some of the entries.
 pub fn follow<F: Follower>(
     alloc: Global,
     trace: &str,
@@ -95,7 +95,7 @@ fn follow_entries<F: Follower>(
     Ok(())
 }
 
-/// The entry of a line behind the first, where no head may stand.
+/// The entry of a line behind the first, if no head may stand.
 fn later_entry(alloc: Global, text: &str, version: TraceVersion) -> Result<JournalEntry, TraceFault>
     ensures ok { IfOk result (λ e. IsEntryLine version text.now e) }
     ensures fault { IfErr result (λ f. IsLaterFault version f (read text.now)) }

@@ -11,7 +11,7 @@ pub(crate) fn split(alloc: Global, trace: &str) -> Result<Vec<&str>, AllocError>
     trace.split('\n').collect(alloc)
 }
 
-/// The lines that the texts between newlines are: what stands behind the last newline is a line where it is something.
+/// The lines that the texts between newlines are: what stands behind the last newline is a line if it is something.
 pub(crate) fn whole_lines<'a, 't>(texts: &'a [&'t str]) -> &'a [&'t str]
     ensures { map (λ line. line.now) result.now ≡ without_last_empty (map (λ text. text.now) texts.now) }
 {

@@ -56,7 +56,7 @@ impl Rows {
         }
     }
 
-    /// `Memory` where a growth was refused.
+    /// `Memory` if a growth was refused.
     pub(crate) fn set(&mut self, number: u64, calls: Calls) -> Result<(), Memory>
         ensures ok { OnOk result ((q : ℕ) → get nat_cmp self.new.tree q ≡ cond (nat_eq q number) (Some calls) (get nat_cmp self.old.tree q)) }
     {

@@ -15,7 +15,7 @@ use rpc_msg::{Memory, RefId, Vat};
 use std::alloc::Global;
 
 /// What a trace says of the references that made a call, a line for each, by vat and number: `a/0: made 2, delivered 2
-/// to b/0`, with the vat and object of its first delivery, or `to -` where none was.
+/// to b/0`, with the vat and object of its first delivery, or `to -` if none was.
 ///
 /// The faults are those of `follow`.
 pub fn show(alloc: Global, trace: &str) -> Result<String, FileFault>
@@ -75,7 +75,7 @@ fn count(rows: &mut Rows, vat: Vat, entry: &JournalEntry) -> Result<(), Memory>
     }
 }
 
-/// A call more that was made through a reference, where it is one of these. `Memory` where a growth was refused, or the number would not fit.
+/// A call more that was made through a reference, if it is one of these. `Memory` if a growth was refused, or the number would not fit.
 fn count_made(rows: &mut Rows, its: bool, reference: RefId) -> Result<(), Memory>
     ensures { OnOk result (ChangedIf its rows.old.tree reference.0 one_made rows.new.tree) }
 {
@@ -89,7 +89,7 @@ fn count_made(rows: &mut Rows, its: bool, reference: RefId) -> Result<(), Memory
     rows.set(reference.0, Calls { made, ..calls })
 }
 
-/// A call more of a reference that was delivered there, where it is one of these. `Memory` where a growth was refused, or the number would not
+/// A call more of a reference that was delivered there, if it is one of these. `Memory` if a growth was refused, or the number would not
 /// fit.
 fn count_delivered(rows: &mut Rows, its: bool, reference: RefId, place: Place) -> Result<(), Memory>
     ensures { OnOk result (ChangedIf its rows.old.tree reference.0 (one_delivered place) rows.new.tree) }

@@ -6,7 +6,7 @@ use rpc_msg::Memory;
 use std::alloc::Global;
 use trace_json::{TraceVersion, line_of};
 
-/// The lines of these entries behind a text, each with a newline at its end. `Memory` where a growth was refused; the
+/// The lines of these entries behind a text, each with a newline at its end. `Memory` if a growth was refused; the
 /// text may then have some of them.
 pub fn write_entries(
     alloc: Global,

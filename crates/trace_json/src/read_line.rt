@@ -121,8 +121,8 @@ fn parse(alloc: Global, text: &str) -> Result<Value, TraceFault>
 
 /// The version of a trace, by its first line, without its newline.
 ///
-/// Answers `Memory` where a growth was refused; `NotJson` where the text is no JSON; `WrongShape` where it is no head;
-/// `Version` where it is the head of a version that is neither.
+/// Answers `Memory` if a growth was refused; `NotJson` if the text is no JSON; `WrongShape` if it is no head;
+/// `Version` if it is the head of a version that is neither.
 pub fn version_of(alloc: Global, text: &str) -> Result<TraceVersion, TraceFault>
     ensures ok { IfOk result (λ v. read text.now ≡ Some (head_data v)) }
     ensures only { (v : TraceVersion) → read text.now ≡ Some (head_data v) → IsOkUnless result TraceFault.Memory }
@@ -142,7 +142,7 @@ pub fn version_of(alloc: Global, text: &str) -> Result<TraceVersion, TraceFault>
 /// The entry that a line of that version is, a line without its newline.
 ///
 /// Spaces between the parts of the JSON text and the order of keys decide nothing; of a key that stands twice in one
-/// object the last counts. Answers `Memory` where a growth was refused; `NotJson` where the text is no JSON; and else
+/// object the last counts. Answers `Memory` if a growth was refused; `NotJson` if the text is no JSON; and else
 /// the first that holds of: `WrongShape`, `Version` (a head of another version), `BadBase64`, `BadPayload`.
 pub fn entry_of(
     alloc: Global,

@@ -156,7 +156,7 @@ impl<'v> Fields<'v> {
         flag_of(value, version)
     }
 
-    /// No member is left; `WrongShape` where one is.
+    /// No member is left; `WrongShape` if one is.
     pub fn end(mut self) -> Result<(), Fault>
         ensures gives { Gives (λ u. u) result (end_at (members_view self.entry.rest)) }
         ensures ok { OnOk result (members_view self.entry.rest ≡ no_members) }

@@ -14,7 +14,7 @@ use std::alloc::Global;
 /// a trace.
 ///
 /// Both versions are written, for as long as the program writes version 1 (one constant of the program decides which).
-/// It fails only where memory is refused. `entry_of` reads the version 2 line as the entry, and the version 1 line where
+/// It fails only if memory is refused. `entry_of` reads the version 2 line as the entry, and the version 1 line if
 /// no flag is true.
 pub fn line_of(alloc: Global, entry: &JournalEntry, version: TraceVersion) -> Result<String, Memory>
     ensures text { IfOk result (λ line. string_bytes line ≡ compact_text (value version entry.now)) }

@@ -9,11 +9,11 @@ use std::process::ExitCode;
 use std::{env, fs};
 use vat_call_lib::{Ending, Player, read_lines};
 
-/// The status where the words ask for nothing, the script is at fault, or input, output or memory fails.
+/// The status if the words ask for nothing, the script is at fault, or input, output or memory fails.
 const FAILED: u8 = 2;
 
 /// `vat_call SCRIPT [FILE]`: plays a script, and writes what it is told to the file, or to standard error; there it says how it
-/// ended too. The status is 0 where all was done, 1 where the vat went down before, and 2 where it failed.
+/// ended too. The status is 0 if all was done, 1 if the vat went down before, and 2 if it failed.
 fn main(rt: HostRuntime) -> ExitCode {
     match call(&rt) {
         Ok(ending) => {

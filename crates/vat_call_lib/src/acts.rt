@@ -139,14 +139,15 @@ impl<R: BufRead + Drop, W: Write + Drop, T: Write + Drop> Player<R, W, T> {
             let Some(told) = self.vat.next_event() else {
                 break;
             };
-            let entry = self.note(told)?;
-            tell(self.alloc, &mut self.told, &entry)?;
+            if let Some(entry) = self.note(told)? {
+                tell(self.alloc, &mut self.told, &entry)?;
+            }
         }
         Ok(())
     }
 
-    // Keeps what the vat handed over: gives the entry that tells it.
-    fn note(&mut self, told: Told) -> Result<JournalEntry, BrokenOff> {
+    // Keeps what the vat handed over: gives the entry that tells it, if a journal has one.
+    fn note(&mut self, told: Told) -> Result<Option<JournalEntry>, BrokenOff> {
         let entry = match told {
             Told::Served(call) => {
                 self.open.add_task(call.task)?;
@@ -161,8 +162,9 @@ impl<R: BufRead + Drop, W: Write + Drop, T: Write + Drop> Player<R, W, T> {
                 JournalEntry::Ended(VAT, ended)
             }
             Told::Down(number, _reason) => JournalEntry::Down(VAT, number),
+            _other => return Ok(None),
         };
-        Ok(entry)
+        Ok(Some(entry))
     }
 }
 

@@ -9,7 +9,7 @@ pub enum Ending {
     /// The lines are over, each call has its outcome or was finished, and each task was answered; and whether anything is left
     /// between the two vats.
     Done { left: bool },
-    /// The vat went down before, with that number: 0 where the peer's stream ended.
+    /// The vat went down before, with that number: 0 if the peer's stream ended.
     Down(u16),
 }
 

@@ -21,8 +21,8 @@ impl<R: BufRead + Drop> Frames<R> {
         }
     }
 
-    /// Reads until one frame is whole, and hands its bytes to the vat; says whether the stream goes on. Where it ends, the vat is
-    /// told so, and where it has no frame, the vat gets what stands there in place of one.
+    /// Reads until one frame is whole, and hands its bytes to the vat; says whether the stream goes on. If it ends, the vat is
+    /// told so, and if it has no frame, the vat gets what stands there in place of one.
     pub(crate) fn hand_next(&mut self, vat: &mut Connection) -> Result<bool, BrokenOff> {
         for _ in 0..u64::MAX {
             let piece = match self.reader.fill_buf() {

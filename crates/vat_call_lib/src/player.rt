@@ -47,8 +47,8 @@ impl<R: BufRead + Drop, W: Write + Drop, T: Write + Drop> Player<R, W, T> {
     }
 
     /// Plays lines in order, and then goes on until nothing is open: each task is answered with the null payload, the oldest
-    /// first, and where there is none a frame is taken. `Unnamed` with the line that names something which is not there when its
-    /// turn comes; what stands before it was done then. What broke it off, where something did.
+    /// first, and if there is none a frame is taken. `Unnamed` with the line that names something which is not there when its
+    /// turn comes; what stands before it was done then. What broke it off, if something did.
     pub fn play(&mut self, lines: &[Line]) -> Result<Ending, Failure>
         ensures ending { IfOk result (IsEnding self.new.vat) }
         ensures stops { IfErr result (Stops lines.now) }

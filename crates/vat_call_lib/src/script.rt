@@ -7,9 +7,9 @@ use rpc_msg::{Items, Vat};
 use script_language::{Line, Program, ScriptFault, read_script};
 use std::alloc::Global;
 
-/// The lines of a script, which are those that a script for two threads has, of vat `a` alone. `NotText` where the bytes are not
-/// UTF-8, `Line` with the first line that is none, or else `OtherVat` with the first that is for `b`; want of memory where a growth
-/// was refused.
+/// The lines of a script, which are those that a script for two threads has, of vat `a` alone. `NotText` if the bytes are not
+/// UTF-8, `Line` with the first line that is none, or else `OtherVat` with the first that is for `b`; `BrokenOff`
+/// if a growth was refused.
 pub fn read_lines(alloc: Global, script: &[u8]) -> Result<Items<Line>, Failure>
     ensures says { IfOk result (Says script.now) }
     ensures own { IfOk result (λ lines. first_other lines ≡ None) }
@@ -27,7 +27,7 @@ pub fn read_lines(alloc: Global, script: &[u8]) -> Result<Items<Line>, Failure>
     }
 }
 
-// Where the first line of vat `b` stands.
+// Where the first line of vat `b` is.
 fn first_other(lines: &[Line]) -> Option<usize>
     ensures first { result ≡ first_other lines.now }
     ensures within { IfSome result (λ at. at < length lines.now) }

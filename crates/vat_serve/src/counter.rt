@@ -27,7 +27,7 @@ impl Counter {
         })
     }
 
-    /// What a method gives; none where there is no such method.
+    /// What a method gives; none if there is no such method.
     pub fn serve(
         &mut self,
         alloc: Global,

@@ -27,10 +27,10 @@ const FAILED: u8 = 2;
 
 const USAGE: &str = "usage: vat_serve [--tell] [--limit MIB]";
 
-/// `vat_serve [--tell] [--limit MIB]`: serves one client over standard input and output, and ends with status 0 if it was the client
-/// that ended the conversation, with 1 if a fault did, and with 2 if input, output or memory failed, or calls that wait for an answer
-/// are larger than the limit. With `--tell` it says on standard error how it ended, and whether anything was left between the two.
-/// The limit is of what it holds of the client, and of what waits to be sent: 8 MiB each, unless another number is said.
+/// `vat_serve [--tell] [--limit MIB]`: serves one client over standard input and output. It ends with status 0 if it was the client
+/// that ended the conversation, and with 1 if a fault did. The status is 2 if input, output or memory failed, or if calls that wait
+/// for an answer are larger than the limit. With `--tell` it says on standard error how it ended, and whether anything was left
+/// between the two. The limit is of what it holds of the client, and of what waits to be sent: 8 MiB each, unless another number is said.
 fn main(rt: HostRuntime) -> ExitCode {
     match serve(&rt) {
         Ok(ending) if ending.is_by_client() => ExitCode::SUCCESS,

@@ -5,8 +5,9 @@ use crate::printer::{PRINTER, Printer};
 use crate::registry::Registry;
 use crate::results::Results;
 use crate::sink::{SINK, Sink};
-use anyhow::Result;
+use anyhow::{Result, bail};
 use std::alloc::Global;
+use std::collections::BTreeMap;
 use vat::{Delivery, ObjectId, Place};
 
 /// An object that is served.
@@ -18,39 +19,54 @@ pub enum Object {
     Registry(Registry),
 }
 
-/// The objects of a service. They are never let go: a vat does not say when nobody refers to one any more.
+/// The objects of a service, each until nobody refers to it any more. The registry, which is the bootstrap object, stays.
 #[derive(Drop)]
 pub struct Objects {
-    objects: Vec<Object>,
+    by_number: BTreeMap<u64, Object>,
+    next: u64,
     alloc: Global,
 }
 
 impl Objects {
     /// A registry alone, object 0.
     pub fn new(alloc: Global) -> Result<Objects> {
-        let objects = vec![in alloc; Object::Registry(Registry::new(alloc))]?;
-        Ok(Objects { objects, alloc })
+        let mut objects = Objects {
+            by_number: BTreeMap::new(alloc),
+            next: 0,
+            alloc,
+        };
+        objects.keep(Object::Registry(Registry::new(alloc)))?;
+        Ok(objects)
     }
 
     /// Keeps an object: gives its number.
     pub fn keep(&mut self, object: Object) -> Result<ObjectId> {
-        let number = ObjectId(self.objects.len() as u64);
-        self.objects.push(object)?;
-        Ok(number)
+        let number = self.next;
+        let Some(next) = number.checked_add(1) else {
+            bail!("there are too many objects");
+        };
+        self.by_number.insert(number, object)?;
+        self.next = next;
+        Ok(ObjectId(number))
+    }
+
+    /// Lets go of the object of that number.
+    pub fn release(&mut self, number: ObjectId) {
+        self.by_number.remove(&number.0);
     }
 
     /// The registry of that number.
     pub fn registry(&mut self, number: ObjectId) -> Option<&mut Registry> {
-        match self.objects.get_mut(number.0 as usize) {
+        match self.by_number.get_mut(&number.0) {
             Some(Object::Registry(registry)) => Some(registry),
             _ => None,
         }
     }
 
-    /// What a method of an object gives that needs no more than that object; none where there is no such method.
+    /// What a method of an object gives that needs no more than that object; none if there is no such method.
     pub fn serve(&mut self, call: &Delivery, params: &Place<'_>) -> Result<Option<Results>> {
         let (alloc, method) = (self.alloc, call.method);
-        match self.objects.get_mut(call.object.0 as usize) {
+        match self.by_number.get_mut(&call.object.0) {
             Some(Object::Counter(counter)) if call.interface == COUNTER => counter.serve(
                 alloc, method, params,
             ),

@@ -60,7 +60,8 @@ impl Service {
             match self.vat.next_event() {
                 Some(Event::Served(call)) => self.serve(call)?,
                 Some(Event::Ended(ended)) => self.pass_on(ended)?,
-                Some(Event::Down(_number, _reason)) => {}
+                Some(Event::Released(object)) => self.objects.release(object),
+                Some(_other) => {}
                 None => break,
             }
         }

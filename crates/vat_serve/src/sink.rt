@@ -24,7 +24,7 @@ impl Sink {
         Sink { bytes: 0, sum: 0 }
     }
 
-    /// What a method gives; none where there is no such method.
+    /// What a method gives; none if there is no such method.
     pub fn serve(
         &mut self,
         alloc: Global,

@@ -15,8 +15,8 @@ use vat_trace_lib::{Failure, Printed, print_checked};
 /// What the program does with the word `pair` and a file, whose bytes the reader gives: it plays the script on two threads,
 /// writes the trace to `out`, and answers the status 0. An idle thread sleeps by the clock.
 ///
-/// `Unreadable` where the reader fails, `NotText` where the bytes are not UTF-8, then `Script` with the line at fault, and `Memory`
-/// where a growth was refused or there is no thread: nothing is written to `out` then. `Unwritten` where `out` fails, which may
+/// `Unreadable` if the reader fails, `NotText` if the bytes are not UTF-8, then `Script` with the line at fault, and `Memory`
+/// if a growth was refused or there is no thread: nothing is written to `out` then. `Unwritten` if `out` fails, which may
 /// have taken a part of the trace.
 pub fn play_pair<R: Threads + Wait + Sync, C: Clock + Sync, I: Read, W: Write>(
     alloc: Global,

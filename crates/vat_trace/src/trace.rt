@@ -25,12 +25,12 @@ const CAPACITY: usize = 16;
 const MAX_TURNS: u32 = 10_000;
 
 /// What a script leads to: its lines are worked by two new vats that both have bootstrap object 0, each on a thread of its own.
-/// The trace has a head, the journal of both ends and the counts at the end; its verdict is good. So it is too where the work
+/// The trace has a head, the journal of both ends and the counts at the end; its verdict is good. So it is too if the work
 /// ended by the limit of turns, or with a vat down.
 ///
-/// `NotText` where the bytes are not UTF-8; `Line` with the number of the first line that is none, and what is wrong with it; or
-/// else `Unnamed` with a line that names something which is not there when its turn comes, the lower one where there is one of
-/// each vat. `Memory` where a growth was refused, that of a vat too, or where there is no thread.
+/// `NotText` if the bytes are not UTF-8. `Line` with the number of the first line that is none, and what is wrong with it. Else
+/// `Unnamed` with a line that names something which is not there when its turn comes, the lower one if there is one of
+/// each vat. `Memory` if a growth was refused, that of a vat too, or if there is no thread.
 pub fn trace_of_pair<R: Threads + Wait + Sync, C: Clock + Sync>(
     alloc: Global,
     rt: &R,
@@ -95,7 +95,7 @@ fn trace_of_run(alloc: Global, lines: &[Line], run: &PairRun) -> Result<CheckedT
 }
 
 /// The trace of two ends that were put side by side: a head, the journal of both and the counts of both vats; and its verdict,
-/// which is good. `Memory` where a growth was refused.
+/// which is good. `Memory` if a growth was refused.
 pub fn trace_of_gathered(alloc: Global, gathered: &Gathered) -> Result<CheckedTrace, Memory>
     ensures { IfOk result (λ trace. PrintsBoth gathered.now.both (string_bytes trace.text) trace.verdict) }
 {

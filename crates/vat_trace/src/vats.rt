@@ -12,8 +12,8 @@ use vat_core::Core;
 /// The object of both vats that the other asks for.
 const FIRST_OBJECT: ObjectId = ObjectId(0);
 
-/// The ends of a link of two new vats that both have bootstrap object 0, over rings of that many places. `BadCapacity` where no
-/// ring may have so many, `Memory` where a growth was refused.
+/// The ends of a link of two new vats that both have bootstrap object 0, over rings of that many places. `BadCapacity` if no
+/// ring may have so many, `Memory` if a growth was refused.
 pub(crate) fn new_ends(alloc: Global, capacity: usize) -> Result<(EndA, EndB), LinkFault>
     ensures ends { IfOk result (λ ends. AreEnds ends.0.end ends.1.end) }
     ensures first_a { IfOk result (λ ends. ends.0.end.start ≡ first_held A) }

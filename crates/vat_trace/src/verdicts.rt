@@ -5,7 +5,7 @@ use link_workers::WorkerEnd;
 use script_language::NameFault;
 use vat_trace_lib::ScriptFault;
 
-/// The fault of a script whose lines were worked by two workers, by how the work of each ended: `Memory` where one of them lacked
+/// The fault of a script whose lines were worked by two workers, by how the work of each ended: `Memory` if one of them lacked
 /// it, or else `Unnamed` with the lower of the lines at fault.
 pub(crate) fn judge(a: WorkerEnd, b: WorkerEnd) -> Result<(), ScriptFault>
     ensures { result ≡ judged a b }

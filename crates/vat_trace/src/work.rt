@@ -13,8 +13,8 @@ use std::thread::Threads;
 use std::time::Clock;
 
 /// Two new vats that both have bootstrap object 0, worked by the lines of a script, each on a thread of its own, over rings of
-/// that many places, as `link_driver::run_pair` does. `BadCapacity` where no ring may have so many, `Memory` where the vats or their
-/// rings find none, `NoThread` where there is no thread.
+/// that many places, as `link_driver::run_pair` does. `BadCapacity` if no ring may have so many, `Memory` if the vats or their
+/// rings find none, `NoThread` if there is no thread.
 pub fn work_lines<R: Threads + Wait + Sync, G: Gate, C: Clock + Sync>(
     alloc: Global,
     rt: &R,

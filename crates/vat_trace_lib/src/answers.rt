@@ -46,7 +46,7 @@ fn run(alloc: Global, script: &str) -> Result<Printed, Failure>
 }
 
 /// What is printed of a trace: its text, behind which stands the line that says a broken verdict, and the status by the
-/// verdict. `Memory` where a growth was refused.
+/// verdict. `Memory` if a growth was refused.
 pub fn print_checked(trace: CheckedTrace) -> Result<Printed, Memory>
     ensures text { IfOk result (λ printed. string_bytes printed.text ≡ string_bytes trace.text ++ complaint trace.verdict) }
     ensures status { IfOk result (λ printed. printed.status ≡ status_of trace.verdict) }

@@ -11,8 +11,8 @@ use script_language::{Act, GiveFault, Line, LineCommand, Names};
 use std::alloc::Global;
 use vat_world::{Answer, StepAnswer, World, WorldEvent, vat_of};
 
-/// Plays the lines in order. `Unnamed` where a line names something that is not there when its turn comes, with its
-/// number, counted from 1, and the first such thing; what stands before it was played. `Memory` where a growth of the
+/// Plays the lines in order. `Unnamed` if a line names something that is not there when its turn comes, with its
+/// number, counted from 1, and the first such thing; what stands before it was played. `Memory` if a growth of the
 /// names, of a command or of the counts was refused.
 pub fn play_lines(
     alloc: Global,
@@ -57,7 +57,7 @@ fn play_line(
     Ok(())
 }
 
-/// Lets the event of a line happen, and keeps what it answers. A command that is refused for want of memory ends the play.
+/// Lets the event of a line happen, and keeps what it answers. A command that is refused for lack of memory ends the play.
 fn happen(
     alloc: Global,
     world: &mut World,

@@ -21,11 +21,11 @@ const FAILED: u8 = 2;
 const USAGE: &str = "usage: vat_trace run|pair|check|show|upgrade FILE";
 
 /// What the program does with a word and a file, whose bytes the reader gives. It writes to `out` what the word asks for,
-/// and answers the status: 0, or 3 where `check` said that an entry breaks a law.
+/// and answers the status: 0, or 3 if `check` said that an entry breaks a law.
 ///
-/// `Usage` for another word, `Unreadable` where the reader fails, `NotText` where the bytes are not UTF-8, then `Script`
-/// or `Trace` with the fault of the script or the trace, and `Memory` where a growth was refused: nothing is written to
-/// `out` then. `Unwritten` where `out` fails, which may have taken a part of the answer.
+/// `Usage` for another word, `Unreadable` if the reader fails, `NotText` if the bytes are not UTF-8. Then `Script` or `Trace`
+/// with the fault of the script or the trace, and `Memory` if a growth was refused. Nothing is written to `out` in these
+/// cases. `Unwritten` if `out` fails, which may have taken a part of the answer.
 pub fn play<R: Read, W: Write>(
     alloc: Global,
     word: &str,
@@ -45,7 +45,7 @@ pub fn play<R: Read, W: Write>(
     Ok(printed.status)
 }
 
-/// The status with which the program ends. A failure is said on `err`, where that can be written.
+/// The status with which the program ends. A failure is said on `err`, if that can be written.
 pub fn status<E: Write>(played: Result<u8, Failure>, name: &str, err: &mut E) -> u8
     ensures { result ≡ status_after played }
 {
@@ -58,7 +58,7 @@ pub fn status<E: Write>(played: Result<u8, Failure>, name: &str, err: &mut E) ->
     }
 }
 
-/// Says a failure on `err`, where the file has that name.
+/// Says a failure on `err`, for a file of that name.
 fn tell<E: Write>(failure: Failure, name: &str, err: &mut E) -> io::Result<()>
     ensures { OnOk result (Appends (E.contents err.old) (E.contents err.new) (said_of name.now failure)) }
 {

@@ -35,9 +35,9 @@ pub struct CheckedTrace {
 }
 
 /// What a script leads to: the lines are played in order on two new vats that both have bootstrap object 0, and the
-/// trace has a head, the journal, and the counts at the end; its verdict is good. `NotText` where the bytes are not UTF-8;
+/// trace has a head, the journal, and the counts at the end; its verdict is good. `NotText` if the bytes are not UTF-8;
 /// `Line` with the number of the first line that is none, and what is wrong with it; or else `Unnamed` with that of the
-/// first that names something which is not there when its turn comes. `Memory` where a growth was refused, that of a vat
+/// first that names something which is not there when its turn comes. `Memory` if a growth was refused, that of a vat
 /// too.
 pub fn trace_of_script(alloc: Global, script: &[u8]) -> Result<CheckedTrace, ScriptFault>
     ensures prints { IfOk result (λ trace. Prints script.now (string_bytes trace.text) trace.verdict) }
@@ -109,7 +109,7 @@ fn trace_in(
     }
 }
 
-/// The trace of a journal, with its head, and its verdict. `Memory` where a growth was refused.
+/// The trace of a journal, with its head, and its verdict. `Memory` if a growth was refused.
 pub fn checked(alloc: Global, journal: &[JournalEntry]) -> Result<CheckedTrace, Memory>
     ensures text { IfOk result (λ trace. string_bytes trace.text ≡ trace_text Two (entry.Head ∷ journal.now)) }
     ensures verdict { IfOk result (λ trace. trace.verdict ≡ verdict_of (entry.Head ∷ journal.now)) }

@@ -65,7 +65,7 @@ const ROWS: &[Row] = &[
     ("a turn\n", 0, WorkerEnd::Limit, WorkerEnd::Limit),
 ];
 
-/// Whether it ended as it was to, at one vat. Where both wait in vain, the one that is later hears of the other, or has waited long
+/// Whether it ended as it was to, at one vat. If both wait in vain, the one that is later hears of the other, or has waited long
 /// enough itself.
 fn is_wanted(wanted: WorkerEnd, end: WorkerEnd) -> bool {
     end == wanted || (wanted == WorkerEnd::Limit && end == WorkerEnd::Stopped)

@@ -88,7 +88,7 @@ fn is_merged(alloc: Global) -> Result<bool, AllocError> {
     }
 }
 
-/// Where one allocation is refused both logs are as they were.
+/// If one allocation is refused both logs are as they were.
 #[test]
 fn two_calls_cross(rt: HostRuntime) -> Result<(), AllocError> {
     let is_merged = match is_merged(rt.alloc()) {

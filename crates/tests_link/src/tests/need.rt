@@ -1,4 +1,4 @@
-//! Want of memory: to be run with each allocation refused (`scripts/refused`).
+//! Out of memory: to be run with each allocation refused (`scripts/refused`).
 ghost use Rattle.std.specs.Prelude.{IfOk};
 ghost use Rattle.link_rings.specs.Ends.{AreLinked, IsSameEnd};
 
@@ -9,7 +9,7 @@ use link_rings::{Entry, Gathered, LinkFault, Turn, link};
 use std::alloc::{AllocError, Global};
 use std::process::Abort;
 
-/// Where memory is refused both sides come back, and can be linked the second time.
+/// If memory is refused both sides come back, and can be linked the second time.
 fn linked_again(rt: &impl Abort, alloc: Global) -> Result<(AdderEnd, AdderEnd), AllocError>
     ensures { IfOk result (λ ends. AreLinked ends.0 ends.1) }
 {

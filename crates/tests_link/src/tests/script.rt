@@ -39,7 +39,7 @@ fn told((a, end_a): &(Toy, WorkerEnd), (b, end_b): &(Toy, WorkerEnd), case: &Cas
     }
 }
 
-/// Plays a script with rings of that many places; want of memory, a script that is none, and want of a thread are one error.
+/// Plays a script with rings of that many places; running out of memory, a script that is none, and a thread that cannot be had are one error.
 pub fn play<R: Threads + Wait + Sync, G: Gate, C: Clock + Sync>(
     rt: &R,
     clock: &C,

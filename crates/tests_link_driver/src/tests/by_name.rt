@@ -8,7 +8,7 @@ use rpc_machine::{CallCommand, Effects, Refusal};
 use rpc_msg::{CallId, Exception, Items, Memory, ObjectId, PromiseId, RefId, TaskId};
 use std::alloc::Global;
 
-/// Asks an end for it, where it is no turn: gives what follows, if it says.
+/// Asks an end for it, if it is no turn: gives what follows, if it says.
 pub(super) fn ask<V>(
     alloc: Global,
     end: &mut VatEnd<V>,

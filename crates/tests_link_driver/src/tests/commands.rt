@@ -10,7 +10,7 @@ use std::alloc::Global;
 /// What a call or an answer carries.
 pub(super) type Contents = (Payload, Items<RefId>);
 
-/// The command that an act is, and none for a turn; made again where one allocation was refused.
+/// The command that an act is, and none for a turn; made again if one allocation was refused.
 pub(super) fn command(alloc: Global, act: Act) -> Result<Option<Command>, Memory> {
     match made(alloc, act) {
         Err(Memory) => made(alloc, act),

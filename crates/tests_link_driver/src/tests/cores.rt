@@ -1,4 +1,4 @@
-//! New cores, their ends and seats. Where memory is refused, what was handed in comes back, and is taken the second time.
+//! New cores, their ends and seats. If memory is refused, what was handed in comes back, and is taken the second time.
 ghost use Rattle.std.specs.Prelude.{IfOk};
 ghost use Rattle.link_driver.specs.Ends.{AreEnds, IsNewCore};
 ghost use Rattle.rpc_msg.specs.declared.ids.Vat.TheVariants.{A, B};

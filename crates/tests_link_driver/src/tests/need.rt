@@ -1,4 +1,4 @@
-//! Want of memory at the two ends of a link: to be run with each allocation refused (`scripts/refused`).
+//! Out of memory at the two ends of a link: to be run with each allocation refused (`scripts/refused`).
 ghost use Rattle.link_rings.specs.Ends.{IsSameEnd};
 
 use crate::tests::acts::{Act, ENDS, LONG};
@@ -10,7 +10,7 @@ use rpc_machine::{Command, Refusal};
 use rpc_msg::{ExceptionKind, Memory, Message, PlainMessage, Vat};
 use std::alloc::Global;
 
-/// Whether it is the Abort of a vat that goes down for want of memory.
+/// Whether it is the Abort of a vat that goes down for lack of memory.
 fn is_abort(message: &Message) -> bool {
     match message {
         Message::Plain(PlainMessage::Abort(said)) => {
@@ -29,7 +29,7 @@ fn ends_fallen(journal: &[JournalEntry]) -> bool {
     }
 }
 
-/// Whether the last entry of a log took its vat down for want of memory: it received a frame, or else none, and all that it sent
+/// Whether the last entry of a log took its vat down for lack of memory: it received a frame, or else none, and all that it sent
 /// was one Abort; and its end wrote that.
 pub(super) fn is_fall(log: &[Entry<Note>], journal: &[JournalEntry], received: bool) -> bool {
     match log.last() {
@@ -40,7 +40,7 @@ pub(super) fn is_fall(log: &[Entry<Note>], journal: &[JournalEntry], received: b
     }
 }
 
-/// What becomes of a command that comes back once where memory is refused.
+/// What becomes of a command that comes back once if memory is refused.
 #[derive(Clone, Copy, PartialEq, Eq, Debug, Drop)]
 pub(super) enum Asked {
     Done,
@@ -169,7 +169,7 @@ fn play(alloc: Global, a: &mut EndA, b: &mut EndB, acts: &[(Vat, Act)]) -> bool
     is_so
 }
 
-/// What was delivered is a beginning of what is to be, and all of it where both vats are up. The tables can be told.
+/// What was delivered is a beginning of what is to be, and all of it if both vats are up. The tables can be told.
 fn is_told(alloc: Global, gathered: &Gathered, are_up: bool) -> Result<bool, Memory> {
     let journal = journal(alloc, gathered)?;
     let is_due = match delivered(&journal, DELIVERED) {

@@ -1,4 +1,4 @@
-//! Want of memory at a seat: to be run with each allocation refused (`scripts/refused`).
+//! Out of memory at a seat: to be run with each allocation refused (`scripts/refused`).
 use crate::tests::acts::Act;
 use crate::tests::commands::command;
 use crate::tests::cores::seat;
@@ -76,7 +76,7 @@ fn obeys(seat: &mut Seat, command: Command) -> bool {
     }
 }
 
-/// The message; made again where one allocation was refused.
+/// The message; made again if one allocation was refused.
 fn said(alloc: Global, said: Said) -> Result<Message, Memory> {
     match message(alloc, said) {
         Err(Memory) => message(alloc, said),

@@ -38,7 +38,7 @@ fn turn<V>(end: &mut VatEnd<V>) -> bool
     }
 }
 
-/// Whether all that is asked is done. What waits goes out where the other end made room.
+/// Whether all that is asked is done. What waits goes out if the other end made room.
 fn play(alloc: Global, a: &mut EndA, b: &mut EndB, acts: &[(Vat, Act)]) -> bool
     ensures a { IsSameEnd a.old.end a.new.end }
     ensures b { IsSameEnd b.old.end b.new.end }
@@ -90,7 +90,7 @@ pub(super) fn delivered(journal: &[JournalEntry], calls: &[(u64, u16)]) -> Optio
     Some(count)
 }
 
-/// Where memory is refused it says so, and gives it the second time.
+/// If memory is refused it says so, and gives it the second time.
 pub(super) fn journal(alloc: Global, gathered: &Gathered) -> Result<Vec<JournalEntry>, Memory> {
     match gathered.journal(alloc) {
         Ok(journal) => Ok(journal),
@@ -143,9 +143,9 @@ fn has_made(log: &[Entry<Note>], wanted: &[Numbers]) -> bool {
     wanted.next().is_none()
 }
 
-/// What is seen of two ends: whether all was done, with which numbers they are down, whether the frames of A and of B have the wanted
-/// numbers, how many calls were delivered, if they are the first of `DELIVERED`; whether A was shut with 50, and whether neither
-/// vat has an export or an import.
+/// What is seen of two ends: whether all was done, with which numbers they are down, and whether the frames of A and of B have the
+/// wanted numbers. How many calls were delivered, if they are the first of `DELIVERED`. Whether A was shut with 50, and whether
+/// neither vat has an export or an import.
 #[derive(Clone, Copy, Drop)]
 pub(super) struct Seen {
     pub is_done: bool,
@@ -174,7 +174,7 @@ fn look(
     })
 }
 
-/// What is seen where these acts were asked for, one after the other.
+/// What is seen once these acts were asked for, one after the other.
 pub(super) fn see(
     rt: &impl Abort,
     alloc: Global,

@@ -17,7 +17,7 @@ pub(super) fn take(seat: &mut Seat, seq: u64, ack: u64, message: Message) -> Opt
     }
 }
 
-/// Has it obey a command, which comes back once where memory is refused.
+/// Has it obey a command, which comes back once if memory is refused.
 pub(super) fn ask(seat: &mut Seat, command: Command) -> Asked {
     match seat.command(command) {
         Answer::Done(_, effects) => {

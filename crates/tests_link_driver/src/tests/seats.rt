@@ -159,7 +159,7 @@ fn a_frame_past_a_limit_is_the_fault(rt: HostRuntime) -> Result<(), Memory> {
 /// How many calls may wait at a vat.
 const WAITING: u32 = 65_536;
 
-/// What becomes of a call through the reference to its one promise, where it waits.
+/// What becomes of a call through the reference to its one promise, if it waits.
 fn wait(alloc: Global, seat: &mut Seat, null: &Payload) -> Option<Asked> {
     match null.copy(alloc) {
         Ok(payload) => {

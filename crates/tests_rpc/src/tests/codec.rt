@@ -21,7 +21,7 @@ fn encoded(alloc: Global, message: Message) -> Result<Payload, EncodeError> {
     encode(alloc, &message)
 }
 
-// Where the first try has no memory for it, the second has.
+// If the first try has no memory for it, the second has.
 fn copied(alloc: Global, message: &Message) -> Result<Message, Memory> {
     match message.copy(alloc) {
         Ok(copy) => Ok(copy),
@@ -186,7 +186,7 @@ fn a_call_comes_back_with_all_its_parts(rt: HostRuntime) -> Result<(), Fail> {
     Ok(())
 }
 
-/// Why it has no frame, but for want of memory.
+/// Why it has no frame, except for lack of memory.
 fn fault_of(encoded: Result<Payload, EncodeError>) -> Result<Option<EncodeFault>, Memory> {
     match encoded {
         Ok(_) => Ok(None),
@@ -330,7 +330,7 @@ fn an_echo_may_be_too_deep_or_too_large(rt: HostRuntime) -> Result<(), Fail> {
     Ok(())
 }
 
-/// Why a frame is no message, but for want of memory.
+/// Why a frame is no message, except for lack of memory.
 fn decode_fault(alloc: Global, frame: &[u8]) -> Result<Option<EnvelopeFault>, Memory> {
     match decode(alloc, frame, STAMP) {
         Ok(_) => Ok(None),

@@ -6,7 +6,7 @@ use script_language::{Act, GiveFault, Line, Name, NameFault, Names, Program};
 use std::alloc::Global;
 use std::process::Abort;
 
-/// What a line does by these names. One that is not read is taken for want of memory.
+/// What a line does by these names. One that is not read is taken for lack of memory.
 pub(super) fn act_of(
     alloc: Global,
     names: &Names,

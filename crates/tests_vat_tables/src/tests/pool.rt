@@ -2,7 +2,7 @@
 use std::process::Abort;
 use vat_tables::{HeldPool, ListKey, POOL_LIMIT, TableFault};
 
-// Where a growth is refused, the call has to come back and the pool to be as it was.
+// If a growth is refused, the call has to come back and the pool to be as it was.
 fn starts(pool: &mut HeldPool<usize>, call: usize) -> Option<ListKey> {
     let before = pool.len();
     match pool.start(call) {

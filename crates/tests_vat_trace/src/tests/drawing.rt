@@ -5,7 +5,7 @@ use std::alloc::Global;
 use std::str;
 use trace_chart_lib::{Failure, Options, draw_trace, status, write_help};
 
-// No clause says what the small functions here do: a test is proved quicker where nothing is known of what it compares.
+// No clause says what the small functions here do: a test is proved quicker if nothing is known of what it compares.
 pub(super) fn draw(
     alloc: Global,
     options: Options,

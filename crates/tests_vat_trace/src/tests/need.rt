@@ -1,4 +1,4 @@
-//! Want of memory: to be run with each allocation refused, by `rt try --test --fail-alloc`.
+//! Out of memory: to be run with each allocation refused, by `rt try --test --fail-alloc`.
 use crate::tests::drawing::draw;
 use crate::tests::traces::PROMISE;
 use rpc_check::Verdict;
@@ -10,7 +10,7 @@ use vat_trace_lib::{Failure, ScriptFault, play, trace_of_script};
 const EMBARGO: &[u8] =
     b"a bootstrap boot\na field root boot -\na host mine 5\na call give root 7 1 mine\ndeliver b\ndeliver b\nb take f 0 0\nb promise p x\nb answer 0 x\ndeliver a\ndeliver a\na got r give 0\na finish give\ndeliver b\na call one r 7 2 -\na call two r 7 3 -\ndeliver b\ndeliver b\nb resolve p f\na call three r 7 4 -\ndeliver a\ndeliver a\ndeliver a\na advance r\na call four r 7 5 -\na call five r 7 6 -\ndeliver b\ndeliver b\ndeliver b\ndeliver a\ndeliver a\n";
 
-/// A growth that is refused, in a vat too, is want of memory.
+/// A growth that is refused, in a vat too, is told as running out of memory.
 #[test]
 fn a_refused_growth_is_told(rt: HostRuntime) {
     match trace_of_script(rt.alloc(), EMBARGO) {
@@ -35,7 +35,7 @@ fn write(alloc: Global, word: &str, out: &mut Vec<u8>) -> Option<Failure> {
     play(alloc, word, &mut reader, out).err()
 }
 
-/// Where a growth is refused, as a line is read or written or in the output, that is told and nothing is written; all is
+/// If a growth is refused, as a line is read or written or in the output, that is told and nothing is written; all is
 /// at the next try.
 fn is_written_at_last(alloc: Global, word: &str, wanted: &[u8]) -> bool {
     let mut out = Vec::new(alloc);
@@ -58,7 +58,7 @@ fn a_refused_growth_is_told_of_a_trace(rt: HostRuntime) {
     }
 }
 
-/// Where a growth is refused while a trace is drawn, nothing is written; all is at the next try.
+/// If a growth is refused while a trace is drawn, nothing is written; all is at the next try.
 fn is_drawn_at_last(alloc: Global) -> bool {
     let mut out = Vec::new(alloc);
     match draw(alloc, Options::new(), PROMISE.as_bytes(), &mut out) {

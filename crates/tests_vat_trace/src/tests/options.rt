@@ -34,12 +34,12 @@ const CHOSEN: [Step; 18] = [
     Step::IsEmpty(true),
 ];
 
-// No clause says what the small functions here do: a test is proved quicker where nothing is known of what it compares.
+// No clause says what the small functions here do: a test is proved quicker if nothing is known of what it compares.
 fn with(options: Options, word: &str, value: &str) -> Option<Options> {
     options.with(word, value)
 }
 
-/// The options after a step. None where it does not hold.
+/// The options after a step. None if it does not hold.
 fn take(options: Options, step: Step) -> Option<Options> {
     let holds = match step {
         Step::With(word, value) => return with(options, word, value),

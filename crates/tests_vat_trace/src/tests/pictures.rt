@@ -416,7 +416,7 @@ fn faults_are_said_in_words(rt: HostRuntime) {
     }
 }
 
-/// Rows stand 24 apart, and 28 more behind each thirtieth, where the vats' heads stand again.
+/// Rows stand 24 apart, and 28 more behind each thirtieth, where the vats' heads are drawn again.
 fn trace_of_sixty(alloc: Global) -> Result<String, AllocError> {
     let mut trace = String::from_str(alloc, "{\"k\":\"head\",\"version\":2}\n")?;
     for _ in 0..60 {

@@ -6,7 +6,7 @@ use vat_trace_lib::{play, status};
 /// The status, what is printed and what is said.
 pub(super) type Output = (u8, &'static str, &'static str);
 
-// No clause says what this does: a test is proved quicker where nothing is known of what it compares.
+// No clause says what this does: a test is proved quicker if nothing is known of what it compares.
 fn status_of(alloc: Global, word: &str, input: &[u8], out: &mut Vec<u8>, err: &mut Vec<u8>) -> u8 {
     let mut reader = input;
     let played = play(alloc, word, &mut reader, out);

@@ -39,7 +39,7 @@ impl Write for Cut {
     }
 }
 
-// No clause says what the small functions here do: a test is proved quicker where nothing is known of what it compares.
+// No clause says what the small functions here do: a test is proved quicker if nothing is known of what it compares.
 fn play_from(alloc: Global, reader: &mut Cut, out: &mut Vec<u8>, err: &mut Vec<u8>) -> u8 {
     let played = play(alloc, "run", reader, out);
     status(played, "-", err)
@@ -51,7 +51,7 @@ fn play_to(alloc: Global, out: &mut Cut, err: &mut Vec<u8>) -> u8 {
     status(played, "-", err)
 }
 
-/// A script that breaks off; and nothing is said where the output breaks off.
+/// A script that breaks off; and nothing is said if the output breaks off.
 #[test]
 fn streams_that_break_off(rt: HostRuntime) {
     let (mut out, mut err) = (Vec::new(rt.alloc()), Vec::new(rt.alloc()));

@@ -4,10 +4,13 @@ use crate::tests::events::null;
 use crate::tests::need::is_abort;
 use rpc_journal::{Counts, Delivery};
 use rpc_machine::{CallCommand, Command, Effects, Level, Refusal};
-use rpc_msg::{CallId, Items, Memory, Message, ObjectId, Payload, PromiseId, RefId, TaskId, Vat};
+use rpc_msg::{
+    CallId, EmbargoId, ExportId, Items, Memory, Message, ObjectId, Payload, PromiseId, QuestionId,
+    RefId, TaskId, Vat,
+};
 use std::alloc::Global;
 use std::collections::VecDeque;
-use vat_core::{Answer, Core};
+use vat_core::{Answer, Core, ImportKind, Place};
 
 /// What happens at a vat. Its references, calls, tasks and promises are counted from 0.
 #[derive(Clone, Copy, Drop)]
@@ -31,12 +34,33 @@ enum Act {
     Advance(u64),
     Finish(u64),
     LetGo(u64),
+    /// It is asked whether a reference leads to an own object, and whether its calls wait under an embargo.
+    LeadsToOwn(u64, u64, bool),
+    /// It is asked whether a reference leads to an import that is no open promise, under no embargo.
+    LeadsToImport(u64, u32),
+    /// It is asked for an object that is named, and how many are.
+    Names(u64, usize),
+    /// It is asked for an object that is named no more, and no other is.
+    Lost(u64),
+    /// It is asked whether anybody wants the results of a task.
+    Wants(u64, bool),
+    /// It is asked what an import is.
+    Imports(u32, Option<ImportKind>),
+    /// It is asked whether an import is named.
+    NamesImport(u32, bool),
+    /// It is asked whether the results of a question are named.
+    NamesQuestion(u32, bool),
+    /// It is asked whose calls wait under an embargo.
+    Embargoes(u32, Option<u64>),
 }
 
 /// To the end of the embargo.
 const CALLS: &[(Vat, Act)] = &[
     (Vat::A, Act::Bootstrap),
+    (Vat::A, Act::NamesQuestion(0, false)),
     (Vat::A, Act::Field(0)),
+    (Vat::A, Act::NamesQuestion(0, true)),
+    (Vat::A, Act::NamesImport(0, false)),
     (Vat::A, Act::Host(5)),
     (Vat::A, Act::Give(0, 1, 1)),
     (Vat::B, Act::Receive),
@@ -56,7 +80,11 @@ const CALLS: &[(Vat, Act)] = &[
     (Vat::A, Act::Receive),
     (Vat::A, Act::Receive),
     (Vat::A, Act::Receive),
+    (Vat::A, Act::LeadsToImport(3, 1)),
+    (Vat::A, Act::Imports(1, Some(ImportKind::Resolved))),
     (Vat::A, Act::Advance(3)),
+    (Vat::A, Act::LeadsToOwn(3, 5, true)),
+    (Vat::A, Act::Embargoes(0, Some(3))),
     (Vat::A, Act::Call(3, 5)),
     (Vat::A, Act::Call(3, 6)),
     (Vat::B, Act::Receive),
@@ -64,6 +92,18 @@ const CALLS: &[(Vat, Act)] = &[
     (Vat::B, Act::Receive),
     (Vat::A, Act::Receive),
     (Vat::A, Act::Receive),
+    (Vat::A, Act::LeadsToOwn(1, 5, false)),
+    (Vat::A, Act::LeadsToOwn(3, 5, false)),
+    (Vat::A, Act::Embargoes(0, None)),
+    (Vat::A, Act::NamesImport(0, true)),
+    (Vat::A, Act::Names(5, 1)),
+    (Vat::B, Act::Names(0, 1)),
+    (Vat::B, Act::LeadsToImport(0, 0)),
+    (Vat::B, Act::Imports(0, Some(ImportKind::Hosted))),
+    (Vat::B, Act::Imports(7, None)),
+    (Vat::A, Act::Wants(3, true)),
+    (Vat::A, Act::Finish(5)),
+    (Vat::A, Act::Wants(3, false)),
 ];
 
 /// All is answered, finished and let go.
@@ -86,7 +126,6 @@ const ENDS: &[(Vat, Act)] = &[
     (Vat::A, Act::Finish(2)),
     (Vat::A, Act::Finish(3)),
     (Vat::A, Act::Finish(4)),
-    (Vat::A, Act::Finish(5)),
     (Vat::A, Act::Finish(6)),
     (Vat::A, Act::LetGo(0)),
     (Vat::A, Act::LetGo(1)),
@@ -100,6 +139,8 @@ const ENDS: &[(Vat, Act)] = &[
     (Vat::B, Act::Receive),
     (Vat::B, Act::Receive),
     (Vat::A, Act::Receive),
+    (Vat::A, Act::Lost(5)),
+    (Vat::B, Act::Lost(0)),
 ];
 
 /// Where the calls are delivered, in order: the object and the method.
@@ -187,7 +228,7 @@ struct Seat {
     coming: VecDeque<Message>,
 }
 
-/// What is seen of it: it is done; a vat goes down by it for want of memory; or it is not as it should be.
+/// What is seen of it: it is done; a vat goes down by it for lack of memory; or it is not as it should be.
 #[derive(Clone, Copy, Debug, PartialEq, Eq, Drop)]
 enum Seen {
     Done,
@@ -235,7 +276,7 @@ fn is_without(core: &Core) -> bool {
     }
 }
 
-// No clause says what these do: a test is proved quicker where nothing is known of the cores that it compares.
+// No clause says what these do: a test is proved quicker if nothing is known of the cores that it compares.
 fn asks(core: &mut Core, command: Command) -> Answer {
     core.command(command)
 }
@@ -244,7 +285,7 @@ fn hears(core: &mut Core, message: Message) -> Effects {
     core.receive(message)
 }
 
-/// What follows from a command, if it is not refused for another reason than want of memory. One that is refused for that leaves
+/// What follows from a command, if it is not refused for another reason than running out of memory. One that is refused for that leaves
 /// the counts as they were, and is taken the second time.
 fn obey(core: &mut Core, command: Command) -> Option<Effects> {
     let Ok(before) = counts(core) else {
@@ -267,12 +308,12 @@ fn again(core: &mut Core, command: Command, before: &Counts) -> Option<Effects> 
     }
 }
 
-/// Whether want of memory takes the vat down, where a command is refused else.
+/// Whether running out of memory takes the vat down; a command is refused otherwise.
 fn goes_down(command: &Command) -> bool {
     matches!(command, Command::Resolve(..) | Command::Answer(..))
 }
 
-/// Whether a vat goes down for want of memory: it says so by one Abort, and does nothing else.
+/// Whether a vat goes down for lack of memory: it says so by one Abort, and does nothing else.
 fn is_overflown(effects: &Effects) -> bool {
     match effects.sends.as_slice() {
         [abort] => {
@@ -285,8 +326,44 @@ fn is_overflown(effects: &Effects) -> bool {
     }
 }
 
+/// Whether it answers so, if it is asked.
+fn answers(core: &mut Core, act: Act) -> Option<bool> {
+    match act {
+        Act::LeadsToOwn(reference, object, waits) => {
+            let place = Place::Own(ObjectId(object));
+            Some(core.leads_to(RefId(reference)) == Ok((place, waits)))
+        }
+        Act::LeadsToImport(reference, id) => {
+            let place = Place::Import(ExportId(id), false);
+            Some(core.leads_to(RefId(reference)) == Ok((place, false)))
+        }
+        Act::Names(object, count) => {
+            Some(core.names_object(ObjectId(object)) && core.named_objects() == count)
+        }
+        Act::Lost(object) => Some(has_lost(core, ObjectId(object))),
+        Act::Wants(task, wanted) => Some(core.wants_results(TaskId(task)) == wanted),
+        Act::Imports(id, kind) => Some(core.import_kind(ExportId(id)) == kind),
+        Act::NamesImport(id, is_named) => Some(core.names_import(ExportId(id)) == is_named),
+        Act::NamesQuestion(id, is_named) => Some(core.names_question(QuestionId(id)) == is_named),
+        Act::Embargoes(id, reference) => {
+            Some(core.embargoed_reference(EmbargoId(id)) == reference.map(RefId))
+        }
+        _ => None,
+    }
+}
+
+fn has_lost(core: &mut Core, object: ObjectId) -> bool {
+    !core.names_object(object)
+        && core.named_objects() == 0
+        && core.noted_object() == Some(object)
+        && core.noted_object().is_none()
+}
+
 /// Lets an act happen at a vat.
 fn happen(alloc: Global, at: &mut Seat, other: &mut Seat, act: Act, delivered: &mut usize) -> Seen {
+    if let Some(is_so) = answers(&mut at.core, act) {
+        return done_if(is_so);
+    }
     match command(alloc, act) {
         Ok(None) => receive(at, other, delivered),
         Ok(Some(command)) => let_obey(at, other, command, delivered),
@@ -365,7 +442,10 @@ fn happen_all(
 }
 
 fn is_over(at: &Seat) -> bool {
-    at.coming.is_empty() && is_without(&at.core)
+    let sizes = at.core.table_sizes();
+    at.coming.is_empty()
+        && is_without(&at.core)
+        && (sizes.questions, sizes.answers, sizes.exports, sizes.imports) == (0, 0, 0, 0)
 }
 
 /// All calls are delivered, and then nothing is left.
@@ -386,7 +466,7 @@ fn plays(alloc: Global) -> Result<Seen, Memory> {
     Ok(play(alloc, &mut a, &mut b))
 }
 
-/// At most one allocation is refused: where that took a vat down, two new ones come to the end.
+/// At most one allocation is refused: if that took a vat down, two new ones come to the end.
 #[test]
 fn calls_come_behind_an_embargo_whichever_allocation_is_refused(
     rt: HostRuntime,

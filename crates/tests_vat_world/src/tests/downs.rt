@@ -14,7 +14,7 @@ enum Happens {
 /// What happens, what it answers, whether A was shut by then, and how many entries there are.
 type Row = (Happens, Brief, bool, usize);
 
-/// Where nothing is on its way nothing is received. A shut takes both down: the Bootstrap of B is on its way to A when A is shut,
+/// If nothing is on its way nothing is received. A shut takes both down: the Bootstrap of B is on its way to A when A is shut,
 /// and it is not received; the Abort of A takes B down with 34, and B was not shut. A vat that is down refuses and receives nothing,
 /// and nothing is written of it.
 const ROWS: &[Row] = &[

@@ -142,7 +142,7 @@ fn let_go(effects: Effects) {
     } = effects;
 }
 
-// No clause says what these do: a test is proved quicker where nothing is known of the worlds that it compares.
+// No clause says what these do: a test is proved quicker if nothing is known of the worlds that it compares.
 pub(super) fn take(world: &mut World, event: WorldEvent) -> Brief {
     tell(world.step(event))
 }

@@ -1,4 +1,4 @@
-//! Want of memory: to be run with each allocation refused, by `scripts/refused`.
+//! Out of memory: to be run with each allocation refused, by `scripts/refused`.
 use crate::tests::events::{Brief, EVENTS, entries, event, take, told, vat_of, world};
 use rpc_journal::JournalEntry;
 use rpc_machine::Refusal;
@@ -6,7 +6,7 @@ use rpc_msg::{ExceptionKind, Memory, Message, PlainMessage, Vat};
 use std::alloc::Global;
 use vat_world::World;
 
-/// Whether it is the Abort of a vat that goes down for want of memory.
+/// Whether it is the Abort of a vat that goes down for lack of memory.
 pub(super) fn is_abort(message: &Message) -> bool {
     match message {
         Message::Plain(PlainMessage::Abort(said)) => {
@@ -16,7 +16,7 @@ pub(super) fn is_abort(message: &Message) -> bool {
     }
 }
 
-/// Whether the last entries are the Abort of a vat and that it went down, for want of memory.
+/// Whether the last entries are the Abort of a vat and that it went down, for lack of memory.
 fn ends_overflown(entries: &[JournalEntry], vat: Vat) -> bool {
     match entries {
         [.., JournalEntry::Sent(from, abort), down] => {
@@ -26,7 +26,7 @@ fn ends_overflown(entries: &[JournalEntry], vat: Vat) -> bool {
     }
 }
 
-/// Whether the last entry is of a command that was refused for want of memory.
+/// Whether the last entry is of a command that was refused for lack of memory.
 fn ends_refused(entries: &[JournalEntry], vat: Vat) -> bool {
     match entries.last() {
         Some(last) => told(last) == (vat, "refused", 1),
@@ -41,14 +41,14 @@ fn take_number(alloc: Global, world: &mut World, number: u32) -> Brief {
     }
 }
 
-/// What is seen of an event: its vat is up behind it, or is down for want of memory; or it is not as it should be.
+/// What is seen of an event: its vat is up behind it, or is down for lack of memory; or it is not as it should be.
 enum Seen {
     Up,
     Fallen,
     Wrong,
 }
 
-/// An event that is refused for want of memory is written as that, and is taken the second time; all else that is refused
+/// An event that is refused for lack of memory is written as that, and is taken the second time; all else that is refused
 /// takes the vat down, with its Abort and that in the journal.
 fn take_again(alloc: Global, world: &mut World, number: u32) -> Seen {
     let vat = vat_of(number);

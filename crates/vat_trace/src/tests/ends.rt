@@ -70,7 +70,7 @@ fn round_two_circles(alloc: Global) -> Result<String, AllocError> {
     Ok(script)
 }
 
-/// A limit is no want of memory, however the run ends.
+/// A limit is not told as running out of memory, however the run ends.
 #[test]
 fn a_run_ends_by_limits_in_any_order(rt: HostRuntime) -> Result<(), AllocError> {
     let script = round_two_circles(rt.alloc())?;

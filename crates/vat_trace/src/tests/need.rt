@@ -1,4 +1,4 @@
-//! Want of memory: to be run with each allocation refused, by `rt try --test --fail-alloc`.
+//! Out of memory: to be run with each allocation refused, by `rt try --test --fail-alloc`.
 use crate::program::play_pair;
 use std::alloc::Global;
 use std::sync::Wait;
@@ -19,7 +19,7 @@ fn play<R: Threads + Wait + Clock + Sync>(
     play_pair(alloc, rt, rt, &mut reader, out).err()
 }
 
-/// Where a growth is refused, to either vat or its worker, that is told and nothing is written; all is at the next try.
+/// If a growth is refused, to either vat or its worker, that is told and nothing is written; all is at the next try.
 #[test]
 fn a_refused_growth_is_told(rt: HostRuntime) {
     let mut out = Vec::new(rt.alloc());

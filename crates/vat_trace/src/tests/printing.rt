@@ -38,7 +38,7 @@ const FAULTS: &[(&[u8], &str)] = &[
     // a name that is not bound, in either vat
     (b"a bootstrap x\n\na drop x\n", "script line 3: fault\n"),
     (b"b finish x\n", "script line 1: fault\n"),
-    // the lower line, where there is one of each
+    // the lower line, if there is one of each
     (
         b"#\nb drop x\na bootstrap x\na drop y\n",
         "script line 2: fault\n",

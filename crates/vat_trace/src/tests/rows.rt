@@ -1,5 +1,5 @@
 //! Worked scenes on two threads: calls keep their order while the promise that they were made through is resolved, on two trips
-//! round both vats, and where what they wait for was finished.
+//! round both vats, and while what they wait for was finished.
 use crate::trace::trace_of_pair;
 use rpc_check::Verdict;
 use rpc_msg::Memory;
