@@ -6,6 +6,7 @@ import tempfile
 import time
 
 WITHIN = 300
+VALGRIND = ["valgrind", "-q", "--leak-check=full", "--show-leak-kinds=definite", "--errors-for-leak-kinds=definite", "--error-exitcode=9"]
 # What the client in Rust prints.
 CLIENT_SAYS = "42\n44\non purpose\nnothing is left\n"
 
@@ -40,7 +41,7 @@ def wait_for(port):
 def served(words, port, wrong, **more):
     """A server, while a client plays with it; what it says on standard error is wrong."""
     with tempfile.TemporaryFile("w+") as said:
-        server = subprocess.Popen(words, stdout=subprocess.DEVNULL, stderr=said, **more)
+        server = subprocess.Popen(words, stderr=said, **{"stdout": subprocess.DEVNULL, **more})
         try:
             wait_for(port)
             yield server

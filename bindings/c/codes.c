@@ -6,7 +6,9 @@
 #include <string.h>
 
 _Static_assert(sizeof(lovendak_vat) == 16 && offsetof(lovendak_vat, at) == 8, "the handle's layout");
-_Static_assert(sizeof(lovendak_event) == 56 && offsetof(lovendak_event, payload_len) == 40, "the event's layout");
+_Static_assert(sizeof(lovendak_event) == 64 && offsetof(lovendak_event, place) == 16 && offsetof(lovendak_event, payload_len) == 48,
+               "the event's layout");
+_Static_assert(sizeof(lovendak_place) == 24 && offsetof(lovendak_place, number) == 16, "the layout of a place");
 
 /* What a length of 0 stands beside: a pointer is never null. */
 static const uint64_t no_refs[1];
@@ -33,10 +35,11 @@ static void hand_over(lovendak_vat *from, lovendak_vat *to) {
 /* Every call on an empty handle answers the same, and writes nothing. */
 static void empty_handle(lovendak_vat *vat) {
   lovendak_event event = {0};
+  lovendak_place place = {0};
   uint8_t bytes[8] = {0};
   uint64_t number = 77, more = 77;
   uint32_t small = 77;
-  size_t len = 77;
+  size_t len = 77, lens[] = {77, 77, 77};
   IS(lovendak_free(vat), LOVENDAK_EMPTY_HANDLE);
   IS(lovendak_received(vat, bytes, 8), LOVENDAK_EMPTY_HANDLE);
   IS(lovendak_ended(vat), LOVENDAK_EMPTY_HANDLE);
@@ -45,10 +48,13 @@ static void empty_handle(lovendak_vat *vat) {
   IS(lovendak_load(vat, &number, &more), LOVENDAK_EMPTY_HANDLE);
   IS(lovendak_set_limits(vat, 0, 0), LOVENDAK_EMPTY_HANDLE);
   IS(lovendak_wants_bytes(vat, &small), LOVENDAK_EMPTY_HANDLE);
+  IS(lovendak_set_finishes(vat, LOVENDAK_AFTER_RETURN), LOVENDAK_EMPTY_HANDLE);
   IS(lovendak_next_event(vat, &event, bytes, 8, &number, 1), LOVENDAK_EMPTY_HANDLE);
   IS(lovendak_down(vat, &small), LOVENDAK_EMPTY_HANDLE);
   IS(lovendak_shares_nothing(vat, &small), LOVENDAK_EMPTY_HANDLE);
   IS(lovendak_calls_made(vat, 0, &number), LOVENDAK_EMPTY_HANDLE);
+  IS(lovendak_leads_to(vat, 0, &place), LOVENDAK_EMPTY_HANDLE);
+  IS(lovendak_table_sizes(vat, &len, &lens[0], &lens[1], &lens[2]), LOVENDAK_EMPTY_HANDLE);
   IS(lovendak_bootstrap(vat, &number), LOVENDAK_EMPTY_HANDLE);
   IS(lovendak_result_of(vat, 0, &number), LOVENDAK_EMPTY_HANDLE);
   IS(lovendak_field(vat, 0, no_path, 0, &number), LOVENDAK_EMPTY_HANDLE);
@@ -64,7 +70,8 @@ static void empty_handle(lovendak_vat *vat) {
   IS(lovendak_reject(vat, 0, 0, no_text, 0), LOVENDAK_EMPTY_HANDLE);
   IS(lovendak_advance(vat, 0, &small), LOVENDAK_EMPTY_HANDLE);
   IS(lovendak_shut(vat, 0), LOVENDAK_EMPTY_HANDLE);
-  IS(number == 77 && more == 77 && small == 77 && len == 77 && event.kind == 0, 1);
+  IS(number == 77 && more == 77 && small == 77 && len == 77 && event.kind == 0 && place.kind == 0, 1);
+  IS(lens[0] == 77 && lens[1] == 77 && lens[2] == 77, 1);
 }
 
 /* Room that is too small takes nothing, and says what is wanted. */
@@ -109,6 +116,7 @@ static void no_such_numbers(lovendak_vat *vat) {
   IS(lovendak_fail(vat, 0, 4, no_text, 0), LOVENDAK_NO_SUCH_NUMBER);
   IS(lovendak_reject(vat, 0, 4, no_text, 0), LOVENDAK_NO_SUCH_NUMBER);
   IS(lovendak_shut(vat, 65536), LOVENDAK_NO_SUCH_NUMBER);
+  IS(lovendak_set_finishes(vat, 2), LOVENDAK_NO_SUCH_NUMBER);
   IS(lovendak_fail(vat, 0, 0, (const uint8_t *)"\xff", 1), LOVENDAK_NO_PAYLOAD);
   IS(lovendak_contents(no_refs, 0, 1, (const uint8_t *)"\xff", 1, 0, out, sizeof out, &len), LOVENDAK_NO_PAYLOAD);
   IS(lovendak_call(vat, 0, 0, 0, (const uint8_t *)"none", 4, no_refs, 0, &call), LOVENDAK_NO_PAYLOAD);

@@ -1,6 +1,7 @@
 /* Serves counters over TCP to peers of any make, to 64 clients at a time:  example PORT [CLIENTS]
- * Of the registry of interop/registry.capnp it has makeCounter, makeRegistry, echo and same. It ends after so many CLIENTS, if that is
- * given. */
+ * Of the registry of interop/registry.capnp it has makeCounter, makeRegistry, echo and same. It lets go of a counter once its client has
+ * released it (LOVENDAK_RELEASED). When a client has gone, it prints how many counters that client had left. It ends after so many
+ * CLIENTS, if that is given. */
 #include "lovendak.h"
 #include <arpa/inet.h>
 #include <errno.h>
@@ -16,13 +17,19 @@
 enum { ADD = 0, MAKE_COUNTER = 0, MAKE_REGISTRY = 3, ECHO = 4, SAME = 6 };
 enum { ROOT = 0, MOST_COUNTERS = 1000, MOST_CLIENTS = 64, PIECE = 4096 };
 
-/* A client's socket, or -1; its vat, the sums of its counters (that of object 1 first), room for what an event carries, and the bytes
- * that wait until the client takes them. */
+/* The sums of a client's counters, that of object 1 first. The first `used` places have had a counter, and those in `unused` have none
+ * any more. */
+struct counters {
+  uint64_t sums[MOST_COUNTERS];
+  size_t used, unused[MOST_COUNTERS], unused_len;
+};
+
+/* A client's socket, or -1; its vat, its counters, room for what an event carries, and the bytes that wait until the client takes
+ * them. */
 struct service {
   int client;
   lovendak_vat vat;
-  uint64_t sums[MOST_COUNTERS];
-  size_t counters;
+  struct counters counters;
   lovendak_event event;
   uint8_t *payload;
   size_t room;
@@ -30,6 +37,18 @@ struct service {
   uint8_t out[PIECE];
   size_t out_len, sent;
 };
+
+/* Makes a counter: its object, or ROOT if there are too many. */
+static uint64_t make_counter(struct counters *c, uint64_t first) {
+  size_t place = c->unused_len ? c->unused[--c->unused_len] : c->used;
+  if (place == MOST_COUNTERS) return ROOT;
+  if (place == c->used) c->used++;
+  c->sums[place] = first;
+  return place + 1;
+}
+
+/* No call for the counter comes any more, and its object may be another one from now on. */
+static void release_counter(struct counters *c, uint64_t object) { c->unused[c->unused_len++] = object - 1; }
 
 /* Answers the event's call with what it was given, or with a number or an object. */
 static uint32_t answer(struct service *s, size_t count, uint64_t number, uint32_t caps, uint64_t object) {
@@ -51,14 +70,13 @@ static uint32_t fail(struct service *s, uint32_t kind, const char *reason, size_
 
 static uint32_t serve(struct service *s) {
   const lovendak_event *e = &s->event;
-  uint64_t number = 0;
+  uint64_t number = 0, made;
   uint32_t code = lovendak_number_at(s->payload, e->payload_len, (uint32_t)e->refs_len, 0, &number);
   if (code && code != LOVENDAK_NOTHING) return code;
   if (e->interface_id == REGISTRY && e->object == ROOT) switch (e->method) {
     case MAKE_COUNTER:
-      if (s->counters == MOST_COUNTERS) return FAIL(s, LOVENDAK_OVERLOADED, "too many counters");
-      s->sums[s->counters++] = number;
-      return answer(s, 0, 0, 1, s->counters);
+      made = make_counter(&s->counters, number);
+      return made == ROOT ? FAIL(s, LOVENDAK_OVERLOADED, "too many counters") : answer(s, 0, 0, 1, made);
     case MAKE_REGISTRY:
       return answer(s, 0, 0, 1, ROOT);
     case ECHO:
@@ -66,14 +84,14 @@ static uint32_t serve(struct service *s) {
       return lovendak_answer(&s->vat, e->number, s->payload, e->payload_len, s->refs, e->refs_len);
   }
   if (e->interface_id == COUNTER && e->object != ROOT && e->method == ADD) {
-    uint64_t *sum = &s->sums[e->object - 1];
+    uint64_t *sum = &s->counters.sums[e->object - 1];
     if (number > UINT64_MAX - *sum) return FAIL(s, LOVENDAK_FAILED, "the sum is too large");
     return answer(s, 1, *sum += number, 0, 0);
   }
   return FAIL(s, LOVENDAK_UNIMPLEMENTED, "no such method");
 }
 
-/* Serves the calls that came, until there is no event any more. */
+/* Serves the calls that came, and lets go of what was released, until there is no event any more. */
 static uint32_t work(struct service *s) {
   for (;;) {
     uint32_t code = lovendak_next_event(&s->vat, &s->event, s->payload, s->room, s->refs, 16);
@@ -90,6 +108,7 @@ static uint32_t work(struct service *s) {
       for (size_t i = 0; i < s->event.refs_len; i++) lovendak_drop_ref(&s->vat, s->refs[i]);
     }
     if (code) return code;
+    if (s->event.kind == LOVENDAK_RELEASED) release_counter(&s->counters, s->event.object);
   }
 }
 
@@ -116,6 +135,8 @@ static uint32_t begin(struct service *s, int client) {
 
 static void end(struct service *s, uint32_t code) {
   if (code) fprintf(stderr, "a conversation ended with code %u\n", code);
+  printf("a client has gone, and left %zu counters\n", s->counters.used - s->counters.unused_len);
+  fflush(stdout);
   lovendak_free(&s->vat);
   free(s->payload);
   close(s->client);

@@ -45,12 +45,13 @@ std::vector<uint8_t> number(uint64_t number) {
   return payload;
 }
 
-// The next event, and the number that came with it: of a capability none.
+// The next event, and the number that came with its contents: of a capability none. Only calls and their ends have contents.
 lovendak_event next(Vat& vat, uint64_t& number) {
   lovendak_event event;
   uint8_t payload[256];
   uint64_t refs[4];
   Vat::done(lovendak_next_event(vat, &event, payload, sizeof payload, refs, 4));
+  if (event.kind != LOVENDAK_SERVE && event.kind != LOVENDAK_ENDED) return event;
   uint32_t code = lovendak_number_at(payload, event.payload_len, event.refs_len, 0, &number);
   if (code != LOVENDAK_NOTHING) Vat::done(code);
   for (size_t i = 0; i < event.refs_len; i++) Vat::done(lovendak_drop_ref(vat, refs[i]));
@@ -73,8 +74,9 @@ int main() {
     Vat::done(lovendak_answer(server, task, payload.data(), payload.size(), NO_REFS, 0));
   }
   server.send(client);
-  while (next(client, came).number != call) {
-  }
+  lovendak_event event;
+  do event = next(client, came);
+  while (event.kind != LOVENDAK_ENDED || event.number != call);
   std::cout << came << std::endl;
   return came == 42 ? 0 : 1;
 }

@@ -73,23 +73,58 @@ enum {
 enum { LOVENDAK_FAILED = 0, LOVENDAK_OVERLOADED = 1, LOVENDAK_DISCONNECTED = 2, LOVENDAK_UNIMPLEMENTED = 3 };
 
 /* Kinds of events. */
-enum { LOVENDAK_SERVE = 1, LOVENDAK_ENDED = 2, LOVENDAK_WENT_DOWN = 3 };
+enum {
+  LOVENDAK_SERVE = 1,
+  LOVENDAK_ENDED = 2,
+  LOVENDAK_WENT_DOWN = 3,
+  LOVENDAK_RELEASED = 4,
+  LOVENDAK_CANCELLED = 5, /* no such event comes in this version */
+  LOVENDAK_RESOLVED = 6,
+  LOVENDAK_LIFTED = 7
+};
+
+/* Kinds of places, to which a reference leads. */
+enum {
+  LOVENDAK_OWN = 1,         /* an object of this vat's application */
+  LOVENDAK_OWN_PROMISE = 2, /* a promise of this vat's application that is not settled */
+  LOVENDAK_OWN_CALL = 3,    /* results of a call to this vat's application that did not end */
+  LOVENDAK_IMPORT = 4,      /* what the peer exports by an id */
+  LOVENDAK_ANSWER = 5,      /* what stands in the results of a question to the peer */
+  LOVENDAK_BROKEN = 6       /* none: each call fails */
+};
+
+/* Why a reference leads nowhere: it stands for null, there is something else than a capability, or its promise was broken. */
+enum { LOVENDAK_NULL = 1, LOVENDAK_NOT_A_CAPABILITY = 2, LOVENDAK_BROKEN_PROMISE = 3 };
+
+/* When the Finish of a call goes: at once, or behind its Return. */
+enum { LOVENDAK_AT_ONCE = 0, LOVENDAK_AFTER_RETURN = 1 };
 
 /* What `lovendak_advance` did. */
 enum { LOVENDAK_UNCHANGED = 0, LOVENDAK_SWITCHED = 1, LOVENDAK_EMBARGOED = 2, LOVENDAK_BROKE = 3 };
 
 /* What an application is told. A field that an event has no use for is 0. */
 typedef struct lovendak_event {
-  uint32_t kind;         /* LOVENDAK_SERVE a call to serve, LOVENDAK_ENDED an own call that ended, LOVENDAK_WENT_DOWN */
+  uint32_t kind;         /* LOVENDAK_SERVE a call to serve, LOVENDAK_ENDED an own call that ended, LOVENDAK_WENT_DOWN; the others below */
   uint32_t method;       /* to serve: the method */
   uint32_t is_exception; /* ended: 1 if it failed; then the reason, as UTF-8, comes in the payload's room */
   uint32_t exception;    /* ended: the kind of the exception */
-  uint64_t number;       /* to serve: the task; ended: the call; down: the number with which the vat went down */
-  uint64_t object;       /* to serve: the object, by the number that its application gave it */
+  uint32_t place;        /* resolved: LOVENDAK_IMPORT or LOVENDAK_ANSWER */
+  uint64_t number;       /* to serve: the task; ended: the call; down: the number with which the vat went down; resolved: that of the
+                            place; lifted: the reference */
+  uint64_t object;       /* to serve, released: the object, by the number that its application gave it */
   uint64_t interface_id; /* to serve: the interface */
   size_t payload_len;    /* bytes of the payload, or of the reason; down: of the reason of the Abort with which the peer ended it */
   size_t refs_len;       /* references, one for each capability of the payload; each is to be dropped */
 } lovendak_event;
+
+/* Where calls through a reference go. A field that a kind has no use for is 0. */
+typedef struct lovendak_place {
+  uint32_t kind;        /* LOVENDAK_OWN and so on */
+  uint32_t is_embargoed; /* 1 if they wait under an embargo before */
+  uint32_t is_promise;  /* an import: 1 if it is a promise that no Resolve has settled yet */
+  uint32_t reason;      /* broken: why */
+  uint64_t number;      /* own: the object; import: the id of the peer's export; answer: the question */
+} lovendak_place;
 
 /* The number of the interface that the library has: LOVENDAK_INTERFACE if it is the one of this header. */
 uint32_t lovendak_version(void);
@@ -128,18 +163,38 @@ uint32_t lovendak_load(lovendak_vat *vat, uint64_t *words, uint64_t *bytes);
  * ask of each other at a time stop both. */
 uint32_t lovendak_set_limits(lovendak_vat *vat, uint64_t words, uint64_t bytes);
 
+/* When the Finish of a call goes from now on, if the call is finished before its Return came: at once (LOVENDAK_AT_ONCE, as from the
+ * beginning) or behind its Return (LOVENDAK_AFTER_RETURN). The second is for a peer that sends no Return for a call of which it
+ * heard the Finish before, as the Rust crate capnp-rpc. With another peer a call that is let go runs to its end there.
+ * NO_SUCH_NUMBER of another number. */
+uint32_t lovendak_set_finishes(lovendak_vat *vat, uint32_t when);
+
 /* Whether more bytes of the peer would be heard (1), or only wait (0): then there are events to take, bytes to send or calls to
  * answer, or the vat is down. An application that reads of its peer only while this says 1, and takes events and bytes meanwhile,
  * holds no more words than the limit says, and what one message adds. */
 uint32_t lovendak_wants_bytes(lovendak_vat *vat, uint32_t *answer);
 
 /* Takes the oldest event. The events of one command or message come after those of earlier ones; among them, calls to serve come
- * before own calls that ended. Once the vat is down, each own call that is open is reported as one that failed with
+ * before own calls that ended, and these before what the message made known:
+ * - LOVENDAK_RESOLVED: what stands at a place of the peer is known now. A reference that leads there may lead on: `lovendak_advance` it.
+ * - LOVENDAK_LIFTED: the embargo of a reference is over. Its calls wait no more.
+ * Behind them all come, while the vat is up, the objects that are released:
+ * - LOVENDAK_RELEASED: no reference, no export and nothing else of the vat names the object any more, which `lovendak_host` named
+ *   once. No call for it comes until it is hosted again, so the application may let go of it. A task of it may still be open. The
+ *   bootstrap object is never released.
+ * Once the vat is down, each own call that is open is reported as one that failed with
  * LOVENDAK_DISCONNECTED, and then, once, that the vat is down. The event's payload (framed segments, as Cap'n Proto writes a message)
  * and its references are copied into the rooms given. NOTHING if there is none; ROOM if one of the rooms is too small: the event is
  * filled in, and stays. After each command too, ask until there is none, and then send: in this order no event is missed. If bytes
  * were sent first, ask again, since a message that can't be sent takes the vat down. */
 uint32_t lovendak_next_event(lovendak_vat *vat, lovendak_event *event, uint8_t *payload, size_t room, uint64_t *refs, size_t refs_room);
+
+/* Where calls through a reference go. Two references that lead to one import lead to one object of the peer. The work grows with the
+ * links on the way; `lovendak_advance` makes the way short. DOWN, UNKNOWN_REF. */
+uint32_t lovendak_leads_to(lovendak_vat *vat, uint64_t ref, lovendak_place *place);
+
+/* How many questions, answers, exports and imports there are between the two vats, each at most 4,096. */
+uint32_t lovendak_table_sizes(lovendak_vat *vat, size_t *questions, size_t *answers, size_t *exports, size_t *imports);
 
 /* The number with which the vat went down; NOTHING if it is not down. */
 uint32_t lovendak_down(lovendak_vat *vat, uint32_t *number);
@@ -161,7 +216,8 @@ uint32_t lovendak_result_of(lovendak_vat *vat, uint64_t call, uint64_t *ref);
 /* A reference to what a call's results have at a path of pointers' numbers, before or after it has ended. UNKNOWN_CALL, LONG_PATH. */
 uint32_t lovendak_field(lovendak_vat *vat, uint64_t call, const uint16_t *path, size_t steps, uint64_t *ref);
 
-/* A reference to an object of the application, which knows it by that number. */
+/* A reference to an object of the application, which knows it by that number. It may be hosted again, and again after it was released.
+ * If LOVENDAK_RELEASED of it waits to be told, it is told no more. */
 uint32_t lovendak_host(lovendak_vat *vat, uint64_t object, uint64_t *ref);
 
 /* A second reference to the same. UNKNOWN_REF. */

@@ -15,5 +15,16 @@ if(NOT TARGET Lovendak::lovendak)
     INTERFACE_INCLUDE_DIRECTORIES "${_lovendak_includedir}")
 endif()
 
+# What c++/CMakeLists.txt has installed beside it, if anything: Lovendak::rpc and Lovendak::capnp-rpc, which stand on libcapnp.
+if(EXISTS "${CMAKE_CURRENT_LIST_DIR}/LovendakRpcTargets.cmake" AND NOT TARGET Lovendak::rpc)
+  find_package(PkgConfig QUIET)
+  if(PKG_CONFIG_FOUND)
+    pkg_check_modules(LOVENDAK_CAPNP QUIET IMPORTED_TARGET capnp-rpc>=0.9 capnp-rpc<0.10)
+  endif()
+  if(TARGET PkgConfig::LOVENDAK_CAPNP)
+    include("${CMAKE_CURRENT_LIST_DIR}/LovendakRpcTargets.cmake")
+  endif()
+endif()
+
 unset(_lovendak_libdir)
 unset(_lovendak_includedir)

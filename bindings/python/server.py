@@ -1,12 +1,14 @@
 #!/usr/bin/env python3
 """Serves counters over TCP to peers of any make:  server.py PORT
 
-Of the registry of interop/registry.capnp it has makeCounter, makeRegistry, echo, fail and same."""
+Of the registry of interop/registry.capnp it has makeCounter, makeRegistry, echo, fail and same. It lets go of a counter once its client
+has released it. When a client has gone, it prints how many counters that client had left."""
 import asyncio
 import contextlib
+import itertools
 import sys
 
-from lovendak import FAILED, SERVED, UNIMPLEMENTED, Contents, Refused, Vat
+from lovendak import FAILED, RELEASED, SERVED, UNIMPLEMENTED, Contents, Refused, Vat
 
 COUNTER, REGISTRY = 0xA5E1C0FFEE000001, 0xA5E1C0FFEE000004
 ADD = 0
@@ -21,10 +23,13 @@ class Failed(Exception):
 
 
 class Client(asyncio.Protocol):
-    """A conversation with a client: its vat, and the sums of its counters, whose numbers begin at 1."""
+    """A conversation with a client: its vat, and the sums of its counters by their numbers, which begin at 1."""
 
     def connection_made(self, transport):
-        self.transport, self.vat, self.sums = transport, Vat(root=ROOT), []
+        self.transport, self.vat, self.sums, self.numbers = transport, Vat(root=ROOT), {}, itertools.count(1)
+
+    def connection_lost(self, error):
+        print(f"a client has gone, and left {len(self.sums)} counters", flush=True)
 
     def data_received(self, data):
         self.vat.received(data)
@@ -32,6 +37,8 @@ class Client(asyncio.Protocol):
             if event.kind == SERVED:
                 with contextlib.suppress(Refused):  # a vat that is down refuses all
                     self.serve(event)
+            elif event.kind == RELEASED:
+                del self.sums[event.object]
         self.transport.write(self.vat.outgoing())
         if self.vat.down() is not None:
             self.transport.close()
@@ -47,8 +54,10 @@ class Client(asyncio.Protocol):
         """Answers a call, and lets go of what came with it and of what was given."""
         try:
             results = self.results(call)
-            self.vat.answer(call.task, results)
-            self.vat.drop_ref(*results.refs)
+            try:
+                self.vat.answer(call.task, results)
+            finally:
+                self.vat.drop_ref(*results.refs)
         except Failed as failed:
             self.vat.fail(call.task, failed.kind, str(failed))
         except Refused as refused:
@@ -60,8 +69,10 @@ class Client(asyncio.Protocol):
         params = call.contents
         if (call.object, call.interface) == (ROOT, REGISTRY):
             if call.method == MAKE_COUNTER:
-                self.sums.append(params.number(0))
-                return Contents.of(refs=[self.vat.host(len(self.sums))])
+                number = next(self.numbers)
+                results = Contents.of(refs=[self.vat.host(number)])
+                self.sums[number] = params.number(0)
+                return results
             if call.method == MAKE_REGISTRY:
                 return Contents.of(refs=[self.vat.host(ROOT)])
             if call.method in (ECHO, SAME):
@@ -69,7 +80,7 @@ class Client(asyncio.Protocol):
             if call.method == FAIL:
                 raise Failed(params.text(0) or "")
         elif (call.interface, call.method) == (COUNTER, ADD) and call.object != ROOT:
-            return Contents.of([self.add(call.object - 1, params.number(0))])
+            return Contents.of([self.add(call.object, params.number(0))])
         raise Failed("no such method", UNIMPLEMENTED)
 
     def add(self, counter, by):

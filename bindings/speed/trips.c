@@ -24,11 +24,13 @@ static void send_to(lovendak_vat *from, lovendak_vat *to) {
   }
 }
 
+/* The number of the next event, which has to be of that kind. That a place of the peer is known is no news here. */
 static uint64_t next(lovendak_vat *vat, uint32_t kind) {
   static uint8_t payload[256];
   uint64_t refs[1];
   lovendak_event event;
-  done(lovendak_next_event(vat, &event, payload, sizeof payload, refs, 1));
+  do done(lovendak_next_event(vat, &event, payload, sizeof payload, refs, 1));
+  while (event.kind == LOVENDAK_RESOLVED);
   if (event.kind != kind) exit(1);
   if (event.refs_len) done(lovendak_drop_ref(vat, refs[0]));
   return event.number;

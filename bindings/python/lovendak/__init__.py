@@ -21,7 +21,7 @@ True
 >>> server.answer(served.task, Contents.of([2 * served.contents.number(0)], refs=[served.contents.ref(1)]))
 >>> server.drop_ref(*served.contents.refs)
 >>> client.received(server.outgoing())
->>> ended = {event.call: event.contents for event in client.events()}
+>>> ended = {event.call: event.contents for event in client.events() if event.kind == ENDED}
 >>> ended[call].number(0)
 42
 >>> for call, contents in ended.items():
@@ -31,6 +31,15 @@ True
 >>> server.received(client.outgoing())
 >>> client.shares_nothing(), server.shares_nothing()
 (True, True)
+
+An object that an application hosts is released once nothing names it any more, here or at the peer:
+
+>>> ref = client.host(1)
+>>> client.leads_to(ref)
+Lead(place=<Place.OWN: 1>, number=1, is_promise=False, is_embargoed=False, reason=None)
+>>> client.drop_ref(ref)
+>>> list(client.events())
+[<object 1 is released>]
 
 A command that is refused raises Refused, with the name of its code. Numbers that are out of range raise ValueError:
 
@@ -50,10 +59,12 @@ A vat that goes down says why:
 from .contents import Contents, carried
 from .errors import DISCONNECTED, FAILED, FAULTS, KINDS, NAMES, OVERLOADED, REFUSALS, UNIMPLEMENTED, Refused
 from .library import LIBRARY, NOTHING, ROOM, SO, TAKES, Handle, Told, ask, done
-from .vat import DOWN, ENDED, SERVED, Event, Vat
+from .places import Broken, Lead, Place, TableSizes
+from .vat import DOWN, ENDED, LIFTED, RELEASED, RESOLVED, SERVED, Event, Vat
 
 __version__ = "0.1.0"
 __all__ = [
-    "DISCONNECTED", "DOWN", "ENDED", "FAILED", "FAULTS", "KINDS", "LIBRARY", "NAMES", "NOTHING", "OVERLOADED", "REFUSALS", "ROOM",
-    "SERVED", "SO", "TAKES", "UNIMPLEMENTED", "Contents", "Event", "Handle", "Refused", "Told", "Vat", "ask", "carried", "done",
+    "DISCONNECTED", "DOWN", "ENDED", "FAILED", "FAULTS", "KINDS", "LIBRARY", "LIFTED", "NAMES", "NOTHING", "OVERLOADED", "REFUSALS",
+    "RELEASED", "RESOLVED", "ROOM", "SERVED", "SO", "TAKES", "UNIMPLEMENTED", "Broken", "Contents", "Event", "Handle", "Lead", "Place",
+    "Refused", "TableSizes", "Told", "Vat", "ask", "carried", "done",
 ]

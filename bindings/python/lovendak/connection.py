@@ -15,8 +15,10 @@ from .errors import FAILED, Disconnected, Failed, Overloaded, Refused, WriteErro
 from .interfaces import Interface
 from .objects import Forward, Object
 from .remotes import Reference, Remote, Running
-from .vat import DOWN, SERVED, Event, Vat
+from .vat import DOWN, ENDED, RELEASED, SERVED, Event, Vat
 
+# The number of the bootstrap object.
+ROOT = 0
 # How many bytes wait for a peer that does not read, before calls to it are refused.
 MOST_WAITING = 1 << 24
 # The most of a reason's text that is sent.
@@ -29,11 +31,13 @@ class Connection(asyncio.Protocol):
     `create_unix_server` and their like over anything else. It belongs to the loop in which it is made, and so do all that it gives.
 
     `root` is the object that the peer gets by its bootstrap. With `holds_back` it reads no further while the peer does not read: a
-    server should, and of two peers at most one, since else each could wait for the other."""
+    server should, and of two peers at most one, since else each could wait for the other. `limits` are those of `Vat.set_limits`: the
+    words of calls that are not answered, and the bytes that wait in the vat. While one of them is exceeded, it reads no further either,
+    and does not see that the peer ends the stream."""
 
     __module__ = "lovendak.service"
 
-    def __init__(self, root: Optional[Object] = None, holds_back: bool = False) -> None:
+    def __init__(self, root: Optional[Object] = None, holds_back: bool = False, limits: Optional[Tuple[int, int]] = None) -> None:
         self.loop = asyncio.get_running_loop()
         self._thread = threading.get_ident()
         self._holds_back = holds_back
@@ -46,10 +50,15 @@ class Connection(asyncio.Protocol):
         self._promised: Set["asyncio.Future[Any]"] = set()
         self._objects: Dict[int, Tuple[Any, Object]] = {}
         self._numbers: Dict[int, int] = {}
-        self._next_number = itertools.count()
+        self._next_number = itertools.count(ROOT + 1)
         self._later: Deque[Callable[[], None]] = collections.deque()
         self._is_due = False
-        self.vat = Vat(root=None if root is None else self._number(root, root))
+        if root is not None:
+            self._add(ROOT, root, root)
+        self.vat = Vat(root=None if root is None else ROOT)
+        self._has_limits = limits is not None
+        if limits is not None:
+            self.vat.set_limits(*limits)
 
     def bootstrap(self, interface: Optional[Interface] = None) -> Remote:
         """The peer's bootstrap object, which can be called at once. Calls fail if the peer has none. `Disconnected` if the connection
@@ -59,6 +68,11 @@ class Connection(asyncio.Protocol):
             reference = Reference(self, self.vat.result_of(running.number))
         running.let_go()
         return Remote(reference, interface)
+
+    def set_finishes(self, after_return: bool) -> None:
+        """When the Finish of a call goes from now on that is cancelled before it has ended: behind its Return, or at once, as from the
+        beginning. `Vat.set_finishes` says which peers want it behind."""
+        self.vat.set_finishes(after_return)
 
     def close(self) -> None:
         """Ends the connection, once what was said before is written. Calls that are open fail as `Disconnected`."""
@@ -108,10 +122,11 @@ class Connection(asyncio.Protocol):
         self._choose_reading()
 
     def _choose_reading(self) -> None:
-        if self._holds_back and not self._may_write.is_set():
-            self._transport.pause_reading()
-        elif self._holds_back:
+        is_read = self._may_write.is_set() or not self._holds_back
+        if is_read and not (self._has_limits and not self.vat.wants_bytes()):
             self._transport.resume_reading()
+        else:
+            self._transport.pause_reading()
 
     # What remotes and calls ask for.
 
@@ -170,6 +185,8 @@ class Connection(asyncio.Protocol):
                 self._transport.write(said)
         if self.vat.down() is not None:
             self._transport.close()
+        elif self._has_limits:
+            self._choose_reading()
 
     def _give_back(self) -> None:
         while self._later:
@@ -183,15 +200,17 @@ class Connection(asyncio.Protocol):
             for task in self._serving.values():
                 task.cancel()
             return
+        if event.kind == RELEASED:
+            self._forget(event.object)
         contents = event.contents and Contents(event.contents.payload, [Remote(Reference(self, ref), None) for ref in event.contents.refs])
         if event.kind == SERVED:
             assert contents is not None
             self._begin(event, contents)
-        elif (running := self._calls.pop(event.call, None)) is not None:
+        elif event.kind == ENDED and (running := self._calls.pop(event.call, None)) is not None:
             running.end(contents, event.exception and failure(*event.exception))
 
     def _begin(self, event: Event, params: Contents) -> None:
-        """Begins to serve a call. Its object is there, since none is forgotten while a vat is up."""
+        """Begins to serve a call. Its object is there, since none is called that was not hosted after its release was told."""
         _, target = self._objects[event.object]
         serving = self._serving[event.task] = self.loop.create_task(self._serve(target, event, params))
         serving.add_done_callback(lambda _: self._serving.pop(event.task))
@@ -245,19 +264,25 @@ class Connection(asyncio.Protocol):
             reference = given._reference
             if reference.connection is self:
                 return self.vat.clone_ref(reference.number)
-            return self.vat.host(self._number(reference, Forward(reference)))
+            return self._hosted(reference, Forward(reference))
         if isinstance(given, Object):
-            return self.vat.host(self._number(given, given))
+            return self._hosted(given, given)
         if isawaitable(given):
             return self._promise(given)
         raise WriteError(f"{shown(given)} is no Object or Remote, and no awaitable of one")
 
-    def _number(self, key: Any, target: Object) -> int:
-        """The number by which the vat knows an object. It is one number for each key, which is the object or what it stands for."""
-        if (number := self._numbers.get(id(key))) is None:
-            number = self._numbers[id(key)] = next(self._next_number)
-            self._objects[number] = key, target
-        return number
+    def _hosted(self, key: Any, target: Object) -> int:
+        """A reference to an object. The vat knows it by one number for each key, which is the object or what it stands for, from when it is
+        hosted until it is released."""
+        if (number := self._numbers.get(id(key))) is not None:
+            return self.vat.host(number)
+        ref = self.vat.host(next_number := next(self._next_number))
+        self._add(next_number, key, target)
+        return ref
+
+    def _add(self, number: int, key: Any, target: Object) -> None:
+        self._numbers[id(key)] = number
+        self._objects[number] = key, target
 
     def _forget(self, number: int) -> None:
         """Nobody can call an object any more."""
@@ -266,7 +291,7 @@ class Connection(asyncio.Protocol):
         try:
             target.gone()
         except Exception:
-            LOG.exception("an object could not be told that its connection ended")
+            LOG.exception("an object could not be told that it is gone")
 
     def _promise(self, given: Awaitable[Any]) -> int:
         promise, ref = self.vat.promise()

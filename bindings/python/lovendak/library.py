@@ -16,9 +16,13 @@ class Handle(c.Structure):
 
 
 class Told(c.Structure):
-    _fields_ = [(name, c.c_uint32) for name in ("kind", "method", "is_exception", "exception")] + [
+    _fields_ = [(name, c.c_uint32) for name in ("kind", "method", "is_exception", "exception", "place")] + [
         (name, c.c_uint64) for name in ("number", "object", "interface_id")] + [
         (name, c.c_size_t) for name in ("payload_len", "refs_len")]
+
+
+class Led(c.Structure):
+    _fields_ = [(name, c.c_uint32) for name in ("kind", "is_embargoed", "is_promise", "reason")] + [("number", c.c_uint64)]
 
 
 U16, U32, U64, SIZE = c.c_uint16, c.c_uint32, c.c_uint64, c.c_size_t
@@ -27,8 +31,10 @@ HANDLE, BYTES, ROOMS, WORDS = c.POINTER(Handle), c.c_char_p, c.POINTER(c.c_char)
 TAKES: Dict[str, List[Any]] = {
     "version": [], "new": [HANDLE, U32, U32, U64], "free": [HANDLE], "received": [HANDLE, BYTES, SIZE], "ended": [HANDLE],
     "outgoing": [HANDLE, ROOMS, SIZE, c.POINTER(SIZE)], "pending": [HANDLE, c.POINTER(SIZE), c.POINTER(U32)],
-    "load": [HANDLE, WORDS, WORDS], "set_limits": [HANDLE, U64, U64], "wants_bytes": [HANDLE, c.POINTER(U32)],
-    "next_event": [HANDLE, c.POINTER(Told), ROOMS, SIZE, WORDS, SIZE], "down": [HANDLE, c.POINTER(U32)],
+    "load": [HANDLE, WORDS, WORDS], "set_limits": [HANDLE, U64, U64], "set_finishes": [HANDLE, U32],
+    "wants_bytes": [HANDLE, c.POINTER(U32)], "next_event": [HANDLE, c.POINTER(Told), ROOMS, SIZE, WORDS, SIZE],
+    "leads_to": [HANDLE, U64, c.POINTER(Led)],
+    "table_sizes": [HANDLE, c.POINTER(SIZE), c.POINTER(SIZE), c.POINTER(SIZE), c.POINTER(SIZE)], "down": [HANDLE, c.POINTER(U32)],
     "shares_nothing": [HANDLE, c.POINTER(U32)], "calls_made": [HANDLE, U64, WORDS], "bootstrap": [HANDLE, WORDS],
     "result_of": [HANDLE, U64, WORDS], "field": [HANDLE, U64, c.POINTER(U16), SIZE, WORDS], "host": [HANDLE, U64, WORDS],
     "clone_ref": [HANDLE, U64, WORDS], "drop_ref": [HANDLE, U64],

@@ -15,7 +15,8 @@ class Object:
     exception is logged, and fails it too. What a method does not serve fails as `Unimplemented`. If the connection ends while a
     method is under way, the method is cancelled as a task of asyncio is.
 
-    An object stays at each connection over which it went, until that connection ends."""
+    A connection over which an object went keeps it as long as the peer may call it: until the peer has released it, or the connection
+    ends. A bootstrap object stays until the connection ends."""
 
     __module__ = "lovendak.service"
     interface: Interface
@@ -29,7 +30,8 @@ class Object:
         return results
 
     def gone(self) -> None:
-        """A connection over which it went has ended. It is called once for each of them."""
+        """A connection does not keep it any more: its peer has released it, or the connection has ended. It is called once each time. A
+        method may still be under way. The object may be passed over the connection again."""
 
     async def _serve(self, interface: int, number: int, params: Contents) -> Contents:
         method = self.interface.find(interface, number)

@@ -47,11 +47,14 @@ it failed: a name is wanted
 A capability of one connection may be passed over another: calls are forwarded. An awaitable of one may be passed too, as a promise:
 calls of it wait until it has its result.
 
+A connection keeps an object as long as its peer may call it. When the peer has released it, the connection lets it go, and tells it by
+`gone`.
+
 When a connection ends, its calls raise `Disconnected`, and so do later ones. To connect again is the application's choice: it calls
 `connect`, and asks for a bootstrap object anew.
 """
 import asyncio
-from typing import Any, Callable, Optional
+from typing import Any, Callable, Optional, Tuple
 
 from . import schema
 from .connection import Connection
@@ -71,7 +74,9 @@ async def connect(host: str, port: int, root: Optional[Object] = None, **more: A
     return connection
 
 
-async def serve(root: Callable[[], Object], host: str, port: int, **more: Any) -> asyncio.AbstractServer:
+async def serve(root: Callable[[], Object], host: str, port: int, limits: Optional[Tuple[int, int]] = None,
+                **more: Any) -> asyncio.AbstractServer:
     """A server over TCP, which accepts connections from then on: `await server.serve_forever()`. The function gives each connection its
-    bootstrap object. `more` goes to `create_server` of the loop. OSError if the address is taken."""
-    return await asyncio.get_running_loop().create_server(lambda: Connection(root(), holds_back=True), host, port, **more)
+    bootstrap object, and each has these limits, as `Connection` takes them. `more` goes to `create_server` of the loop. OSError if the
+    address is taken."""
+    return await asyncio.get_running_loop().create_server(lambda: Connection(root(), True, limits), host, port, **more)

@@ -5,9 +5,10 @@ from typing import Any, Iterator, Optional, Tuple
 
 from .contents import Contents, carried
 from .errors import FAULTS, KINDS
-from .library import LIBRARY, NOTHING, ROOM, SIZE, U16, U32, U64, Handle, Told, ask, done, filled, numbers, room
+from .library import LIBRARY, NOTHING, ROOM, SIZE, U16, U32, U64, Handle, Led, Told, ask, done, filled, numbers, room
+from .places import Lead, Place, TableSizes, lead_of
 
-SERVED, ENDED, DOWN = 1, 2, 3
+SERVED, ENDED, DOWN, RELEASED, RESOLVED, LIFTED = 1, 2, 3, 4, 6, 7
 
 
 class Event:
@@ -15,6 +16,13 @@ class Event:
 
     - SERVED, a call to serve: `task`, `object`, `interface`, `method`, `contents`.
     - ENDED, an own call that ended: `call`, and `contents`, or `exception`, which is a pair of its kind and its reason.
+    - RELEASED, nothing in the vat names an object any more that was hosted, no reference and nothing that the peer has: `object`. No call
+      for it comes until it is hosted again, so its application may let go of it. A task of it may still be open. It comes behind all
+      other events of a vat that is up. If the object is hosted again while the event waits, it is not told; the bootstrap object is never
+      released.
+    - RESOLVED, what stands at a place of the peer is known: `place`, which is `Place.IMPORT` or `Place.ANSWER`, and its `number`. A
+      reference that leads there may lead on: `advance` it.
+    - LIFTED, the embargo of a reference is over: `ref`. Its calls wait no more.
     - DOWN, the vat went down: `number`, and `fault`, its name in docs/numbers.md, or None if it has none; and `reason`, that of the
       Abort by which the peer ended it, or an empty text. Before it each own call that was open ends, with an exception of the kind
       DISCONNECTED."""
@@ -26,6 +34,8 @@ class Event:
     interface: int
     method: int
     call: int
+    ref: int
+    place: Place
     number: int
     fault: Optional[str]
     reason: str
@@ -34,23 +44,35 @@ class Event:
 
     def __init__(self, told: Told, payload: bytes, refs: "list[int]") -> None:
         self.kind = told.kind
-        if told.kind == DOWN:
-            self.number, self.fault, self.reason = told.number, FAULTS.get(told.number), payload.decode(errors="replace")
-            return
-        if told.is_exception:
-            self.exception = told.exception, payload.decode(errors="replace")
-        else:
-            self.contents = Contents(payload, refs)
         if told.kind == SERVED:
             self.task, self.object, self.interface, self.method = told.number, told.object, told.interface_id, told.method
-        else:
+            self.contents = Contents(payload, refs)
+        elif told.kind == ENDED:
             self.call = told.number
+            if told.is_exception:
+                self.exception = told.exception, payload.decode(errors="replace")
+            else:
+                self.contents = Contents(payload, refs)
+        elif told.kind == DOWN:
+            self.number, self.fault, self.reason = told.number, FAULTS.get(told.number), payload.decode(errors="replace")
+        elif told.kind == RELEASED:
+            self.object = told.object
+        elif told.kind == RESOLVED:
+            self.place, self.number = Place(told.place), told.number
+        elif told.kind == LIFTED:
+            self.ref = told.number
 
     def __repr__(self) -> str:
         if self.kind == DOWN:
             return f"<down with {self.number}{f', {self.fault}' if self.fault else ''}{f': {self.reason}' if self.reason else ''}>"
         if self.kind == SERVED:
             return f"<task {self.task}: method {self.method} of {self.interface:#x} of object {self.object}>"
+        if self.kind == RELEASED:
+            return f"<object {self.object} is released>"
+        if self.kind == RESOLVED:
+            return f"<{'import' if self.place is Place.IMPORT else 'the answer to question'} {self.number} is known>"
+        if self.kind == LIFTED:
+            return f"<the embargo of reference {self.ref} is over>"
         if self.exception:
             return f"<call {self.call} ended: {KINDS[self.exception[0]]}: {self.exception[1]}>"
         return f"<call {self.call} ended with contents>"
@@ -122,6 +144,12 @@ class Vat:
         their order. A new vat has no limits. Limits that are too low for what two applications ask of each other at a time stop both."""
         self._asked("set_limits", words, size)
 
+    def set_finishes(self, after_return: bool) -> None:
+        """When the Finish of a call goes from now on, if the call is finished before its Return came: behind its Return, or at once, as
+        from the beginning. The first is for a peer that sends no Return for a call of which it heard the Finish before, as the Rust crate
+        `capnp-rpc`. With another peer a call that is let go runs to its end there."""
+        self._asked("set_finishes", int(bool(after_return)))
+
     def wants_bytes(self) -> bool:
         """Whether more bytes of the peer would be heard. If not, there are events to take, bytes to send or calls to answer, or the vat
         is down, and what comes only waits: read no more of the peer meanwhile."""
@@ -130,7 +158,9 @@ class Vat:
         return answer.value == 1
 
     def events(self) -> Iterator[Event]:
-        """What there is to tell, until there is no more."""
+        """What there is to tell, until there is no more. The events of one command or message come behind those of earlier ones: first
+        calls to serve, then own calls that ended, then what it made known. Behind them all come the objects that are released, and of a
+        vat that is down at last that it is."""
         while (event := self._next()) is not None:
             yield event
 
@@ -158,6 +188,18 @@ class Vat:
         self._asked("shares_nothing", c.byref(answer))
         return answer.value == 1
 
+    def table_sizes(self) -> TableSizes:
+        """How many questions, answers, exports and imports there are between the two vats."""
+        sizes = [SIZE() for _ in TableSizes._fields]
+        self._asked("table_sizes", *map(c.byref, sizes))
+        return TableSizes(*(size.value for size in sizes))
+
+    def leads_to(self, ref: int) -> Lead:
+        """Where calls through a reference go. The work grows with the links on the way; `advance` makes the way short."""
+        led = Led()
+        self._asked("leads_to", ref, c.byref(led))
+        return lead_of(led)
+
     def calls_made(self, ref: int) -> int:
         """How many calls were made through a reference."""
         return self._given("calls_made", ref)
@@ -175,7 +217,8 @@ class Vat:
         return self._given("field", call, numbers("field", U16, path), len(path))
 
     def host(self, number: int) -> int:
-        """A reference to an object of the application, which knows it by that number."""
+        """A reference to an object of the application, which knows it by that number. It may be hosted again, and again after it was
+        released. If RELEASED of it waits to be told, it is told no more."""
         return self._given("host", number)
 
     def clone_ref(self, ref: int) -> int:

@@ -7,6 +7,7 @@ import logging
 import os
 import socket
 import unittest
+import weakref
 from pathlib import Path
 from unittest import mock
 
@@ -100,12 +101,12 @@ class Service(unittest.IsolatedAsyncioTestCase):
     async def asyncTearDown(self):
         await self.stack.aclose()
 
-    async def over(self, root, own=None):
-        """A server with that root, and a connection with it."""
+    async def over(self, root, own=None, limits=None):
+        """A server with that root and these limits, and a connection with it."""
         loop = asyncio.get_running_loop()
 
         def accept():
-            self.served.append(Connection(root, holds_back=True))
+            self.served.append(Connection(root, True, limits))
             return self.served[-1]
 
         server = await loop.create_server(accept, "127.0.0.1", 0)
@@ -247,6 +248,56 @@ class Calls(Service):
         await until(lambda: self.connection.vat.shares_nothing() and served.vat.shares_nothing())
 
 
+class Releases(Service):
+    async def test_objects_go_when_they_are_released(self):
+        own = Desk()
+        await self.desk.ask(desk=own, data=b"1")
+        await until(lambda: own.is_gone == 1)
+        kept = await self.desk.keep(desk=own)
+        self.assertEqual((await kept["kept"]["desk"].echo(data=b"2"), own.is_gone), ({"data": b"2"}, 1))
+        kept.clear()
+        gc.collect()
+        await until(lambda: own.is_gone == 2)
+        held = weakref.ref(own)
+        del own
+        gc.collect()
+        self.assertIsNone(held())
+        self.assertEqual((await self.desk.echo(data=b"3"), self.root.is_gone), ({"data": b"3"}, 0))
+
+    async def test_objects_that_are_forwarded(self):
+        """What stands for a capability of another connection is let go, and so is that capability."""
+        other_root, own = Desk(), Desk()
+        _, connection = await self.over(other_root)
+        kept = await self.desk.keep(desk=own)
+        await connection.bootstrap(DESK).ask(desk=kept["kept"]["desk"], data=b"1")
+        self.assertEqual(own.is_gone, 0)
+        kept.clear()
+        gc.collect()
+        await until(lambda: own.is_gone == 1 and not connection._objects)
+
+    async def test_a_thousand_objects(self):
+        await asyncio.gather(*(self.desk.ask(desk=Desk(), data=b"x") for _ in range(1000)))
+        gc.collect()
+        await until(lambda: not self.connection._objects)
+        [served] = self.served
+        self.assertEqual(list(served._objects.values()), [(self.root, self.root)])
+
+    async def test_finishes_behind_returns(self):
+        await self.desk.ping()
+        for number, after_return in enumerate((True, False)):
+            self.connection.set_finishes(after_return)
+            call = self.desk.wait(number=number)
+            await until(lambda number=number: number in self.root.waiting)
+            transport = self.connection._transport
+            self.connection._transport = mock.Mock(wraps=transport)
+            call.cancel()
+            await asyncio.sleep(0.05)
+            self.assertEqual(self.connection._transport.write.called, not after_return)
+            self.connection._transport = transport
+            self.root.waiting[number].set_result(1)
+            self.assertEqual(await self.desk.echo(data=b"x"), {"data": b"x"})
+
+
 class SeveralConnections(Service):
     async def test_forwarding(self):
         """Of one connection's capabilities, those of the parameters and those of the results, over another and back."""
@@ -269,10 +320,11 @@ class SeveralConnections(Service):
     async def test_one_number_for_a_capability(self):
         _, connection = await self.over(Desk())
         other = connection.bootstrap(DESK)
-        for _ in range(3):
-            await other.ask(desk=self.desk)
-            await other.ask(desk=self.root)
+        kept = [await other.keep(desk=it) for it in 3 * [self.desk, self.root]]
         self.assertEqual(len(connection._objects), 2)
+        kept.clear()
+        gc.collect()
+        await until(lambda: not connection._objects)
 
     async def test_forwarded_promises(self):
         _, connection = await self.over(Desk())
@@ -321,10 +373,15 @@ class Endings(Service):
     async def test_an_object_that_fails_as_it_goes(self):
         own = Desk()
         own.gone = lambda: 1 // 0
-        await self.desk.keep(desk=own)
+        with self.assertLogs("lovendak", logging.ERROR):
+            await self.desk.ask(desk=own)
+            await until(lambda: not self.connection._objects)
+        self.assertEqual(await self.desk.echo(data=b"x"), {"data": b"x"})
+        kept = await self.desk.keep(desk=own)
         with self.assertLogs("lovendak", logging.ERROR):
             self.connection.close()
             await self.connection.wait_closed()
+        self.assertIsNotNone(kept)
 
 
 class Slowness(Service):
@@ -347,6 +404,18 @@ class Slowness(Service):
         self.connection._transport.resume_reading()
         self.assertEqual(await self.desk.echo(data=b"x"), {"data": b"x"})
         await self.connection.drain()
+
+    async def test_a_server_with_limits_hears_no_more_than_they_say(self):
+        root = Desk()
+        _, connection = await self.over(root, limits=(100, 1 << 20))
+        desk = connection.bootstrap(DESK)
+        calls = [desk.wait(number=number) for number in range(300)]
+        await until(lambda: root.waiting)
+        for number in range(300):
+            await until(lambda number=number: number in root.waiting)
+            self.assertLess(sum(not it.done() for it in root.waiting.values()), 20)  # each call has more than five words
+            root.waiting[number].set_result(number + 1)
+        self.assertEqual([it["number"] for it in await asyncio.gather(*calls)], list(range(1, 301)))
 
     async def test_calls_to_a_peer_that_does_not_read(self):
         listener = socket.create_server(("127.0.0.1", 0))

@@ -5,7 +5,9 @@ import threading
 import unittest
 
 import lovendak
-from lovendak import DOWN, ENDED, FAILED, OVERLOADED, SERVED, Contents, Refused, Vat
+from lovendak import (
+    DOWN, ENDED, FAILED, LIFTED, OVERLOADED, RELEASED, RESOLVED, SERVED, Broken, Contents, Lead, Place, Refused, TableSizes, Vat,
+)
 
 THREADS = 4
 
@@ -123,7 +125,7 @@ class Conversations(unittest.TestCase):
         self.assertEqual(repr(served), f"<task {served.task}: method 3 of 0x7 of object 5>")
         server.fail(served.task, OVERLOADED, "busy")
         client.received(server.outgoing())
-        told = {event.call: event for event in client.events()}
+        told = {event.call: event for event in client.events() if event.kind == ENDED}
         self.assertEqual((told[call].kind, told[call].exception), (ENDED, (OVERLOADED, "busy")))
         self.assertEqual(repr(told[call]), f"<call {call} ended: overloaded: busy>")
         client.ended()
@@ -134,6 +136,111 @@ class Conversations(unittest.TestCase):
         client.received(server.outgoing())
         [down] = client.events()
         self.assertEqual((down.number, down.reason), (34, "fault 7"))
+
+
+def speak(one, other):
+    """Each says all that it has to say, as long as there is anything."""
+    while any(said := (one.outgoing(), other.outgoing())):
+        other.received(said[0])
+        one.received(said[1])
+
+
+class Objects(unittest.TestCase):
+    """A client, and a server whose bootstrap object it has."""
+
+    def setUp(self):
+        self.client, self.server = Vat(), Vat(root=0)
+        self.asked = self.client.bootstrap()
+        self.root = self.client.result_of(self.asked)
+        speak(self.client, self.server)
+        ended, known = self.client.events()
+        self.client.drop_ref(*ended.contents.refs)
+        self.assertEqual((known.kind, known.place, repr(known)), (RESOLVED, Place.ANSWER, "<the answer to question 0 is known>"))
+
+    def served(self, *refs):
+        """The next call is answered with these: the references that came with it."""
+        speak(self.client, self.server)
+        [event] = self.server.events()
+        self.server.answer(event.task, Contents.of(refs=refs))
+        speak(self.client, self.server)
+        return event.contents.refs
+
+    def test_released(self):
+        own = self.client.host(9)
+        call = self.client.call(self.root, 7, 0, Contents.of(refs=[own]))
+        self.client.drop_ref(own)
+        [given] = self.served()
+        self.assertEqual([it.kind for it in self.client.events()], [ENDED])
+        self.client.finish(call)
+        self.server.drop_ref(given)
+        speak(self.client, self.server)
+        self.assertTrue(self.client.pending()[1])
+        again = self.client.host(9)
+        self.assertEqual(list(self.client.events()), [])
+        self.client.drop_ref(again)
+        [event] = self.client.events()
+        self.assertEqual((event.kind, event.object, repr(event)), (RELEASED, 9, "<object 9 is released>"))
+
+    def test_a_bootstrap_object_is_not_released(self):
+        self.server.drop_ref(self.server.host(0))
+        self.client.drop_ref(self.root)
+        self.client.finish(self.asked)
+        speak(self.client, self.server)
+        self.assertTrue(self.server.shares_nothing())
+        self.assertEqual(list(self.server.events()), [])
+
+    def test_places(self):
+        client = self.client
+        own, (promise, promised) = client.host(9), client.promise()
+        call = client.call(own, 7, 0, Contents.of())
+        result = client.field(call, 0)
+        for ref, lead in ((own, Lead(Place.OWN, 9)), (promised, Lead(Place.OWN_PROMISE)), (result, Lead(Place.OWN_CALL)),
+                          (self.root, Lead(Place.ANSWER, 0))):
+            self.assertEqual(client.leads_to(ref), lead)
+        [event] = client.events()
+        client.answer(event.task, Contents.of())
+        self.assertEqual(client.leads_to(result), Lead(Place.BROKEN, reason=Broken.NULL))
+        client.reject(promise, FAILED, "")
+        self.assertEqual(client.leads_to(promised), Lead(Place.BROKEN, reason=Broken.PROMISE))
+        self.assertEqual(client.advance(self.root), 1)
+        self.assertEqual(client.leads_to(self.root), Lead(Place.IMPORT, 0))
+        with self.assertRaisesRegex(Refused, "UnknownRef"):
+            client.leads_to(99)
+
+    def test_a_promise_becomes_known(self):
+        client, server = self.client, self.server
+        promise, promised = server.promise()
+        client.call(self.root, 7, 0, Contents.of())
+        self.served(promised)
+        [ended] = client.events()
+        [ref] = ended.contents.refs
+        client.call(self.root, 7, 1, Contents.of(refs=[client.host(9)]))
+        before = client.leads_to(ref)
+        self.assertEqual(before, Lead(Place.IMPORT, before.number, is_promise=True))
+        [given] = self.served()
+        server.resolve(promise, given)
+        speak(client, server)
+        _, known = client.events()
+        self.assertEqual((known.kind, known.place, known.number), (RESOLVED, Place.IMPORT, before.number))
+        self.assertEqual(repr(known), f"<import {before.number} is known>")
+        self.assertEqual(client.leads_to(ref), Lead(Place.IMPORT, before.number))
+        self.assertEqual(client.advance(ref), 2)
+        self.assertEqual(client.leads_to(ref), Lead(Place.OWN, 9, is_embargoed=True))
+        speak(client, server)
+        [lifted] = client.events()
+        self.assertEqual((lifted.kind, lifted.ref, repr(lifted)), (LIFTED, ref, f"<the embargo of reference {ref} is over>"))
+
+    def test_finishes_behind_returns(self):
+        for after_return, answers in ((True, 2), (False, 1)):
+            self.client.set_finishes(after_return)
+            self.client.finish(self.client.call(self.root, 7, 0, Contents.of()))
+            speak(self.client, self.server)
+            [event] = self.server.events()
+            self.server.answer(event.task, Contents.of())
+            self.assertEqual(self.server.table_sizes(), TableSizes(questions=0, answers=answers, exports=1, imports=0))
+            speak(self.client, self.server)
+            self.assertEqual(self.client.table_sizes(), TableSizes(questions=1, answers=0, exports=0, imports=1))
+        self.assertEqual(list(self.client.events()), [])
 
 
 class Threads(unittest.TestCase):
@@ -180,7 +287,8 @@ class Threads(unittest.TestCase):
             for event in server.events():
                 server.answer(event.task, Contents(event.contents.payload))
             for event in client.events():
-                ended[event.call] = event.contents
+                if event.kind == ENDED:
+                    ended[event.call] = event.contents
 
         def work():
             name = threading.get_ident()

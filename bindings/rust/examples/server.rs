@@ -1,7 +1,9 @@
 //! Serves counters over TCP to peers of any make: `server ADDRESS`, a thread for each client. Of the registry of
-//! `interop/registry.capnp` it has makeCounter, makeRegistry, echo, fail and same.
+//! `interop/registry.capnp` it has makeCounter, makeRegistry, echo, fail and same. It lets go of a counter once its client has released
+//! it. When a client has gone, it prints how many counters that client had left.
 
 use lovendak::{Contents, Event, Exception, ExceptionKind, Level, ObjectId, Refusal, Served, Vat};
+use std::collections::HashMap;
 use std::error::Error;
 use std::io::{Read, Write};
 use std::net::{TcpListener, TcpStream};
@@ -17,7 +19,7 @@ const ECHO: u16 = 4;
 const FAIL: u16 = 5;
 const SAME: u16 = 6;
 
-/// The registry. It has no state, so that one does for all; a counter has the number of its sum, from 1 on.
+/// The registry. It has no state, so that one does for all; counters have the numbers from 1 on.
 const ROOT: ObjectId = ObjectId(0);
 
 fn main() -> Result<(), Box<dyn Error>> {
@@ -38,31 +40,38 @@ fn serve(mut stream: TcpStream) -> Result<(), Box<dyn Error>> {
     let (mut counters, mut room) = (Counters::default(), vec![0; 65_536]);
     while vat.down().is_none() {
         match stream.read(&mut room)? {
-            0 => return Ok(()),
+            0 => break,
             count => vat.received(&room[..count]),
         }
         while let Some(event) = vat.next_event() {
-            counters.serve(&mut vat, event)?;
+            counters.hear(&mut vat, event)?;
         }
         stream.write_all(&vat.outgoing())?;
     }
+    println!("a client has gone, and left {} counters", counters.sums.len());
     Ok(())
 }
 
 #[derive(Default)]
 struct Counters {
-    sums: Vec<u64>,
+    sums: HashMap<ObjectId, u64>,
+    made: u64,
 }
 
 impl Counters {
-    /// Answers a call, and lets go of what came with it and of what was given. A vat that is down answers nothing, and this one makes
-    /// no calls of its own.
-    fn serve(&mut self, vat: &mut Vat, event: Event) -> Result<(), Refusal> {
-        let call = match event {
-            Event::Served(call) if vat.down().is_none() => call,
-            _ => return Ok(()),
-        };
-        let answered = self.answer(vat, &call).and_then(|results| {
+    /// A vat that is down answers nothing, and this one makes no calls of its own.
+    fn hear(&mut self, vat: &mut Vat, event: Event) -> Result<(), Refusal> {
+        match event {
+            Event::Served(call) if vat.down().is_none() => self.serve(vat, &call)?,
+            Event::Released(object) => drop(self.sums.remove(&object)),
+            _ => {}
+        }
+        Ok(())
+    }
+
+    /// Answers a call, and lets go of what came with it and of what was given.
+    fn serve(&mut self, vat: &mut Vat, call: &Served) -> Result<(), Refusal> {
+        let answered = self.answer(vat, call).and_then(|results| {
             let taken = vat.answer(call.task, &results);
             vat.let_go(&results.refs)?;
             Ok(taken?)
@@ -78,23 +87,30 @@ impl Counters {
         let params = &call.params;
         match (call.object, call.interface, call.method) {
             (ROOT, REGISTRY, MAKE_COUNTER) => {
-                self.sums.push(params.number(0)?);
-                object(vat, ObjectId(self.sums.len() as u64))
+                let (first, counter) = (params.number(0)?, ObjectId(self.made + 1));
+                let results = object(vat, counter)?;
+                self.made = counter.0;
+                self.sums.insert(counter, first);
+                Ok(results)
             }
             (ROOT, REGISTRY, MAKE_REGISTRY) => object(vat, ROOT),
             (ROOT, REGISTRY, ECHO | SAME) => again(vat, params),
             (ROOT, REGISTRY, FAIL) => failed(&params.text(0)?.unwrap_or_default()),
-            (ObjectId(number @ 1..), COUNTER, ADD) => self.add(number as usize - 1, params.number(0)?),
-            _ => Err(Exception { kind: ExceptionKind::Unimplemented, reason: "no such method".into() }),
+            (counter, COUNTER, ADD) => self.add(counter, params.number(0)?),
+            _ => no_such_method(),
         }
     }
 
-    fn add(&mut self, counter: usize, by: u64) -> Result<Contents, Exception> {
-        match self.sums[counter].checked_add(by) {
+    fn add(&mut self, counter: ObjectId, by: u64) -> Result<Contents, Exception> {
+        let sum = match self.sums.get_mut(&counter) {
+            Some(sum) => sum,
+            None => return no_such_method(), // the registry
+        };
+        match sum.checked_add(by) {
             None => failed("the sum is too large"),
-            Some(sum) => {
-                self.sums[counter] = sum;
-                Ok(Contents::new(&[sum], None, &[])?)
+            Some(more) => {
+                *sum = more;
+                Ok(Contents::new(&[more], None, &[])?)
             }
         }
     }
@@ -110,6 +126,10 @@ fn object(vat: &mut Vat, number: ObjectId) -> Result<Contents, Exception> {
 fn again(vat: &mut Vat, params: &Contents) -> Result<Contents, Exception> {
     let refs = params.refs.iter().map(|reference| vat.clone_ref(*reference)).collect::<Result<_, _>>()?;
     Ok(Contents { payload: params.payload.clone(), refs })
+}
+
+fn no_such_method() -> Result<Contents, Exception> {
+    Err(Exception { kind: ExceptionKind::Unimplemented, reason: "no such method".into() })
 }
 
 fn failed(reason: &str) -> Result<Contents, Exception> {

@@ -4,6 +4,7 @@ use crate::object::Object;
 use crate::refusal::Refusal;
 use crate::remote::{Call, Remote, Unpark};
 use crate::shared::{Next, Shared};
+use crate::vat::Finishes;
 use std::io::{self, ErrorKind, Read, Write};
 use std::net::{Shutdown, TcpListener, TcpStream, ToSocketAddrs};
 use std::os::unix::net::UnixStream;
@@ -113,6 +114,18 @@ impl Connection {
         root
     }
 
+    /// When the Finish of a call goes from now on that is given up before it has ended. From the beginning it goes at once.
+    pub fn set_finishes(&self, when: Finishes) {
+        self.0.set_finishes(when);
+    }
+
+    /// Sets limits of what is held of the peer: the words of its calls that are not answered, and the bytes that wait for it in the vat.
+    /// While one of them is exceeded, no more of the peer is read. A new connection has no limits. Limits that are too low for what the two
+    /// applications ask of each other at a time stop both, and the end of the stream is not seen meanwhile.
+    pub fn set_limits(&self, words: u64, bytes: u64) {
+        self.0.set_limits(words, bytes);
+    }
+
     /// Ends the connection, once what was said before is written. Calls that are open fail with `Disconnected`.
     pub fn close(&self) {
         self.0.close();
@@ -130,7 +143,7 @@ impl Connection {
 }
 
 /// Accepts connections for good, over each of which a client gets what the function gives. An error of a single connection ends that
-/// one alone; one of the listener ends this.
+/// one alone; one of the listener ends this. A server that sets limits accepts streams itself, for [`Connection::accepted`].
 ///
 /// ```no_run
 /// use lovendak::Object;
@@ -171,9 +184,7 @@ fn begin(stream: impl Stream, root: Option<Arc<dyn Object>>, holds_back: bool) -
 fn read(shared: &Arc<Shared>, mut stream: impl Stream, holds_back: bool) {
     let mut room = vec![0; 65_536];
     loop {
-        if holds_back {
-            shared.wait_written();
-        }
+        shared.wait_readable(holds_back);
         match stream.read(&mut room) {
             Ok(0) => break,
             Ok(count) => shared.received(&room[..count]),

@@ -2,7 +2,8 @@
 
 use crate::contents::Contents;
 use crate::fault::Fault;
-use crate::ids::{CallId, ObjectId, TaskId};
+use crate::ids::{CallId, ObjectId, RefId, TaskId};
+use crate::place::PeerPlace;
 use crate::refusal::Refusal;
 use std::error::Error;
 use std::fmt;
@@ -14,6 +15,15 @@ pub enum Event {
     Served(Served),
     /// An own call has ended: drop the references in its results, and `finish` it.
     Ended(Ended),
+    /// What stands at a place of the peer is known now. A reference that leads there may lead on: [`advance`](crate::Vat::advance) it.
+    /// It comes behind the calls that ended by the same message.
+    Resolved(PeerPlace),
+    /// The embargo of a reference is over: its calls wait no more.
+    Lifted(RefId),
+    /// Nothing in the vat names the object any more, which was hosted: no reference, and nothing that the peer has. No call for it comes
+    /// until it is hosted again, so its application may let go of it. A task of it may still be open. It comes behind all other events of
+    /// a vat that is up. If it is hosted again while the event waits, it is not told; the bootstrap object is never released.
+    Released(ObjectId),
     /// The vat went down, with that number; [`Fault::of`] says what it means. Each own call has ended before, those that were open
     /// with `Disconnected`. With it comes the reason of the Abort by which the peer ended it, or an empty text.
     Down(u16, String),
@@ -25,6 +35,9 @@ impl fmt::Display for Event {
         match self {
             Event::Served(call) => call.fmt(f),
             Event::Ended(ended) => ended.fmt(f),
+            Event::Resolved(place) => write!(f, "{place} is known"),
+            Event::Lifted(reference) => write!(f, "the embargo of {reference} is over"),
+            Event::Released(object) => write!(f, "{object} is released"),
             Event::Down(number, reason) => {
                 write!(f, "the vat went down with {number}")?;
                 if let Some(fault) = Fault::of(*number) {

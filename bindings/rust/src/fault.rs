@@ -36,7 +36,7 @@ numbered! {
     27 DisembargoNotLoopback: "The target of a Disembargo does not lead back to its sender's side", PEER;
     28 UnknownEmbargo: "There is no such embargo", PEER;
     29 KindMismatch: "A descriptor of another kind than its import's, or of an import that had its Resolve",
-        "Peers of Rust (`capnp-rpc`) may name a promise again by another kind, which this vat doesn't take. Of any other peer: capture both directions, and print them with `rpc_dump`.";
+        "The peer named a promise again after its Resolve. A connection hears other names in the kind of the first one. Capture both directions, print them with `rpc_dump`, and show them to the peer's maker.";
     30 BadPayload: "The payload's capabilities and the descriptors differ in number", PEER;
     31 HeldLimit: "A Call would have to wait where no more may",
         "65,536 calls wait at promises. Settle promises sooner, or have callers wait for answers.";
@@ -45,7 +45,7 @@ numbered! {
     33 WantOfRoom: "A growth was refused, or a limit would be passed",
         "Look at the limits (docs/protocol.md): finish calls that have ended, drop references, answer tasks. If no table is near its limit, the process lacked memory.";
     34 PeerAbort: "The peer sent an Abort",
-        "The Abort says why: `rpc_dump` prints its reason, if the conversation was captured.";
+        "The event of going down has the reason of the Abort.";
     60 WrongKind: "A pointer leads to something of another kind than its field has", BYTES;
     61 BadText: "The bytes of a reason don't end with a zero", BYTES;
     62 TooManyDescriptors: "A payload has more than 4,096 descriptors",

@@ -30,11 +30,22 @@ pub struct LovendakEvent {
     pub method: u32,
     pub is_exception: u32,
     pub exception: u32,
+    pub place: u32,
     pub number: u64,
     pub object: u64,
     pub interface_id: u64,
     pub payload_len: usize,
     pub refs_len: usize,
+}
+
+#[repr(C)]
+#[derive(Default)]
+pub struct LovendakPlace {
+    pub kind: u32,
+    pub is_embargoed: u32,
+    pub is_promise: u32,
+    pub reason: u32,
+    pub number: u64,
 }
 
 /// Functions that are safe to call, since they take numbers and references alone. Each is declared, and called by one of its name.
@@ -60,7 +71,16 @@ safe! {
     fn lovendak_pending(vat: &mut Lovendak, bytes: &mut usize, has_event: &mut u32) -> u32;
     fn lovendak_load(vat: &mut Lovendak, words: &mut u64, bytes: &mut u64) -> u32;
     fn lovendak_set_limits(vat: &mut Lovendak, words: u64, bytes: u64) -> u32;
+    fn lovendak_set_finishes(vat: &mut Lovendak, when: u32) -> u32;
     fn lovendak_wants_bytes(vat: &mut Lovendak, answer: &mut u32) -> u32;
+    fn lovendak_leads_to(vat: &mut Lovendak, reference: u64, place: &mut LovendakPlace) -> u32;
+    fn lovendak_table_sizes(
+        vat: &mut Lovendak,
+        questions: &mut usize,
+        answers: &mut usize,
+        exports: &mut usize,
+        imports: &mut usize
+    ) -> u32;
     fn lovendak_down(vat: &mut Lovendak, number: &mut u32) -> u32;
     fn lovendak_shares_nothing(vat: &mut Lovendak, answer: &mut u32) -> u32;
     fn lovendak_calls_made(vat: &mut Lovendak, reference: u64, made: &mut u64) -> u32;

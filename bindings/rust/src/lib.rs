@@ -5,6 +5,8 @@
 //! proved. All `unsafe` is in `ffi.rs`. What has to be given back, and what a vat does when it goes down, stands in
 //! `docs/embedding.md`.
 //!
+//! An application lets an object go when it is [released](Event::Released): when nothing refers to it any more, here or at the peer.
+//!
 //! A [`Connection`] has objects call each other over a stream, with calls as futures. A [`Vat`] is what lies below it, and what the
 //! rest of this page is about.
 //!
@@ -29,7 +31,11 @@
 //!     server.answer(served.task, &Contents::new(&[doubled], None, &[])?)?;
 //!
 //!     client.received(&server.outgoing());
-//!     while let Some(Event::Ended(ended)) = client.next_event() {
+//!     while let Some(event) = client.next_event() {
+//!         let ended = match event {
+//!             Event::Ended(ended) => ended,
+//!             _ => continue, // what stands in the results of `asked` is known now
+//!         };
 //!         let results = ended.outcome.expect("no call failed");
 //!         if ended.call == call {
 //!             assert_eq!(results.number(0)?, 42);
@@ -57,6 +63,7 @@ mod node;
 mod number;
 mod numbered;
 mod object;
+mod place;
 #[cfg(feature = "futures-io")]
 mod polled;
 mod reading;
@@ -78,12 +85,13 @@ pub use fault::Fault;
 pub use ids::{CallId, ObjectId, PromiseId, RefId, TaskId};
 pub use number::Number;
 pub use object::{Answer, Incoming, Object, Outcome};
+pub use place::{Broken, Lead, PeerPlace, Place};
 #[cfg(feature = "futures-io")]
 pub use polled::Polled;
 pub use refusal::Refusal;
 pub use remote::{Call, Remote};
 pub use structs::Struct;
-pub use vat::{Advanced, Level, Load, Pending, Vat};
+pub use vat::{Advanced, Finishes, Level, Load, Pending, TableSizes, Vat};
 
 /// The number of the library's interface.
 pub fn version() -> u32 {

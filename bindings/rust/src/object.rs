@@ -11,7 +11,8 @@ use std::sync::Arc;
 /// How a call over a connection ends: with what it gives, or with an exception.
 pub type Outcome = Result<Contents<Capability>, Exception>;
 
-/// What peers call. It stays at each connection over which it went, until that connection ends.
+/// What peers call. A connection over which it went keeps it as long as the peer may call it: until the peer has released it, or the
+/// connection ends. A bootstrap object stays until the connection ends.
 ///
 /// The calls of a connection come one after the other, in their order. The next one waits while `call` works, but not for its answer,
 /// which may be sent later and from another thread. So `call` must not wait for a call over the same connection; [`Call::then`] doesn't.
@@ -19,7 +20,8 @@ pub trait Object: Send + Sync {
     /// Serves a call, whose answer is sent now or later. If it panics, the call fails.
     fn call(&self, call: Incoming, answer: Answer);
 
-    /// A connection over which it went has ended. It is called once for each of them.
+    /// A connection does not keep it any more: its peer has released it, or the connection has ended. It is called once each time. A call
+    /// that came before may still be unanswered. The object may be passed over the connection again.
     fn gone(&self) {}
 }
 

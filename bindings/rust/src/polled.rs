@@ -91,8 +91,8 @@ impl<S: AsyncRead + AsyncWrite + Unpin> Polled<S> {
 
     /// Reads a piece: false where the stream has ended.
     fn read(&mut self, context: &mut Context<'_>) -> Poll<io::Result<bool>> {
-        if self.holds_back && self.shared.is_held() {
-            return Poll::Pending; // until what was said is written
+        if self.shared.is_held(self.holds_back) {
+            return Poll::Pending; // until what was said is written, or a call is answered
         }
         Pin::new(&mut self.stream).poll_read(context, &mut self.room).map_ok(|count| {
             self.shared.received(&self.room[..count]);

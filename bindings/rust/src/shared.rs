@@ -10,7 +10,7 @@ use crate::ids::{CallId, ObjectId, RefId, TaskId};
 use crate::object::{Object, Outcome};
 use crate::refusal::Refusal;
 use crate::remote::Slot;
-use crate::vat::{Level, Vat};
+use crate::vat::{Finishes, Level, Vat};
 use std::collections::HashMap;
 use std::mem;
 use std::sync::{Arc, Condvar, Mutex, MutexGuard, PoisonError};
@@ -47,8 +47,8 @@ pub(crate) struct Shared {
 
 struct State {
     vat: Vat,
-    objects: HashMap<ObjectId, Arc<dyn Object>>,
-    /// The numbers of objects, by where they lie.
+    objects: HashMap<ObjectId, Hosted>,
+    /// The numbers of objects, by their keys.
     numbers: HashMap<usize, ObjectId>,
     next_object: u64,
     calls: HashMap<CallId, Arc<Slot>>,
@@ -59,6 +59,12 @@ struct State {
     telling: Option<ThreadId>,
     is_closing: bool,
     has_ended: bool,
+}
+
+/// An object that the peer may call, and a key of it: where it lies, or where that lies for which it stands.
+struct Hosted {
+    key: usize,
+    object: Arc<dyn Object>,
 }
 
 impl State {
@@ -79,20 +85,43 @@ impl State {
         self.unsent.len() + self.taken
     }
 
-    fn number(&mut self, key: usize, object: impl FnOnce() -> Arc<dyn Object>) -> ObjectId {
-        if let Some(number) = self.numbers.get(&key) {
-            return *number;
-        }
+    /// Whether no more of the peer is read: it does not read itself, or the vat holds as much of it as its limits say.
+    fn is_held(&mut self, holds_back: bool) -> bool {
+        !self.has_ended && (holds_back && self.waiting() > MOST_HELD || !self.vat.wants_bytes())
+    }
+
+    /// A number for an object that has none.
+    fn add(&mut self, key: usize, object: Arc<dyn Object>) -> ObjectId {
         let number = ObjectId(self.next_object);
         self.next_object += 1;
-        self.objects.insert(number, object());
+        self.objects.insert(number, Hosted { key, object });
         self.numbers.insert(key, number);
         number
     }
 
-    fn host(&mut self, object: &Arc<dyn Object>) -> ObjectId {
-        self.number(Arc::as_ptr(object) as *const () as usize, || object.clone())
+    /// A reference to the object of that key. It has one number from when it is hosted until it is released.
+    fn host(&mut self, key: usize, object: impl FnOnce() -> Arc<dyn Object>) -> Result<RefId, Refusal> {
+        if let Some(number) = self.numbers.get(&key) {
+            return self.vat.host(*number);
+        }
+        let number = self.add(key, object());
+        let made = self.vat.host(number);
+        if made.is_err() {
+            self.forget(number);
+        }
+        made
     }
+
+    /// Nobody can call an object any more.
+    fn forget(&mut self, number: ObjectId) -> Option<Arc<dyn Object>> {
+        let Hosted { key, object } = self.objects.remove(&number)?;
+        self.numbers.remove(&key);
+        Some(object)
+    }
+}
+
+fn key_of(object: &Arc<dyn Object>) -> usize {
+    Arc::as_ptr(object) as *const () as usize
 }
 
 impl Shared {
@@ -115,8 +144,8 @@ impl Shared {
             driver: Mutex::default(),
             changed: Condvar::new(),
         };
-        if let Some(root) = &root {
-            lock(&shared.state).host(root);
+        if let Some(root) = root {
+            lock(&shared.state).add(key_of(&root), root);
         }
         Ok(Arc::new(shared))
     }
@@ -186,11 +215,11 @@ impl Shared {
 
     pub fn answer(self: &Arc<Self>, task: TaskId, outcome: Outcome) {
         let promised = self.with(|state| {
-            let (answered, promised) = match outcome {
+            let (answered, promised) = match &outcome {
                 Ok(results) => {
                     self.lending(state, &results.refs, |vat, refs| vat.answer_parts(task, &results.payload, refs))
                 }
-                Err(exception) => (Err(exception), Vec::new()),
+                Err(exception) => (Err(exception.clone()), Vec::new()),
             };
             if let Err(Exception { kind, reason }) = answered {
                 let _ = state.vat.fail(task, kind, sendable(&reason)); // a vat that is down refuses it
@@ -198,6 +227,14 @@ impl Shared {
             promised
         });
         self.keep(promised);
+    }
+
+    pub fn set_finishes(&self, when: Finishes) {
+        lock(&self.state).vat.set_finishes(when);
+    }
+
+    pub fn set_limits(&self, words: u64, bytes: u64) {
+        self.with(|state| state.vat.set_limits(words, bytes));
     }
 
     pub fn close(&self) {
@@ -216,7 +253,7 @@ impl Shared {
         lock(&self.state).telling == Some(thread::current().id())
     }
 
-    fn wait_while(&self, is_so: impl Fn(&State) -> bool) {
+    fn wait_while(&self, is_so: impl Fn(&mut State) -> bool) {
         let state = lock(&self.state);
         drop(self.changed.wait_while(state, |state| is_so(state)).unwrap_or_else(PoisonError::into_inner));
     }

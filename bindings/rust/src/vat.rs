@@ -2,8 +2,9 @@
 
 use crate::contents::Contents;
 use crate::event::{Ended, Event, Exception, ExceptionKind, Served};
-use crate::ffi::{self, Lovendak, LovendakEvent, Method};
+use crate::ffi::{self, Lovendak, LovendakEvent, LovendakPlace, Method};
 use crate::ids::{CallId, ObjectId, PromiseId, RefId, TaskId};
+use crate::place::{Lead, PeerPlace};
 use crate::refusal::Refusal;
 use std::fmt;
 
@@ -46,6 +47,29 @@ pub struct Pending {
     pub bytes: usize,
     /// Whether there is an event.
     pub has_event: bool,
+}
+
+/// When the Finish of a call goes that is finished before its Return came.
+#[derive(Clone, Copy, Debug, PartialEq, Eq)]
+pub enum Finishes {
+    /// At once.
+    AtOnce,
+    /// Behind the Return. This is for a peer that sends no Return for a call of which it heard the Finish before, as the crate
+    /// `capnp-rpc`. With another peer a call that is let go runs to its end there.
+    AfterReturn,
+}
+
+/// How much there is between a vat and its peer, each at most 4,096.
+#[derive(Clone, Copy, Debug, Default, PartialEq, Eq)]
+pub struct TableSizes {
+    /// Own calls, as far as they go to the peer: those that did not return, and those that are not finished.
+    pub questions: usize,
+    /// Calls of the peer.
+    pub answers: usize,
+    /// What the peer has of this vat: objects and promises.
+    pub exports: usize,
+    /// What this vat has of the peer.
+    pub imports: usize,
 }
 
 /// A vat that speaks with one peer. It may go to another thread, and is used by one at a time, so it is not `Sync`:
@@ -101,6 +125,11 @@ impl Vat {
         ok(ffi::lovendak_set_limits(&mut self.handle, words, bytes));
     }
 
+    /// When the Finish of a call goes from now on, if the call is finished before its Return came. From the beginning it goes at once.
+    pub fn set_finishes(&mut self, when: Finishes) {
+        ok(ffi::lovendak_set_finishes(&mut self.handle, u32::from(when == Finishes::AfterReturn)));
+    }
+
     /// Whether more bytes of the peer would be heard. If not, there are events to take, bytes to send or calls to answer, or the vat is
     /// down, and what comes only waits: read no more of the peer meanwhile.
     pub fn wants_bytes(&mut self) -> bool {
@@ -137,8 +166,9 @@ impl Vat {
     }
 
     /// The oldest event. The events of one command or message come behind those of the ones before it; of one, calls to serve
-    /// come before own calls that ended. Of a vat that is down, each own call that is open ends then with `Disconnected`, and
-    /// last comes, once, that it is down.
+    /// come before own calls that ended, and these before what it made known (`Resolved`, `Lifted`). Behind them all come, of a vat that
+    /// is up, the objects that are `Released`. Of a vat that is down, each own call that is open ends then with `Disconnected`, and last
+    /// comes, once, that it is down.
     pub fn next_event(&mut self) -> Option<Event> {
         let mut event = LovendakEvent::default();
         loop {
@@ -181,6 +211,9 @@ impl Vat {
                 },
             }),
             3 => Event::Down(event.number as u16, String::from_utf8_lossy(payload).into_owned()),
+            4 => Event::Released(ObjectId(event.object)),
+            6 => Event::Resolved(PeerPlace::of(event.place, event.number)),
+            7 => Event::Lifted(RefId(event.number)),
             _ => return None,
         })
     }
@@ -196,6 +229,22 @@ impl Vat {
         let mut answer = 0;
         ok(ffi::lovendak_shares_nothing(&mut self.handle, &mut answer));
         answer == 1
+    }
+
+    /// How many questions, answers, exports and imports there are between the two vats.
+    pub fn table_sizes(&mut self) -> TableSizes {
+        let mut sizes = TableSizes::default();
+        let TableSizes { questions, answers, exports, imports } = &mut sizes;
+        ok(ffi::lovendak_table_sizes(&mut self.handle, questions, answers, exports, imports));
+        sizes
+    }
+
+    /// Where calls through a reference go. The work grows with the links on the way; [`advance`](Vat::advance) makes the way short.
+    /// `Down`, `UnknownRef`.
+    pub fn leads_to(&mut self, reference: RefId) -> Result<Lead, Refusal> {
+        let mut place = LovendakPlace::default();
+        Refusal::check(ffi::lovendak_leads_to(&mut self.handle, reference.0, &mut place))?;
+        Ok(Lead::of(&place))
     }
 
     /// How many calls were made through a reference. `UnknownRef`.
@@ -227,7 +276,8 @@ impl Vat {
         Refusal::check(code).map(|()| RefId(made))
     }
 
-    /// A reference to an object of the application.
+    /// A reference to an object of the application. It may be hosted again, and again after it was
+    /// [released](Event::Released). If that event waits to be told, it is told no more.
     pub fn host(&mut self, object: ObjectId) -> Result<RefId, Refusal> {
         given(|made| ffi::lovendak_host(&mut self.handle, object.0, made)).map(RefId)
     }

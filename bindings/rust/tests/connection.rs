@@ -1,8 +1,8 @@
 //! Objects and calls over connections.
 
 use lovendak::{
-    Answer, Call, Capability, Connection, Contents, ExceptionKind, Incoming, Level, Object, Outcome, Promise, Remote,
-    Resolver, Struct, Vat,
+    Answer, Call, Capability, Connection, Contents, ExceptionKind, Finishes, Incoming, Level, Object, Outcome, Promise,
+    Remote, Resolver, Struct, Vat,
 };
 use std::collections::BTreeMap;
 use std::io::{Read, Write};
@@ -293,6 +293,63 @@ fn a_peer_dies() {
 }
 
 #[test]
+fn objects_go_when_they_are_released() {
+    let root = Arc::new(Desk::default());
+    let (connection, server) = connected(&root);
+    let desk = connection.bootstrap();
+    let (own, given) = self::desk();
+    assert_eq!(number(with(&desk, ASK, given.clone(), 1).wait()), 1);
+    until(|| own.gone() == 1);
+    // It may be passed again, and stays while the peer has it.
+    let kept = with(&desk, KEEP, given.clone(), 0);
+    let back = kept.at(&[2, 1]);
+    drop(kept.wait().unwrap());
+    assert_eq!(number(echo(&back, 2).wait()), 2);
+    assert_eq!(own.gone(), 1);
+    drop(back);
+    until(|| own.gone() == 2);
+    drop(given);
+    until(|| Arc::strong_count(&own) == 1);
+    // The bootstrap object stays.
+    assert_eq!((root.gone(), number(echo(&connection.bootstrap(), 3).wait())), (0, 3));
+    connection.close();
+    server.wait_ended();
+    until(|| root.gone() == 1);
+}
+
+/// An object that is told to be released is passed again by another thread at the same time.
+#[test]
+fn objects_are_passed_again_as_they_are_released() {
+    let (connection, _) = connected(&Arc::new(Desk::default()));
+    let (own, given) = self::desk();
+    thread::scope(|scope| {
+        for _ in 0..4 {
+            let (desk, given) = (connection.bootstrap(), given.clone());
+            scope.spawn(move || {
+                (0..200).for_each(|at| assert_eq!(number(with(&desk, ASK, given.clone(), at).wait()), at))
+            });
+        }
+    });
+    assert_eq!(own.echoed().len(), 800);
+    drop(given);
+    until(|| Arc::strong_count(&own) == 1);
+    connection.close();
+}
+
+#[test]
+fn a_call_that_is_given_up_ends_behind_its_return() {
+    let root = Arc::new(Desk::default());
+    let (connection, _) = connected(&root);
+    connection.set_finishes(Finishes::AfterReturn);
+    let desk = connection.bootstrap();
+    drop(desk.call(DESK, WAIT, Struct::default().set_number(0, 1u64)));
+    assert_eq!(number(echo(&desk, 2).wait()), 2);
+    root.waiting.lock().unwrap().clear();
+    assert_eq!(number(echo(&desk, 3).wait()), 3);
+    connection.close();
+}
+
+#[test]
 fn what_was_said_before_the_end_arrives() {
     let root = Arc::new(Desk::default());
     let (connection, server) = connected(&root);
@@ -356,6 +413,33 @@ fn who_does_not_read_is_not_heard() {
     };
     assert!((0..300).take_while(is_heard).count() < 100);
     drop(here);
+    server.wait_ended();
+}
+
+#[test]
+fn who_asks_too_much_is_not_heard() {
+    let root = Arc::new(Desk::default());
+    let (connection, server) = connected(&root);
+    server.set_limits(100, 1 << 20);
+    let desk = connection.bootstrap();
+    let calls: Vec<Call> =
+        (0..500u64).map(|number| desk.call(DESK, WAIT, Struct::default().set_number(0, number))).collect();
+    until(|| !root.waiting.lock().unwrap().is_empty());
+    thread::sleep(Duration::from_millis(50));
+    assert!(root.waiting.lock().unwrap().len() < 20); // each call has more than five words
+    let (answering, desks) = (root.clone(), calls.len());
+    let answers = thread::spawn(move || {
+        for _ in 0..desks {
+            until(|| !answering.waiting.lock().unwrap().is_empty());
+            let (number, answer) = answering.waiting.lock().unwrap().pop_first().unwrap();
+            answer.send(Ok(Contents::of(Struct::default().set_number(0, number + 1)).unwrap()));
+        }
+    });
+    for (wanted, call) in (1..).zip(calls) {
+        assert_eq!(number(call.wait()), wanted);
+    }
+    answers.join().unwrap();
+    connection.close();
     server.wait_ended();
 }
 

@@ -1,8 +1,8 @@
 //! Two vats in one process.
 
 use lovendak::{
-    Advanced, CallId, Contents, Ended, Event, Exception, ExceptionKind, Fault, Level, ObjectId, Pending, PromiseId,
-    RefId, Refusal, Served, TaskId, Vat,
+    Advanced, Broken, CallId, Contents, Ended, Event, Exception, ExceptionKind, Fault, Finishes, Lead, Level, ObjectId,
+    PeerPlace, Pending, Place, PromiseId, RefId, Refusal, Served, TableSizes, TaskId, Vat,
 };
 
 const NOTHING: &[RefId] = &[];
@@ -51,12 +51,14 @@ fn pair() -> (Vat, Vat, CallId, RefId) {
     let got = ended(&mut a);
     assert_eq!(got.call, asked);
     a.let_go(&got.outcome.unwrap().refs).unwrap();
+    assert_eq!(a.next_event(), Some(Event::Resolved(PeerPlace::Answer(0)))); // to which `root` leads
+    assert_eq!(a.next_event(), None);
     (a, b, asked, root)
 }
 
 #[test]
 fn a_call_comes_as_it_was_made() {
-    assert_eq!(lovendak::version(), 1);
+    assert_eq!(lovendak::version(), 2);
     let (mut a, mut b, asked, root) = pair();
     let own = a.host(ObjectId(9)).unwrap();
     // An empty text has its place, and the references stand behind it.
@@ -135,6 +137,134 @@ fn calls_keep_their_order_over_the_shorter_path() {
     assert_eq!(lines, [1, 2, 3, 4]);
 }
 
+/// What a reference leads to, with no embargo before.
+fn place(vat: &mut Vat, reference: RefId) -> Place {
+    let lead = vat.leads_to(reference).unwrap();
+    assert!(!lead.is_embargoed);
+    lead.place
+}
+
+#[test]
+fn objects_are_released() {
+    let (mut a, mut b, asked, root) = pair();
+    let own = a.host(ObjectId(9)).unwrap();
+    let call = a.call(root, 1, 0, &with(&[own])).unwrap();
+    a.drop_ref(own).unwrap();
+    exchange(&mut a, &mut b);
+    let came = served(&mut b);
+    b.answer(came.task, &nothing()).unwrap();
+    exchange(&mut a, &mut b);
+    assert_eq!(ended(&mut a).call, call);
+    a.finish(call).unwrap();
+    exchange(&mut a, &mut b);
+    assert_eq!(a.next_event(), None); // b has it
+    b.let_go(&came.params.refs).unwrap();
+    a.received(&b.outgoing());
+    assert!(a.pending().has_event);
+    // Hosted again while the event waits, it is not told; once that reference is dropped, it is.
+    let again = a.host(ObjectId(9)).unwrap();
+    assert_eq!(a.next_event(), None);
+    a.drop_ref(again).unwrap();
+    assert_eq!(a.next_event(), Some(Event::Released(ObjectId(9))));
+    assert_eq!(a.next_event(), None);
+    // The bootstrap object never is.
+    a.drop_ref(root).unwrap();
+    a.finish(asked).unwrap();
+    exchange(&mut a, &mut b);
+    assert_eq!(b.next_event(), None);
+    assert!(a.shares_nothing() && b.shares_nothing());
+}
+
+#[test]
+fn references_lead_to_places() {
+    let (mut a, mut b, _, root) = pair();
+    let own = a.host(ObjectId(9)).unwrap();
+    let (promise, promised) = a.promise().unwrap();
+    let (broken, other) = a.promise().unwrap();
+    a.reject(broken, ExceptionKind::Failed, "").unwrap();
+    let call = a.call(own, 1, 0, &nothing()).unwrap();
+    let result = a.field(call, &[0]).unwrap();
+    assert_eq!(place(&mut a, own), Place::Own(ObjectId(9)));
+    assert_eq!(place(&mut a, promised), Place::OwnPromise);
+    assert_eq!(place(&mut a, other), Place::Broken(Broken::Promise));
+    assert_eq!(place(&mut a, result), Place::OwnCall);
+    let task = served(&mut a).task;
+    a.answer(task, &nothing()).unwrap();
+    assert_eq!(place(&mut a, result), Place::Broken(Broken::Null));
+    let text = a.call(own, 1, 0, &nothing()).unwrap();
+    let result = a.field(text, &[0]).unwrap();
+    assert_eq!(ended(&mut a).call, call);
+    let task = served(&mut a).task;
+    a.answer(task, &Contents::new(&[], Some("text"), &[]).unwrap()).unwrap();
+    assert_eq!(place(&mut a, result), Place::Broken(Broken::NotACapability));
+    a.resolve(promise, own).unwrap();
+    assert_eq!(place(&mut a, promised), Place::Own(ObjectId(9)));
+    // What the peer has.
+    assert_eq!(place(&mut a, root).of_peer(), Some(PeerPlace::Answer(0)));
+    assert_eq!(a.advance(root), Ok(Advanced::Switched));
+    let at_root = place(&mut a, root);
+    assert!(matches!(at_root, Place::Import { is_promise: false, .. }));
+    let again = a.clone_ref(root).unwrap();
+    assert_eq!(place(&mut a, again), at_root);
+    assert_eq!(a.leads_to(RefId(99)), Err(Refusal::UnknownRef));
+    exchange(&mut a, &mut b);
+    a.shut(0).unwrap();
+    assert_eq!(a.leads_to(root), Err(Refusal::Down));
+}
+
+#[test]
+fn what_becomes_known_is_told() {
+    let (mut a, mut b, _, root) = pair();
+    let (promise, given) = b.promise().unwrap();
+    let asked = a.call(root, 1, 0, &nothing()).unwrap();
+    exchange(&mut a, &mut b);
+    let task = served(&mut b).task;
+    b.answer(task, &with(&[given])).unwrap();
+    exchange(&mut a, &mut b);
+    let promised = ended(&mut a).outcome.unwrap().refs[0];
+    a.finish(asked).unwrap();
+    let id = match place(&mut a, promised) {
+        Place::Import { id, is_promise: true } => id,
+        other => panic!("it leads to {other:?}"),
+    };
+    let own = a.host(ObjectId(3)).unwrap();
+    a.call(root, 1, 9, &with(&[own])).unwrap();
+    exchange(&mut a, &mut b);
+    let published = served(&mut b);
+    b.resolve(promise, published.params.refs[0]).unwrap();
+    exchange(&mut a, &mut b);
+    assert_eq!(a.next_event(), Some(Event::Resolved(PeerPlace::Import(id))));
+    assert_eq!(place(&mut a, promised), Place::Import { id, is_promise: false });
+    assert_eq!(a.advance(promised), Ok(Advanced::Embargoed));
+    assert_eq!(a.leads_to(promised), Ok(Lead { place: Place::Own(ObjectId(3)), is_embargoed: true }));
+    assert_eq!(a.next_event(), None);
+    exchange(&mut a, &mut b);
+    assert_eq!(a.next_event(), Some(Event::Lifted(promised)));
+    assert_eq!(a.leads_to(promised), Ok(Lead { place: Place::Own(ObjectId(3)), is_embargoed: false }));
+}
+
+#[test]
+fn a_finish_may_go_behind_its_return() {
+    let (mut a, mut b, _, root) = pair();
+    let before = TableSizes { questions: 1, answers: 0, exports: 0, imports: 1 };
+    assert_eq!(a.table_sizes(), before);
+    assert_eq!(b.table_sizes(), TableSizes { questions: 0, answers: 1, exports: 1, imports: 0 });
+    for (when, answers) in [(Finishes::AfterReturn, 2), (Finishes::AtOnce, 1)] {
+        a.set_finishes(when);
+        let call = a.call(root, 1, 0, &nothing()).unwrap();
+        a.finish(call).unwrap();
+        exchange(&mut a, &mut b);
+        assert_eq!(a.table_sizes().questions, 2);
+        let task = served(&mut b).task;
+        b.answer(task, &nothing()).unwrap();
+        // Where the Finish came before, the answer is gone with its Return.
+        assert_eq!(b.table_sizes().answers, answers);
+        exchange(&mut a, &mut b);
+        assert_eq!((a.table_sizes(), b.table_sizes().answers), (before, 1));
+    }
+    assert_eq!(a.next_event(), None);
+}
+
 #[test]
 fn refusals() {
     let (mut a, mut b, _, root) = pair();
@@ -198,6 +328,14 @@ fn numbers_have_names() {
     let ended = Event::Ended(Ended { call: CallId(3), outcome: Err(failed) });
     assert_eq!(ended.to_string(), "call 3 ended with an exception, unimplemented: no such method");
     assert_eq!(Exception::from(Refusal::Memory).to_string(), "overloaded: Memory: A growth was refused");
+    for (event, line) in [
+        (Event::Resolved(PeerPlace::Import(5)), "import 5 is known"),
+        (Event::Resolved(PeerPlace::Answer(6)), "the answer to question 6 is known"),
+        (Event::Lifted(RefId(7)), "the embargo of reference 7 is over"),
+        (Event::Released(ObjectId(8)), "object 8 is released"),
+    ] {
+        assert_eq!(event.to_string(), line);
+    }
     let (mut a, mut b, _, root) = pair();
     a.call(root, 0xff, 2, &nothing()).unwrap();
     exchange(&mut a, &mut b);

@@ -1,6 +1,6 @@
 //! References for what an application passes.
 
-use super::{Shared, State, sendable};
+use super::{Shared, State, key_of, sendable};
 use crate::capability::{Capability, Promise};
 use crate::event::Exception;
 use crate::ids::{PromiseId, RefId};
@@ -36,10 +36,7 @@ impl Shared {
     fn lend(self: &Arc<Self>, state: &mut State, given: &Capability, lent: &mut Lent) -> Result<(), Refusal> {
         let made = match given {
             Capability::Remote(remote) => self.lend_remote(state, remote)?,
-            Capability::Object(object) => {
-                let number = state.host(object);
-                state.vat.host(number)?
-            }
+            Capability::Object(object) => state.host(key_of(object), || object.clone())?,
             Capability::Promise(promise) => {
                 let (id, made) = state.vat.promise()?;
                 lent.promised.push((promise.clone(), id));
@@ -53,10 +50,7 @@ impl Shared {
     fn lend_remote(self: &Arc<Self>, state: &mut State, remote: &Remote) -> Result<RefId, Refusal> {
         match remote.reference() {
             Ok(reference) if Arc::ptr_eq(&reference.connection, self) => state.vat.clone_ref(reference.id),
-            Ok(_) => {
-                let number = state.number(remote.key(), || Arc::new(Forward(remote.clone())));
-                state.vat.host(number)
-            }
+            Ok(_) => state.host(remote.key(), || Arc::new(Forward(remote.clone()))),
             Err(exception) => {
                 let (promise, made) = state.vat.promise()?;
                 state.vat.reject(promise, exception.kind, sendable(&exception.reason))?;

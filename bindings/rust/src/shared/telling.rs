@@ -1,11 +1,11 @@
 //! What the driver of a connection does: bytes come and go, and events are told.
 
-use super::{MOST_HELD, Shared, lock};
+use super::{Shared, State, lock};
 use crate::capability::Capability;
 use crate::contents::Contents;
-use crate::event::{Event, Served};
-use crate::object::{Answer, Incoming};
-use crate::remote::Remote;
+use crate::event::{Event, Exception, Served};
+use crate::object::{Answer, Incoming, Object};
+use crate::remote::{Remote, Slot};
 use std::mem;
 use std::panic::{AssertUnwindSafe, catch_unwind};
 use std::sync::Arc;
@@ -17,6 +17,35 @@ pub(crate) enum Next {
     Send(Vec<u8>),
     Wait,
     End,
+}
+
+/// An event, with what it is about. That is looked up as the event is taken from the vat: once an object is told to be released, it may be
+/// passed again by another thread, and is hosted anew then.
+enum Told {
+    Call(Served, Option<Arc<dyn Object>>),
+    End(Result<Contents, Exception>, Option<Arc<Slot>>),
+    /// Objects that nobody can call any more.
+    Gone(Vec<Arc<dyn Object>>),
+    Nothing,
+}
+
+impl State {
+    fn next_told(&mut self) -> Option<Told> {
+        Some(match self.vat.next_event()? {
+            Event::Served(call) => {
+                let object = self.objects.get(&call.object).map(|it| it.object.clone());
+                Told::Call(call, object)
+            }
+            Event::Ended(ended) => Told::End(ended.outcome, self.calls.remove(&ended.call)),
+            Event::Released(number) => Told::Gone(self.forget(number).into_iter().collect()),
+            Event::Down(..) => {
+                self.numbers.clear();
+                self.has_ended = true;
+                Told::Gone(self.objects.drain().map(|(_, it)| it.object).collect())
+            }
+            Event::Resolved(_) | Event::Lifted(_) => Told::Nothing,
+        })
+    }
 }
 
 impl Shared {
@@ -49,14 +78,14 @@ impl Shared {
         next
     }
 
-    /// Waits while the peer does not read what is said to it.
-    pub fn wait_written(&self) {
-        self.wait_while(|state| state.waiting() > MOST_HELD && !state.has_ended);
+    /// Waits while no more of the peer is to be read.
+    pub fn wait_readable(&self, holds_back: bool) {
+        self.wait_while(|state| state.is_held(holds_back));
     }
 
     #[cfg(feature = "futures-io")]
-    pub fn is_held(&self) -> bool {
-        lock(&self.state).waiting() > MOST_HELD
+    pub fn is_held(&self, holds_back: bool) -> bool {
+        lock(&self.state).is_held(holds_back)
     }
 
     /// Tells of all events, unless a thread is at it, which then tells of these too.
@@ -66,54 +95,45 @@ impl Shared {
             state.telling.get_or_insert_with(|| thread::current().id());
             is_free
         });
-        while let Some(event) = is_free.then(|| self.next_event()).flatten() {
-            match event {
-                Event::Served(call) => self.serve(call),
-                Event::Ended(ended) => {
-                    let slot = self.quietly(|state| state.calls.remove(&ended.call));
-                    let outcome = ended.outcome.map(|results| self.came(results));
+        while let Some(told) = is_free.then(|| self.next_told()).flatten() {
+            match told {
+                Told::Call(call, object) => self.serve(call, object),
+                Told::End(outcome, slot) => {
+                    let outcome = outcome.map(|results| self.came(results));
                     if let Some(slot) = slot {
                         guarded(|| slot.end(outcome));
                     }
                 }
-                Event::Down(..) => self.end(),
+                Told::Gone(objects) => {
+                    self.changed.notify_all(); // the connection may have ended
+                    objects.iter().for_each(|object| guarded(|| object.gone()));
+                }
+                Told::Nothing => {}
             }
         }
     }
 
-    /// The next event; without one, this thread does not tell of events any more.
-    fn next_event(&self) -> Option<Event> {
+    /// What is told next; without it, this thread does not tell of events any more.
+    fn next_told(&self) -> Option<Told> {
         // What can't be sent is an event too, so the vat is asked for its bytes before.
-        let event = self.quietly(|state| state.vat.next_event());
-        event.or_else(|| {
+        let told = self.quietly(State::next_told);
+        told.or_else(|| {
             self.quietly(|state| {
-                let event = state.vat.next_event();
-                if event.is_none() {
+                let told = state.next_told();
+                if told.is_none() {
                     state.telling = None;
                 }
-                event
+                told
             })
         })
     }
 
-    fn serve(self: &Arc<Self>, call: Served) {
-        let object = self.quietly(|state| state.objects.get(&call.object).cloned());
+    fn serve(self: &Arc<Self>, call: Served, object: Option<Arc<dyn Object>>) {
         let answer = Answer::new(self.clone(), call.task);
         let incoming = Incoming { interface: call.interface, method: call.method, params: self.came(call.params) };
         if let Some(object) = object {
             guarded(|| object.call(incoming, answer));
         }
-    }
-
-    /// Nothing can be called over it any more.
-    fn end(&self) {
-        let objects = self.quietly(|state| {
-            state.numbers.clear();
-            state.has_ended = true;
-            mem::take(&mut state.objects)
-        });
-        self.changed.notify_all();
-        objects.values().for_each(|object| guarded(|| object.gone()));
     }
 
     /// What came from the vat, each reference as a capability.

@@ -1,0 +1,38 @@
+// A vat on a connection of a `capnp::VatNetwork`, which carries messages and not bytes.
+#pragma once
+#include <capnp/rpc.h>
+#include "vat.h"
+
+namespace lovendak {
+
+typedef capnp::_::VatNetworkBase::Connection NetworkConnection;
+
+class Link final: public Transport {
+  // Owns a connection of a network, and its vat.
+
+public:
+  Link(kj::Own<NetworkConnection> connection, kj::Maybe<kj::Own<capnp::ClientHook>> root);
+  ~Link() noexcept(false);
+
+  kj::Own<capnp::ClientHook> bootstrap() { return vat->bootstrap(); }
+  kj::Promise<void> onDown() { return vat->onDown(); }
+  void setFlowLimit(uint64_t words) { vat->setLimits(words, kj::maxValue); }
+
+  kj::Promise<void> shutdown(kj::Exception&& why);
+  // The vat goes down, if it is not, and the connection is shut after its last message. The promise owns the connection.
+
+private:
+  kj::Own<NetworkConnection> connection;
+  kj::Array<kj::byte> room;
+  kj::Vector<kj::byte> pending;
+  kj::Own<Vat> vat;
+  kj::Promise<void> reading;
+
+  void ready() override;
+  kj::Own<capnp::RpcFlowController> newStream() override { return connection->newStream(); }
+  void sendFrame(kj::ArrayPtr<const capnp::word> frame);
+  kj::Promise<void> read();
+  void hear(capnp::IncomingRpcMessage& message);
+};
+
+}  // namespace lovendak
