@@ -168,13 +168,13 @@ def parted(data):
 
 
 def stream_says(data):
-    """What is wanted of a stream, from its frames one by one."""
+    """What is wanted of a stream, from its frames one by one: its lines, and the first line on standard error."""
     frames, fault = parted(data)
     lines = said(frames)
     for number, line in enumerate(lines):
         if line.startswith('{"fault":'):
-            return lines[:number], f"message {number + 1}: fault {json.loads(line)['fault']}\n"
-    return lines, f"message {len(frames) + 1}: fault {fault}\n" if fault else ""
+            return lines[:number], f"message {number + 1}: fault {json.loads(line)['fault']}"
+    return lines, f"message {len(frames) + 1}: fault {fault}" if fault else ""
 
 
 def stream(draw, envelopes):
@@ -209,7 +209,7 @@ def main():
         data = stream(draw, good)
         wanted, failure = stream_says(data)
         out, error, status = ended([DUMP], data)
-        assert (out.splitlines(), error, status) == (wanted, failure, 2 if failure else 0), data.hex()
+        assert (out.splitlines(), error.partition("\n")[0], status) == (wanted, failure, 2 if failure else 0), data.hex()
         whole += status == 0
     print(f"{STREAMS} streams: {whole} to their ends")
 
