@@ -31,7 +31,7 @@ impl<'a> Model for Message<'a> {
     ghost invariant = { λ a. IsIndex a.bytes.now a.count a.spans };
 }
 
-/// Where a table of so many sizes has padding, that is zero.
+/// If a table of so many sizes has padding, that is zero.
 fn has_zero_padding(bytes: &[u8], count: usize) -> bool
     requires few { count ≤ 16 }
     requires table { 8 * table_words count ≤ length bytes.now }
@@ -49,7 +49,7 @@ impl<'a> Message<'a> {
         Message::parse_within(bytes, MOST_WORDS as u32)
     }
 
-    /// The same where all segments may have so many words together.
+    /// The same if all segments may have so many words together.
     #[tactic(auto, unfolding(crate::specs::Framing::segment_count, crate::specs::Framing::sizes))]
     pub fn parse_within(bytes: &'a [u8], words: u32) -> Result<Message<'a>, PayloadFault>
         requires { words ≤ most_counted }
@@ -89,7 +89,7 @@ impl<'a> Message<'a> {
         (segment as usize) < self.count
     }
 
-    /// The size of a segment in words, where there is such a segment.
+    /// The size of a segment in words, if there is such a segment.
     pub fn size(&self, segment: u32) -> Option<u32>
         ensures size { result ≡ size_of self.now segment }
         ensures short { IfSome result (λ n. n ≤ most_counted) }

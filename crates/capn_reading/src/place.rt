@@ -49,7 +49,7 @@ impl<'m> Model for Place<'m> {
 }
 
 impl<'m> Place<'m> {
-    /// What this is, where it stands for a tree.
+    /// What this is, if it stands for a tree.
     pub(crate) fn of(message: &'m Message<'m>, caps: u32, referent: Referent) -> Place<'m>
         requires { (t : Tree) × StandsFor message.now caps referent t }
         ensures { result ≡ record { message = message.now; caps = caps; referent = referent } }
@@ -216,7 +216,7 @@ impl<'m> Place<'m> {
         Some(E::of_number(said))
     }
 
-    /// The bytes of a list of bytes, where they stand in the message: none behind null; nothing in what is no such list.
+    /// The bytes of a list of bytes, if they stand in the message: none behind null; nothing in what is no such list.
     pub fn bytes(&self) -> Option<&'m [u8]>
         ensures { (t : Tree) → At self.now t → option_map (λ found. found.now) result ≡ bytes_of t }
     {
@@ -239,7 +239,7 @@ impl<'m> Place<'m> {
         Some(self.message.bytes(content.segment, start, count))
     }
 
-    /// A text, where it stands in the message: the bytes of a list of bytes without the zero that ends them, where they
+    /// A text, where it stands in the message: the bytes of a list of bytes without the zero that ends them, if they
     /// are UTF-8. It is empty behind null.
     pub fn text(&self) -> Option<&'m str>
         ensures { (t : Tree) → At self.now t → MatchOption result ((s : List ℕ) → ¬ (IsTextOf t s)) (λ text. IsTextOf t text.now) }

@@ -33,7 +33,7 @@ pub enum Pointer {
         offset: u32,
         segment: u32,
     },
-    /// A capability, where `middle` is zero.
+    /// A capability, if `middle` is zero.
     Other {
         middle: u32,
         index: u32,
@@ -138,7 +138,7 @@ impl Shape {
 }
 
 impl Tag {
-    /// Reads a word, which is a tag where it is of a struct pointer's kind.
+    /// Reads a word, which is a tag if it is of a struct pointer's kind.
     pub fn decode(word: u64) -> Option<Tag>
         ensures { result ≡ tag_of word }
     {

@@ -12,7 +12,7 @@ use capn_trees::PayloadFault;
 #[derive(Clone, Copy)]
 pub struct Content {
     pub segment: u32,
-    /// Its first word; none where that would be before the segment.
+    /// Its first word; none if that would be before the segment.
     pub start: Option<u64>,
     pub shape: Shape,
 }

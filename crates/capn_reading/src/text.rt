@@ -2,7 +2,7 @@
 ghost use Rattle.std.specs.Prelude.{◌≡◌, ℕ, List, MatchOption};
 ghost use Rattle.capn_reading.specs.Looking.{IsTextIn};
 
-/// The text in bytes that end with a zero, where it is UTF-8.
+/// The text in bytes that end with a zero, if it is UTF-8.
 pub fn text_in(bytes: &[u8]) -> Option<&str>
     ensures { MatchOption result ((s : List ℕ) → ¬ (IsTextIn bytes.now s)) (λ text. IsTextIn bytes.now text.now) }
 {

@@ -11,7 +11,7 @@ use crate::referent::{Referent, follow, visited_after};
 use capn_trees::PayloadFault;
 use capn_trees::limits::{MOST_LEVELS, MOST_VISITED};
 
-/// Visited words are counted up to here, so no limit on them is larger. Where the limit is smaller, the count begins at
+/// Visited words are counted up to here, so no limit on them is larger. If the limit is smaller, the count begins at
 /// the difference.
 pub const MOST_COUNTED: u32 = 4_194_304;
 
@@ -24,7 +24,7 @@ pub fn visited_words(bytes: &[u8], caps: u32) -> Result<u32, PayloadFault>
     visited_within(bytes, caps, MOST_LEVELS)
 }
 
-/// The same where contents nest at most so deep.
+/// The same if contents nest at most so deep.
 #[tactic(auto, unfolding(crate::specs::Reading::message_within, crate::specs::Reading::root_within))]
 pub fn visited_within(bytes: &[u8], caps: u32, levels: u32) -> Result<u32, PayloadFault>
     ensures { result ≡ visited_of (message_within bytes.now caps levels) }

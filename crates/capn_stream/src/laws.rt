@@ -2,7 +2,8 @@
 ghost use Rattle.capn_stream.specs.Laws.{FramesAreTheBytes, PiecesDoNotMatter, MessagesAreFrames, FrontsStay};
 
 /// Whatever pieces were handed to a new reader, and whenever frames were taken: the bytes that it took are the frames
-/// that it gave, each whole and in order, and then what waits in it; or, where it failed, what begins with no frame.
+/// that it gave, each whole and in order, and then what waits in it. If it failed, what follows its frames begins with
+/// no frame.
 pub fn frames_are_the_bytes()
     ensures { FramesAreTheBytes }
 {}

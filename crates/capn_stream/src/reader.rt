@@ -34,7 +34,7 @@ impl Model for FrameReader {
     ghost invariant = { λ a. IsHeld a.bytes.items };
 }
 
-/// Puts more bytes behind the others, with room for `len` in all. Where memory is refused they are as they were.
+/// Puts more bytes behind the others, with room for `len` in all. If memory is refused they are as they were.
 fn grow(bytes: &mut Vec<u8>, more: &[u8], len: usize) -> Result<(), AllocError>
     ensures ok { OnOk result (bytes.new.items ≡ bytes.old.items ++ more.now) }
     ensures err { OnErr result (bytes.new.items ≡ bytes.old.items) }
@@ -156,7 +156,7 @@ impl FrameReader {
         }
     }
 
-    /// How many bytes wait: fewer than a table of 16 segments and 65,536 words have, but for a whole frame that is to be
+    /// How many bytes wait: fewer than a table of 16 segments and 65,536 words have, except for a whole frame that is to be
     /// taken.
     pub fn waiting(&self) -> usize
         ensures count { result ≡ count_of self.now }

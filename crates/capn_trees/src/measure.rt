@@ -165,7 +165,7 @@ fn structs_measure(items: &[Fields], data_words: u16, pointer_words: u16, levels
     }
 }
 
-/// A tree with all that it holds, where so many levels are left for its contents.
+/// A tree with all that it holds, if so many levels are left for its contents.
 #[cycle(measure)]
 pub fn measure_tree(tree: &Tree, caps: u32, levels: u32, so_far: Measure) -> Measure
     ensures { result ≡ measured caps so_far (parts (view tree.now) levels) }

@@ -76,8 +76,8 @@ impl Pointers {
         Pointers { trees }
     }
 
-    /// Puts a pointer to a tree at the end. The tree comes back with `Depth` where it nests more than 127 levels deep,
-    /// and with `Memory` where a growth was refused; the pointers are then as they were.
+    /// Puts a pointer to a tree at the end. The tree comes back with `Depth` if it nests more than 127 levels deep,
+    /// and with `Memory` if a growth was refused; the pointers are then as they were.
     pub fn push(&mut self, tree: Tree) -> Result<(), PushError>
         ensures pushed { OnOk result (held self.new ≡ held self.old ++ tree ∷ []) }
         ensures fault { MatchResult result (λ _. is_deeper (view tree) 127 ≡ false)

@@ -25,13 +25,13 @@
 //! }
 //! ```
 //!
-//! Read and written are at most 16 segments (written is one) of at most 65,536 words together, with contents that nest
-//! at most 64 levels deep and of which at most 65,536 words are visited, those of a content each time that a pointer
-//! leads to it. A tree may be 128 levels deep, and is refused where it is written if it has more than 64. A larger message,
-//! such as a schema, is read as a [`Document`], within a limit on its words that its reader gives.
+//! At most 16 segments of at most 65,536 words together are read, and one is written. Contents nest at most 64 levels
+//! deep. At most 65,536 words of them are visited, and those of a content count each time that a pointer leads to it. A
+//! tree may be 128 levels deep, and is refused when it is written if it has more than 64. A larger message, such as a
+//! schema, is read as a [`Document`], within a limit on its words that its reader gives.
 //!
 //! Bytes that are no payload are refused by the first check that fails, as a [`PayloadFault`] with its number; nothing is
-//! read of them. So a [`Payload`] can't be malformed, and `cap_at` and `tree` of one have no faults but want of memory.
+//! read of them. So a [`Payload`] can't be malformed, and `cap_at` and `tree` of one have no faults but running out of memory.
 //! What is written reads back as the tree ([`laws::write_and_read`]). The rules and the order of the checks are in
 //! docs/encoding.md.
 #![tactic(auto)]

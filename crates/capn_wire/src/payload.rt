@@ -88,9 +88,9 @@ impl Payload {
 
     /// Writes a tree that goes with `caps` capabilities, as a message of one segment: the bytes that
     /// docs/encoding.md lays down for it. Refused for the first reason that the page has, each looked for
-    /// in the whole tree, and with `Memory` where memory runs out. The tree is left as it is.
+    /// in the whole tree, and with `Memory` if memory runs out. The tree is left as it is.
     pub fn write(alloc: Global, tree: &Tree, caps: u32) -> Result<Payload, WriteFault>
-        // A tree is refused for the first reason, and one without a reason for want of memory alone.
+        // A tree is refused for the first reason, and one without a reason for lack of memory alone.
         ensures refused { MatchOption (refusal (view tree.now) caps) (IfErr result (λ e. e ≡ write_faults.Memory)) (λ fault. result ≡ Err fault) }
         ensures placed { IfOk result (λ p. p ≡ record { bytes = written (view tree.now); caps = caps }) }
         // What is written reads as the tree.
@@ -147,7 +147,7 @@ impl Payload {
         *caps
     }
 
-    /// How many words a visit of its contents counts, where these nest at most so deep.
+    /// How many words a visit of its contents counts, if these nest at most so deep.
     pub fn words_within(&self, levels: u32) -> Option<u32>
         requires { levels ≤ 64 }
         ensures { IfSome result (λ n. FitsWithin self.now levels n) }

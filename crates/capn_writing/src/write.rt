@@ -53,7 +53,7 @@ pub fn message_of(alloc: Global, words: &[u64]) -> Result<Vec<u8>, AllocError>
 
 /// The bytes of the message of one segment that docs/encoding.md lays down for a tree that goes with `caps`
 /// capabilities. Refused for the first reason that the page has, each looked for in the whole tree, and with `Memory`
-/// where memory runs out.
+/// if memory runs out.
 pub fn write_tree(alloc: Global, tree: &Tree, caps: u32) -> Result<Vec<u8>, WriteFault>
     ensures refused { MatchOption (refusal (view tree.now) caps) (IfErr result (λ e. e ≡ faults.Memory)) (λ fault. result ≡ Err fault) }
     ensures possible { OnOk result (refusal (view tree.now) caps ≡ None) }

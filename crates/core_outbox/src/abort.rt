@@ -47,7 +47,7 @@ impl AbortRoom {
     }
 }
 
-/// Puts a text at the end, where there is room for it.
+/// Puts a text at the end, if there is room for it.
 fn write_kept(text: &mut String, more: &str)
     requires { string_len text.old + length more.now ≤ string_capacity text.old }
     ensures bytes { string_bytes text.new ≡ string_bytes text.old ++ more.now }

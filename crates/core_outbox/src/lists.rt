@@ -10,10 +10,10 @@ const SPARE: usize = 64;
 /// So many items go out of a list in memory of their own.
 pub(crate) const FEW: usize = 4;
 
-/// A list that is empty keeps memory for so many items at most, but for the room of what is said at the end of a step.
+/// A list that is empty keeps memory for so many items at most, except for the room of what is said at the end of a step.
 pub(crate) const KEPT: usize = 512;
 
-/// Makes room for so many more. Refused only where the growth was. Memory in which nothing stands is not copied.
+/// Makes room for so many more. Refused only if the growth was. Memory in which nothing stands is not copied.
 pub(crate) fn grow<Item: Drop>(
     list: &mut Vec<Item>,
     more: usize,
@@ -65,7 +65,7 @@ pub(crate) fn is_more<Item>(list: &Vec<Item>, kept: usize) -> bool {
     kept < list.capacity()
 }
 
-/// Lets the memory of a list go that is empty, where it is much.
+/// Lets the memory of a list go that is empty, if it is much.
 #[cold]
 #[inline(never)]
 pub(crate) fn let_go<Item: Drop>(list: &mut Vec<Item>, alloc: Global)
@@ -79,7 +79,7 @@ pub(crate) fn let_go<Item: Drop>(list: &mut Vec<Item>, alloc: Global)
     }
 }
 
-/// Puts an item at the end, where there is room.
+/// Puts an item at the end, if there is room.
 pub(crate) fn push_kept<Item: Drop>(list: &mut Vec<Item>, item: Item)
     requires { vec_len list.old < vec_capacity list.old }
     ensures items { list.new.items ≡ list.old.items ++ item ∷ [] }
@@ -89,7 +89,7 @@ pub(crate) fn push_kept<Item: Drop>(list: &mut Vec<Item>, item: Item)
     list.push_reserved(item);
 }
 
-/// Sends these Finishes, where there is room.
+/// Sends these Finishes, if there is room.
 pub(crate) fn push_finishes(sends: &mut Vec<Message>, finishes: &[(u32, bool)])
     requires { vec_len sends.old + length finishes.now ≤ vec_capacity sends.old }
     ensures items { sends.new.items ≡ sends.old.items ++ finish_messages finishes.now }
@@ -105,7 +105,7 @@ pub(crate) fn push_finishes(sends: &mut Vec<Message>, finishes: &[(u32, bool)])
     }
 }
 
-/// Sends these Releases, where there is room.
+/// Sends these Releases, if there is room.
 pub(crate) fn push_releases(sends: &mut Vec<Message>, releases: &[(u32, u32)])
     requires { vec_len sends.old + length releases.now ≤ vec_capacity sends.old }
     ensures items { sends.new.items ≡ sends.old.items ++ release_messages releases.now }

@@ -17,7 +17,7 @@ use std::marker::Model;
 /// The effects of a step in the making.
 ///
 /// What is sent, delivered and ended stands in order. Finishes and Releases come at the end of a step, by rising ids, in
-/// whatever order they are said. Only `new`, `reserve` and `reserve_ends` take memory: all else answers where there is no
+/// whatever order they are said. Only `new`, `reserve` and `reserve_ends` take memory: all else answers if there is no
 /// room, and is never refused with room.
 #[derive(Drop)]
 pub struct Outbox {
@@ -119,8 +119,8 @@ impl Outbox {
             && releases <= self.release_room
     }
 
-    /// Makes room for so many more messages, deliveries and ended calls, of each kind. Where a growth is refused nothing
-    /// is changed; where there is room none is refused.
+    /// Makes room for so many more messages, deliveries and ended calls, of each kind. If a growth is refused nothing
+    /// is changed; if there is room none is refused.
     pub fn reserve(&mut self, more: usize) -> Result<(), Memory>
         ensures said { self.new ≡ record self.old { room = self.new.room } }
         ensures ok { OnOk result (more ≤ self.new.room) }
@@ -142,7 +142,7 @@ impl Outbox {
         Ok(())
     }
 
-    // Memory in which a few go out. Where none is found, a list goes out itself.
+    // Memory in which a few go out. If none is found, a list goes out itself.
     fn make_few(&mut self)
         ensures { self.new ≡ self.old }
     {
@@ -151,7 +151,7 @@ impl Outbox {
         self.spare_answers.make(FEW, self.alloc);
     }
 
-    // As much memory as the lists have, where that is not much, since it comes back.
+    // As much memory as the lists have, if that is not much, since it comes back.
     fn make_more(&mut self)
         ensures { self.new ≡ self.old }
     {
@@ -188,7 +188,7 @@ impl Outbox {
     }
 
     /// Makes room for so many more Finishes and Releases, of which a step makes no more than there are questions and
-    /// imports. Where a growth is refused nothing is changed; where there is room none is asked for.
+    /// imports. If a growth is refused nothing is changed; if there is room none is asked for.
     pub fn reserve_ends(&mut self, finishes: usize, releases: usize) -> Result<(), Memory>
         ensures said { self.new ≡ record self.old { finish_room = self.new.finish_room; release_room = self.new.release_room } }
         ensures ok { OnOk result ((finishes ≤ self.new.finish_room) × (releases ≤ self.new.release_room)) }
@@ -233,7 +233,7 @@ impl Outbox {
         said.checked_add(more)
     }
 
-    /// A message is sent. It comes back where there is no room.
+    /// A message is sent. It comes back if there is no room.
     pub fn send(&mut self, message: PlainMessage) -> Result<(), PlainMessage>
         ensures ok { OnOk result (self.new ≡ with_message self.old (Plain message)) }
         ensures room { IsOk result ↔ 0 < self.old.room }
@@ -248,7 +248,7 @@ impl Outbox {
         Ok(())
     }
 
-    /// A message is sent back as not understood. It comes back to the caller where there is no room.
+    /// A message is sent back as not understood. It comes back to the caller if there is no room.
     pub fn echo(&mut self, message: PlainMessage) -> Result<(), PlainMessage>
         ensures ok { OnOk result (self.new ≡ with_message self.old (Unimplemented message)) }
         ensures room { IsOk result ↔ 0 < self.old.room }
@@ -263,7 +263,7 @@ impl Outbox {
         Ok(())
     }
 
-    /// A call arrived at an object. It comes back where there is no room.
+    /// A call arrived at an object. It comes back if there is no room.
     pub fn deliver(&mut self, delivery: Delivery) -> Result<(), Delivery>
         ensures ok { OnOk result (self.new ≡ with_delivery self.old delivery) }
         ensures room { IsOk result ↔ 0 < self.old.room }
@@ -278,7 +278,7 @@ impl Outbox {
         Ok(())
     }
 
-    /// A call of the application has its outcome. It comes back where there is no room.
+    /// A call of the application has its outcome. It comes back if there is no room.
     pub fn end(&mut self, ended: Ended) -> Result<(), Ended>
         ensures ok { OnOk result (self.new ≡ with_ended self.old ended) }
         ensures room { IsOk result ↔ 0 < self.old.room }
@@ -293,7 +293,7 @@ impl Outbox {
         Ok(())
     }
 
-    /// A Finish is sent at the end of the step, with that flag: behind those of smaller ids. `Err` where there is no room
+    /// A Finish is sent at the end of the step, with that flag: behind those of smaller ids. `Err` if there is no room
     /// for one.
     pub fn finish(&mut self, question: QuestionId, release_result_caps: bool) -> Result<(), Memory>
         ensures ok { OnOk result (self.new ≡ with_finish self.old question.0 release_result_caps) }
@@ -309,7 +309,7 @@ impl Outbox {
         Ok(())
     }
 
-    /// A Release of so many is sent at the end of the step, behind the Finishes. `Err` where there is no room for
+    /// A Release of so many is sent at the end of the step, behind the Finishes. `Err` if there is no room for
     /// one.
     pub fn release(&mut self, export: ExportId, count: u32) -> Result<(), Memory>
         ensures ok { OnOk result (self.new ≡ with_release self.old export.0 count) }
@@ -358,7 +358,7 @@ impl Outbox {
         self.releases.clear();
     }
 
-    // What was said, where no Finish and no Release is left to say.
+    // What was said, if no Finish and no Release is left to say.
     #[inline(always)]
     fn take_said(&mut self) -> Effects
         requires finishes { self.old.finishes ≡ map.empty }

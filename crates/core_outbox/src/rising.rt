@@ -65,7 +65,7 @@ impl<Entry> Rising<Entry> {
         &self.entries
     }
 
-    /// Makes room for so many more. Refused only where the growth was.
+    /// Makes room for so many more. Refused only if the growth was.
     pub(crate) fn reserve(&mut self, more: usize) -> Result<(), Memory>
         ensures same { self.new.0 ≡ self.old.0 }
         ensures ok { OnOk result (more ≤ self.new.1) }

@@ -22,7 +22,7 @@ impl<Item: Drop> Spare<Item> {
         }
     }
 
-    /// Makes memory for so many items, where some is found.
+    /// Makes memory for so many items, if some is found.
     pub(crate) fn make(&mut self, wanted: usize, alloc: Global) {
         if wanted <= self.list.capacity() {
             return;
@@ -32,7 +32,7 @@ impl<Item: Drop> Spare<Item> {
         }
     }
 
-    /// Makes as much memory as a list has, where that is not much. Else it won't take the list's place, and is let go.
+    /// Makes as much memory as a list has, if that is not much. Else it won't take the list's place, and is let go.
     pub(crate) fn make_like(&mut self, list: &Vec<Item>, alloc: Global) {
         if list.capacity() <= KEPT {
             self.make(list.capacity(), alloc);
@@ -41,7 +41,7 @@ impl<Item: Drop> Spare<Item> {
         }
     }
 
-    /// Takes the memory of a list that came back, where it is more, and not much.
+    /// Takes the memory of a list that came back, if it is more, and not much.
     #[inline(always)]
     pub(crate) fn reuse(&mut self, list: Vec<Item>) {
         if list.capacity() == 0 {
@@ -53,7 +53,7 @@ impl<Item: Drop> Spare<Item> {
         self.reuse_emptied(list);
     }
 
-    // The same, where the list is to be emptied, or there is memory already, or too much came back.
+    // The same, if the list is to be emptied, or there is memory already, or too much came back.
     #[inline(never)]
     fn reuse_emptied(&mut self, mut list: Vec<Item>) {
         list.clear();
@@ -65,7 +65,7 @@ impl<Item: Drop> Spare<Item> {
         list.destroy_empty();
     }
 
-    /// What stands in a list. Where the spare memory is as much as the list's own, it takes its place, and nothing is copied.
+    /// What stands in a list. If the spare memory is as much as the list's own, it takes its place, and nothing is copied.
     /// Else a few items go out in the spare memory, and the list then keeps its own, unless that is for more than `kept`;
     /// more go out in the list's memory.
     #[inline(always)]

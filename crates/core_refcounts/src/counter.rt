@@ -64,7 +64,7 @@ impl Counter {
     }
 
     /// Makes room, so that so many new keys can be counted and so many keys noted besides, with none refused. `Err`
-    /// where there was no room and a growth was refused; nothing is changed then. Counts and notes stay as they are.
+    /// if there was no room and a growth was refused; nothing is changed then. Counts and notes stay as they are.
     pub fn reserve(&mut self, more: usize) -> Result<(), Memory>
         ensures same { self.new ≡ with_rooms self.old self.new }
         ensures room { OnOk result (more ≤ self.new.room) }
@@ -122,7 +122,7 @@ impl Counter {
         self.make_places(self.room, 1)
     }
 
-    /// Counts one more. `Err` where the key is new, there was no room and the growth was refused, or where its count
+    /// Counts one more. `Err` if the key is new, there was no room and the growth was refused, or if its count
     /// would not fit 64 bits; nothing is changed then.
     pub fn raise(&mut self, key: u64) -> Result<(), Memory>
         ensures ok { OnOk result (self.new ≡ raised self.old key) }
@@ -153,7 +153,7 @@ impl Counter {
         self.room -= 1;
     }
 
-    /// Counts one less, and notes the key where that was the last. Takes no memory.
+    /// Counts one less, and notes the key if that was the last. Takes no memory.
     pub fn lower(&mut self, key: u64)
         ensures { self.new ≡ lowered self.old key }
     {
@@ -170,7 +170,7 @@ impl Counter {
         };
     }
 
-    /// Notes the key, whatever its count. `Err` where no place was spare and the growth was refused; nothing is
+    /// Notes the key, whatever its count. `Err` if no place was spare and the growth was refused; nothing is
     /// changed then.
     #[inline(always)]
     pub fn note(&mut self, key: u64) -> Result<(), Memory>

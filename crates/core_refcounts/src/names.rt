@@ -114,7 +114,7 @@ impl Names {
     }
 
     /// Makes room, so that so many nodes can be named and so many things of each kind noted, with none refused. `Err`
-    /// where there was no room and a growth was refused. Counts and notes stay as they are.
+    /// if there was no room and a growth was refused. Counts and notes stay as they are.
     pub fn reserve(&mut self, more: usize) -> Result<(), Memory>
         ensures same { self.new ≡ all_with_rooms self.old self.new }
         ensures room { OnOk result (HasRoom more self.new) }
@@ -142,8 +142,8 @@ impl Names {
         self.objects.make_room(more)
     }
 
-    /// One more place names the node. `Err` where it is named for the first time, there was no room and the growth was
-    /// refused, or where its count would not fit 64 bits; nothing is changed then.
+    /// One more place names the node. `Err` if it is named for the first time, there was no room and the growth was
+    /// refused, or if its count would not fit 64 bits; nothing is changed then.
     pub fn add(&mut self, node: Node) -> Result<(), Memory>
         ensures ok { OnOk result (self.new ≡ named self.old node) }
         ensures had_room { HasRoom 1 self.old → times_named self.old node + 1 < 2 ^ 64 → IsOk result }
@@ -161,7 +161,7 @@ impl Names {
         }
     }
 
-    /// One place less names the node. Where that was the last, what the node is of is noted. Takes no memory.
+    /// One place less names the node. If that was the last, what the node is of is noted. Takes no memory.
     pub fn sub(&mut self, node: Node)
         ensures { self.new ≡ unnamed self.old node }
     {
@@ -191,7 +191,7 @@ impl Names {
         true
     }
 
-    /// One more place names each of these nodes. `Err` where there was no room for so many and a growth was refused, or
+    /// One more place names each of these nodes. `Err` if there was no room for so many and a growth was refused, or
     /// `can_add` says no; no count is changed then.
     #[inline(always)]
     pub fn add_all(&mut self, nodes: &[Node]) -> Result<(), Memory>
@@ -206,7 +206,7 @@ impl Names {
         self.add_each(nodes)
     }
 
-    // The same, also where there are none.
+    // The same, also if there are none.
     fn add_each(&mut self, nodes: &[Node]) -> Result<(), Memory>
         ensures ok { OnOk result (self.new ≡ named_all (all_roomier (length nodes.now) self.old) nodes.now) }
         ensures in_room { HasRoom (length nodes.now) self.old → OnOk result (self.new ≡ named_all self.old nodes.now) }
@@ -234,7 +234,7 @@ impl Names {
         }
     }
 
-    /// Notes a promise that may have to go, whatever names it. `Err` where no place was spare and the growth was refused;
+    /// Notes a promise that may have to go, whatever names it. `Err` if no place was spare and the growth was refused;
     /// nothing is changed then.
     pub fn note_promise(&mut self, key: u64) -> Result<(), Memory>
         ensures ok { OnOk result (self.new ≡ record self.old { promises = noting self.old.promises key }) }

@@ -60,7 +60,7 @@ impl ObjectCounts {
         self.numbers.len()
     }
 
-    /// Makes room, so that so many new objects can be counted with none refused. `Err` where there was no room and a growth
+    /// Makes room, so that so many new objects can be counted with none refused. `Err` if there was no room and a growth
     /// was refused; nothing is changed then.
     pub fn make_room(&mut self, more: usize) -> Result<(), Memory>
         ensures ok { OnOk result (self.new ≡ with_room (max more self.old.room) self.old) }
@@ -91,7 +91,7 @@ impl ObjectCounts {
         Ok(())
     }
 
-    /// Counts one more. `Err` where the object is new, there was no room and the growth was refused, or where its count
+    /// Counts one more. `Err` if the object is new, there was no room and the growth was refused, or if its count
     /// would not fit 64 bits; nothing is changed then.
     pub fn raise(&mut self, object: u64) -> Result<(), Memory>
         ensures ok { OnOk result (self.new ≡ totals_raised self.old object) }

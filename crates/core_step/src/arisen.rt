@@ -40,7 +40,7 @@ impl Arisen {
         more <= self.outcomes.capacity() - self.outcomes.len()
     }
 
-    /// Makes room for so many more. `Err` where there was no room and the growth was refused; the outcomes stay as they
+    /// Makes room for so many more. `Err` if there was no room and the growth was refused; the outcomes stay as they
     /// are.
     pub fn reserve(&mut self, more: usize) -> Result<(), Memory>
         ensures same { self.new.0 ≡ self.old.0 }
@@ -54,7 +54,7 @@ impl Arisen {
         }
     }
 
-    /// Puts one behind the others, where there is room.
+    /// Puts one behind the others, if there is room.
     pub(crate) fn push(&mut self, key: u64, value: Value)
         requires { 0 < self.old.1 }
         ensures outcomes { self.new.0 ≡ self.old.0 ++ (key, value) ∷ [] }

@@ -4,10 +4,10 @@
 //! - `room.rt`: begins a step with room, and makes more.
 //! - `says.rt`: says what a step says.
 //!
-//! `progress_of` of `specs/InProgress` is what the machine sees of a step. `IsReady` is what holds of its parts together
-//! while it goes on: the store is sound; what is said and what arises has as much room as the store has slack, so that the
-//! slack is the one number of room; each question has room for its Finish and each import for its Release, so that the end
-//! of a step takes no memory.
+//! `progress_of` of `specs/InProgress` is what the machine sees of a step. `IsReady` is what holds of its parts
+//! together while it goes on. The store is sound. What is said and what arises has as much room as the store has slack,
+//! so that the slack is the one number of room. Each question has room for its Finish and each import for its Release,
+//! so that the end of a step takes no memory.
 #![tactic(auto)]
 
 mod arisen;

@@ -12,7 +12,7 @@ use rpc_msg::Memory;
 const SPARE: usize = 52;
 
 /// Begins a step, with room for so many entries of every kind, names, messages, deliveries, ends and outcomes, and for the
-/// Finish of each question and the Release of each import. `Err` where a growth was refused; no step is begun then, and at
+/// Finish of each question and the Release of each import. `Err` if a growth was refused; no step is begun then, and at
 /// most room is changed.
 #[inline(never)]
 pub fn begin(step: &mut Step, more: usize) -> Result<(), Memory>
@@ -29,7 +29,7 @@ pub fn begin(step: &mut Step, more: usize) -> Result<(), Memory>
     begin_in_new_room(step, more)
 }
 
-// The same, where there is not enough room.
+// The same, if there is not enough room.
 #[cold]
 #[inline(never)]
 fn begin_in_new_room(step: &mut Step, more: usize) -> Result<(), Memory>
@@ -45,7 +45,7 @@ fn begin_in_new_room(step: &mut Step, more: usize) -> Result<(), Memory>
 }
 
 /// Makes room, so that so many more entries of every kind, names, messages, deliveries, ends and outcomes need no more
-/// memory; at once where there is enough. `Err` where a growth was refused; there may be less room then. All else stays.
+/// memory; at once if there is enough. `Err` if a growth was refused; there may be less room then. All else stays.
 pub fn reserve(step: &mut Step, more: usize) -> Result<(), Memory>
     requires { IsReady step.old }
     ensures same { progress_of step.new ≡ progress_of step.old }
@@ -60,7 +60,7 @@ pub fn reserve(step: &mut Step, more: usize) -> Result<(), Memory>
     reserve_more(step, more)
 }
 
-// The same, where there is not enough room.
+// The same, if there is not enough room.
 #[cold]
 #[inline(never)]
 fn reserve_more(step: &mut Step, more: usize) -> Result<(), Memory>
@@ -79,7 +79,7 @@ fn reserve_more(step: &mut Step, more: usize) -> Result<(), Memory>
     Ok(())
 }
 
-// Makes room for so many more entries and names, and for more than that where there is not enough.
+// Makes room for so many more entries and names, and for more than that if there is not enough.
 #[inline(always)]
 fn reserve_store(store: &mut Store, more: usize) -> Result<(), Memory>
     requires { IsSound store.old }

@@ -120,7 +120,7 @@ fn has_room_over(store: &Store, alloc: Global, refs: &[RefId], node: Node) -> Re
     }
 }
 
-// Where the call goes over a wire, the exports have room for its capabilities.
+// If the call goes over a wire, the exports have room for its capabilities.
 fn has_export_room(
     store: &Store,
     alloc: Global,
@@ -137,7 +137,7 @@ fn has_export_room(
     }
 }
 
-// Whether a call is refused through the reference with its number, where that is there; whatever room the exports have.
+// Whether a call is refused through the reference with its number, if that is there; whatever room the exports have.
 fn check_call_through(
     store: &Store,
     call: &CallCommand,
@@ -159,7 +159,8 @@ fn check_call_through(
     has_call_room(store, call.refs.len(), reference)
 }
 
-/// Whether `call` is refused, and with what. Memory is taken only near a limit of the exports, and never wanting.
+/// Whether `call` is refused, and with what. Memory is taken only near a limit of the exports, and lack of it refuses
+/// nothing.
 pub fn check_call_whole(store: &Store, alloc: Global, call: &CallCommand) -> Result<(), Refusal>
     requires sound { IsSound store.now }
     requires handed_out { store.now.waits.taken ≡ [] }

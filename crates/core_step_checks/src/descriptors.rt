@@ -63,7 +63,7 @@ pub(crate) fn has_answer(store: &Store, id: QuestionId) -> Result<(), Fault>
     }
 }
 
-/// The fault of a descriptor, where those before it in its message were taken into the imports. So the first fault of all
+/// The fault of a descriptor, if those before it in its message were taken into the imports. So the first fault of all
 /// is found in linear time (`descriptors_in_turn`). A vat of level 0 doesn't look at descriptors.
 pub fn fault_of_descriptor(store: &Store, descriptor: Descriptor) -> Result<(), Fault>
     ensures ok { OnOk result (fault_alone (state_of store.now) descriptor ≡ None) }
@@ -89,7 +89,7 @@ pub fn fault_of_only(store: &Store, descriptor: Descriptor) -> Result<(), Fault>
     }
 }
 
-/// The fault of giving back one more of an export by a flag, where the ids before it were given back. So the fault of all
+/// The fault of giving back one more of an export by a flag, if the ids before it were given back. So the fault of all
 /// is found in linear time (`flags_in_turn`).
 pub fn fault_of_one(store: &Store, id: ExportId) -> Result<(), Fault>
     ensures ok { OnOk result (fault_of_one store.now.exports.entries id.0 ≡ None) }

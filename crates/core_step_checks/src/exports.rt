@@ -17,7 +17,7 @@ use rpc_msg::{Memory, RefId};
 use std::alloc::Global;
 use vat_tables::TABLE_LIMIT;
 
-// The node of which an export is made, or has one more on its count, where the reference is sent.
+// The node of which an export is made, or has one more on its count, when the reference is sent.
 fn sent_node(store: &Store, id: RefId) -> Option<Node>
     requires sound { IsSound store.now }
     ensures sent { option_to_list result ≡ sent_out (state_of store.now) (id ∷ []) }
@@ -61,8 +61,8 @@ fn times_sent(store: &Store, refs: &[RefId], node: &Node) -> usize
     times
 }
 
-// How many exports there are once that reference is sent behind the others, where there were so many just before; none
-// where it meets a limit.
+// How many exports there are once that reference is sent behind the others, if there were so many just before; none
+// if it meets a limit.
 fn size_behind(store: &Store, before: &[RefId], id: RefId, size: usize) -> Option<usize>
     requires sound { IsSound store.now }
     requires size { size ≤ TABLE_LIMIT }
@@ -79,7 +79,7 @@ fn size_behind(store: &Store, before: &[RefId], id: RefId, size: usize) -> Optio
     Some(next)
 }
 
-// The same where all that were sent before are counted; the node is counted with them. `Err` where memory is wanting.
+// The same if all that were sent before are counted; the node is counted with them. `Err` if memory runs out.
 fn size_counted(
     store: &Store,
     times: &mut Times,
@@ -100,8 +100,8 @@ fn size_counted(
     Ok(found)
 }
 
-// Whether sending these references meets a limit of the exports: what was sent is counted by node. `Err` where memory is
-// wanting.
+// Whether sending these references meets a limit of the exports: what was sent is counted by node. `Err` if memory runs
+// out.
 fn counted_lack(store: &Store, alloc: Global, refs: &[RefId]) -> Result<bool, Memory>
     requires { IsSound store.now }
     ensures { IfOk result (λ lack. lack ≡ exports_lack_room (state_of store.now) (sent_out (state_of store.now) refs.now)) }
@@ -175,8 +175,8 @@ fn exports_lack(store: &Store, alloc: Global, refs: &[RefId]) -> bool
     }
 }
 
-/// Whether the exports have room for these references in a message: `Full` where the table of exports, or the count of one,
-/// would pass its limit, and there alone. Near a limit it takes memory, to count what is sent; where that is refused,
+/// Whether the exports have room for these references in a message: `Full` if the table of exports, or the count of
+/// one, would pass its limit, and only then. Near a limit it takes memory, to count what is sent; if that is refused,
 /// references are compared with one another.
 pub fn check_call_exports(store: &Store, alloc: Global, refs: &[RefId]) -> Result<(), Refusal>
     requires { IsSound store.now }

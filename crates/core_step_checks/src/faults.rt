@@ -133,7 +133,7 @@ pub fn fault_before_call(store: &Store, call: &Call) -> Result<(), Fault>
     has_descriptors(&call.payload, &call.descriptors)
 }
 
-/// The fault of a Call behind its descriptors: it would have to wait where no more may.
+/// The fault of a Call behind its descriptors: it would have to wait although no more may.
 pub fn fault_behind_call(store: &Store, target: &Target) -> Result<(), Fault>
     requires sound { IsSound store.now }
     requires handed_out { store.now.waits.taken ≡ [] }

@@ -14,17 +14,17 @@
 //!
 //! - `fault_before`: what comes before the descriptors; the whole fault of a Bootstrap, Resolve, Release or Disembargo:
 //!   this crate.
-//! - the descriptors: `fault_of_descriptor`, at each one where those before it were taken (`descriptors_in_turn`).
-//! - `fault_behind`: a call that would wait where no more may: this crate; the same before and after the descriptors are
+//! - the descriptors: `fault_of_descriptor`, at each one once those before it were taken (`descriptors_in_turn`).
+//! - `fault_behind`: a call that would wait although no more may: this crate; the same before and after the descriptors are
 //!   taken.
-//! - the ids of a flag: `fault_of_one`, at each one where those before it were given back (`flags_in_turn`).
+//! - the ids of a flag: `fault_of_one`, at each one once those before it were given back (`flags_in_turn`).
 //!
-//! A fault takes the vat down, so nothing has to be undone where the walk over descriptors or ids ends early.
+//! A fault takes the vat down, so nothing has to be undone if the walk over descriptors or ids ends early.
 //!
-//! `check_call_whole` looks its reference up once, and then at all that a call is refused with but for the room in the
-//! exports, which comes last (`calls_are_refused`; `check_call_exports` of `exports.rt` looks at that). Where the table and
+//! `check_call_whole` looks its reference up once, and then at all that a call is refused with except for the room in the
+//! exports, which comes last (`calls_are_refused`; `check_call_exports` of `exports.rt` looks at that). If the table and
 //! all counts are far from their limits, each reference that goes out is looked up once. Else they are counted by node; only
-//! where there is no memory for that is each compared with those before it. Where the calls that wait are counted, none may
+//! if there is no memory for that is each compared with those before it. If the calls that wait are counted, none may
 //! be taken out to be routed.
 #![tactic(auto)]
 

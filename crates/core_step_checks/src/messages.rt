@@ -107,7 +107,7 @@ pub fn fault_before(store: &Store, message: &Message) -> Result<(), Fault>
     }
 }
 
-/// The fault of a received message behind its descriptors, but for that of its flag: a Call would have to wait where no
+/// The fault of a received message behind its descriptors, except for that of its flag: a Call would have to wait although no
 /// more may.
 pub fn fault_behind(store: &Store, message: &Message) -> Result<(), Fault>
     requires sound { IsSound store.now }

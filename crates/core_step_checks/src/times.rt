@@ -33,8 +33,8 @@ impl Times {
         }
     }
 
-    /// Counts a node once more, and says how often it was counted before. `Err` where memory or numbers are wanting;
-    /// nothing is known of the times then.
+    /// Counts a node once more, and says how often it was counted before. `Err` if memory or numbers run out; nothing
+    /// is known of the times then.
     pub(crate) fn count(&mut self, node: &Node) -> Result<usize, Memory>
         ensures before { IfOk result (λ before. before ≡ times_of self.old node.now) }
         ensures more { OnOk result ((n : ANode) → times_of self.new n ≡ times_of self.old n + (if node_eq node.now n then 1 else 0)) }

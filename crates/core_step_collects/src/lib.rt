@@ -11,11 +11,11 @@
 //!   id that differs. An id without an import ends the search, so there are no more of those than imports.
 //!
 //! What may have to go is noted, so nothing is scanned. Once nothing is noted, nothing is loose, since what would go but
-//! for its names is noted where it has none (`covered` of `IsSound`).
+//! for its names is noted if it has none (`covered` of `IsSound`).
 //!
 //! What goes at the end of a step goes when Finishes are made already, and `IsReady` says that none is. So the loop
 //! (`collect_ending`) keeps `IsEnding`, which says no more than it needs, and `OnlyReleases` says what it leaves as it was;
-//! `collect` is that loop where no Finish is made.
+//! `collect` is that loop if no Finish is made.
 #![tactic(auto)]
 
 mod collection;

@@ -147,9 +147,9 @@ fn advance_from(step: &mut Step, id: RefId, from: &Reference, wire: &Node) -> Ad
     advance_knowing(step, id, from, wire, &known)
 }
 
-/// Lets a reference take the shorter path, if one is known, where that is not refused. It stays as it is while its calls
-/// wait under an embargo, while nothing is known, and where its wire leads back to itself. Else it leads to what its wire
-/// was resolved to; where that is of this vat, its calls wait until the Disembargo that it sends is back. Takes no memory,
+/// Lets a reference take the shorter path, if one is known and that is not refused. It stays as it is while its calls
+/// wait under an embargo, while nothing is known, and if its wire leads back to itself. Else it leads to what its wire
+/// was resolved to; if that is of this vat, its calls wait until the Disembargo that it sends is back. Takes no memory,
 /// but at most three of the slack.
 pub fn advance(step: &mut Step, id: RefId) -> Advanced
     requires ready { IsReady step.old }

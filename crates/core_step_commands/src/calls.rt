@@ -28,7 +28,7 @@ use rpc_msg::{CallId, EmbargoId, Items, PlainMessage, RefId};
 use std::alloc::Global;
 use vat_tables::TableFault;
 
-/// Asks the peer for its bootstrap object, where there are fewer than 4,096 questions. Takes no memory, but two of the
+/// Asks the peer for its bootstrap object, if there are fewer than 4,096 questions. Takes no memory, but two of the
 /// slack.
 pub fn bootstrap(step: &mut Step, alloc: Global) -> CallId
     requires ready { IsReady step.old }
@@ -47,7 +47,7 @@ pub fn bootstrap(step: &mut Step, alloc: Global) -> CallId
     call
 }
 
-/// The application is not told of a call any more, which has no question and no outcome but its own, where that is not
+/// The application is not told of a call any more, which has no question and no outcome but its own, if that is not
 /// refused; where its outcome comes from is handed out. What follows is found at the end of the step. Takes no memory, but
 /// one of the slack.
 pub fn finish_call(step: &mut Step, id: CallId) -> OwnCall
@@ -152,12 +152,12 @@ fn call_through(
     }
 }
 
-/// Makes a call of the application through a reference, and gives its number: it waits under the reference's embargo, goes
-/// to a node of this vat, or over a wire. The list of nodes is empty and has room for one of each capability. `Full` where
-/// a limit of the numbers, the waiting calls, the questions or the exports is passed, `Memory` where there is no such
-/// reference, or what the call would wait for is not there; the step is only to be dropped then. A call for which there is
-/// room, while no call is taken out, never fails. Takes no memory, but at most one of the slack for each capability, and
-/// four.
+/// Makes a call of the application through a reference, and gives its number: it waits under the reference's embargo,
+/// goes to a node of this vat, or over a wire. The list of nodes is empty and has room for one of each capability.
+/// `Full` if a limit of the numbers, the waiting calls, the questions or the exports is passed, `Memory` if there is no
+/// such reference, or what the call would wait for is not there. The step is only to be dropped then. A call for which
+/// there is room, while no call is taken out, never fails. Takes no memory, but at most one of the slack for each
+/// capability, and four.
 pub fn call_kept(
     step: &mut Step,
     lists: Lists,

@@ -9,7 +9,7 @@
 //!
 //! - `kept.rt` keeps its outcome here, `request.rt` makes what is called of the command, and `ways.rt` has one function for each
 //!   way (`call_under`, `call_here`, `call_over`).
-//! - `ended.rt` settles a call that ends where it is made, and says the whole step behind it (`HasEnded` of `specs/AtOnce`).
+//! - `ended.rt` settles a call that ends as soon as it is made, and says the whole step behind it (`HasEnded` of `specs/AtOnce`).
 //! - `straight_call.rt` is the shorter way of a call that passes no references, through a reference without an embargo that
 //!   leads to an import: `straight` looks once whether a call is one, and not refused (`IsStraight` of `specs/Straight`),
 //!   and `call_straight` sends it, with no lists and no copy of where it goes. If `straight` says no, nothing is promised: the

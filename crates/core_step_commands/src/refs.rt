@@ -25,7 +25,7 @@ pub fn host(step: &mut Step, object: ObjectId) -> RefId
     add_ref(&mut step.store, Node::Object(object))
 }
 
-/// A second reference with the same head as another, where that is not refused. Takes no memory, but one of the slack.
+/// A second reference with the same head as another, if that is not refused. Takes no memory, but one of the slack.
 pub fn clone_ref(step: &mut Step, id: RefId) -> RefId
     requires ready { IsReady step.old }
     requires slack { 0 < step.old.store.slack }
@@ -41,7 +41,7 @@ pub fn clone_ref(step: &mut Step, id: RefId) -> RefId
     add_ref(&mut step.store, head)
 }
 
-/// A reference to what stands at a path of the results of a call, where that is not refused: a Pipe of its question, or a
+/// A reference to what stands at a path of the results of a call, if that is not refused: a Pipe of its question, or a
 /// field of its kept outcome. Takes no memory, but one of the slack.
 pub fn field(step: &mut Step, id: CallId, path: &Items<Op>) -> RefId
     requires ready { IsReady step.old }
@@ -65,7 +65,7 @@ pub fn field(step: &mut Step, id: CallId, path: &Items<Op>) -> RefId
     add_ref(&mut step.store, node)
 }
 
-/// The application has no more use for a reference, where that is not refused; it is handed out. What no place names then
+/// The application has no more use for a reference, if that is not refused; it is handed out. What no place names then
 /// goes at the end of the step. Takes no memory.
 pub fn drop_ref(step: &mut Step, id: RefId) -> Reference
     requires ready { IsReady step.old }

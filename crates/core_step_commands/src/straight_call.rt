@@ -29,7 +29,7 @@ pub struct StraightCall {
     pub made: u64,
 }
 
-/// Whether a call goes to an import at once, and to which; not where it would be refused. Takes no memory.
+/// Whether a call goes to an import at once, and to which; not if it would be refused. Takes no memory.
 pub fn straight(store: &Store, call: &CallCommand) -> Option<StraightCall>
     ensures { IfSome result (λ x. IsStraight (state_of store.now) call.now x) }
 {
@@ -59,7 +59,7 @@ fn passes_nothing(call: &CallCommand) -> bool
     call.refs.is_empty() && call.payload.caps() == 0
 }
 
-// The import to which the reference leads, where no embargo holds its calls.
+// The import to which the reference leads, if no embargo holds its calls.
 fn import_of(reference: &Reference) -> Option<ExportId>
     ensures { IfSome result (λ id. (reference.now.head ≡ node.Import id) × (reference.now.embargo ≡ None)) }
 {

@@ -20,7 +20,7 @@ use rpc_msg::{CallId, EmbargoId, Target};
 use vat_tables::TableFault;
 
 /// A call of the application, which has its number and no entry yet, waits under an embargo, and its outcome is kept here.
-/// `Full` at 65,536 calls, and `Memory` where there is no such embargo; the step is only to be dropped then. Where the
+/// `Full` at 65,536 calls, and `Memory` if there is no such embargo; the step is only to be dropped then. If the
 /// embargo is there, one more call may wait and none is taken out, it never fails. Takes no memory, but one of the slack for
 /// each capability, and three.
 pub fn call_under(
@@ -45,9 +45,9 @@ pub fn call_under(
 }
 
 /// A call of the application, which has its number and no entry yet, goes to where a node of this vat settles, and its
-/// outcome is kept here. `Full` where a limit of the numbers, the waiting calls, the questions or the exports is passed,
-/// `Memory` where it settles to a promise or an outcome that is not there; the step is only to be dropped then. It never
-/// fails where there is room and no call is taken out. Takes no memory, but at most one of the slack for each capability,
+/// outcome is kept here. `Full` if a limit of the numbers, the waiting calls, the questions or the exports is passed,
+/// `Memory` if it settles to a promise or an outcome that is not there; the step is only to be dropped then. It never
+/// fails if there is room and no call is taken out. Takes no memory, but at most one of the slack for each capability,
 /// and four.
 pub fn call_here(
     step: &mut Step,
@@ -73,7 +73,7 @@ pub fn call_here(
 }
 
 /// A call of the application, which has its number and no entry yet, goes over a wire, as a question of its own. `Full`
-/// where a limit of the questions or the exports is passed, and there alone; the step is only to be dropped then. Takes no
+/// if a limit of the questions or the exports is passed, and only then; the step is only to be dropped then. Takes no
 /// memory, but at most one of the slack for each capability, and two.
 pub fn call_over(
     step: &mut Step,

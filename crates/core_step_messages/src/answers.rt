@@ -12,7 +12,7 @@ use rpc_machine::Caller;
 use rpc_msg::{ExportId, Items, Memory, QuestionId};
 
 /// Opens an answer of a new outcome, whose key it gives, to a question that gave these imports, and makes the room for it.
-/// `Err` for want of memory, or at 4,096 answers; the step is only to be dropped then.
+/// `Err` for lack of memory, or at 4,096 answers; the step is only to be dropped then.
 pub(crate) fn open_with(
     step: &mut Step,
     question: QuestionId,

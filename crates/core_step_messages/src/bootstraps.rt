@@ -46,8 +46,8 @@ fn answer_at_once(step: &mut Step, alloc: Global, question: QuestionId) -> Resul
     settle_outcome(step, alloc, outcome, value)
 }
 
-/// Takes a Bootstrap, which is answered at once. Makes the room for it. `Err` with the fault that it is, or for want of room
-/// or of memory; the step is only to be dropped then.
+/// Takes a Bootstrap, which is answered at once. Makes the room for it. `Err` with the fault that it is, or for lack of
+/// room or of memory; the step is only to be dropped then.
 pub fn take_bootstrap(step: &mut Step, alloc: Global, question: QuestionId) -> Result<(), Fault>
     requires ready { IsReady step.old }
     requires none_taken { step.old.store.waits.taken ≡ [] }

@@ -45,8 +45,9 @@ fn open_for(
     }
 }
 
-/// Takes a Call: its descriptors are taken, its answer opens with a new outcome, and it is routed to its target. Makes the
-/// room for it. `Err` with the fault that it is, or for want of room or of memory; the step is only to be dropped then.
+/// Takes a Call: its descriptors are taken, its answer opens with a new outcome, and it is routed to its target. Makes
+/// the room for it. `Err` with the fault that it is, or for lack of room or of memory; the step is only to be dropped
+/// then.
 pub fn take_call(step: &mut Step, alloc: Global, call: Call) -> Result<(), Fault>
     requires ready { IsReady step.old }
     requires none_taken { step.old.store.waits.taken ≡ [] }

@@ -30,7 +30,7 @@ fn take_import(step: &mut Step, id: ExportId, kind: SenderKind) -> Result<(), Fa
     }
 }
 
-// Takes a descriptor, where those before it in its message were taken.
+// Takes a descriptor, once those before it in its message were taken.
 fn take_one(step: &mut Step, descriptor: Descriptor) -> Result<(), Fault>
     requires ready { IsReady step.old }
     requires slack { 0 < step.old.store.slack }
@@ -84,9 +84,9 @@ fn take_all(step: &mut Step, descriptors: &[Descriptor]) -> Result<(), Fault>
     take_each(step, descriptors)
 }
 
-/// Takes the descriptors of a message: each sender descriptor adds one to its import. A vat of level 0 takes none. Makes
-/// the room for them. `Err` with the first fault of the descriptors, or for want of room or of memory; the step is only to
-/// be dropped then.
+/// Takes the descriptors of a message: each sender descriptor adds one to its import. A vat of level 0 takes none.
+/// Makes the room for them. `Err` with the first fault of the descriptors, or for lack of room or of memory; the step
+/// is only to be dropped then.
 #[inline(always)]
 pub fn take_descriptors(step: &mut Step, descriptors: &[Descriptor]) -> Result<(), Fault>
     requires ready { IsReady step.old }

@@ -39,7 +39,7 @@ fn shorten_target(step: &mut Step, target: &Target)
     shorten(&mut step.store, node);
 }
 
-// The same as `bounce`, where the way from the target is short.
+// The same as `bounce`, if the way from the target is short.
 fn bounce_back(step: &mut Step, target: Target, id: EmbargoId) -> Result<(), Memory>
     requires { IsReady step.old }
     ensures bounces { OnOk result (Bounces (progress_of step.old) id (wire_target (settle (state_of step.old.store) (target_node (state_of step.old.store) target))) (progress_of step.new)) }
@@ -85,8 +85,9 @@ fn take_context(step: &mut Step, alloc: Global, disembargo: Disembargo) -> Resul
     }
 }
 
-/// Takes a Disembargo: on its way out it goes back, and one that is back lifts its embargo, whose calls are routed. Makes
-/// the room for it. `Err` with the fault that it is, or for want of room or of memory; the step is only to be dropped then.
+/// Takes a Disembargo: on its way out it goes back, and one that is back lifts its embargo, whose calls are routed.
+/// Makes the room for it. `Err` with the fault that it is, or for lack of room or of memory; the step is only to be
+/// dropped then.
 pub fn take_disembargo(step: &mut Step, alloc: Global, disembargo: Disembargo) -> Result<(), Fault>
     requires ready { IsReady step.old }
     requires none_taken { step.old.store.waits.taken ≡ [] }

@@ -61,9 +61,9 @@ fn take_back_resolved(step: &mut Step, to: &ResolvedTo) -> Result<(), Fault>
     }
 }
 
-/// Takes a message that came back Unimplemented: a question has failed, of a Resolve what it gave is taken back, and of a
-/// Release nothing is needed. Makes the room for it. `Err` with the fault that it is, or for want of room or of memory; the
-/// step is only to be dropped then.
+/// Takes a message that came back Unimplemented: a question has failed, of a Resolve what it gave is taken back, and of
+/// a Release nothing is needed. Makes the room for it. `Err` with the fault that it is, or for lack of room or of
+/// memory; the step is only to be dropped then.
 pub fn take_unimplemented(
     step: &mut Step,
     alloc: Global,

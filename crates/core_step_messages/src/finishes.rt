@@ -43,7 +43,7 @@ fn obey_for_answer(step: &mut Step, alloc: Global, id: QuestionId, flag: bool) -
 }
 
 /// Takes a Finish: its flag is obeyed, and its answer goes if the Return was sent. `Err` with the fault that it is, or for
-/// want of memory; the step is only to be dropped then.
+/// running out of memory; the step is only to be dropped then.
 pub fn take_finish(step: &mut Step, alloc: Global, finish: Finish) -> Result<(), Fault>
     requires ready { IsReady step.old }
     ensures none { OnOk result (plain_fault (state_of step.old.store) (plain.Finish finish) ≡ None) }

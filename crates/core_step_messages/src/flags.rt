@@ -30,7 +30,7 @@ fn give_each(step: &mut Step, ids: &[ExportId]) -> Result<(), Fault>
     Ok(())
 }
 
-/// Obeys a true release flag: one is taken off the count of each of these exports. Takes no memory. `Err` where that takes
+/// Obeys a true release flag: one is taken off the count of each of these exports. Takes no memory. `Err` if that takes
 /// off more than there is; the step is only to be dropped then.
 pub fn obey_flag(step: &mut Step, ids: &[ExportId]) -> Result<(), Fault>
     requires ready { IsReady step.old }

@@ -18,9 +18,9 @@ use rpc_msg::{Descriptor, ExportId, Memory, Message, PlainMessage, Return};
 use std::alloc::Global;
 use vat_tables::TABLE_LIMIT;
 
-/// The fault that a check finds, of a message whose descriptors may not all find room among the imports: so the table is
-/// not found full at one of them where a later check fails. Of other messages nothing is looked at, nor where memory is
-/// wanting.
+/// The fault that a check finds, of a message whose descriptors may not all find room among the imports: so the table
+/// is not found full at one of them if a later check fails. Of other messages nothing is looked at, nor if memory runs
+/// out.
 pub(crate) fn foresee(store: &Store, alloc: Global, message: &Message) -> Result<(), Fault>
     requires sound { IsSound store.now }
     requires none_taken { store.now.waits.taken ≡ [] }
@@ -98,7 +98,7 @@ fn first_fault(
     Ok(None)
 }
 
-// The fault of a descriptor behind those that are known; where there is none it is known too.
+// The fault of a descriptor behind those that are known; if there is none it is known too.
 fn look_at(
     store: &Store,
     kinds: &mut Kinds,

@@ -39,7 +39,7 @@ impl Kinds {
         Ok(())
     }
 
-    /// Whether an export may not be given as that kind: by the import, or where there is none, by the descriptors before.
+    /// Whether an export may not be given as that kind: by the import, or if there is none, by the descriptors before.
     pub(crate) fn clash(&self, store: &Store, kind: SenderKind, id: ExportId) -> bool
         ensures { result ≡ clash_with kind (map.get (state_of store.now).imports id.0) (kind_of self.now id.0) }
     {

@@ -80,9 +80,9 @@ fn take_unless(step: &mut Step, alloc: Global, plain: PlainMessage) -> Result<()
     }
 }
 
-/// Does what a received message does first, before outcomes that arose are settled. Makes the room for it. `Err` with the
-/// fault that the message is, or for want of room or of memory, which an Abort never needs; the step is only to be dropped
-/// then, and the vat goes down. All descriptors are checked before a full table of imports refuses one of them.
+/// Does what a received message does first, before outcomes that arose are settled. Makes the room for it. `Err` with
+/// the fault that the message is, or for lack of room or of memory, which an Abort never needs; the step is only to be
+/// dropped then, and the vat goes down. All descriptors are checked before a full table of imports refuses one of them.
 pub fn take_message(step: &mut Step, alloc: Global, message: Message) -> Result<(), Fault>
     requires ready { IsReady step.old }
     requires none_taken { step.old.store.waits.taken ≡ [] }

@@ -35,7 +35,7 @@ pub fn read(store: &Store, descriptor: Descriptor) -> Node
     }
 }
 
-/// What received descriptors stand for, in memory of its own. `Err` for want of memory.
+/// What received descriptors stand for, in memory of its own. `Err` for lack of memory.
 pub fn read_all(
     store: &Store,
     alloc: Global,
@@ -52,7 +52,7 @@ pub fn read_all(
     Ok(nodes)
 }
 
-/// The same, each beside its descriptor. `Err` for want of memory.
+/// The same, each beside its descriptor. `Err` for lack of memory.
 pub fn read_beside(
     store: &Store,
     alloc: Global,
@@ -95,7 +95,7 @@ fn given_ids(alloc: Global, descriptors: &[Descriptor]) -> Result<Items<ExportId
     Ok(ids)
 }
 
-/// The ids of the imports to which these descriptors add one; at a vat of level 0, none. `Err` for want of memory.
+/// The ids of the imports to which these descriptors add one; at a vat of level 0, none. `Err` for lack of memory.
 pub fn taken_of(
     store: &Store,
     alloc: Global,

@@ -95,7 +95,7 @@ fn keep_for(
     come_for(step, alloc, role, value)
 }
 
-// Where its Finish was sent, the question goes, and nothing more comes of it.
+// If its Finish was sent, the question goes, and nothing more comes of it.
 fn come_to(step: &mut Step, alloc: Global, id: QuestionId, said: Returned) -> Result<(), Memory>
     requires ready { IsReady step.old }
     ensures comes { OnOk result (ComesBackFor (progress_of step.old) id.0 said (map.get (state_of step.old.store).questions id.0) (progress_of step.new)) }
@@ -114,8 +114,8 @@ fn come_to(step: &mut Step, alloc: Global, id: QuestionId, said: Returned) -> Re
     keep_for(step, alloc, id, role, said)
 }
 
-/// What was said comes back for a question. Where its Finish was sent, the question goes, and nothing more comes of it; else
-/// the question keeps it, and who asked is told. Makes the room for it. `Err` for want of memory, or where there is no such
+/// What was said comes back for a question. If its Finish was sent, the question goes, and nothing more comes of it; else
+/// the question keeps it, and who asked is told. Makes the room for it. `Err` for lack of memory, or if there is no such
 /// question; the step is only to be dropped then.
 #[inline(always)]
 pub(crate) fn come_back(

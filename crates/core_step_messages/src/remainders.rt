@@ -13,7 +13,7 @@ use rpc_msg::{ExportId, Memory};
 use std::alloc::Global;
 use std::collections::BTreeMap;
 
-/// What is left of the counts of exports that were given back, where the store keeps them as they were.
+/// What is left of the counts of exports that were given back, while the store keeps them as they were.
 #[derive(Drop)]
 pub(crate) struct Remaining {
     pub(crate) by_id: BTreeMap<u32, u32>,
@@ -62,7 +62,7 @@ impl Remaining {
     }
 }
 
-/// The fault of a true flag for these exports, where it is one: it takes off more than there is.
+/// The fault of a true flag for these exports, if it is one: it takes off more than there is.
 pub(crate) fn fault_of_flag(
     store: &Store,
     alloc: Global,

@@ -30,7 +30,7 @@ fn keep_said(step: &mut Step, id: ExportId, said: Resolution) -> Result<(), Memo
     Ok(())
 }
 
-// The capability is taken also where the import is gone.
+// The capability is taken also if the import is gone.
 fn resolve_to(step: &mut Step, id: ExportId, said: Descriptor) -> Result<(), Memory>
     requires { IsReady step.old }
     ensures state { OnOk result (progress_of step.new ≡ with_state (progress_of step.old) (resolve_import (take_all (state_of step.old.store) (said ∷ [])) id.0 (resolution.To said (read (state_of step.old.store) said)) (map.get (state_of step.old.store).imports id.0))) }
@@ -39,7 +39,7 @@ fn resolve_to(step: &mut Step, id: ExportId, said: Descriptor) -> Result<(), Mem
 {
     let node = read(&step.store, said);
     let is_there = step.store.imports.get(id.0).is_some();
-    // That it is no fault was checked, so only room can be wanting.
+    // That it is no fault was checked, so only room can be lacking.
     let Ok(()) = take_descriptors(step, std::slice::from_ref(&said)) else {
         return Err(Memory);
     };
@@ -64,8 +64,8 @@ fn take_said(step: &mut Step, resolve: Resolve) -> Result<(), Memory>
     }
 }
 
-/// Takes a Resolve: its capability is taken, and what it said is kept, if its import is there. Makes the room for it. `Err`
-/// with the fault that it is, or for want of room or of memory; the step is only to be dropped then.
+/// Takes a Resolve: its capability is taken, and what it said is kept, if its import is there. Makes the room for it.
+/// `Err` with the fault that it is, or for lack of room or of memory; the step is only to be dropped then.
 pub fn take_resolve(step: &mut Step, resolve: Resolve) -> Result<(), Fault>
     requires { IsReady step.old }
     ensures none { OnOk result (plain_fault (state_of step.old.store) (plain.Resolve resolve) ≡ None) }

@@ -111,8 +111,9 @@ fn take_body(step: &mut Step, alloc: Global, body: ReturnBody) -> Result<Returne
     }
 }
 
-/// Takes a Return: its descriptors are taken, its flag is obeyed, and it is told for what its question was asked. Makes the
-/// room for it. `Err` with the fault that it is, or for want of room or of memory; the step is only to be dropped then.
+/// Takes a Return: its descriptors are taken, its flag is obeyed, and it is told for what its question was asked. Makes
+/// the room for it. `Err` with the fault that it is, or for lack of room or of memory; the step is only to be dropped
+/// then.
 pub fn take_return(step: &mut Step, alloc: Global, said: Return) -> Result<(), Fault>
     requires ready { IsReady step.old }
     ensures none { OnOk result (plain_fault (state_of step.old.store) (plain.Return said) ≡ None) }
@@ -134,9 +135,9 @@ pub fn take_return(step: &mut Step, alloc: Global, said: Return) -> Result<(), F
     }
 }
 
-/// Takes a question that came back Unimplemented: as the Return of an exception with a true flag, but no Finish is sent for
-/// it. Makes the room for it. `Err` with the fault that it is, or for want of room or of memory; the step is only to be
-/// dropped then.
+/// Takes a question that came back Unimplemented: as the Return of an exception with a true flag, but no Finish is sent
+/// for it. Makes the room for it. `Err` with the fault that it is, or for lack of room or of memory; the step is only
+/// to be dropped then.
 pub fn take_echoed(step: &mut Step, alloc: Global, id: QuestionId) -> Result<(), Fault>
     requires ready { IsReady step.old }
     ensures none { OnOk result (echoed_fault (state_of step.old.store) (map.get (state_of step.old.store).questions id.0) ≡ None) }

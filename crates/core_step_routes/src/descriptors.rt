@@ -16,7 +16,7 @@ use rpc_msg::{Descriptor, ExportId};
 use vat_tables::TableFault;
 
 /// The descriptor of a node, in a message that is to be sent: an object, a promise or a field is exported, or has one more on
-/// the count of its export. `Full` where that takes the table of exports or the count past its limit. Takes no memory, but
+/// the count of its export. `Full` if that takes the table of exports or the count past its limit. Takes no memory, but
 /// at most one of the slack.
 pub fn describe(store: &mut Store, node: Node) -> Result<Descriptor, TableFault>
     requires sound { IsSound store.old }
@@ -56,9 +56,9 @@ fn have_one_each(store: &Store)
     let _ = store.exports.get(ExportId(0));
 }
 
-/// The descriptors of these nodes, made one after the other, and the ids of the exports that they add one to, put into two
-/// lists, which are empty and have room for one of each node. `Full` where a limit of the exports is passed, and there alone;
-/// some may have one more on their count then. Takes no memory, but at most one of the slack for each node.
+/// The descriptors of these nodes, made one after the other, and the ids of the exports that they add one to, put into
+/// two lists, which are empty and have room for one of each node. `Full` if a limit of the exports is passed, and only
+/// then; some may have one more on their count then. Takes no memory, but at most one of the slack for each node.
 #[inline(always)]
 pub fn describe_all_kept(
     store: &mut Store,

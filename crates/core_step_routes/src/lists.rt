@@ -19,7 +19,7 @@ pub struct Lists {
 }
 
 impl Lists {
-    /// Those of a call with so many capabilities, and with room for why it failed where that `may_fail`.
+    /// Those of a call with so many capabilities, and with room for why it failed if that `may_fail`.
     pub fn new(alloc: Global, count: usize, may_fail: bool) -> Result<Self, Memory>
         ensures prepared { IfOk result (λ lists. IsPrepared count lists) }
         ensures text { IfOk result (λ lists. IsTrue may_fail → reason_limit ≤ string_capacity lists.text) }
@@ -37,7 +37,7 @@ impl Lists {
     }
 }
 
-// An empty text, with room for a reason where one is wanted.
+// An empty text, with room for a reason if one is needed.
 fn text_for(alloc: Global, wanted: bool) -> Result<String, Memory>
     ensures empty { IfOk result (λ text. (string_bytes text ≡ []) × (string_len text ≡ 0)) }
     ensures room { IfOk result (λ text. IsTrue wanted → reason_limit ≤ string_capacity text) }

@@ -14,9 +14,10 @@ use rpc_machine::{Request, WaitingCall};
 use rpc_msg::{Call, CallId, Descriptor, ExportId, Items, PlainMessage, Target};
 use vat_tables::TableFault;
 
-/// A call goes on to a wire, as a question: what its Return says will be the outcome of the call. The two lists are empty
-/// and have room for one of each capability. `Full` where a limit of the exports or of the questions is passed, and there
-/// alone; the step is only to be dropped then. Takes no memory, but at most one of the slack for each capability, and two.
+/// A call goes on to a wire, as a question: what its Return says will be the outcome of the call. The two lists are
+/// empty and have room for one of each capability. `Full` if a limit of the exports or of the questions is passed, and
+/// only then; the step is only to be dropped then. Takes no memory, but at most one of the slack for each capability,
+/// and two.
 pub fn relay_kept(
     step: &mut Step,
     call: WaitingCall,
@@ -64,9 +65,9 @@ pub fn relay_kept(
     Ok(())
 }
 
-/// A call of the application, which has no entry yet, goes out as a question of its own. The two lists are empty and have
-/// room for one of each capability. `Full` where a limit of the exports or of the questions is passed, and there alone; the
-/// step is only to be dropped then. Takes no memory, but at most one of the slack for each capability, and two.
+/// A call of the application, which has no entry yet, goes out as a question of its own. The two lists are empty and
+/// have room for one of each capability. `Full` if a limit of the exports or of the questions is passed, and only then;
+/// the step is only to be dropped then. Takes no memory, but at most one of the slack for each capability, and two.
 #[inline(always)]
 pub fn call_direct_kept(
     step: &mut Step,

@@ -28,11 +28,11 @@ fn has_numbers(store: &Store, caps: usize) -> bool
     store.next_task.checked_add(1).is_some() && store.next_ref.checked_add(caps as u64).is_some()
 }
 
-/// Routes a call to where the node settles: at an object it is delivered, at an open node it waits, at a wire it is sent,
-/// and at a broken node it ends. `Full` where a limit of the numbers, the waiting calls, the questions or the exports is
-/// passed, `Memory` where it settles to a promise or an outcome that is not there, or to a broken node while the text has no
-/// room for a reason; the step is only to be dropped then. It never fails else where there is room and no call is taken out.
-/// Takes no memory, but at most one of the slack for each capability, and two.
+/// Routes a call to where the node settles: at an object it is delivered, at an open node it waits, at a wire it is
+/// sent, and at a broken node it ends. `Full` if a limit of the numbers, the waiting calls, the questions or the
+/// exports is passed. `Memory` if it settles to a promise or an outcome that is not there, or to a broken node while
+/// the text has no room for a reason. The step is only to be dropped then. It never fails else if there is room and no
+/// call is taken out. Takes no memory, but at most one of the slack for each capability, and two.
 pub fn route_kept(
     step: &mut Step,
     lists: Lists,
@@ -87,8 +87,8 @@ pub fn route_kept(
     }
 }
 
-/// Routes a call to where the node settles, as `route_kept` does, and makes the room for it: of memory it takes what the
-/// call wants there. `Err` for want of memory, or where a limit is passed; the step is only to be dropped then.
+/// Routes a call to where the node settles, as `route_kept` does, and makes the room for it: of memory it takes what
+/// the call needs there. `Err` for lack of memory, or if a limit is passed; the step is only to be dropped then.
 pub fn route(step: &mut Step, alloc: Global, call: WaitingCall, node: &Node) -> Result<(), Memory>
     requires { IsReady step.old }
     ensures routed { OnOk result (Routes (progress_of step.old) call node.now (progress_of step.new)) }
@@ -172,7 +172,7 @@ fn route_on(step: &mut Step, alloc: Global, call: WaitingCall, at: Node) -> Resu
     }
 }
 
-// A call reaches an object, where there are numbers left.
+// A call reaches an object, if there are numbers left.
 #[inline(always)]
 fn deliver_if_numbered(
     step: &mut Step,
@@ -212,7 +212,7 @@ fn relay(step: &mut Step, alloc: Global, call: WaitingCall, target: Target) -> R
     Ok(())
 }
 
-/// Routes all calls that were taken out, in order, to where the node settles. `Err` for want of memory, or where a limit is
+/// Routes all calls that were taken out, in order, to where the node settles. `Err` for lack of memory, or if a limit is
 /// passed; the step is only to be dropped then.
 pub fn route_taken(step: &mut Step, alloc: Global, node: Node) -> Result<(), Memory>
     requires { IsReady step.old }
@@ -228,8 +228,8 @@ pub fn route_taken(step: &mut Step, alloc: Global, node: Node) -> Result<(), Mem
     Ok(())
 }
 
-/// Routes all calls that were taken out, in order, each to the field of that outcome for which it waited. `Err` for want of
-/// memory, or where a limit is passed; the step is only to be dropped then.
+/// Routes all calls that were taken out, in order, each to the field of that outcome for which it waited. `Err` for
+/// lack of memory, or if a limit is passed; the step is only to be dropped then.
 pub fn route_held(step: &mut Step, alloc: Global, o: u64) -> Result<(), Memory>
     requires { IsReady step.old }
     ensures routed { OnOk result (RoutesHeld (progress_of step.old) o step.old.store.waits.taken (progress_of step.new)) }

@@ -13,7 +13,7 @@ use rpc_msg::Path;
 use vat_tables::TableFault;
 
 /// A call waits for an open promise, behind those that wait already. Takes no memory, but one of the slack, and one for
-/// each capability. `Full` at 65,536 calls, and there alone; `Memory` where there is no such open promise. A call that is
+/// each capability. `Full` at 65,536 calls, and only then; `Memory` if there is no such open promise. A call that is
 /// refused is dropped, and nothing is changed then.
 pub fn wait_for_promise(step: &mut Step, call: WaitingCall, p: u64) -> Result<(), TableFault>
     requires ready { IsReady step.old }
@@ -31,9 +31,9 @@ pub fn wait_for_promise(step: &mut Step, call: WaitingCall, p: u64) -> Result<()
     core_store_waits::hold_for_promise(&mut step.store, p, call)
 }
 
-/// A call waits for what will stand at a path of an outcome, behind those that wait already. Takes no memory, but one of
-/// the slack, and one for each capability. `Full` at 65,536 calls, and there alone; `Memory` where there is no such outcome.
-/// A call that is refused is dropped, and nothing is changed then.
+/// A call waits for what will stand at a path of an outcome, behind those that wait already. Takes no memory, but one
+/// of the slack, and one for each capability. `Full` at 65,536 calls, and only then; `Memory` if there is no such
+/// outcome. A call that is refused is dropped, and nothing is changed then.
 pub fn wait_for_field(
     step: &mut Step,
     call: WaitingCall,

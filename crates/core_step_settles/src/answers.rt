@@ -24,8 +24,8 @@ struct Saying {
     ids: Items<ExportId>,
 }
 
-/// The Return of an answer is sent: what the call came to, or that it was canceled, where its Finish came first. What no
-/// place names is gone before its flag is made. `Err` for want of memory, where a limit of the exports is passed, or there
+/// The Return of an answer is sent: what the call came to, or that it was canceled, if its Finish came first. What no
+/// place names is gone before its flag is made. `Err` for lack of memory, if a limit of the exports is passed, or there
 /// is no such answer, which does not come for one whose outcome is kept; the step is only to be dropped then.
 pub fn returns(step: &mut Step, alloc: Global, q: QuestionId, value: Value) -> Result<(), Memory>
     requires ready { IsReady step.old }

@@ -15,9 +15,9 @@ use rpc_machine::{Node, Value};
 use rpc_msg::{CapAt, Items, Memory, Path, Payload};
 use std::alloc::Global;
 
-/// The value that an outcome takes under that key: where a capability would lead to itself by those behind it, an open
-/// promise that no command settles takes its place. Of the step only promises change. `Err` for want of memory; the step
-/// is only to be dropped then. Takes no memory where no capability leads to a field of the outcome.
+/// The value that an outcome takes under that key: if a capability would lead to itself by those behind it, an open
+/// promise that no command settles takes its place. Of the step only promises change. `Err` for lack of memory; the step
+/// is only to be dropped then. Takes no memory if no capability leads to a field of the outcome.
 pub fn fit(step: &mut Step, alloc: Global, key: u64, value: Value) -> Result<Value, Memory>
     requires ready { IsReady step.old }
     ensures fits { IfOk result (λ fit. FitsWith (state_of step.old.store) key value fit (state_of step.new.store)) }
@@ -35,7 +35,7 @@ pub fn fit(step: &mut Step, alloc: Global, key: u64, value: Value) -> Result<Val
     }
 }
 
-// The capabilities of an outcome, where none leads to itself, in the list in which they stood. Each walk is made once: from
+// The capabilities of an outcome, if none leads to itself, in the list in which they stood. Each walk is made once: from
 // where it comes to a capability that stands, what was kept of that one is known.
 fn untangle(
     step: &mut Step,
@@ -115,7 +115,7 @@ fn end_from(
 }
 
 // The path of the outcome's field to which the walk from a node comes, if to one. The outcome is not known yet, so no field of
-// it is passed where links are followed many at once. `Err` where it is known, or where the walk is longer than all links
+// it is passed if links are followed many at once. `Err` if it is known, or if the walk is longer than all links
 // together, which no vat comes to: nothing there leads to itself, so no link is passed twice.
 fn walk_to(store: &Store, key: u64, node: Node) -> Result<Option<Path>, Memory>
     ensures { IfOk result (λ path. WalksTo (state_of store.now) key node path) }
@@ -139,7 +139,7 @@ fn walk_to(store: &Store, key: u64, node: Node) -> Result<Option<Path>, Memory>
     Ok(path_in(key, walked))
 }
 
-// No path, where a node has no link.
+// No path, if a node has no link.
 fn no_further(store: &Store, node: Node) -> Result<Option<Path>, Memory>
     ensures { IfOk result (λ path. (path ≡ None) × (link (state_of store.now) node ≡ None)) }
 {

@@ -7,7 +7,7 @@ use core_step::{Step, next_arisen};
 use rpc_msg::Memory;
 use std::alloc::Global;
 
-/// Settles the outcomes that arose, in order, and those that arise thereby behind them, until none is left. `Err` as
+/// Settles the outcomes that arose, in order, and those that arise from them behind these, until none is left. `Err` as
 /// `settle_outcome` says; the step is only to be dropped then.
 pub fn drain(step: &mut Step, alloc: Global) -> Result<(), Memory>
     requires ready { IsReady step.old }

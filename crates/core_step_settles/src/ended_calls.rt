@@ -12,7 +12,7 @@ use rpc_msg::{CallId, Items, Memory};
 use std::alloc::Global;
 
 /// The application is told how a call of its own ended, with one new reference for each capability; of a call that it
-/// finished it is told nothing. The value is copied where it is told. `Err` for want of memory, or of numbers of
+/// finished it is told nothing. The value is copied if it is told. `Err` for lack of memory, or of numbers of
 /// references; the step is only to be dropped then.
 pub fn tell_call(step: &mut Step, alloc: Global, call: CallId, value: &Value) -> Result<(), Memory>
     requires ready { IsReady step.old }
@@ -71,7 +71,7 @@ fn report(step: &mut Step, alloc: Global, call: CallId, value: Value) -> Result<
     report_caps(step, alloc, call, outcome, caps)
 }
 
-// The same, where there are capabilities.
+// The same, if there are capabilities.
 #[inline(never)]
 fn report_caps(
     step: &mut Step,

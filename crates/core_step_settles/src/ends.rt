@@ -42,7 +42,7 @@ impl Ends {
         }
     }
 
-    /// Keeps where the walk from a capability came to. Takes no memory where that is none.
+    /// Keeps where the walk from a capability came to. Takes no memory if that is none.
     pub(crate) fn keep(&mut self, index: usize, end: Option<usize>) -> Result<(), Memory>
         ensures { OnOk result (IsKept index end self.old self.new) }
     {
@@ -76,7 +76,7 @@ impl Ends {
         self.ends[index] = end;
     }
 
-    /// Where the walk from a field of that capability ends, where those behind `at` stand. Where it was long, it is shorter
+    /// Where the walk from a field of that capability ends, if those behind `at` stand. If it was long, it is shorter
     /// from now on. Takes no memory.
     pub(crate) fn end_of(&mut self, at: usize, index: usize) -> Option<usize>
         requires { Falls self.old }
@@ -94,7 +94,7 @@ impl Ends {
         Some(found)
     }
 
-    // Where the walk from that capability came to. Where that one stands, what is kept from now on is where the walk came to
+    // Where the walk from that capability came to. If that one stands, what is kept from now on is where the walk came to
     // from there.
     fn shorten(&mut self, at: usize, index: usize) -> Option<usize>
         requires falls { Falls self.old }

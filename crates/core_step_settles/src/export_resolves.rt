@@ -13,8 +13,8 @@ use rpc_machine::{Node, Reason};
 use rpc_msg::{Exception, ExportId, Items, Memory, PlainMessage, Resolve, ResolvedTo};
 use std::alloc::Global;
 
-/// The exports of the fields of that outcome get their Resolves, by rising id. `Err` for want of memory, or where a limit
-/// of the exports is met; the step is only to be dropped then. Takes no memory where no place names a field of it.
+/// The exports of the fields of that outcome get their Resolves, by rising id. `Err` for lack of memory, or if a limit
+/// of the exports is met; the step is only to be dropped then. Takes no memory if no place names a field of it.
 pub fn resolve_fields(step: &mut Step, alloc: Global, key: u64) -> Result<(), Memory>
     requires ready { IsReady step.old }
     ensures sent { OnOk result (SendsResolves (progress_of step.old) None (is_field key) (progress_of step.new)) }
@@ -27,7 +27,7 @@ pub fn resolve_fields(step: &mut Step, alloc: Global, key: u64) -> Result<(), Me
     resolve_named(step, alloc, key)
 }
 
-// The same, where places name such a field.
+// The same, if places name such a field.
 fn resolve_named(step: &mut Step, alloc: Global, key: u64) -> Result<(), Memory>
     requires ready { IsReady step.old }
     ensures sent { OnOk result (SendsResolves (progress_of step.old) None (is_field key) (progress_of step.new)) }
@@ -39,9 +39,9 @@ fn resolve_named(step: &mut Step, alloc: Global, key: u64) -> Result<(), Memory>
     resolve_each(step, alloc, &exports, &told)
 }
 
-/// The exports of that promise get their Resolves, by rising id. Where it is broken these say the exception, if there is
-/// one, each in memory of its own. `Err` for want of memory, or where a limit of the exports is met; the step is only to
-/// be dropped then. Takes no memory where no place names the promise.
+/// The exports of that promise get their Resolves, by rising id. If it is broken these say the exception, if there is
+/// one, each in memory of its own. `Err` for lack of memory, or if a limit of the exports is met; the step is only to
+/// be dropped then. Takes no memory if no place names the promise.
 pub fn resolve_promises(
     step: &mut Step,
     alloc: Global,

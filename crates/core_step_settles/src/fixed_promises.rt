@@ -9,8 +9,8 @@ use rpc_msg::{Exception, Memory};
 use std::alloc::Global;
 
 /// The promise under that key is fixed to a node: the calls that waited are routed in order, then its exports get their
-/// Resolves, which say the exception, if there is one, where the promise is broken. `Err` for want of memory, where a
-/// limit is met, where there is no such open promise, or where calls that were taken out before are not all handed out;
+/// Resolves. If the promise is broken these say the exception, if there is one. `Err` for lack of memory, if a
+/// limit is met, if there is no such open promise, or if calls that were taken out before are not all handed out;
 /// the step is only to be dropped then.
 pub fn fix_promise(
     step: &mut Step,

@@ -18,7 +18,7 @@ use rpc_msg::Memory;
 use std::alloc::Global;
 
 /// An outcome becomes known: its caller is told, the calls that waited for it are routed in order, and the exports of its
-/// fields get their Resolves. The value is copied once. `Err` for want of memory, where a limit is passed, or where the
+/// fields get their Resolves. The value is copied once. `Err` for lack of memory, if a limit is passed, or if the
 /// outcome is not there or is known, which does not come for one that arose; the step is only to be dropped then.
 pub fn settle_outcome(step: &mut Step, alloc: Global, key: u64, value: Value) -> Result<(), Memory>
     requires ready { IsReady step.old }

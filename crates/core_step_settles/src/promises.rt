@@ -10,7 +10,7 @@ use rpc_machine::{Node, Reason};
 use rpc_msg::{Exception, Memory, PromiseId, RefId};
 use std::alloc::Global;
 
-/// A promise is fixed to the head of a reference. `Err` for want of memory, or where a limit is met; also where there is
+/// A promise is fixed to the head of a reference. `Err` for lack of memory, or if a limit is met; also if there is
 /// no such promise or reference, which the checks of the command rule out. The step is only to be dropped then.
 pub fn resolve(
     step: &mut Step,

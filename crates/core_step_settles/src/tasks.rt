@@ -13,8 +13,8 @@ use rpc_machine::{Node, Value};
 use rpc_msg::{Exception, Items, Memory, Payload, RefId, TaskId};
 use std::alloc::Global;
 
-/// A task has its results, with the heads of these references: the outcome of its call becomes known. `Err` for want of
-/// memory, or where a limit is passed; also where there is no such task, which the checks of the command rule out. The step
+/// A task has its results, with the heads of these references: the outcome of its call becomes known. `Err` for lack of
+/// memory, or if a limit is passed; also if there is no such task, which the checks of the command rule out. The step
 /// is only to be dropped then.
 pub fn answer(
     step: &mut Step,

@@ -24,7 +24,7 @@ pub(crate) fn leaves_none_over(store: &Store) -> bool
     says_nothing(store, key)
 }
 
-// The question that is noted, where nothing else is and its Return named nothing.
+// The question that is noted, if nothing else is and its Return named nothing.
 pub(crate) fn question_alone(store: &Store) -> Option<QuestionId>
     requires sound { IsSound store.now }
     requires none_taken { store.now.waits.taken ≡ [] }
@@ -39,7 +39,7 @@ pub(crate) fn question_alone(store: &Store) -> Option<QuestionId>
     Some(id)
 }
 
-// Finds whether the question is over, where no other can be.
+// Finds whether the question is over, if no other can be.
 #[inline(never)]
 pub(crate) fn find_over_alone(
     store: &Store,
@@ -60,7 +60,7 @@ pub(crate) fn find_over_alone(
     Ok(())
 }
 
-// The outcome that is noted, where nothing else is.
+// The outcome that is noted, if nothing else is.
 fn noted_outcome(store: &Store) -> Option<u64>
     ensures { IfSome result (λ key. noted_of store.now.names ≡ record nothing_noted { outcomes = key ∷ [] }) }
 {
@@ -74,7 +74,7 @@ fn noted_outcome(store: &Store) -> Option<u64>
     only(names.noted_outcomes())
 }
 
-// The question that is noted, where nothing else is.
+// The question that is noted, if nothing else is.
 fn noted_question(store: &Store) -> Option<QuestionId>
     ensures { IfSome result (λ q. noted_of store.now.names ≡ record nothing_noted { questions = q.0 ∷ [] }) }
 {
@@ -91,7 +91,7 @@ fn noted_question(store: &Store) -> Option<QuestionId>
     Some(QuestionId(key as u32))
 }
 
-// The key, where it is one alone.
+// The key, if it is one alone.
 fn only(keys: &[u64]) -> Option<u64>
     ensures { IfSome result (λ key. keys.now ≡ key ∷ []) }
 {

@@ -34,7 +34,7 @@ pub fn end_settled(step: &mut Step, over: &[QuestionId]) -> Effects
 }
 
 /// Ends a step whose outcomes are settled, and hands out what it says: finds which questions are over, and finishes these.
-/// No step is in progress then. `Err` where memory was refused for finding them; the step is as it was then. No call may be
+/// No step is in progress then. `Err` if memory was refused for finding them; the step is as it was then. No call may be
 /// taken out to be routed.
 pub fn sweep(step: &mut Step, thought: &mut Thought) -> Result<Effects, Memory>
     requires ready { IsReady step.old }

@@ -11,7 +11,7 @@ use core_store::Store;
 use rpc_machine::{Finishing, Node, Role};
 use rpc_msg::{ExportId, QuestionId};
 
-// Whether what the node is of may go, but for the places that name it, and these are no more than went.
+// Whether what the node is of may go, except for the places that name it, and these are no more than went.
 pub(crate) fn is_loose(store: &Store, less: &Tallies, node: &Node) -> bool
     ensures { MatchBool result (IsLooseIf (state_of store.now) (times_named store.now.names node.now == times_named less.now node.now) node.now) (¬ (IsLooseIf (state_of store.now) (times_named store.now.names node.now == times_named less.now node.now) node.now)) }
 {

@@ -11,7 +11,7 @@ use core_store::Store;
 use rpc_machine::{Finishing, Role};
 use rpc_msg::{Memory, QuestionId};
 
-/// Takes all notes away, where none is of anything that may go. `Err` where something is loose or a question is to be
+/// Takes all notes away, if none is of anything that may go. `Err` if something is loose or a question is to be
 /// finished, which does not come between two steps; some notes may be gone then, none of what is loose. Then and else all
 /// but notes stays. Takes no memory. No call may be taken out to be routed.
 pub fn rest(store: &mut Store) -> Result<(), Memory>
@@ -36,7 +36,7 @@ pub fn rest(store: &mut Store) -> Result<(), Memory>
     Ok(())
 }
 
-// Takes the notes of questions away at the end of a step, where there are more than one: else they would gather where the
+// Takes the notes of questions away at the end of a step, if there are more than one: else they would gather where the
 // application makes no calls. One that is to be finished, which does not come there, keeps its note.
 pub(crate) fn forget_questions(store: &mut Store)
     requires sound { IsSound store.old }
@@ -50,7 +50,7 @@ pub(crate) fn forget_questions(store: &mut Store)
     let _ = rest_questions(store);
 }
 
-// Takes the notes of questions away, where none is to be finished.
+// Takes the notes of questions away, if none is to be finished.
 fn rest_questions(store: &mut Store) -> Result<(), Memory>
     requires sound { IsSound store.old }
     requires none_taken { store.old.waits.taken ≡ [] }

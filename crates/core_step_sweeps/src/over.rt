@@ -18,7 +18,7 @@ use rpc_msg::Memory;
 
 /// Finds the questions that are finished in a step from here on: those that are over while what no place names, and what
 /// they themselves name, goes one after the other. Nothing is changed but the memory of the thought, which grows with what
-/// goes. `Err` where a growth was refused, which does not come where nothing is noted. No call may be taken out to be
+/// goes. `Err` if a growth was refused, which does not come if nothing is noted. No call may be taken out to be
 /// routed.
 #[inline(never)]
 pub fn find_over(store: &Store, thought: &mut Thought) -> Result<(), Memory>
@@ -35,7 +35,7 @@ pub fn find_over(store: &Store, thought: &mut Thought) -> Result<(), Memory>
     find_over_named(store, thought)
 }
 
-// Finds them where places name Pipes of questions, or more than one question is noted.
+// Finds them if places name Pipes of questions, or more than one question is noted.
 #[inline(never)]
 fn find_over_named(store: &Store, thought: &mut Thought) -> Result<(), Memory>
     requires sound { IsSound store.now }

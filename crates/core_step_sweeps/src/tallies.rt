@@ -64,7 +64,7 @@ impl Tallies {
         self.questions.count(id.0 as u64)
     }
 
-    /// The node is counted once more. `Err` where a growth was refused, or its count would not fit 64 bits.
+    /// The node is counted once more. `Err` if a growth was refused, or its count would not fit 64 bits.
     pub fn add(&mut self, node: Node) -> Result<(), Memory>
         ensures { OnOk result (self.new ≡ named self.old node) }
     {

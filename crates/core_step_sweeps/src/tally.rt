@@ -54,7 +54,7 @@ impl Tally {
         }
     }
 
-    /// Counts one more. `Err` where a growth was refused, or the count would not fit 64 bits.
+    /// Counts one more. `Err` if a growth was refused, or the count would not fit 64 bits.
     pub fn raise(&mut self, key: u64) -> Result<(), Memory>
         ensures { OnOk result (self.new ≡ raised self.old key) }
     {

@@ -13,7 +13,7 @@ use std::alloc::Global;
 pub struct Thought {
     /// The questions that are over, by rising id.
     pub over: Vec<QuestionId>,
-    // Nodes of what went in the thought, but for the last.
+    // Nodes of what went in the thought, except for the last.
     pub(crate) gone: Vec<Node>,
     // The last of them. It is marked once another is looked at.
     pub(crate) last: Option<Node>,

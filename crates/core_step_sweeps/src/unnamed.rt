@@ -17,7 +17,7 @@ pub(crate) fn no_pipe_holds(store: &Store) -> bool
     store.names.names_no_question() && store.names.noted_questions().len() <= 1
 }
 
-// Finds whether the question that is noted is over, if one is, where no place names a Pipe of any.
+// Finds whether the question that is noted is over, if one is, if no place names a Pipe of any.
 pub(crate) fn find_over_unnamed(store: &Store, over: &mut Vec<QuestionId>) -> Result<(), Memory>
     requires sound { IsSound store.now }
     requires none_taken { store.now.waits.taken ≡ [] }

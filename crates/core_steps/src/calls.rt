@@ -28,7 +28,7 @@ use rpc_machine::{CallCommand, Effects, Node, Reason};
 use rpc_msg::{CallId, Exception, Memory, RefId};
 use std::alloc::Global;
 
-/// Has no more use for a call, where that is not refused, and gives what the step says. `Err` for want of memory; the vat holds what it held then.
+/// Has no more use for a call, if that is not refused, and gives what the step says. `Err` for lack of memory; the vat holds what it held then.
 pub fn finish(machine: &mut Machine, id: CallId) -> Result<Effects, Memory>
     requires resting { IsResting machine.old }
     requires own { CallsHaveTheirOwn (state_of machine.old.step.store) }
@@ -63,8 +63,8 @@ fn finish_whole(step: &mut Step, thought: &mut Thought, id: CallId) -> Result<()
     Ok(())
 }
 
-/// Asks the peer for its bootstrap object, where that is not refused, and gives the number of that call, and what the step
-/// says. `Err` for want of memory; the vat holds what it held then.
+/// Asks the peer for its bootstrap object, if that is not refused, and gives the number of that call, and what the step
+/// says. `Err` for lack of memory; the vat holds what it held then.
 pub fn bootstrap(machine: &mut Machine) -> Result<(CallId, Effects), Memory>
     requires resting { IsResting machine.old }
     requires allowed { refused (state_of machine.old.step.store) command.Bootstrap ≡ None }
@@ -84,12 +84,12 @@ pub fn bootstrap(machine: &mut Machine) -> Result<(CallId, Effects), Memory>
 struct Provided {
     lists: Lists,
     nodes: Vec<Node>,
-    // What the application is told, where the call ends at once.
+    // What the application is told, if the call ends at once.
     told: Option<Exception>,
 }
 
-/// Makes a call through a reference, where that is not refused, and gives its number, and what the step says. `Err` for want
-/// of memory: the call is handed back then, and the vat holds what it held.
+/// Makes a call through a reference, if that is not refused, and gives its number, and what the step says. `Err` for
+/// lack of memory: the call is handed back then, and the vat holds what it held.
 pub fn call(machine: &mut Machine, call: CallCommand) -> Result<(CallId, Effects), CallCommand>
     requires resting { IsResting machine.old }
     requires reached { IsReached (state_of machine.old.step.store) }
@@ -102,7 +102,7 @@ pub fn call(machine: &mut Machine, call: CallCommand) -> Result<(CallId, Effects
     call_walked(machine, call)
 }
 
-// The same, where the ways from the references of the call are short.
+// The same, if the ways from the references of the call are short.
 fn call_walked(machine: &mut Machine, call: CallCommand) -> Result<(CallId, Effects), CallCommand>
     requires resting { IsResting machine.old }
     requires reached { IsReached (state_of machine.old.step.store) }

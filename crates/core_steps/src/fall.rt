@@ -14,8 +14,8 @@ use vat_tables::{POOL_LIMIT, TABLE_LIMIT};
 // The fault of a step for which there was no memory, or which would pass a limit.
 pub(crate) const WANT_OF_ROOM: u16 = 33;
 
-/// Takes the vat down with that number, whatever became of its step: one Abort alone is said. Where room was wanting, it keeps
-/// whether a limit was met. Takes no memory.
+/// Takes the vat down with that number, whatever became of its step: one Abort alone is said. If room was lacking, it
+/// keeps whether a limit was met. Takes no memory.
 pub fn fall_as(machine: &mut Machine, named: Named, number: u16) -> Effects
     requires can_abort { machine.old.spare.can_abort ≡ true }
     ensures effects { result ≡ falling number }
@@ -86,7 +86,7 @@ pub fn shut(machine: &mut Machine, number: u16) -> Effects
     effects
 }
 
-// What stays of the vat where it goes down.
+// What stays of the vat when it goes down.
 pub(crate) fn named_of(store: &Store) -> Named
     ensures { (n : ℕ) → fallen_as result n ≡ fallen (state_of store.now) n }
 {

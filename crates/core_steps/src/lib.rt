@@ -1,5 +1,5 @@
 //! Whole steps: each command and each received message from its first act to what it says, and the vat that goes down. What
-//! commands took is put back where no memory is found for what follows.
+//! commands took is put back if no memory is found for what follows.
 //!
 //! - `machine.rt`: `Machine` is a vat between its steps: the step, the memory of its thought, and a spare outbox that has
 //!   the memory of an Abort, since of a step whose end was refused memory nothing is known. `IsResting` of `specs/Whole` is
@@ -14,20 +14,21 @@
 //!   `sweep` or `find_over` themselves, whose `Err` leaves the step as it was, and put back what they took if there is no memory
 //!   for the thought (`undo.rt`). `host`, `clone_ref` and `field` add a reference. They begin quietly (`quiet_steps.rt`: nothing
 //!   is loose and nothing noted), so nothing can go at their end, and they say nothing.
-//! - `messages.rt`: `receive`, which wants nothing but a vat between its steps, for a received message brings its checks
-//!   along: an Abort takes the vat down before any memory is asked for; the fault of another message, or want of room, is
-//!   told by one Abort.
+//! - `messages.rt`: `receive`, which requires nothing but a vat between its steps, for a received message brings its
+//!   checks along. An Abort takes the vat down before any memory is asked for. The fault of another message, or lack of
+//!   room, is told by one Abort.
 //!
-//! - Commands that make something for which the vat waits: `bootstrap` and `call` (`calls.rt`), `promise` (`promises.rt`).
-//!   `straight_call.rt`: the step of a call that goes to an import at once (`straight` of `core_step_commands`), of which no
-//!   outcome arises. They take what memory they want before they begin, and begin quietly: what they add is not loose
-//!   (`proofs/Opened`), so `sweep` finds nothing to think about and can't be refused memory, and nothing has to be put back.
-//!   A call that goes to a broken node ends where it is made; of no other does an outcome arise (`proofs/Breaking`), and that
-//!   of this one is known by `settle_ended` without memory and stays, since its call is not finished (`proofs/Ended`). `call`
-//!   wants a vat in a state to which vats come (`IsReached`): then its reference leads to what is there (`proofs/Going`), and
-//!   with the room that was checked (`proofs/Allowed`) its first act always succeeds.
+//! - Commands that make something for which the vat waits: `bootstrap` and `call` (`calls.rt`), `promise`
+//!   (`promises.rt`). `straight_call.rt`: the step of a call that goes to an import at once (`straight` of
+//!   `core_step_commands`), of which no outcome arises. They take what memory they need before they begin, and begin
+//!   quietly: what they add is not loose (`proofs/Opened`), so `sweep` finds nothing to think about and can't be
+//!   refused memory, and nothing has to be put back. A call that goes to a broken node ends as soon as it is made. No
+//!   other has an outcome that arises (`proofs/Breaking`). That of this one is known by `settle_ended` without memory
+//!   and stays, since its call is not finished (`proofs/Ended`). `call` requires a vat in a state to which vats come
+//!   (`IsReached`): then its reference leads to what is there (`proofs/Going`), and with the room that was checked
+//!   (`proofs/Allowed`) its first act always succeeds.
 //!
-//! What each gives and says is read off its result by `Tries` of `specs/Whole`. All commands want the checks of
+//! What each gives and says is read off its result by `Tries` of `specs/Whole`. All commands require the checks of
 //! `core_step_checks` passed.
 #![tactic(auto)]
 

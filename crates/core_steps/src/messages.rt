@@ -19,8 +19,8 @@ use rpc_machine::{Effects, Fault};
 use rpc_msg::{Items, Message, PlainMessage};
 use std::alloc::Global;
 
-/// Takes a message of the other vat, and says what follows. A vat that is down does nothing. A message that is a fault takes
-/// the vat down with the fault's number, and so does want of room or of memory, which an Abort never needs.
+/// Takes a message of the other vat, and says what follows. A vat that is down does nothing. A message that is a fault
+/// takes the vat down with the fault's number, and so does lack of room or of memory, which an Abort never needs.
 pub fn receive(machine: &mut Machine, message: Message) -> Effects
     requires resting { IsResting machine.old }
     ensures receives { Receives (state_of machine.old.step.store) message result (state_of machine.new.step.store) }

@@ -20,7 +20,7 @@ use rpc_machine::Effects;
 use rpc_msg::{Exception, Memory, PromiseId, RefId};
 use std::alloc::Global;
 
-/// Settles a promise to what a reference leads to, where that is not refused. Where memory is refused, or a limit met, the
+/// Settles a promise to what a reference leads to, if that is not refused. If memory is refused, or a limit met, the
 /// vat goes down.
 pub fn resolve(machine: &mut Machine, promise: PromiseId, reference: RefId) -> Effects
     requires resting { IsResting machine.old }
@@ -65,7 +65,7 @@ fn resolve_whole(
     Ok(())
 }
 
-/// Breaks a promise, where that is not refused; the vat goes down as `resolve` says.
+/// Breaks a promise, if that is not refused; the vat goes down as `resolve` says.
 pub fn reject(machine: &mut Machine, promise: PromiseId, exception: Exception) -> Effects
     requires resting { IsResting machine.old }
     requires allowed { refused (state_of machine.old.step.store) (command.Reject promise exception) ≡ None }
@@ -109,7 +109,7 @@ fn reject_whole(
     Ok(())
 }
 
-/// Makes a promise that is open, and a reference to it, where that is not refused, and says nothing. `Err` for want of
+/// Makes a promise that is open, and a reference to it, if that is not refused, and says nothing. `Err` for lack of
 /// memory; the vat holds what it held then.
 pub fn promise(machine: &mut Machine) -> Result<(PromiseId, RefId), Memory>
     requires resting { IsResting machine.old }

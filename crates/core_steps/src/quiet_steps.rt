@@ -12,8 +12,8 @@ use rpc_machine::Effects;
 use rpc_msg::Memory;
 
 /// Begins a step in which nothing is to go, with room for so many entries of every kind, names, messages, deliveries, ends
-/// and outcomes: nothing is loose, no question is to be finished, and nothing is noted. `Err` where a growth was refused, or
-/// where something would go, which does not come between two steps; no step is begun then. No call may be taken out to be
+/// and outcomes: nothing is loose, no question is to be finished, and nothing is noted. `Err` if a growth was refused, or
+/// if something would go, which does not come between two steps; no step is begun then. No call may be taken out to be
 /// routed.
 pub fn begin_quietly(step: &mut Step, more: usize) -> Result<(), Memory>
     requires idle { IsIdle step.old }
@@ -31,7 +31,7 @@ pub fn begin_quietly(step: &mut Step, more: usize) -> Result<(), Memory>
     begin(step, more)
 }
 
-/// Ends a step and says nothing: what was to be said is let go, and its room is given back where it is much.
+/// Ends a step and says nothing: what was to be said is let go, and its room is given back if it is much.
 pub fn end_silently(step: &mut Step)
     ensures store { step.new.store ≡ step.old.store }
     ensures outbox { step.new.outbox ≡ record (emptied step.old.outbox) { room = step.new.outbox.room; finish_room = step.new.outbox.finish_room; release_room = step.new.outbox.release_room } }

@@ -23,7 +23,7 @@ use rpc_journal::Advanced;
 use rpc_machine::{Effects, Reference};
 use rpc_msg::{CallId, Items, Memory, ObjectId, Op, RefId};
 
-/// Makes a reference to an object of the application, where that is not refused, and says nothing. `Err` for want of memory;
+/// Makes a reference to an object of the application, if that is not refused, and says nothing. `Err` for lack of memory;
 /// the vat holds what it held then.
 pub fn host(machine: &mut Machine, object: ObjectId) -> Result<RefId, Memory>
     requires resting { IsResting machine.old }
@@ -37,7 +37,7 @@ pub fn host(machine: &mut Machine, object: ObjectId) -> Result<RefId, Memory>
     Ok(made)
 }
 
-/// Makes a second reference with the same head as another, where that is not refused, and says nothing. `Err` for want of
+/// Makes a second reference with the same head as another, if that is not refused, and says nothing. `Err` for lack of
 /// memory; the vat holds what it held then.
 pub fn clone_ref(machine: &mut Machine, id: RefId) -> Result<RefId, Memory>
     requires resting { IsResting machine.old }
@@ -51,8 +51,8 @@ pub fn clone_ref(machine: &mut Machine, id: RefId) -> Result<RefId, Memory>
     Ok(made)
 }
 
-/// Makes a reference to what stands at a path of a call's results, where that is not refused, and says nothing. `Err` for
-/// want of memory; the vat holds what it held then.
+/// Makes a reference to what stands at a path of a call's results, if that is not refused, and says nothing. `Err` for
+/// running out of memory; the vat holds what it held then.
 pub fn field(machine: &mut Machine, id: CallId, path: &Items<Op>) -> Result<RefId, Memory>
     requires resting { IsResting machine.old }
     requires allowed { refused (state_of machine.old.step.store) (command.Field id path.now) ≡ None }
@@ -65,7 +65,7 @@ pub fn field(machine: &mut Machine, id: CallId, path: &Items<Op>) -> Result<RefI
     Ok(made)
 }
 
-/// Has no more use for a reference, where that is not refused, and gives what the step says. `Err` for want of memory; the vat holds what it held then.
+/// Has no more use for a reference, if that is not refused, and gives what the step says. `Err` for lack of memory; the vat holds what it held then.
 pub fn drop_ref(machine: &mut Machine, id: RefId) -> Result<Effects, Memory>
     requires resting { IsResting machine.old }
     requires allowed { refused (state_of machine.old.step.store) (command.DropRef id) ≡ None }
@@ -95,8 +95,8 @@ fn drop_whole(step: &mut Step, thought: &mut Thought, id: RefId) -> Result<Effec
     Ok(effects)
 }
 
-/// Lets a reference take the shorter path, if one is known, where that is not refused, and gives what it did and what the
-/// step says. `Err` for want of memory; the vat holds what it held then.
+/// Lets a reference take the shorter path, if one is known and that is not refused, and gives what it did and what the
+/// step says. `Err` for lack of memory; the vat holds what it held then.
 pub fn advance(machine: &mut Machine, id: RefId) -> Result<(Advanced, Effects), Memory>
     requires resting { IsResting machine.old }
     requires allowed { refused (state_of machine.old.step.store) (command.Advance id) ≡ None }

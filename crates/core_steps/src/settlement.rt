@@ -10,9 +10,10 @@ use core_step_sweeps::{Thought, find_over};
 use rpc_msg::Memory;
 use std::alloc::Global;
 
-/// Settles the outcomes that arose in the first act of a step, and those that arise thereby behind them, and finds which
-/// questions are over then: `end_settled` ends the step with these. `Err` as `drain` says, and where memory was refused to
-/// find which questions are over; the step is only to be dropped then. No call may be taken out to be routed.
+/// Settles the outcomes that arose in the first act of a step, and those that arise from them behind these, and finds
+/// which questions are over then: `end_settled` ends the step with these. `Err` as `drain` says, and if memory was
+/// refused to find which questions are over; the step is only to be dropped then. No call may be taken out to be
+/// routed.
 pub fn settle_step(step: &mut Step, alloc: Global, thought: &mut Thought) -> Result<(), Memory>
     requires ready { IsReady step.old }
     requires none_taken { step.old.store.waits.taken ≡ [] }

@@ -18,7 +18,7 @@ use rpc_machine::Effects;
 use rpc_msg::{Exception, Items, Memory, Payload, RefId, TaskId};
 use std::alloc::Global;
 
-/// Gives a task its results, with the heads of these references, where that is not refused; the vat goes down as `resolve` says.
+/// Gives a task its results, with the heads of these references, if that is not refused; the vat goes down as `resolve` says.
 pub fn answer(machine: &mut Machine, task: TaskId, payload: Payload, refs: Items<RefId>) -> Effects
     requires resting { IsResting machine.old }
     requires allowed { refused (state_of machine.old.step.store) (command.Answer task payload refs) ≡ None }
@@ -64,7 +64,7 @@ fn answer_whole(
     Ok(())
 }
 
-/// Gives a task an exception, where that is not refused; the vat goes down as `resolve` says.
+/// Gives a task an exception, if that is not refused; the vat goes down as `resolve` says.
 pub fn fail(machine: &mut Machine, task: TaskId, exception: Exception) -> Effects
     requires resting { IsResting machine.old }
     requires allowed { refused (state_of machine.old.step.store) (command.Fail task exception) ≡ None }

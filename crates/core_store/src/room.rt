@@ -7,8 +7,8 @@ use rpc_msg::Memory;
 // What is reserved beyond what is asked, so that growth is rare.
 const SPARE: usize = 16;
 
-/// Makes room, so that so many more entries of every kind, and names, need no more memory; at once where there is
-/// enough. `Err` where a growth was refused; there may be less room then. All else stays.
+/// Makes room, so that so many more entries of every kind, and names, need no more memory; at once if there is
+/// enough. `Err` if a growth was refused; there may be less room then. All else stays.
 pub fn reserve(store: &mut Store, more: usize) -> Result<(), Memory>
     requires { IsSound store.old }
     ensures same { IsSameButRoom store.old store.new }

@@ -8,7 +8,7 @@ use std::alloc::Global;
 use vat_tables::{Answers, Exports, Imports, Questions, Rising};
 
 /// All that a vat's core holds. Its fields are open to the crates of the core; what holds of them together is `IsSound`
-/// of the definitions, which each function of these crates wants and keeps.
+/// of the definitions, which each function of these crates requires and keeps.
 #[derive(Drop)]
 pub struct Store {
     pub vat: Vat,

@@ -49,7 +49,7 @@ pub fn add_call(store: &mut Store, number: CallId, from: OwnCall)
 }
 
 /// Takes out a call, if it is there: the application is not told of it any more. Its question or its outcome is noted
-/// where no place names it; the call may have no other. Takes no memory, but one of the slack, also where there is no
+/// if no place names it; the call may have no other. Takes no memory, but one of the slack, also if there is no
 /// such call.
 pub fn end_call(store: &mut Store, id: CallId) -> Option<OwnCall>
     requires sound { IsSound store.old }
@@ -67,7 +67,7 @@ pub fn end_call(store: &mut Store, id: CallId) -> Option<OwnCall>
     Some(from)
 }
 
-// Notes what a call waited for, where no place names it.
+// Notes what a call waited for, if no place names it.
 fn note_for(names: &mut Names, from: OwnCall)
     requires { HasSpare 1 names.old }
     ensures { names.new ≡ noted_for names.old from }

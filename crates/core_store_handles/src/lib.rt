@@ -1,10 +1,10 @@
 //! What a vat's application has by number: its references, its unfinished calls, its unanswered tasks and its unsettled
 //! promises.
 //!
-//! References (`references.rt`) come one by one or one for each node of a list, lead to another node, turn back under an
-//! embargo, leave it, are counted for a call, and go; unfinished calls (`calls.rt`), tasks (`tasks.rt`) and promises that
-//! are not settled (`promises.rt`) come and go. `end_call` notes the call's question or outcome where no place names it; it
-//! wants that the call has no other (`HasItsOwnAlone` of `specs/Ends`), since it looks for none.
+//! References (`references.rt`) come one by one or one for each node of a list, lead to another node, turn back under
+//! an embargo, leave it, are counted for a call, and go. Unfinished calls (`calls.rt`), tasks (`tasks.rt`) and promises
+//! that are not settled (`promises.rt`) come and go. `end_call` notes the call's question or outcome if no place names
+//! it; it requires that the call has no other (`HasItsOwnAlone` of `specs/Ends`), since it looks for none.
 #![tactic(auto)]
 
 mod calls;

@@ -11,7 +11,7 @@ use rpc_machine::AnswerEntry;
 use rpc_msg::{ExportId, Items, QuestionId};
 use vat_tables::{TABLE_LIMIT, TableFault};
 
-/// Opens an answer, of that outcome and to a Call that gave these imports. `Full` at 4,096 answers, and there alone;
+/// Opens an answer, of that outcome and to a Call that gave these imports. `Full` at 4,096 answers, and only then;
 /// nothing is changed then. Takes no memory, but one of the slack, and one for each import.
 pub fn open_answer(
     store: &mut Store,
@@ -50,7 +50,7 @@ pub fn open_answer(
 }
 
 /// The Return of the answer was sent, with these exports: if its Finish came, the answer goes, and else it keeps their
-/// ids and names its imports no more. Nothing is done where there is no such answer. Takes no memory, but one of the
+/// ids and names its imports no more. Nothing is done if there is no such answer. Takes no memory, but one of the
 /// slack.
 pub fn set_answer_returned(store: &mut Store, q: QuestionId, ids: Items<ExportId>)
     requires sound { IsSound store.old }
@@ -73,7 +73,7 @@ pub fn set_answer_returned(store: &mut Store, q: QuestionId, ids: Items<ExportId
     store.slack -= 1;
 }
 
-/// The Finish of the answer came: if its Return was sent, the answer goes. Nothing is done where there is no such
+/// The Finish of the answer came: if its Return was sent, the answer goes. Nothing is done if there is no such
 /// answer. Takes no memory, but one of the slack.
 pub fn finish_answer(store: &mut Store, q: QuestionId)
     requires sound { IsSound store.old }
@@ -98,7 +98,7 @@ pub fn finish_answer(store: &mut Store, q: QuestionId)
     store.slack -= 1;
 }
 
-// Takes out an answer, with what it names; its outcome is noted, where no place names a field of it.
+// Takes out an answer, with what it names; its outcome is noted, if no place names a field of it.
 fn forget_answer(store: &mut Store, q: QuestionId)
     requires sound { IsSound store.old }
     requires slack { 0 < store.old.slack }

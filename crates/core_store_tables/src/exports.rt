@@ -16,9 +16,9 @@ use rpc_msg::{ExportId, Items, Memory};
 use std::alloc::Global;
 use vat_tables::TableFault;
 
-/// Names a node by the id of its export, which it makes where there is none, and adds one to the export's count. `Full`
-/// where that takes the table or the count past its limit, and there alone; the state is unchanged then. Takes no
-/// memory, but one of the slack.
+/// Names a node by the id of its export, which it makes if there is none, and adds one to the export's count. `Full` if
+/// that takes the table or the count past its limit, and only then; the state is unchanged then. Takes no memory, but
+/// one of the slack.
 pub fn name_export(store: &mut Store, node: Node) -> Result<ExportId, TableFault>
     requires sound { IsSound store.old }
     requires slack { 0 < store.old.slack }
@@ -69,7 +69,7 @@ pub fn lower(store: &mut Store, e: ExportId, n: u32)
     };
 }
 
-/// Obeys a release flag: where it is true, one is taken off the count of each of these exports. Takes no memory.
+/// Obeys a release flag: if it is true, one is taken off the count of each of these exports. Takes no memory.
 pub fn obey(store: &mut Store, flag: bool, ids: &[ExportId])
     requires { IsSound store.old }
     ensures state { state_of store.new ≡ obey (state_of store.old) flag (numbers ids.now) }
@@ -114,7 +114,7 @@ pub fn exports_of_promise(
 }
 
 /// The exports of fields of the outcome, with their nodes, by rising id; in memory of their own. Looks at each export, but
-/// at none where there are no such.
+/// at none if there are no such.
 pub fn exports_of_field(store: &Store, o: u64, alloc: Global) -> Result<Items<(u32, Node)>, Memory>
     ensures { IfOk result (λ list. list ≡ exports_where (is_field o) (map.entries (state_of store.now).exports)) }
 {

@@ -13,9 +13,9 @@ use rpc_msg::ExportId;
 use std::mem;
 use vat_tables::{TABLE_LIMIT, TableFault};
 
-/// Receives an export of the peer once more; the first time it becomes an import, and is noted where nothing names it
-/// yet. `Full` where that takes the table or the count past its limit, and there alone; nothing is changed then. Takes
-/// no memory, but one of the slack.
+/// Receives an export of the peer once more; the first time it becomes an import, and is noted if nothing names it yet.
+/// `Full` if that takes the table or the count past its limit, and only then; nothing is changed then. Takes no memory,
+/// but one of the slack.
 pub fn receive(store: &mut Store, e: ExportId, kind: SenderKind) -> Result<(), TableFault>
     requires sound { IsSound store.old }
     requires slack { 0 < store.old.slack }

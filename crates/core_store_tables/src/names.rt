@@ -31,7 +31,7 @@ fn unname_beside(names: &mut Names, caps: &[(Descriptor, Node)])
     }
 }
 
-/// What a Return said is named once more. Takes no memory where there is room for so many names.
+/// What a Return said is named once more. Takes no memory if there is room for so many names.
 pub fn name_returned(names: &mut Names, said: &Returned)
     requires room { HasRoom (length (named_by_returned (Some said.now))) names.old }
     requires fits { (n : AnyNode) → times_named names.old n + length (named_by_returned (Some said.now)) < 2 ^ 64 }
@@ -75,7 +75,7 @@ pub fn count_returned(said: &Returned) -> usize
     }
 }
 
-/// Each of these imports is named once more. Takes no memory where there is room for so many names.
+/// Each of these imports is named once more. Takes no memory if there is room for so many names.
 pub fn name_imports(names: &mut Names, ids: &[ExportId])
     requires room { HasRoom (length ids.now) names.old }
     requires fits { (n : AnyNode) → times_named names.old n + length ids.now < 2 ^ 64 }
@@ -97,7 +97,7 @@ pub fn unname_imports(names: &mut Names, ids: &[ExportId])
     }
 }
 
-/// What a Resolve said is named once more. Takes no memory where there is room for one name.
+/// What a Resolve said is named once more. Takes no memory if there is room for one name.
 pub fn name_resolution(names: &mut Names, said: &Resolution)
     requires room { HasRoom 1 names.old }
     requires fits { (n : AnyNode) → times_named names.old n + 1 < 2 ^ 64 }
@@ -140,7 +140,7 @@ pub fn unname_answer(names: &mut Names, answer: &AnswerEntry)
     }
 }
 
-/// Notes a relay's question. Takes no memory where a note has its place.
+/// Notes a relay's question. Takes no memory if a note has its place.
 pub fn note_relay(names: &mut Names, q: QuestionId, role: Role)
     requires { 0 < names.old.questions.spare }
     ensures { names.new ≡ relay_noted names.old q.0 role }
@@ -155,7 +155,7 @@ pub fn note_relay(names: &mut Names, q: QuestionId, role: Role)
     }
 }
 
-/// Notes an outcome that may have to go, where no place names a field of it.
+/// Notes an outcome that may have to go, if no place names a field of it.
 pub fn note_outcome(names: &mut Names, key: u64)
     requires { 0 < names.old.outcomes.spare }
     ensures { names.new ≡ outcome_noted names.old key }
@@ -167,7 +167,7 @@ pub fn note_outcome(names: &mut Names, key: u64)
     }
 }
 
-/// Notes an import that may have to go, where no place names it.
+/// Notes an import that may have to go, if no place names it.
 pub fn note_import(names: &mut Names, e: ExportId)
     requires { 0 < names.old.imports.spare }
     ensures { names.new ≡ import_noted names.old e.0 }
@@ -179,7 +179,7 @@ pub fn note_import(names: &mut Names, e: ExportId)
     }
 }
 
-/// The node is named once more, if that is so. Takes no memory where there is room for one name.
+/// The node is named once more, if that is so. Takes no memory if there is room for one name.
 pub fn name_if(names: &mut Names, more: bool, node: Node)
     requires room { HasRoom 1 names.old }
     requires fits { times_named names.old node + 1 < 2 ^ 64 }

@@ -17,9 +17,9 @@ use rpc_machine::{Finishing, OwnCall, Question, Returned, Role};
 use rpc_msg::{CallId, ExportId, Items, QuestionId};
 use vat_tables::TableFault;
 
-/// Asks a question for a kept outcome, by a Call that gives these exports: a new question, of which nothing was returned
-/// and whose Finish is owed. `Full` at 4,096 questions, and there alone; nothing is changed then. Takes no memory, but
-/// one of the slack.
+/// Asks a question for a kept outcome, by a Call that gives these exports: a new question, of which nothing was
+/// returned and whose Finish is owed. `Full` at 4,096 questions, and only then; nothing is changed then. Takes no
+/// memory, but one of the slack.
 pub fn ask_relay(
     store: &mut Store,
     outcome: u64,
@@ -54,9 +54,9 @@ pub fn ask_relay(
     Ok(q)
 }
 
-/// Asks a question for a call of the application that has no entry yet, by a Call that gives these exports, and enters the
-/// call: a new question, of which nothing was returned and whose Finish is owed. `Full` at 4,096 questions, and there
-/// alone; nothing is changed then. Takes no memory, but one of the slack.
+/// Asks a question for a call of the application that has no entry yet, by a Call that gives these exports, and enters
+/// the call: a new question, of which nothing was returned and whose Finish is owed. `Full` at 4,096 questions, and
+/// only then; nothing is changed then. Takes no memory, but one of the slack.
 pub fn ask_direct(
     store: &mut Store,
     call: CallId,

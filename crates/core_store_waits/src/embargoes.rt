@@ -37,8 +37,8 @@ pub fn open_embargo(store: &mut Store, reference: RefId, node: Node) -> EmbargoI
 }
 
 /// Lets a call wait for the end of an embargo, behind those that wait already; its capabilities are named. Takes no
-/// memory, but one of the slack, and one for each capability. `Full` at 65,536 calls, and there alone; `Memory` where
-/// there is no such embargo. A call that is refused is dropped, and nothing is changed then.
+/// memory, but one of the slack, and one for each capability. `Full` at 65,536 calls, and only then; `Memory` if there
+/// is no such embargo. A call that is refused is dropped, and nothing is changed then.
 pub fn hold_under(store: &mut Store, id: EmbargoId, call: WaitingCall) -> Result<(), TableFault>
     requires sound { IsSound store.old }
     requires slack { length call.request.caps < store.old.slack }
@@ -71,7 +71,7 @@ pub fn hold_under(store: &mut Store, id: EmbargoId, call: WaitingCall) -> Result
 }
 
 /// Ends an embargo: it goes, its node is named once less, the calls that waited for that are taken out, and its reference
-/// and node are handed out. Takes no memory. `Err` where there is no such embargo, or calls that were taken out before are
+/// and node are handed out. Takes no memory. `Err` if there is no such embargo, or calls that were taken out before are
 /// not all handed out; nothing is changed then.
 pub fn lift(store: &mut Store, id: EmbargoId) -> Result<(RefId, Node), Memory>
     requires { IsSound store.old }

@@ -4,8 +4,8 @@
 //! - `promises.rt`, `outcomes.rt`, `embargoes.rt`: each kind, with the calls that wait there.
 //! - `taken.rt`: the next of the calls that were taken out. `names.rt`: what comes names what it holds.
 //!
-//! What comes there names what it holds; calls that are taken out to be routed stay named until each is handed out; and an
-//! outcome that may have to go, once it is known or its calls are taken out, is noted where no field of it is named.
+//! What comes there names what it holds. Calls that are taken out to be routed stay named until each is handed out. An
+//! outcome that may have to go, once it is known or its calls are taken out, is noted if no field of it is named.
 #![tactic(auto)]
 
 mod embargoes;

@@ -39,8 +39,8 @@ pub fn new_outcome(store: &mut Store, caller: Caller) -> u64
 }
 
 /// Lets a call wait for what will stand at a path of an outcome, behind those that wait already; its capabilities are
-/// named. Takes no memory, but one of the slack, and one for each capability. `Full` at 65,536 calls, and there alone;
-/// `Memory` where there is no such outcome. A call that is refused is dropped, and nothing is changed then.
+/// named. Takes no memory, but one of the slack, and one for each capability. `Full` at 65,536 calls, and only then;
+/// `Memory` if there is no such outcome. A call that is refused is dropped, and nothing is changed then.
 pub fn hold_for_field(
     store: &mut Store,
     key: u64,
@@ -77,9 +77,9 @@ pub fn hold_for_field(
     Ok(())
 }
 
-/// Notes what an outcome is that was not known before; its capabilities are named. Where no field of it is named, it may
-/// have to go, and is noted. Takes one of the slack, and one for each capability, and no memory that it needs: but where
-/// there is memory, each capability leads on from now on at once to where it leads. `Err` where there is no such outcome,
+/// Notes what an outcome is that was not known before; its capabilities are named. If no field of it is named, it may
+/// have to go, and is noted. Takes one of the slack, and one for each capability, and no memory that it needs: but if
+/// there is memory, each capability leads on from now on at once to where it leads. `Err` if there is no such outcome,
 /// or it is known; nothing is changed then.
 pub fn know(store: &mut Store, key: u64, value: Value) -> Result<(), Memory>
     requires sound { IsSound store.old }
@@ -149,8 +149,8 @@ fn cap_of(store: &Store, key: u64, index: usize) -> Option<Node> {
     Some(*caps.get(index)?)
 }
 
-/// Takes out the calls that wait for an outcome. Where no field of it is named, it may have to go, and is noted. Takes no
-/// memory, but one of the slack. `Err` where there is no such outcome, or calls that were taken out before are not all
+/// Takes out the calls that wait for an outcome. If no field of it is named, it may have to go, and is noted. Takes no
+/// memory, but one of the slack. `Err` if there is no such outcome, or calls that were taken out before are not all
 /// handed out; nothing is changed then.
 pub fn take_held(store: &mut Store, key: u64) -> Result<(), Memory>
     requires sound { IsSound store.old }

@@ -39,9 +39,9 @@ pub fn open_promise(store: &mut Store) -> u64
     key
 }
 
-/// Lets a call wait for an open promise, behind those that wait already; its capabilities are named. Takes no memory, but
-/// one of the slack, and one for each capability. `Full` at 65,536 calls, and there alone; `Memory` where there is no such
-/// open promise. A call that is refused is dropped, and nothing is changed then.
+/// Lets a call wait for an open promise, behind those that wait already; its capabilities are named. Takes no memory,
+/// but one of the slack, and one for each capability. `Full` at 65,536 calls, and only then; `Memory` if there is no
+/// such open promise. A call that is refused is dropped, and nothing is changed then.
 pub fn hold_for_promise(store: &mut Store, key: u64, call: WaitingCall) -> Result<(), TableFault>
     requires sound { IsSound store.old }
     requires slack { length call.request.caps < store.old.slack }
@@ -77,8 +77,8 @@ pub fn hold_for_promise(store: &mut Store, key: u64, call: WaitingCall) -> Resul
 }
 
 /// Settles an open promise: it leads there from now on, so it names that and not itself, and the calls that waited for it
-/// are taken out. Takes one of the slack, and no memory that it needs: but where there is memory, the promise leads on
-/// from now on at once to where it leads. `Err` where there is no such open promise, or calls that were taken out before
+/// are taken out. Takes one of the slack, and no memory that it needs: but if there is memory, the promise leads on
+/// from now on at once to where it leads. `Err` if there is no such open promise, or calls that were taken out before
 /// are not all handed out; nothing is changed then.
 pub fn fix(store: &mut Store, key: u64, to: Node) -> Result<(), Memory>
     requires sound { IsSound store.old }
@@ -118,7 +118,7 @@ fn settle_promise(store: &mut Store, key: u64, to: Node) -> Result<(), Memory>
 }
 
 /// Takes out a settled promise that no place names, if there is one under that key, and says where it led, which is named
-/// once less. Where there is none, or it is open, nothing is changed. Takes no memory.
+/// once less. If there is none, or it is open, nothing is changed. Takes no memory.
 pub fn remove_promise(store: &mut Store, key: u64) -> Option<Node>
     requires sound { IsSound store.old }
     requires unnamed { names (state_of store.old) (is_promise key) ≡ 0 }

@@ -11,7 +11,7 @@ use rpc_machine::Effects;
 use rpc_msg::{Call, Finish, Memory, Message, PlainMessage, Return, Vat};
 use std::alloc::Global;
 
-/// How many entries the effects of a step have, but for that of going down.
+/// How many entries the effects of a step have, except for that of going down.
 pub fn count(effects: &Effects) -> Option<usize>
     ensures { IfSome result (λ count. count ≡ length effects.now.sends + (length effects.now.deliveries + length effects.now.answers)) }
 {
@@ -19,7 +19,7 @@ pub fn count(effects: &Effects) -> Option<usize>
     effects.sends.len().checked_add(more)
 }
 
-/// Puts the entries of a step's effects at the end, each a copy, where there is room. Where it answers `Err` some of them may
+/// Puts the entries of a step's effects at the end, each a copy, if there is room. If it answers `Err` some of them may
 /// stand there.
 pub fn put_effects(
     alloc: Global,

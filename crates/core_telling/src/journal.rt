@@ -78,7 +78,7 @@ impl Journal {
         }
     }
 
-    /// Puts an entry at the end, where there is room.
+    /// Puts an entry at the end, if there is room.
     pub fn push(&mut self, entry: JournalEntry)
         requires { 0 < self.old.1 }
         ensures entries { self.new.0 ≡ self.old.0 ++ entry ∷ [] }
@@ -95,7 +95,7 @@ impl Journal {
         self.entries.truncate(len);
     }
 
-    /// Puts the entries of another at the end, where there is room, and leaves it empty. Takes no memory.
+    /// Puts the entries of another at the end, if there is room, and leaves it empty. Takes no memory.
     pub fn append(&mut self, more: &mut Journal)
         requires { length more.old.0 ≤ self.old.1 }
         ensures entries { self.new.0 ≡ self.old.0 ++ more.old.0 }

@@ -4,7 +4,7 @@
 //! - `journal.rt`: a list that tells contracts its room.
 //! - `notes.rt`: a command is noted before its step takes it, with copies of what it hands over; the note and what is
 //!   answered make its own entry.
-//! - `entries.rt`: the entries of a step, each a copy. `falls.rt`: those of a vat that goes down for want of room.
+//! - `entries.rt`: the entries of a step, each a copy. `falls.rt`: those of a vat that goes down for lack of room.
 #![tactic(auto)]
 
 mod entries;

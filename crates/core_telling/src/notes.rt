@@ -15,7 +15,7 @@ use rpc_msg::{CallId, Exception, Items, Memory, Path, Payload, PromiseId, RefId,
 use std::alloc::Global;
 use vat_core::Core;
 
-/// What a command will write of itself, but for what it answers. It has copies of what the command hands over.
+/// What a command will write of itself, except for what it answers. It has copies of what the command hands over.
 #[derive(Drop)]
 pub enum Note {
     /// A reference is made.
@@ -164,7 +164,7 @@ fn note_fail(alloc: Global, task: TaskId, exception: &Exception) -> Result<Note,
     Ok(Note::Answered(task, Outcome::Exception(exception), refs))
 }
 
-/// Writes the entry of a command that was noted so and answered this, if it has one, where there is room.
+/// Writes the entry of a command that was noted so and answered this, if it has one, if there is room.
 #[inline(always)]
 pub fn write_note(vat: Vat, journal: &mut Journal, note: Note, answer: Granted)
     requires { 0 < journal.old.1 }
@@ -274,7 +274,7 @@ fn write_finished(vat: Vat, journal: &mut Journal, call: CallId)
     journal.push(JournalEntry::Finished(vat, call));
 }
 
-/// Writes the entry of a command that was refused, if it has one, where there is room.
+/// Writes the entry of a command that was refused, if it has one, if there is room.
 #[cold]
 pub fn write_refused(vat: Vat, journal: &mut Journal, refusal: Refusal)
     requires { 0 < journal.old.1 }
@@ -297,7 +297,7 @@ pub fn index_of_call(core: &Core, command: &Command) -> u64
     }
 }
 
-/// How many calls were made before through a reference; 0 where there is none.
+/// How many calls were made before through a reference; 0 if there is none.
 #[inline(always)]
 pub fn calls_before(core: &Core, reference: RefId) -> u64
     ensures { result ≡ or_zero (count_of (map.get core.now.refs reference.0)) }

@@ -17,7 +17,7 @@ pub struct Hop {
 
 /// The short cuts that are kept of an entry's links: of a settled promise's at the place 0, of a known outcome's at the
 /// places of its capabilities. A short cut begins with the link, and says where so many links lead. It names nothing, and
-/// nobody sees it; where there was no memory for one, there is none.
+/// nobody sees it; if there was no memory for one, there is none.
 #[derive(Drop)]
 pub(crate) struct Hops {
     hops: Vec<Option<Hop>>,
@@ -70,7 +70,7 @@ impl Hops {
         Some(hop)
     }
 
-    /// Keeps one at a place of so many, where there is memory for these; the others stay.
+    /// Keeps one at a place of so many, if there is memory for these; the others stay.
     pub(crate) fn keep(&mut self, index: usize, count: usize, hop: Hop)
         ensures { IsKeptAt index hop self.old self.new }
     {

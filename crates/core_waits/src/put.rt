@@ -7,7 +7,7 @@ ghost use Rattle.core_waits.specs.Owned.{IsListed, IsPlace};
 use rpc_machine::HeldCall;
 use vat_tables::{HeldPool, ListKey, POOL_LIMIT, TableFault};
 
-/// Puts a call behind those of a list, or where there is none yet, starts one with it, and says which list that is. A call
+/// Puts a call behind those of a list, or if there is none yet, starts one with it, and says which list that is. A call
 /// that is refused is dropped, and the lists stay as they are.
 pub(crate) fn put(
     pool: &mut HeldPool<HeldCall>,

@@ -18,9 +18,9 @@ use std::marker::Model;
 use vat_tables::{HeldPool, ListKey, POOL_LIMIT, Picked, TableFault};
 
 /// The promises of a vat's own, the outcomes that it keeps and its embargoes, each with the calls that wait there; and the
-/// calls that were taken out to be routed. All calls stand in one pool, where each place has a list of its own, so a list
-/// is routed call by call while others grow, and none is moved to be taken out. Each call is constant work, but for
-/// `holds`, and where memory grows.
+/// calls that were taken out to be routed. All calls stand in one pool, in which each place has a list of its own, so a list
+/// is routed call by call while others grow, and none is moved to be taken out. Each call is constant work, except for
+/// `holds`, and except when memory grows.
 #[derive(Drop)]
 pub struct Waits {
     promises: Picked<PromiseEntry>,
@@ -111,7 +111,7 @@ impl Waits {
     }
 
     /// Makes room, so that so many more entries of each kind can be opened and so many calls held, with none refused for
-    /// want of memory. `Err` where there was no room and a growth was refused; there may be less room then. What waits
+    /// running out of memory. `Err` if there was no room and a growth was refused; there may be less room then. What waits
     /// stays as it is.
     pub fn reserve(&mut self, more: usize) -> Result<(), Memory>
         ensures same { self.new ≡ record self.old { room = self.new.room } }
@@ -130,7 +130,7 @@ impl Waits {
         Ok(())
     }
 
-    /// Opens a new promise, and gives its key, which was free. `Err` where there was no room and the growth was refused;
+    /// Opens a new promise, and gives its key, which was free. `Err` if there was no room and the growth was refused;
     /// nothing is changed then.
     pub fn open_promise(&mut self) -> Result<u64, Memory>
         ensures free { IfOk result (λ key. map.get self.old.promises key ≡ None) }
@@ -150,8 +150,8 @@ impl Waits {
         Ok(key as u64)
     }
 
-    /// Lets a call wait for an open promise, behind those that wait already. `Full` at 65,536 calls, and there alone;
-    /// `Memory` where there is no such open promise, or there was no room and the growth was refused. A call that is
+    /// Lets a call wait for an open promise, behind those that wait already. `Full` at 65,536 calls, and only then;
+    /// `Memory` if there is no such open promise, or there was no room and the growth was refused. A call that is
     /// refused is dropped, and nothing is changed then.
     pub fn hold_for_promise(&mut self, key: u64, call: WaitingCall) -> Result<(), TableFault>
         ensures ok { OnOk result (HeldForPromise self.old key call (map.get self.old.promises key) self.new) }
@@ -180,7 +180,7 @@ impl Waits {
         Ok(())
     }
 
-    /// Settles an open promise: it leads there from now on, and the calls that waited for it are taken out. `Err` where
+    /// Settles an open promise: it leads there from now on, and the calls that waited for it are taken out. `Err` if
     /// there is no such open promise, or calls that were taken out before are not all handed out; nothing is changed
     /// then. Takes no memory.
     pub fn fix(&mut self, key: u64, to: Node) -> Result<(), Memory>
@@ -242,7 +242,7 @@ impl Waits {
     }
 
     /// Opens an outcome that is not known yet, of which that caller is to be told, and gives its key, which was free.
-    /// `Err` where there was no room and the growth was refused; nothing is changed then.
+    /// `Err` if there was no room and the growth was refused; nothing is changed then.
     pub fn new_outcome(&mut self, caller: Caller) -> Result<u64, Memory>
         ensures free { IfOk result (λ key. map.get self.old.outcomes key ≡ None) }
         ensures ok { IfOk result (λ key. self.new ≡ record self.old { outcomes = map.insert self.old.outcomes key (record { caller = caller; value = None; waiting = [] }); room = self.old.room - 1 }) }
@@ -263,8 +263,8 @@ impl Waits {
     }
 
     /// Lets a call wait for what will stand at a path of an outcome, behind those that wait already. `Full` at 65,536
-    /// calls, and there alone; `Memory` where there is no such outcome, or there was no room and the growth was refused.
-    /// A call that is refused is dropped, and nothing is changed then.
+    /// calls, and only then; `Memory` if there is no such outcome, or there was no room and the growth was refused. A
+    /// call that is refused is dropped, and nothing is changed then.
     pub fn hold_for_field(
         &mut self,
         key: u64,
@@ -290,7 +290,7 @@ impl Waits {
         Ok(())
     }
 
-    /// Notes what an outcome is that was not known before. `Err` where there is no such outcome, or it is known; nothing is
+    /// Notes what an outcome is that was not known before. `Err` if there is no such outcome, or it is known; nothing is
     /// changed then. Takes no memory.
     pub fn know(&mut self, key: u64, value: Value) -> Result<(), Memory>
         ensures ok { OnOk result (Knows self.old key value (map.get self.old.outcomes key) self.new) }
@@ -311,7 +311,7 @@ impl Waits {
         Ok(())
     }
 
-    /// Takes out the calls that wait for an outcome. `Err` where there is no such outcome, or calls that were taken out
+    /// Takes out the calls that wait for an outcome. `Err` if there is no such outcome, or calls that were taken out
     /// before are not all handed out; nothing is changed then. Takes no memory.
     pub fn take_held(&mut self, key: u64) -> Result<(), Memory>
         ensures ok { OnOk result (TakesHeld self.old key (map.get self.old.outcomes key) self.new) }
@@ -375,7 +375,7 @@ impl Waits {
         self.outcomes.get(key)?.value.as_ref()
     }
 
-    /// A way along the links from a node: at most so many as are left, and all that can be followed at once. None where it
+    /// A way along the links from a node: at most so many as are left, and all that can be followed at once. None if it
     /// has no link, or none is left. Takes no memory.
     pub fn hop(&self, node: Node, left: u64) -> Option<Hop>
         ensures { IsHop (link_of self.now) left node result }
@@ -421,7 +421,7 @@ impl Waits {
         place.hops.keep(0, 1, hop);
     }
 
-    // The same of what stands at a path of an outcome, where that is one of its capabilities.
+    // The same of what stands at a path of an outcome, if that is one of its capabilities.
     fn shorten_field(&mut self, key: u64, path: Path, hop: Hop)
         requires some { 0 < hop.far }
         requires way { Leads (link_of self.old) hop.far (node.Field key path) hop.to }
@@ -437,7 +437,7 @@ impl Waits {
     }
 
     /// Puts the calls of a reference that leads to that node under a new embargo, and gives its id, which was free. `Err`
-    /// where there was no room and the growth was refused; nothing is changed then.
+    /// if there was no room and the growth was refused; nothing is changed then.
     pub fn open_embargo(&mut self, reference: RefId, node: Node) -> Result<EmbargoId, Memory>
         ensures free { IfOk result (λ id. map.get self.old.embargoes id.0 ≡ None) }
         ensures ok { IfOk result (λ id. self.new ≡ record self.old { embargoes = map.insert self.old.embargoes id.0 (record { reference = reference; node = node; waiting = [] }); room = self.old.room - 1 }) }
@@ -456,8 +456,8 @@ impl Waits {
         Ok(EmbargoId(id))
     }
 
-    /// Lets a call wait for the end of an embargo, behind those that wait already. `Full` at 65,536 calls, and there
-    /// alone; `Memory` where there is no such embargo, or there was no room and the growth was refused. A call that is
+    /// Lets a call wait for the end of an embargo, behind those that wait already. `Full` at 65,536 calls, and only
+    /// then; `Memory` if there is no such embargo, or there was no room and the growth was refused. A call that is
     /// refused is dropped, and nothing is changed then.
     pub fn hold_under(&mut self, id: EmbargoId, call: WaitingCall) -> Result<(), TableFault>
         ensures ok { OnOk result (HeldUnder self.old id.0 call (map.get self.old.embargoes id.0) self.new) }
@@ -485,7 +485,7 @@ impl Waits {
     }
 
     /// Ends an embargo: it goes, the calls that waited for that are taken out, and its reference and node are handed out.
-    /// `Err` where there is no such embargo, or calls that were taken out before are not all handed out; nothing is
+    /// `Err` if there is no such embargo, or calls that were taken out before are not all handed out; nothing is
     /// changed then. Takes no memory.
     pub fn lift(&mut self, id: EmbargoId) -> Result<(RefId, Node), Memory>
         ensures ok { IfOk result (λ parts. Lifts self.old id.0 parts.0 parts.1 (map.get self.old.embargoes id.0) self.new) }

@@ -10,14 +10,14 @@ pub fn places_follow_tables()
     ensures nothing { NothingNamed }
 {}
 
-/// What waiting calls name stays named while they are taken out of the list where they waited, and routed one after the
+/// What waiting calls name stays named while they are taken out of the list if they waited, and routed one after the
 /// other.
 pub fn taken_calls_stay_named()
     ensures { TakenCallsStayNamed }
 {}
 
 /// What is loose after a change was loose before, or a place that named it went. So who looks at each thing whose last
-/// name went finds all that would go; and where nothing is left to look at, nothing would.
+/// name went finds all that would go; and if nothing is left to look at, nothing would.
 pub fn loose_by_names_that_went()
     ensures went { LooseByNamesThatWent }
     ensures tight { TightByNoneNoted }

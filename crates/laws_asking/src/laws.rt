@@ -2,8 +2,8 @@
 ghost use Rattle.laws_asking.specs.Heard.{NoneIsAFault};
 ghost use Rattle.laws_asking.specs.Turns.{StepsAskInTurn};
 
-/// In each step of a vat of any level, whatever it receives but questions of its own: it asks by an id only where the question of that
-/// id is finished, and finishes only one that it asked.
+/// In each step of a vat of any level, whatever it receives but questions of its own: it asks by an id only if the
+/// question of that id is finished, and finishes only one that it asked.
 pub fn steps_ask_in_turn()
     ensures { StepsAskInTurn }
 {}

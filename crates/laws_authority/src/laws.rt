@@ -9,7 +9,7 @@ pub fn authority_is_given()
     ensures { AuthorityIsGiven }
 {}
 
-/// In each step: a command lets the peer reach what it gives and no more, and a message nothing more, but for the bootstrap
+/// In each step: a command lets the peer reach what it gives and no more, and a message nothing more, except for the bootstrap
 /// object by a Bootstrap. A call of the peer's is delivered to what the peer could reach before the step, or is given in it.
 pub fn authority_is_kept()
     ensures kept { AuthorityIsKept }

@@ -15,8 +15,8 @@ pub fn new_is_start()
     ensures { NewIsStart }
 {}
 
-/// A command is done, and then there is no room to log it: shut after it, a core is as if it had been shut in its place,
-/// since nothing of a vat that is down is left but its vat, its level and its bootstrap object.
+/// A command is done, and then there is no room to log it. A core that is shut after it is as if it had been shut in
+/// its place. For nothing of a vat that is down is left but its vat, its level and its bootstrap object.
 pub fn overflow_is_shut()
     ensures { OverflowIsShut }
 {

@@ -28,8 +28,9 @@ use laws_nodes::{embargoes_pair, outcomes_have_sources, questions_end};
 use laws_runs::{counts_agree_in_scenes, meanings_last};
 use laws_steps::nodes_are_there;
 
-/// In each scene every call that waits or is on its way, and every delivery in the history up to it, has the interface,
-/// method and payload of the call that was made with its stamp, and as many capabilities as that had references.
+/// In each scene take every call that waits or is on its way, and every delivery in the history up to it. It has the
+/// interface, method and payload of the call that was made with its stamp, and as many capabilities as that had
+/// references.
 pub fn calls_are_as_made()
     ensures about { CallsAreAsMade }
     ensures delivered { DeliveriesAreAsMade }
@@ -54,8 +55,8 @@ pub fn ends_are_first()
     ensures { EndsAreFirst }
 {}
 
-/// Where in a scene each delivery is to an object that its call's reference stands for, all that is promised of its
-/// deliveries holds; where each end is as the call was asked and answered, all that is promised of its ends.
+/// If in a scene each delivery is to an object that its call's reference stands for, all that is promised of its
+/// deliveries holds. If each end is as the call was asked and answered, all that is promised of its ends holds.
 pub fn meanings_are_left()
     ensures objects { ObjectsAreLeft }
     ensures answers { AnswersAreLeft }
@@ -70,13 +71,13 @@ pub fn ends_were_asked()
     ensures { EndsWereAsked }
 {}
 
-/// In each scene an outcome of which the application is told is of one of its calls, and no Bootstrap; a question that is
-/// asked for the application was asked by it; and a number to come was asked for nothing.
+/// In each scene an outcome of which the application is told is of one of its calls, and no Bootstrap. A question that
+/// is asked for the application was asked by it. A number to come was asked for nothing.
 pub fn own_numbers_were_asked()
     ensures { NumbersAreAsked }
 {}
 
-/// Where in each scene the oldest Return to a Bootstrap says the other vat's bootstrap object, or that there is none, each
+/// If in each scene the oldest Return to a Bootstrap says the other vat's bootstrap object, or that there is none, each
 /// Bootstrap ends so.
 pub fn bootstraps_are_left()
     ensures { RootsAreLeft }
@@ -101,9 +102,9 @@ pub fn tasks_are_answered_once()
     ensures once { TasksAreAnsweredOnce }
 {}
 
-/// In each scene each outcome that is not known is of the call that its caller asked: the task, the question or the waiting
-/// call from which it will come is of that call; and what is on its way to a vat with a question id is what the other vat
-/// asked last with it.
+/// In each scene each outcome that is not known is of the call that its caller asked: the task, the question or the
+/// waiting call from which it will come is of that call. What is on its way to a vat with a question id is what the
+/// other vat asked last with it.
 pub fn outcomes_are_of_calls()
     ensures { OutcomesAreOfCalls }
 {
@@ -111,7 +112,7 @@ pub fn outcomes_are_of_calls()
     counts_agree_in_scenes();
 }
 
-/// In each scene a call ends with what was answered to its delivery, with as many capabilities; or, where it was not
+/// In each scene a call ends with what was answered to its delivery, with as many capabilities; or, if it was not
 /// answered, with the exception of a broken capability.
 pub fn calls_end_as_answered()
     ensures { CallsEndAsAnswered }
@@ -120,7 +121,7 @@ pub fn calls_end_as_answered()
     counts_agree_in_scenes();
 }
 
-/// Where in a scene each end of a call is as that was answered, all that is promised of its ends holds.
+/// If in a scene each end of a call is as that was answered, all that is promised of its ends holds.
 pub fn ends_of_calls_are_left()
     ensures { CallsAreLeft }
 {
@@ -129,7 +130,7 @@ pub fn ends_of_calls_are_left()
     meanings_are_left();
 }
 
-/// Where in a scene the reference of each call that ends without an answer stands for broken, all that is promised of its
+/// If in a scene the reference of each call that ends without an answer stands for broken, all that is promised of its
 /// ends holds.
 pub fn broken_calls_are_left()
     ensures { BrokenCallsAreLeft }
@@ -138,17 +139,17 @@ pub fn broken_calls_are_left()
     ends_of_calls_are_left();
 }
 
-/// A reference stands for the object to which the history leads it link by link, where each delivery was to what its
-/// reference stands for; it stands for broken, where it leads to that; and later entries change no link.
+/// A reference stands for the object to which the history leads it link by link, if each delivery was to what its
+/// reference stands for; it stands for broken, if it leads to that; and later entries change no link.
 pub fn links_are_meanings()
     ensures last { LinksLast }
     ensures objects { LedToObjects }
     ensures broken { LedToBroken }
 {}
 
-/// Where in a scene the history leads the reference of each delivered call to the object of the delivery, all that is
-/// promised of deliveries holds; where it leads the reference of each call that ends without an answer to broken, all that
-/// is promised of ends.
+/// If in a scene the history leads the reference of each delivered call to the object of the delivery, all that is
+/// promised of deliveries holds. If it leads the reference of each call that ends without an answer to broken, all that
+/// is promised of ends holds.
 pub fn links_are_left()
     ensures objects { LinksToObjectsAreLeft }
     ensures broken { LinksToBrokenAreLeft }
@@ -158,17 +159,18 @@ pub fn links_are_left()
     broken_calls_are_left();
 }
 
-/// Where at a moment of a step the history leads each reference of a vat, and each call that waits, to what its node means,
-/// it is so after each small act of the step: where a node leads, it means. So each call that is delivered is to the object
-/// to which the history leads its reference, and each call that ends was answered, or its reference leads to broken.
+/// Let the history, at a moment of a step, lead each reference of a vat, and each call that waits, to what its node
+/// means. Then it is so after each small act of the step: a node means what it leads to. So each call that is delivered
+/// is to the object to which the history leads its reference, and each call that ends was answered, or its reference
+/// leads to broken.
 pub fn acts_keep_meanings()
     ensures { ActsKeepMeanings }
 {}
 
-/// What nodes mean lasts through each step of a command that opens nothing (no call, Bootstrap or promise) and of which the
-/// history has the entry: where before it the head of each reference means what the history leads the reference to, it is so
-/// afterwards. What it delivers is delivered to the object to which the history leads the call's reference; and each call
-/// that it ends was answered, or its reference leads to broken.
+/// What nodes mean lasts through each step of a command that opens nothing (no call, Bootstrap or promise) and of which
+/// the history has the entry. If before it the head of each reference means what the history leads the reference to, it
+/// is so afterwards. What it delivers is delivered to the object to which the history leads the call's reference; and
+/// each call that it ends was answered, or its reference leads to broken.
 pub fn commands_keep_meanings()
     ensures { CommandsKeepMeanings }
 {}
@@ -190,15 +192,15 @@ pub fn cores_are_fit()
     embargoes_pair();
 }
 
-/// Where at a moment of a step the history leads each reference of a vat, and each call that waits, to what its node means,
-/// the small acts behind it lose no call, but one whose reference the history leads to broken.
+/// Let the history, at a moment of a step, lead each reference of a vat, and each call that waits, to what its node
+/// means. Then the small acts behind it lose no call, except one whose reference the history leads to broken.
 pub fn acts_lose_no_call()
     ensures { ActsLoseNone }
 {}
 
-/// Where in each step, while neither vat gives up, nodes mean behind its first act what the history says, each call that was
-/// made is at one place in each scene: it waits, is on its way, or was delivered; or the history leads its reference to
-/// broken. So of a reference that stands for an object none is lost.
+/// Let nodes mean behind the first act of each step, while neither vat gives up, what the history says. Then each call
+/// that was made is at one place in each scene: it waits, is on its way, or was delivered; or the history leads its
+/// reference to broken. So of a reference that stands for an object none is lost.
 pub fn no_call_is_lost()
     ensures places { CallsAreSomewhere }
     ensures objects { ObjectsLoseNone }
@@ -218,21 +220,21 @@ pub fn each_act_keeps_meanings()
     ensures { EachActMeans }
 {}
 
-/// Where a received message says what it should, by the nodes that the receiver makes of its descriptors and its target,
+/// If a received message says what it should, by the nodes that the receiver makes of its descriptors and its target,
 /// what nodes mean lasts through its first act. An answer that opens is of the call or Bootstrap that came; imports that come
 /// have the labels by which the message was read; other labels stay.
 pub fn first_acts_of_messages_mean()
     ensures { ConsumingMeans }
 {}
 
-/// Where a received message says what it should, what nodes mean lasts through its whole step. What it delivers is delivered
+/// If a received message says what it should, what nodes mean lasts through its whole step. What it delivers is delivered
 /// to the object to which the history leads the call's reference; and each call that it ends was answered, or its reference
 /// leads to broken.
 pub fn messages_keep_meanings()
     ensures { MessagesKeepMeanings }
 {}
 
-/// Where in each step from a scene nodes mean before it what the history says, which has the entry of its command,
+/// If in each step from a scene nodes mean before it what the history says, which has the entry of its command,
 /// and its message says what it should, nodes mean so behind its first act.
 pub fn first_acts_follow()
     ensures { FirstActsFollow }
@@ -268,14 +270,15 @@ pub fn promises_are_settled_once()
     ensures { PromisesAreOpen }
 {}
 
-/// Where a message is no fault, the nodes that a receiver makes of its descriptors and its target have the labels by which it
-/// is read on its way: own exports and answers by what they mean here, exports of the other vat by what they mean there.
+/// If a message is no fault, the nodes that a receiver makes of its descriptors and its target have the labels by which
+/// it is read on its way. Own exports and answers have them by what they mean here, exports of the other vat by what
+/// they mean there.
 pub fn descriptors_are_read()
     ensures descriptors { DescriptorsAreRead }
     ensures targets { TargetsAreRead }
 {}
 
-/// A Call or a Resolve that is no fault says what it should by the nodes that its receiver makes, where on its way it does.
+/// A Call or a Resolve that is no fault says what it should by the nodes that its receiver makes, if on its way it does.
 pub fn calls_are_heard()
     ensures calls { CallsAreHeard }
     ensures resolves { ResolvesAreHeard }
@@ -303,9 +306,9 @@ pub fn commands_are_written()
     promises_are_settled_once();
 }
 
-/// What nodes mean at a vat of a scene lasts through each step of a command, with all that this writes: and each of its
-/// deliveries is to the object to which the history up to it leads the call's reference, each call that it ends was answered,
-/// or the history leads its reference to broken.
+/// What nodes mean at a vat of a scene lasts through each step of a command, with all that this writes. Each of its
+/// deliveries is to the object to which the history up to it leads the call's reference. Each call that it ends was
+/// answered, or the history leads its reference to broken.
 pub fn commands_keep_scenes_meanings()
     ensures steps { ScenesCommandsKeep }
     ensures last { LastWordsAreLed }

@@ -30,8 +30,8 @@ pub trait Steps {
     ghost step: { Self.State → Input Self.Command Self.In → Self.Note → List Self.Out → Self.State → Type 0 };
 }
 
-/// Two lawful logs that fit have an interleaving, and it is their merge: a run of the pair machine, in which each
-/// received frame is the oldest of its link, whose steps at each side are that side's log, entry by entry. It ends
+/// Two lawful logs that fit have an interleaving, and it is their merge. That is a run of the pair machine in which
+/// each received frame is the oldest of its link. Its steps at each side are that side's log, entry by entry. It ends
 /// where the logs do, and what was made and not received is still on its way.
 ///
 /// `cut`: the same of logs that are cut so that their beginnings fit. `one_side`: it is enough that one of the sides,

@@ -26,7 +26,7 @@ pub trait Logged: Drop {
     fn makes(&self) -> u64
         ensures { result ≡ makes self.now };
 
-    /// A copy that equals it. `AllocError` where a growth was refused.
+    /// A copy that equals it. `AllocError` if a growth was refused.
     fn copy(&self, alloc: Global) -> Result<Self, AllocError>
         ensures { IfOk result (λ copy. copy ≡ self.now) };
 }
@@ -58,10 +58,10 @@ fn first_is_next<P: Logged, Q>(first: &[P], second: &[Q], i: usize, j: usize, ma
     is_ready(&first[i], made)
 }
 
-/// Copies of all entries of both logs, each log's in order: the next of the first log where it received no frame, or
+/// Copies of all entries of both logs, each log's in order: the next of the first log if it received no frame, or
 /// one that the second has made by then; else the next of the second.
 ///
-/// `AllocError` where a growth was refused; nothing is left of the merge then, and the logs are as they were.
+/// `AllocError` if a growth was refused; nothing is left of the merge then, and the logs are as they were.
 pub fn merge_logs<P: Logged, Q: Logged>(
     alloc: Global,
     first: &[P],

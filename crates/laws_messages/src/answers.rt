@@ -11,7 +11,7 @@ use laws_runs::{counts_agree_in_scenes, sessions_stand};
 use laws_steps::nodes_are_there;
 
 /// As long as no vat falls and nothing is refused, and so in each scene, an embargo is there exactly as long as one
-/// Disembargo of it is about: on its way to the other vat, or on its way back. There are never two.
+/// Disembargo of it is. That is on its way to the other vat, or on its way back. There are never two.
 pub fn embargoes_are_about()
     ensures kept { IsKept EmbargoesStand }
     ensures about { EmbargoesAreAbout }
@@ -29,7 +29,7 @@ pub fn disembargos_are_met()
     counts_agree_in_scenes();
 }
 
-/// In each state to which a vat comes, each answer has its outcome, and its Return was sent exactly where that is known.
+/// In each state to which a vat comes, each answer has its outcome, and its Return was sent exactly if that is known.
 pub fn answers_return_once_known()
     ensures { AnswersReturnOnceKnown }
 {

@@ -28,8 +28,8 @@ pub fn imports_answer()
     ensures { ImportsAnswer }
 {}
 
-/// As long as no vat falls and nothing is refused, and so in each scene, the oldest message on its way to a vat finds each
-/// export that it names: what it calls, and what its descriptors give back, is still there.
+/// As long as no vat falls and nothing is refused, and so in each scene, the oldest message on its way to a vat finds
+/// each export that it names. What it calls, and what its descriptors give back, is still there.
 pub fn named_exports_are_there()
     ensures { NamedExportsAreThere }
 {
@@ -37,8 +37,8 @@ pub fn named_exports_are_there()
     counts_agree_in_scenes();
 }
 
-/// So is an export of one kind at both vats: each descriptor of it that is on the way, and the other vat's import, say
-/// hosted where its node is an object, and promise where it is a promise or a field.
+/// So is an export of one kind at both vats. Each descriptor of it that is on the way, and the other vat's import, say
+/// hosted if its node is an object, and promise if it is a promise or a field.
 pub fn exports_are_of_one_kind()
     ensures { ExportsAreOfOneKind }
 {

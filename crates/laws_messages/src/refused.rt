@@ -10,9 +10,9 @@ use crate::{
 };
 use laws_runs::{counts_agree_in_scenes, every_run_is_shown, sound_by_scenes};
 
-/// In every scene the oldest message on its way to a vat is one that the vat understands, and of the checks that it is put
-/// to only these may fail: whether too many calls wait, and whether the target of a Disembargo leads back. So it is in every
-/// run at a vat that is up, but for the Abort of the other vat, which is down.
+/// In every scene the oldest message on its way to a vat is one that the vat understands. Of the checks that it is put
+/// to only these may fail: whether too many calls wait, and whether the target of a Disembargo leads back. So it is in
+/// every run at a vat that is up, except for the Abort of the other vat, which is down.
 pub fn few_checks_are_left()
     ensures scenes { FewChecksAreLeft }
     ensures runs { FewAreLeftInRuns }
@@ -27,7 +27,7 @@ pub fn few_checks_are_left()
 }
 
 /// In every scene, and in every run while it is up, a vat refuses no Bootstrap, no Return, no Finish, no Resolve, no
-/// Release, and no Disembargo that comes back; and a Call only where no more calls may wait.
+/// Release, and no Disembargo that comes back; and a Call only if no more calls may wait.
 pub fn most_messages_are_taken()
     ensures scenes { MostAreTaken }
     ensures runs { MostAreTakenInRuns }
@@ -35,9 +35,9 @@ pub fn most_messages_are_taken()
     few_checks_are_left();
 }
 
-/// In every scene in which each Disembargo that is to turn back leads back, a vat refuses no message, but for a Call where
-/// no more may wait. Where all scenes are so, no vat that is up does in any run, and a vat goes down only by a shut, for
-/// want of room or memory, for that limit, or by the Abort of the other vat, which went down before.
+/// In every scene in which each Disembargo that is to turn back leads back, a vat refuses no message, except for a Call
+/// if no more may wait. If all scenes are so, no vat that is up does in any run. A vat goes down only by a shut, for
+/// lack of room or memory, for that limit, or by the Abort of the other vat, which went down before.
 pub fn no_message_is_refused()
     ensures scenes { NoMessageIsRefused }
     ensures runs { NoneIsRefusedInRuns }

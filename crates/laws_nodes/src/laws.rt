@@ -6,7 +6,7 @@ ghost use Rattle.laws_nodes.specs.Sources.{EachHasOneSource};
 ghost use Rattle.laws_nodes.specs.Questions.{EachEndsInTime};
 ghost use Rattle.laws_nodes.specs.OwnCalls.{EachHasItsOwn};
 
-/// No node of a vat leads back to itself, in any state to which the vat comes and at no moment of a step; and it is fixed
+/// No node of a vat leads back to itself, in any state to which the vat comes, and at any moment of a step. It is fixed
 /// where each node leads once a promise is settled, an outcome becomes known, or what no place names goes.
 pub fn nodes_settle()
     ensures stops { EachNodeStops }
@@ -20,16 +20,16 @@ pub fn circles_never_stop()
     ensures { CirclesNeverStop }
 {}
 
-/// A reference and its embargo name one another, in each state to which a vat comes; and at level 1, while the vat is up, an
-/// embargo stands from the step that sends its Disembargo to the one in which that comes back, and a Disembargo of the peer
-/// goes back at once.
+/// A reference and its embargo name one another, in each state to which a vat comes. At level 1, while the vat is up,
+/// an embargo stands from the step that sends its Disembargo to the one in which that comes back. A Disembargo of the
+/// peer goes back at once.
 pub fn embargoes_pair()
     ensures paired { EmbargoesArePaired }
     ensures loopbacks { Loopbacks }
 {}
 
-/// Each outcome that a vat keeps and that is not known yet has one source from which it will come: a task, a call that was
-/// sent on and has not returned, or a call that waits; no other outcome has one.
+/// Each outcome that a vat keeps and that is not known yet has one source from which it will come. That is a task, a
+/// call that was sent on and has not returned, or a call that waits. No other outcome has one.
 pub fn outcomes_have_sources()
     ensures { EachHasOneSource }
 {}
@@ -40,8 +40,8 @@ pub fn questions_end()
     ensures { EachEndsInTime }
 {}
 
-/// A call of the application that is not finished has no outcome and no question but the one that the vat keeps of it, and
-/// no outcome and no question is of a call that is still to come: in each state to which a vat comes.
+/// In each state to which a vat comes, a call of the application that is not finished has no outcome and no question
+/// but the one that the vat keeps of it. No outcome and no question is of a call that is still to come.
 pub fn calls_have_their_own()
     ensures { EachHasItsOwn }
 {}

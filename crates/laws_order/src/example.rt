@@ -31,8 +31,8 @@ pub fn carried()
 }
 
 /// Runs of the machine, by computation: an embargo; a route that passes one link twice, whose head stays under its
-/// embargo; and two that go round, on which calls of one reference overtake one another, so that order is claimed of
-/// good routes alone.
+/// embargo; and two that go round. On these calls of one reference overtake one another, so order is claimed of good
+/// routes alone.
 pub fn worked()
     ensures embargo { EmbargoRun }
     ensures link_twice { LinkTwiceRun }

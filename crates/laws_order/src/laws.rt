@@ -12,17 +12,17 @@ ghost use Rattle.laws_order.specs.Laws.{
 ghost use Rattle.laws_order.specs.Moves.{EachMoveKeepsIt};
 
 /// After every list of allowed events, for each reference: the calls delivered are a beginning of the calls made
-/// through it, in order, each once, all at the one object at which its route ends, and all of them where its route
-/// is good (it ends at an object or an open stop) and none is pending.
+/// through it, in order, each once. All are delivered at the one object at which its route ends. They are all of them
+/// if its route is good (it ends at an object or an open stop) and none is pending.
 ///
 /// Nodes, groups and references are of any types, with any decisions of equality.
 pub fn in_order<N, G, R>()
     ensures { OfEveryMachine N G R AlwaysInOrder }
 {}
 
-/// The invariant behind `in_order`, for a crate that runs beside the machine: it holds at the start, each allowed
-/// event keeps it, and it gives the promise; a disembargo that is received belongs to the embargo of its reference and
-/// meets an exit; an echo that is received meets that embargo, and was sent to where the head stops.
+/// The invariant behind `in_order`, for a crate that runs beside the machine: it holds at the start, each allowed event
+/// keeps it, and it gives the promise. A disembargo that is received belongs to the embargo of its reference and meets
+/// an exit. An echo that is received meets that embargo, and was sent to where the head stops.
 pub fn keeps_order<N, G, R>()
     ensures start { OfEveryMachine N G R HoldsAtStart }
     ensures kept { OfEveryMachine N G R EachEventKeepsIt }

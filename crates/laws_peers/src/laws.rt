@@ -14,7 +14,7 @@ pub fn kinds_stand_aside()
 }
 
 /// Of any peer: what a vat hears with `peer_kinds` before it names no import in another kind than its own, and no export in two kinds,
-/// but for imports of which a Resolve came. And it is no Resolve of an object.
+/// except for imports of which a Resolve came. And it is no Resolve of an object.
 pub fn heard_kinds_fit()
     ensures { HeardFits }
 {

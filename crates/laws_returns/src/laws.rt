@@ -25,9 +25,9 @@ pub fn adapter_returns()
     ensures { AdapterReturns }
 {}
 
-/// A vat of any level talks with any peer through the adapter. The peer is told no more Returns of an id than it asked questions by it.
-/// While the vat is up it is told as many, but for what is yet to go and what is open; and what is open waits for its task, for a call
-/// that was sent on, or for a call that waits.
+/// A vat of any level talks with any peer through the adapter. The peer is told no more Returns of an id than it asked
+/// questions by it. While the vat is up it is told as many, except for what is yet to go and what is open. What is open
+/// waits for its task, for a call that was sent on, or for a call that waits.
 pub fn each_gets_one_return()
     ensures { EachGetsOneReturn }
 {

@@ -28,8 +28,8 @@ pub fn steps_may_be_done()
     ensures messages { MessagesFollow }
 {}
 
-/// Each embargo of a vat is the only one of its reference, and is of a node of that vat itself: it is so of a new vat, and each command
-/// that is done keeps it, and each message that is taken, where exports are own nodes.
+/// Each embargo of a vat is the only one of its reference, and is of a node of that vat itself. It is so of a new vat.
+/// Each command that is done keeps it, and each message that is taken, if exports are own nodes.
 pub fn embargoes_are_right()
     ensures new { NewEmbargoesAreRight }
     ensures commands { CommandsKeepEmbargoes }

@@ -1,11 +1,11 @@
-//! The map from two vats to the machine of routes: what two vats and their links are in that machine, and that the pieces of
-//! a vat's step are moves of it, and so are whole steps where what they take as known is so (docs/order.md, "Two vats in that
-//! machine").
+//! The map from two vats to the machine of routes: what two vats and their links are in that machine. The pieces of a
+//! vat's step are moves of it, and so are whole steps, if what they take as known is so (docs/order.md, "Two vats in
+//! that machine").
 //!
-//! Files of functions that run no code: of pieces, `laws.rt` (references, calls, promises, embargoes, what goes),
-//! `outcomes.rt`, `messages.rt`, `quiet.rt` (what ends and what is let go), `sayings.rt`; of whole commands and messages,
-//! `commands.rt` and `taken_messages.rt`; of whole steps, `steps.rt`; of what they take as known, `midway.rt` and, of first acts,
-//! `first_acts.rt`.
+//! Files of functions that run no code. Of pieces: `laws.rt` (references, calls, promises, embargoes, what goes),
+//! `outcomes.rt`, `messages.rt`, `quiet.rt` (what ends and what is let go), `sayings.rt`. Of whole commands and
+//! messages: `commands.rt` and `taken_messages.rt`. Of whole steps: `steps.rt`. Of what they take as known: `midway.rt`
+//! and, of first acts, `first_acts.rt`.
 #![tactic(auto)]
 
 mod commands;

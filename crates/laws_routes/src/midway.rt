@@ -49,7 +49,7 @@ pub fn more_may_be_said()
     ensures advances { MayAdvanceFollows }
 {}
 
-/// A command may do its first act at a vat of level 1, where it is not refused. Behind one that settles a promise or an outcome it
+/// A command may do its first act at a vat of level 1, if it is not refused. Behind one that settles a promise or an outcome it
 /// is so too.
 pub fn commands_may_act()
     ensures acts { MayActFollows }

@@ -57,8 +57,8 @@ pub fn what_is_known_stays()
     ensures imported { KnownAsImported }
 {}
 
-/// What is said on the way stays so as one more message is sent, as its receiver lets imports and questions go or takes
-/// descriptors, as exports are added or go, as ids and identities are given, and as an answer closes.
+/// What is said on the way stays so as one more message is sent, and as its receiver lets imports and questions go or
+/// takes descriptors. It stays so as exports are added or go, as ids and identities are given, and as an answer closes.
 pub fn what_is_said_stays()
     ensures sent { SaidIsSent }
     ensures fewer { SaidOfFewer }

@@ -32,17 +32,17 @@ pub fn counts_agree()
     sends_raise_counts();
 }
 
-/// As long as no vat falls and nothing is refused, the oldest message on its way to a vat is about a question or an answer
-/// as it is there, and takes no more off an export's count than there is.
+/// As long as no vat falls and nothing is refused, the oldest message on its way to a vat is about a question or an
+/// answer as it is there. It takes no more off an export's count than there is.
 pub fn messages_are_met()
     ensures { MessagesAreMet }
 {
     counts_agree();
 }
 
-/// So it is in each scene: questions and answers stand as their sessions say, an export's count is what the other vat
-/// holds of it and what is under way, an import is there exactly where a place names it, and the oldest message on its
-/// way to a vat finds what it speaks of.
+/// So it is in each scene. Questions and answers stand as their sessions say. An export's count is what the other vat
+/// holds of it and what is under way. An import is there exactly if a place names it. The oldest message on its way to
+/// a vat finds what it speaks of.
 pub fn counts_agree_in_scenes()
     ensures { CountsOfScenes }
 {
@@ -54,7 +54,7 @@ pub fn counts_agree_in_scenes()
 }
 
 /// So in every run of two vats, while neither is down: the count of each export is what the other vat holds of it and what
-/// is under way, and an import is there exactly where a place names it.
+/// is under way, and an import is there exactly if a place names it.
 pub fn counts_agree_in_runs()
     ensures { CountsOfRuns }
 {

@@ -5,7 +5,7 @@ ghost use Rattle.laws_runs.specs.Shown.{EveryRunIsShown, ShowsBothUp, EveryScene
 ghost use Rattle.laws_runs.specs.Quiet.{EveryRunIsQuiet};
 ghost use Rattle.laws_runs.specs.MadeCalls.{CallsAreNumbered, ScenesCount, RunsCount};
 
-/// Where each delivery is to an object that its call's reference stands for, no later entry changes what a reference
+/// If each delivery is to an object that its call's reference stands for, no later entry changes what a reference
 /// stands for, and none stands for two things. It is enough that each delivery is so in the history up to it.
 pub fn meanings_last()
     ensures last { MeaningsLast }
@@ -23,9 +23,10 @@ pub fn quiet_when_down()
     ensures { EveryRunIsQuiet }
 {}
 
-/// Each run of two vats is shown by steps that are neither refused nor fall: with the same history, and at each vat that
-/// is up the same core and the same messages on their way to it, but for the Abort of the other. Where both are up the
-/// world is the same. Such steps show nothing else: what they come to is what a run comes to, with both vats up.
+/// Each run of two vats is shown by steps that are neither refused nor fall. These have the same history, and at each
+/// vat that is up the same core and the same messages on their way to it, except for the Abort of the other. If both
+/// are up the world is the same. Such steps show nothing else: what they come to is what a run comes to, with both vats
+/// up.
 pub fn every_run_is_shown()
     ensures every { EveryRunIsShown }
     ensures both_up { ShowsBothUp }

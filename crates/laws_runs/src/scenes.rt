@@ -3,10 +3,10 @@
 ghost use Rattle.laws_runs.specs.SoundScenes.{SoundByScenes, ScenesBySound};
 ghost use Rattle.laws_runs.specs.Woven.{RunsAreRuns, LogsAreRuns, LogsAreSound};
 
-/// All that is promised of runs holds once this does of scenes: the order, that all is delivered, the counts, that what is
-/// delivered was made and what ends a call answered it, and that no oldest message is refused but for the limit of
-/// waiting calls. So only steps that are done are left to look at: no refusal, no fall and no want of room. And all of
-/// it but the last follows from what is promised of runs, so no more is asked of scenes.
+/// All that is promised of runs holds once this does of scenes: the order, that all is delivered, and the counts. Also
+/// that what is delivered was made and what ends a call answered it, and that no oldest message is refused except for
+/// the limit of waiting calls. So only steps that are done are left to look at: no refusal, no fall and no lack of
+/// room. And all of it but the last follows from what is promised of runs, so no more is asked of scenes.
 pub fn sound_by_scenes()
     ensures runs { SoundByScenes }
     ensures scenes { ScenesBySound }

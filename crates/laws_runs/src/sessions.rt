@@ -10,7 +10,7 @@ ghost use Rattle.laws_runs.specs.Worlds.{ActsKeepSessions, Stand, SessionsStand}
 use laws_acts::steps_are_acts;
 
 /// However a question is asked, answered and finished, it and its answer, with what is on the way of them, stand in one
-/// of thirteen ways, and in each of these at some time; and no message of them is one that its receiver would refuse.
+/// of thirteen ways, and in each of these at some time. No message of them is one that its receiver would refuse.
 pub fn question_sessions_hold()
     ensures { SessionsAreRows (List ℕ) (List ℕ) }
 {}

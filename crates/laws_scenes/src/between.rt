@@ -6,9 +6,9 @@ use laws_messages::embargoes_are_about;
 use laws_runs::counts_agree_in_scenes;
 use rpc_machine::sends_raise_counts;
 
-/// In each scene what asks on the way is of a question that is there, and so is what returns; where the Return came the question is
-/// asked no more, and is not returned again; and an answer whose Return was not sent is not asked again, and may close if it is
-/// finished.
+/// In each scene what asks on the way is of a question that is there, and so is what returns. If the Return came the
+/// question is asked no more, and is not returned again. An answer whose Return was not sent is not asked again, and
+/// may close if it is finished.
 pub fn questions_meet()
     ensures { QuestionsMeetInScenes }
 {
@@ -41,17 +41,17 @@ pub fn vats_meet()
     exports_meet();
 }
 
-/// In each scene the oldest message on its way to a vat is the last of its kind for its question: a Bootstrap or a Call asks once,
-/// behind a Return the question is asked and returned no more, and behind a Finish nothing names the answer until the question is
-/// asked again.
+/// In each scene the oldest message on its way to a vat is the last of its kind for its question. A Bootstrap or a Call
+/// asks once. Behind a Return the question is asked and returned no more. Behind a Finish nothing names the answer
+/// until the question is asked again.
 pub fn oldest_are_last()
     ensures { OldestAreLast }
 {
     counts_agree_in_scenes();
 }
 
-/// In each scene what the oldest message on its way to a vat lets go of exports, by its flag or by its count, is held by nobody any
-/// more, and nothing that is on the way behind it is aimed at it, gives it or names it.
+/// In each scene take what the oldest message on its way to a vat lets go of exports, by its flag or by its count. It
+/// is held by nobody any more, and nothing that is on the way behind it is aimed at it, gives it or names it.
 pub fn oldest_let_go_well()
     ensures { OldestLetGoWell }
 {
@@ -59,8 +59,9 @@ pub fn oldest_let_go_well()
     counts_agree_in_scenes();
 }
 
-/// So in each scene all is so that the laws of whole steps take as known of the oldest message on its way to a vat, but for what is
-/// left: that no Return of a question that is not given up is canceled, and that a reference has one embargo at most, of an own node.
+/// So in each scene all is so that the laws of whole steps take as known of the oldest message on its way to a vat.
+/// Left are that no Return of a question that is not given up is canceled, and that a reference has one embargo at
+/// most, of an own node.
 pub fn oldest_are_met()
     ensures { OldestAreMet }
 {

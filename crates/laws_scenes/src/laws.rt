@@ -24,8 +24,8 @@ pub fn canceled_were_given_up()
     counts_agree_in_scenes();
 }
 
-/// In each scene all is so of both vats, between two steps, that the laws of whole steps take as known, of commands and of the
-/// oldest message on its way; and steps in which that was so lead there, with the calls that the journal tells.
+/// In each scene all is so of both vats, between two steps, that the laws of whole steps take as known, of commands and
+/// of the oldest message on its way. Steps in which that was so lead there, with the calls that the journal tells.
 pub fn vats_are_between_steps()
     ensures { ScenesAreBetweenSteps }
 {
@@ -52,7 +52,7 @@ pub fn calls_keep_their_order()
     every_run_is_shown();
 }
 
-/// Once a call of a reference was delivered, none is lost: where none of its calls is held or on its way, all of them were delivered.
+/// Once a call of a reference was delivered, none is lost: if none of its calls is held or on its way, all of them were delivered.
 /// So it is in each scene, and in every run while neither vat is down.
 pub fn calls_arrive_in_full()
     ensures scenes { ScenesArriveInFull }
@@ -65,7 +65,7 @@ pub fn calls_arrive_in_full()
     every_run_is_shown();
 }
 
-/// In each scene none of the calls is lost of a reference that leads, at its own vat, to an object or to what is still open: where none
+/// In each scene none of the calls is lost of a reference that leads, at its own vat, to an object or to what is still open: if none
 /// is held or on its way, all of them were delivered.
 pub fn own_calls_arrive_in_full()
     ensures { OwnScenesArriveInFull }
@@ -90,9 +90,9 @@ pub fn disembargos_turn_back()
     disembargos_meet_wires();
 }
 
-/// So in each scene, and in every run while it is up, a vat refuses no message of the other one, but for a Call where no more calls
-/// may wait, and for the Abort of a vat that is down; and a vat goes down only by a shut, for want of room or memory, for that limit,
-/// or by the Abort of the other vat, which went down before.
+/// So in each scene, and in every run while it is up, a vat refuses no message of the other one. Excepted are a Call if
+/// no more calls may wait, and the Abort of a vat that is down. A vat goes down only by a shut, for lack of room or
+/// memory, for that limit, or by the Abort of the other vat, which went down before.
 pub fn nothing_is_refused()
     ensures scenes { ScenesRefuseNothing }
     ensures runs { RunsRefuseNothing }
@@ -102,8 +102,9 @@ pub fn nothing_is_refused()
     no_message_is_refused();
 }
 
-/// All that is promised of runs holds once this is shown of scenes: each delivery and each end is by what the reference of its call
-/// stands for, and of a reference that stands for an object no call is lost before the first one was delivered.
+/// All that is promised of runs holds once this is shown of scenes: each delivery and each end is by what the reference
+/// of its call stands for. And of a reference that stands for an object no call is lost before the first one was
+/// delivered.
 pub fn sound_by_meanings()
     ensures { SoundByMeanings }
 {

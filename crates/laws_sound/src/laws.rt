@@ -36,7 +36,7 @@ pub fn oldest_are_heard()
     counts_agree_in_scenes();
 }
 
-/// What the first act of each step in a scene sends means what it should, where all did before the step.
+/// What the first act of each step in a scene sends means what it should, if all did before the step.
 pub fn first_acts_send()
     ensures { FirstActsSend }
 {
@@ -46,8 +46,8 @@ pub fn first_acts_send()
     counts_agree_in_scenes();
 }
 
-/// Where all means what it should before a step, all that its vat holds means what the history says behind it, by labels that are
-/// kept where keys were there; and so does all that it sends.
+/// If all means what it should before a step, all that its vat holds means what the history says behind it, by labels that are
+/// kept if keys were there; and so does all that it sends.
 pub fn steps_keep_places()
     ensures commands { CommandsStep }
     ensures messages { MessagesStep }

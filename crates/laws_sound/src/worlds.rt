@@ -24,11 +24,12 @@ pub fn bootstraps_stay()
     ensures events { EventsLeaveBootstraps }
 {}
 
-/// Of each such world with its journal: the calls delivered through a reference are a beginning of those made, in order, each once,
-/// all at the one object for which the reference stands, for good; all of them once one was and none is pending, and also if none
-/// was where the reference stands for an object; each delivery is of a call as it was made; each call ends once, as it was
-/// answered, or as its reference stands for broken; a vat that is down delivers nothing; the counts of both vats agree; and each
-/// vat went down for a shut, for want of room or memory, at the limit of waiting calls, or as the other was down before.
+/// Of each such world with its journal: the calls delivered through a reference are a beginning of those made, in
+/// order, each once. All are at the one object for which the reference stands, for good. All of them are delivered once
+/// one was and none is pending, and also if none was if the reference stands for an object. Each delivery is of a call
+/// as it was made. Each call ends once, as it was answered, or as its reference stands for broken. A vat that is down
+/// delivers nothing. The counts of both vats agree. Each vat went down for a shut, for lack of room or memory, at the
+/// limit of waiting calls, or as the other was down before.
 pub fn worlds_keep_promises()
     ensures { WorldsKeepPromises }
 {
@@ -44,10 +45,10 @@ pub fn worlds_keep_promises()
     idle_is_none_pending();
 }
 
-/// Journals that are not promised: a call before one that was made before it, or without it, or twice, or that nobody made; two calls
-/// of a reference at two objects; one at a vat that is down; a vat that a message took down, or the Abort of one that is up; a call
-/// at another object than its reference stands for, or with another method; the only call lost; and one that ends though nobody
-/// answered it, or otherwise than it was answered, or twice.
+/// Journals that are not promised. A call comes before one that was made before it, or without it, or twice, or nobody
+/// made it. Two calls of a reference come to two objects, or one to a vat that is down. A message took a vat down, or
+/// the Abort of one that is up did. A call comes to another object than its reference stands for, or with another
+/// method. The only call is lost. A call ends though nobody answered it, or otherwise than it was answered, or twice.
 pub fn wrong_journals_are_refused()
     ensures { WrongJournals }
 {}

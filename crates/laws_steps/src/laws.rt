@@ -19,8 +19,8 @@ pub fn numbers_used_once()
     ensures { NumbersUsedOnce }
 {}
 
-/// What is settled stays settled, and leads to the same place, in every step: what a settled promise or a known outcome
-/// says does not change while it stands, and so a node leads where it led before, if what places name is there.
+/// What is settled stays settled, and leads to the same place, in every step. What a settled promise or a known outcome
+/// says does not change while it stands. So a node leads where it led before, if what places name is there.
 pub fn settled_stays()
     ensures says { OfEachStep SaysTheSame }
     ensures leads { OfEachStep LeadsOn }
@@ -29,9 +29,9 @@ pub fn settled_stays()
     settles_where_it_leads();
 }
 
-/// In each state to which a vat comes, what every node is of that a place names is there, an import is there exactly where
-/// a place names it, and calls and answers have what they wait for; so at both vats in every run of two. And so in each
-/// step what is settled stays settled, at the same place.
+/// In each state to which a vat comes, what every node is of that a place names is there. An import is there exactly if
+/// a place names it, and calls and answers have what they wait for. It is so at both vats in every run of two. And so
+/// in each step what is settled stays settled, at the same place.
 pub fn nodes_are_there()
     ensures there { NodesAreThere }
     ensures runs { NodesThereInRuns }
@@ -40,7 +40,7 @@ pub fn nodes_are_there()
     settled_stays();
 }
 
-/// A Call finds room in the exports for its capabilities exactly where naming them, one after the other, passes no limit,
+/// A Call finds room in the exports for its capabilities exactly if naming them, one after the other, passes no limit,
 /// whichever free ids are picked: in each state in which no two exports stand for one node.
 pub fn room_is_exact()
     ensures { RoomIsExact }

@@ -8,8 +8,8 @@ use laws_sound::worlds_keep_promises;
 use rpc_check::verdict_is_first;
 use rpc_machine::sends_raise_counts;
 
-/// Two new vats of level 1 come to each run's journal, with the world to which the run leads; with their journal they go on by
-/// each event and by each noting of counts; and but for what was noted it tells a run.
+/// Two new vats of level 1 come to each run's journal, with the world to which the run leads. With their journal they
+/// go on by each event and by each noting of counts. Except for what was noted it tells a run.
 pub fn journals_tell_runs()
     ensures runs { RunsAreRecorded }
     ensures more { RecordedGoOn }
@@ -43,8 +43,8 @@ pub fn noted_counts_agree()
     sends_raise_counts();
 }
 
-/// The verdict of each journal of two new vats of level 1, whatever they were commanded and whenever messages came and counts were
-/// noted, is good, with the number of its deliveries; and so it is with a head in front.
+/// The verdict of each journal of two new vats of level 1, whatever they were commanded and whenever messages came and
+/// counts were noted, is good, with the number of its deliveries. So it is with a head in front.
 pub fn every_verdict_is_good()
     ensures alone { EveryVerdictIsGood }
     ensures headed { EveryHeadedVerdictIsGood }

@@ -16,7 +16,7 @@ pub fn acts_send_meanings()
     ensures { ActsSaySo }
 {}
 
-/// Where behind the first act of a step all that was sent means what it should, by the labels of its vat, it is so at the end
+/// If behind the first act of a step all that was sent means what it should, by the labels of its vat, it is so at the end
 /// of the step, with all that the step sends. Exports stay, and what they mean.
 pub fn steps_send_meanings()
     ensures { StepsSaySo }
@@ -24,7 +24,7 @@ pub fn steps_send_meanings()
     each_act_keeps_meanings();
 }
 
-/// What the first act of a command sends means what it should, where the history has the command's entry; and so does what
+/// What the first act of a command sends means what it should, if the history has the command's entry; and so does what
 /// the first act of a message sends. What was settled then means something.
 pub fn first_acts_send_meanings()
     ensures commands { CommandsSaySo }
@@ -32,7 +32,7 @@ pub fn first_acts_send_meanings()
 {}
 
 /// What a whole step of a command sends means what it should, by the labels by which nodes mean what they should at its end.
-/// They are those of before, where something was there: so exports stay, and mean what they did.
+/// They are those of before, if something was there: so exports stay, and mean what they did.
 pub fn commands_send_meanings()
     ensures { CommandsSend }
 {
@@ -43,7 +43,7 @@ pub fn commands_send_meanings()
 }
 
 /// What a whole step of a received message sends means what it should, by the labels by which nodes mean what they should at
-/// its end, where each outcome for which the peer waits is that of its question.
+/// its end, if each outcome for which the peer waits is that of its question.
 pub fn messages_send_meanings()
     ensures { MessagesSend }
 {
@@ -53,7 +53,7 @@ pub fn messages_send_meanings()
     steps_send_meanings();
 }
 
-/// All that a step sends means what it should as its receiver will read it, where each message, behind those in front of it,
+/// All that a step sends means what it should as its receiver will read it, if each message, behind those in front of it,
 /// names and is aimed at what stands for the same there.
 pub fn links_are_sent_with_meanings()
     ensures { LinksSaySo }

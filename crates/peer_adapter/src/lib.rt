@@ -1,7 +1,8 @@
-//! All that stands between the envelopes of a peer of another make and a vat of the profile (docs/messages.md, "Peers of other
-//! make"): calls past the vat's table of answers are refused (`peer_overload`), each export is named in one kind (`peer_kinds`), what
-//! names a broken promise again names nothing (`peer_broken`), and tail calls become calls (`peer_tail_calls`), in this order on the
-//! way in. On the way out a Finish may wait for its Return (`peer_finishes`).
+//! All that stands between the envelopes of a peer of another make and a vat of the profile (docs/messages.md, "Peers
+//! of other make"). Calls past the vat's table of answers are refused (`peer_overload`), and each export is named in
+//! one kind (`peer_kinds`). What names a broken promise again names nothing (`peer_broken`), and tail calls become
+//! calls (`peer_tail_calls`), in this order on the way in. On the way out a Finish may wait for its Return
+//! (`peer_finishes`).
 //!
 //! - `peer.rt`: [`PeerAdapter`], its calls. `told.rt`: what they give. `errors.rt`: what they refuse. `role.rt`: the part that a message
 //!   of the vat has in one of its questions.

@@ -69,10 +69,11 @@ impl PeerAdapter {
         self.finishes.set(finishes);
     }
 
-    /// What comes of an envelope for a vat that has heard all that came before and has nothing left to say. `is_full` says whether
-    /// it has as many answers as it may have, `standing` of an export of the peer how it stands at the vat as an import, `is_broken`
-    /// whether it is a promise that a Resolve has said to be broken, and `is_finished` of a question of the vat whether its Finish was
-    /// sent. A `Fault` where the connection can't go on, and `Memory`: the adapter is not to be asked again then.
+    /// What comes of an envelope for a vat that has heard all that came before and has nothing left to say. `is_full`
+    /// says whether it has as many answers as it may have. Of an export of the peer, `standing` says how it stands at
+    /// the vat as an import, and `is_broken` whether it is a promise that a Resolve has said to be broken.
+    /// `is_finished` says of a question of the vat whether its Finish was sent. A `Fault` if the connection can't go
+    /// on, and `Memory`: the adapter is not to be asked again then.
     pub fn inbound<
         K: Fn(ExportId) -> Option<Standing>,
         B: Fn(ExportId) -> bool,
@@ -295,7 +296,7 @@ impl PeerAdapter {
         Ok(Outbound { told, heard })
     }
 
-    // What is to be given back where that is said to the peer.
+    // What is to be given back if that is said to the peer.
     fn give_back(&mut self, said: &Option<Said>) -> Items<ExportId>
         ensures { GivesBack self.old (gives self.old.names said.now) result self.new }
     {
@@ -324,7 +325,7 @@ impl PeerAdapter {
     }
 }
 
-// What comes of a question, where it was asked.
+// What comes of a question, if it was asked.
 fn if_asked(outbound: Outbound, asked: Result<(), Memory>) -> Result<Outbound, Memory>
     ensures ok { OnOk asked (result ≡ Ok outbound) }
     ensures err { IfErr asked (λ refused. result ≡ Err refused) }

@@ -14,7 +14,7 @@ pub struct Told {
 pub enum Aside {
     /// The peer is told that at once.
     Told(Told),
-    /// What is not understood, whole: it is to go back where the vat says that it is Unimplemented.
+    /// What is not understood, whole: it is to go back if the vat says that it is Unimplemented.
     Unknown(Tree),
 }
 

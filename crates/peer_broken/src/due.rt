@@ -48,7 +48,7 @@ fn due_of_plain(message: &PlainMessage) -> Due
     }
 }
 
-/// The same, and at once where that Finish was sent.
+/// The same, and at once if that Finish was sent.
 pub(crate) fn unless_finished<F: Fn(QuestionId) -> bool>(due: Due, is_finished: &F) -> Due
     requires { F.IsAlwaysCallable is_finished.now }
     ensures { (finished : QuestionId → Bool) → Tells (F.post is_finished.now) finished → result ≡ unless_finished finished due }

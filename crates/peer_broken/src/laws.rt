@@ -7,8 +7,9 @@ pub fn stands_aside()
     ensures { StandsAside }
 {}
 
-/// Each count that a peer gave by a name which the vat does not hear of is given back once, by a Release or by a flag: of each
-/// export, what a message gave and what was owed before is what the vat hears, what is owed then and what is given back.
+/// Each count that a peer gave by a name which the vat does not hear of is given back once, by a Release or by a flag.
+/// Of each export, what a message gave and what was owed before is what the vat hears, what is owed then and what is
+/// given back.
 pub fn counts_once()
     ensures { CountsOnce }
 {}

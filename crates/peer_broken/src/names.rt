@@ -122,7 +122,7 @@ impl BrokenNames {
     }
 
     /// A Return of the vat goes to the peer, or what is said in its place, with that `releaseParamCaps`: what is to be given
-    /// back beside it, by a Release of one for each time that it stands here. Where the flag is true it gives back all of it.
+    /// back beside it, by a Release of one for each time that it stands here. If the flag is true it gives back all of it.
     /// Takes no memory.
     pub fn returned(&mut self, answer: AnswerId, release_param_caps: bool) -> Items<ExportId>
         ensures state { self.new ≡ (returns self.old answer release_param_caps).state }

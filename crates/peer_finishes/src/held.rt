@@ -17,7 +17,7 @@ use std::marker::Model;
 pub enum Finishes {
     /// At once. The peer may end its work then.
     AtOnce,
-    /// Behind the Return: for a peer that sends no Return where it heard of the Finish before.
+    /// Behind the Return: for a peer that sends no Return if it heard of the Finish before.
     AfterReturn,
 }
 
@@ -58,7 +58,7 @@ impl HeldFinishes {
         self.finishes = finishes;
     }
 
-    /// A question of the vat goes, a Call or a Bootstrap. `Memory` leaves all as it was; where Finishes go at once it takes none.
+    /// A question of the vat goes, a Call or a Bootstrap. `Memory` leaves all as it was; if Finishes go at once it takes none.
     pub fn ask(&mut self, question: QuestionId) -> Result<(), Memory>
         ensures ok { OnOk result (self.new ≡ asked self.old question) }
         ensures err { OnErr result (self.new ≡ self.old) }

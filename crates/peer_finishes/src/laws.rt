@@ -7,7 +7,7 @@ pub fn stands_aside()
 {}
 
 /// All but Finishes goes as the vat says it, in its place. Each Finish goes once, or is held back, or is of a question that came back
-/// Unimplemented. One that goes behind an envelope goes behind the Return of its question; and where Finishes wait, none goes that the
+/// Unimplemented. One that goes behind an envelope goes behind the Return of its question; and if Finishes wait, none goes that the
 /// vat says of a question which is open.
 pub fn finishes_go_once()
     ensures { GoOnce }

@@ -12,9 +12,9 @@ use rpc_codec::Envelope;
 use rpc_msg::{Descriptor, ExportId, Items, Memory, Message, PlainMessage, Resolve, ResolvedTo};
 use std::alloc::Global;
 
-/// What came, as the vat is to hear of it. `standing` tells of an export of the peer how it stands at the vat, where that has it as an
+/// What came, as the vat is to hear of it. `standing` tells of an export of the peer how it stands at the vat, if that has it as an
 /// import. An envelope with at most one descriptor, which is named as it was first, is handed on in no memory; another takes memory
-/// for its descriptors, and `Memory` where there is none.
+/// for its descriptors, and `Memory` if there is none.
 pub fn hear_kinds<K: Fn(ExportId) -> Option<Standing>>(
     alloc: Global,
     came: Envelope,

@@ -1,7 +1,7 @@
 //! What is proved beside the contracts. The functions run no code: what they ensure are the theorems.
 ghost use Rattle.peer_overload.specs.Laws.{CountsOnce, StandsAside};
 
-/// Where no question was refused and the vat has room, the vat hears each envelope as it came, and nothing changes.
+/// If no question was refused and the vat has room, the vat hears each envelope as it came, and nothing changes.
 pub fn stands_aside()
     ensures { StandsAside }
 {}

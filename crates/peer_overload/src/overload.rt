@@ -49,7 +49,7 @@ impl Overload {
         }
     }
 
-    /// What becomes of what came, where the vat has as many answers as it may have (`is_full`), or not. A `Fault` where the
+    /// What becomes of what came, if the vat has as many answers as it may have (`is_full`), or not. A `Fault` if the
     /// connection can't go on, and `Memory`, leave all as it was.
     pub fn inbound(&mut self, came: Envelope, is_full: bool) -> Result<Admission, OverloadError>
         ensures { Comes self.old (comes self.old is_full (seen_envelope came)) result self.new }

@@ -48,7 +48,7 @@ impl Adapter {
         }
     }
 
-    /// What the vat is to hear of what came, before anything else comes or goes. A `Fault` where the connection can't go on,
+    /// What the vat is to hear of what came, before anything else comes or goes. A `Fault` if the connection can't go on,
     /// and `Memory`, leave the adapter as it was.
     pub fn inbound(&mut self, came: Envelope) -> Result<Inbound, AdapterError>
         ensures { Comes self.old (comes self.old (seen_envelope came)) result self.new }

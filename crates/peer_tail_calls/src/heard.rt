@@ -15,7 +15,7 @@ pub enum Heard {
 pub struct Inbound {
     /// What the vat is to hear before anything else.
     pub heard: Heard,
-    /// What is not understood, whole: it is to go back where the vat says that it is Unimplemented.
+    /// What is not understood, whole: it is to go back if the vat says that it is Unimplemented.
     pub unknown: Option<Tree>,
 }
 

@@ -53,7 +53,7 @@ fn exception(alloc: Global) -> Result<ReturnBody, Memory>
     }))
 }
 
-// The descriptors turned, or none where one can't be.
+// The descriptors turned, or none if one can't be.
 fn turn_all(
     alloc: Global,
     answer: AnswerId,

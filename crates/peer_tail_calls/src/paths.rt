@@ -9,7 +9,7 @@ ghost use Rattle.peer_tail_calls.specs.Paths.{finds, finds_each, AreShortest};
 use rpc_msg::{Memory, Op, PATH_LIMIT, Path, Payload, Tree};
 use std::alloc::Global;
 
-/// The shortest path to each of the first so many capabilities of a payload, where one of at most 16 steps leads there.
+/// The shortest path to each of the first so many capabilities of a payload, if one of at most 16 steps leads there.
 pub(crate) fn shortest_paths(
     alloc: Global,
     payload: &Payload,

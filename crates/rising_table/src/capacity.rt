@@ -2,8 +2,8 @@ ghost use Rattle.std.specs.Prelude.{◌≡◌, ◌+◌, ◌≤◌, vec_len, vec_
 
 use rpc_msg::Memory;
 
-/// How much memory a table of so many entries is made, where it needs memory for so many more: for an eighth of its entries at
-/// least, so that a large table seldom grows, and has little memory that is never used.
+/// How much memory a table of so many entries is made, if it needs memory for so many more. It is for an eighth of its
+/// entries at least, so that a large table seldom grows, and has little memory that is never used.
 pub fn growth(len: usize, more: usize) -> usize
     ensures { more ≤ result }
 {

@@ -15,7 +15,7 @@ use std::mem;
 /// Entries under numbers of 64 bits that rise as they are given out, as many as memory allows: seen by contracts as the
 /// entries by number, and how many new ones need no more memory.
 ///
-/// They stand by rising number, and a number is found by its distance from the last one: at once, where every number
+/// They stand by rising number, and a number is found by its distance from the last one: at once, if every number
 /// between has its place yet. An entry that is taken out leaves its place, until that is the last one or room is made.
 #[derive(Drop)]
 pub struct Rising<Entry> {
@@ -80,7 +80,7 @@ fn position<Entry>(places: &[(u64, Option<Entry>)], number: u64) -> Option<usize
     find_behind(places, number)
 }
 
-// Gives a number its entry, in its place between the others, where there is room.
+// Gives a number its entry, in its place between the others, if there is room.
 #[cold]
 #[inline(never)]
 fn put_between<Entry: Drop>(places: &mut Vec<(u64, Option<Entry>)>, number: u64, entry: Entry)
@@ -100,7 +100,7 @@ fn put_between<Entry: Drop>(places: &mut Vec<(u64, Option<Entry>)>, number: u64,
     }
 }
 
-// Gives a number its entry, where there is room: at once, where it is greater than all others.
+// Gives a number its entry, if there is room: at once, if it is greater than all others.
 #[inline(always)]
 fn put<Entry: Drop>(places: &mut Vec<(u64, Option<Entry>)>, number: u64, entry: Entry)
     requires rising { IsRising places.old.items }
@@ -200,7 +200,7 @@ impl<Entry> Rising<Entry> {
         self.len == 0
     }
 
-    /// Makes room, so that the next so many `add`s are not refused. `Err` where there was no room and the growth was
+    /// Makes room, so that the next so many `add`s are not refused. `Err` if there was no room and the growth was
     /// refused. The entries stay as they are, and the room does not fall.
     pub fn reserve(&mut self, more: usize) -> Result<(), Memory>
     where
@@ -220,8 +220,8 @@ impl<Entry> Rising<Entry> {
     }
 
     /// Puts an entry under a number, which no entry may have. An entry that is refused, since there was no room and the
-    /// growth was refused, comes back; the entries then stay as they are. Constant work where the number is greater than
-    /// all others, but where memory grows.
+    /// growth was refused, comes back; the entries then stay as they are. Constant work if the number is greater than
+    /// all others, except when memory grows.
     pub fn add(&mut self, number: u64, entry: Entry) -> Result<(), Entry>
     where
         Entry: Drop,

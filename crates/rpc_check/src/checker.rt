@@ -10,8 +10,8 @@ use rpc_msg::Memory;
 use std::alloc::Global;
 
 /// Reads the entries of a trace one by one. It holds what is open: the calls that were made and not delivered, where
-/// the calls of each reference go, and what the messages on their way add to the counts; and once each list of exports
-/// that a question or an answer handed on, however many messages release it.
+/// the calls of each reference go, and what the messages on their way add to the counts. It holds each list of exports
+/// once that a question or an answer handed on, however many messages release it.
 #[derive(Drop)]
 pub struct Checker {
     pub(crate) pending: Pending,
@@ -33,10 +33,11 @@ impl Checker {
         }
     }
 
-    /// Takes the next entry. The work does not grow with the number of entries but for the depth of trees, nor that of a
-    /// true flag with the ids that it releases; that of a `Tables` entry grows with those that it says, that messages on
-    /// their way name, and that are in lists which flags release oftener, or less often, than at the last such entry.
-    /// `Memory` where a growth was refused, and where entries or counts are more than 64 bits can say.
+    /// Takes the next entry. The work does not grow with the number of entries except for the depth of trees, nor that
+    /// of a true flag with the ids that it releases. That of a `Tables` entry grows with the ids that it says, and with
+    /// those that messages on their way name. It grows with those in lists which flags release more often, or less
+    /// often, than at the last such entry. `Memory` if a growth was refused, or if entries or counts are more than 64
+    /// bits can say.
     pub fn take(mut self, alloc: Global, entry: &JournalEntry) -> Result<Self, Memory>
         ensures { IfOk result (λ new. (h : List Entry) → HasTaken self h → HasTaken new (h ++ entry.now ∷ [])) }
     {

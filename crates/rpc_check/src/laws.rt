@@ -7,7 +7,7 @@ pub fn same_for_every_id()
     ensures { SameForEveryId }
 {}
 
-/// A verdict is good only where no entry breaks a law; else it is what an entry breaks, before which none breaks any.
+/// A verdict is good only if no entry breaks a law; else it is what an entry breaks, before which none breaks any.
 pub fn verdict_is_first()
     ensures { VerdictIsFirst }
 {}

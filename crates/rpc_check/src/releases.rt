@@ -26,14 +26,14 @@ pub(crate) struct Flagged {
 }
 
 impl Flagged {
-    // How much oftener they were sent.
+    // How much more often they were sent.
     fn more_sent(self) -> u64
         ensures { result ≡ more_sent self }
     {
         self.sent.saturating_sub(self.got)
     }
 
-    // How much oftener they were received.
+    // How much more often they were received.
     fn more_got(self) -> u64
         ensures { result ≡ more_got self }
     {
@@ -150,7 +150,7 @@ impl Releases {
     }
 }
 
-// Adds the lists that were sent oftener than received. A list of which as many were received takes no work.
+// Adds the lists that were sent more often than received. A list of which as many were received takes no work.
 fn add_sent(
     counted: &mut Amounts,
     lists: &[Items<(ExportId, u32)>],
@@ -164,7 +164,7 @@ fn add_sent(
     Ok(())
 }
 
-// Takes the lists away that were received oftener than sent.
+// Takes the lists away that were received more often than sent.
 fn take_got(
     counted: &mut Amounts,
     lists: &[Items<(ExportId, u32)>],

@@ -5,7 +5,7 @@ pub enum Verdict {
     Good(u64),
     /// This entry delivers a call out of its turn, or at another place than the reference's first.
     Order(u64),
-    /// At this entry a vat receives where no message is on its way to it.
+    /// At this entry a vat receives although no message is on its way to it.
     Unmatched(u64),
     /// At this entry a vat acts that was down before.
     AfterDown(u64),

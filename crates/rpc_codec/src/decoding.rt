@@ -131,7 +131,7 @@ fn tree_in(alloc: Global, bytes: &[u8]) -> Result<Tree, DecodeError>
 }
 
 /// What the bytes of one frame say: a segment table and the segments, and nothing behind them. A Call gets the stamp,
-/// which is not in the bytes. Else the first check that fails, in the order of docs/messages.md, or `Memory` where
+/// which is not in the bytes. Else the first check that fails, in the order of docs/messages.md, or `Memory` if
 /// memory runs out. The bytes stay as they are.
 #[tactic(auto, unfolding(crate::specs::Decoding::envelope_at))]
 pub fn decode(alloc: Global, bytes: &[u8], stamp: Stamp) -> Result<Envelope, DecodeError>

@@ -84,7 +84,7 @@ fn frame(alloc: Global, tree: &Tree) -> Result<Payload, EncodeError>
 
 /// The frame of a message, in one segment: its bytes are to be sent. Refused is a message that holds `Other`, since a
 /// number alone is no message, and one that passes a limit of the encoding together with its contents. `Memory` comes
-/// where memory runs out. The message is left as it is.
+/// if memory runs out. The message is left as it is.
 pub fn encode(alloc: Global, message: &Message) -> Result<Payload, EncodeError>
     ensures frame { Writes (λ p. p) result (message_frame message.now) }
     // What is written reads as the message's tree.
@@ -100,7 +100,7 @@ pub fn encode(alloc: Global, message: &Message) -> Result<Payload, EncodeError>
     Ok(payload)
 }
 
-/// The frame of a Return that says that the results of a tail call are kept (`resultsSentElsewhere`). `Memory` comes where
+/// The frame of a Return that says that the results of a tail call are kept (`resultsSentElsewhere`). `Memory` comes if
 /// memory runs out.
 #[cold]
 #[inline(never)]
@@ -113,8 +113,8 @@ pub fn encode_sent_elsewhere(alloc: Global, said: SentElsewhere) -> Result<Paylo
     Ok(payload)
 }
 
-/// The frame of the Unimplemented that sends a message back, whole. Refused where the message has become too large by
-/// its two words, or too deep by its level; then nothing but an Abort is left to say. `Memory` comes where memory runs
+/// The frame of the Unimplemented that sends a message back, whole. Refused if the message has become too large by
+/// its two words, or too deep by its level; then nothing but an Abort is left to say. `Memory` comes if memory runs
 /// out.
 pub fn echo(alloc: Global, original: Tree) -> Result<Payload, EncodeError>
     ensures frame { Writes (λ p. p) result (echo_frame (view original)) }

@@ -65,7 +65,7 @@ fn heading_under(root: &Place) -> Heading
     heading_in(number, &message)
 }
 
-/// What the bytes of one frame say of questions. [`decode`](crate::decode) answers `Unknown` or `UnknownReturn` where it
+/// What the bytes of one frame say of questions. [`decode`](crate::decode) answers `Unknown` or `UnknownReturn` if it
 /// does not understand all of a message: such a message asks its question all the same, or answers it. The fault is
 /// that of the encoding, as of `decode`. The bytes stay as they are.
 #[tactic(auto, unfolding(crate::specs::Headings::heading_at))]

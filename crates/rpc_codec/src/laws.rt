@@ -11,7 +11,7 @@ use crate::errors::{DecodeError, EncodeError};
 use rpc_msg::{Message, Stamp};
 use std::alloc::Global;
 
-/// The tree of a message says that message, but for the stamp, which is not in it, and for how the contents of payloads
+/// The tree of a message says that message, except for the stamp, which is not in it, and for how the contents of payloads
 /// are laid out.
 pub fn trees_read_back()
     ensures { ReadBack }
@@ -22,7 +22,7 @@ pub fn kept_reads_back()
     ensures { KeptReadBack }
 {}
 
-/// Encodes a message, and decodes the frame: where it is encoded, that gives the message, with this stamp and with its
+/// Encodes a message, and decodes the frame: if it is encoded, that gives the message, with this stamp and with its
 /// contents laid out as they are written, unless memory runs out.
 pub fn encode_and_decode(
     alloc: Global,

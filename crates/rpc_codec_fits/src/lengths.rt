@@ -14,8 +14,8 @@ const CONTENT_LEVELS: u32 = 61;
 /// The words of a frame, without its root pointer.
 const FRAME_WORDS: u64 = 65_535;
 
-/// The words of a Call besides its content and its table: 2 of the message, 6 of the Call, 2 of its target with 2 of
-/// the answer and 17 of a path of 16 steps, and 2 of the payload.
+/// The words of a Call besides its content and its table. There are 2 of the message, 6 of the Call, 2 of its target
+/// with 2 of the answer and 17 of a path of 16 steps, and 2 of the payload.
 const CALL_WORDS: u64 = 31;
 
 /// The words of a Return besides its content and its table: 2 of the message, 3 of the Return and 2 of the payload.
@@ -61,10 +61,10 @@ fn reason_fits(exception: &Exception) -> bool
 }
 
 /// Does what a command gives fit into the frame of every message that carries it to a peer? That is so with whatever
-/// target, and with descriptors of whatever length, that a Call or a Return may have. A command that says no would be
-/// refused by `encode` later, or could be, with the longest of paths: a content that nests deeper than 61 levels or
-/// takes more words than the largest message of its kind leaves for it, or a reason too long for a Return. Other
-/// commands give nothing that can be too large.
+/// target, and with descriptors of whatever length, that a Call or a Return may have. A command for which it says no
+/// would be refused by `encode` later, or could be, with the longest of paths. Its content nests deeper than 61 levels
+/// or takes more words than the largest message of its kind leaves for it, or its reason is too long for a Return.
+/// Other commands give nothing that can be too large.
 #[tactic(auto, using(crate::proofs::Room::calls_fit, crate::proofs::Room::returns_fit, crate::proofs::Room::rejects_fit, crate::proofs::Room::throws_fit, crate::proofs::Room::alone))]
 pub fn fits_envelope(command: &Command) -> bool
     ensures carried { result ≡ true → (m : SpecMessage) → Carries command.now m → IsOk (message_frame m) }

@@ -78,7 +78,7 @@ impl<'t> Block<'t> {
         !self.number::<bool>(at)
     }
 
-    /// What a pointer leads to, where there is one of that number; where there is none it would be null.
+    /// What a pointer leads to, if there is one of that number; if there is none it would be null.
     pub fn pointer(&self, number: usize) -> Option<&'t Tree>
         ensures { MatchOption result (pointer_at (trees_view self.now.pointers.now) number ≡ null) (λ t. view t.now ≡ pointer_at (trees_view self.now.pointers.now) number) }
     {

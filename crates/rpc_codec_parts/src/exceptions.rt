@@ -35,7 +35,7 @@ fn text_in_ascii(alloc: Global, bytes: &[u8]) -> Result<Text, Memory>
     }
 }
 
-/// The text of these bytes, in ASCII where they are not UTF-8.
+/// The text of these bytes, in ASCII if they are not UTF-8.
 fn readable_text(alloc: Global, bytes: &[u8]) -> Result<Text, Memory>
     ensures { IfOk result (λ text. text ≡ readable bytes.now) }
 {

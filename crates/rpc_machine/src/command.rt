@@ -70,7 +70,7 @@ pub enum Granted {
     Advanced(Advanced),
 }
 
-/// Why a command is refused. Its arguments are handed back and nothing is changed. Where several reasons hold, the first
+/// Why a command is refused. Its arguments are handed back and nothing is changed. If several reasons hold, the first
 /// of this order is given: Down, Level, UnknownRef, UnknownCall, UnknownTask, UnknownPromise, CapCount, LongPath, Cycle,
 /// Full, Memory.
 #[derive(Clone, Copy, Debug, PartialEq, Eq, Drop, Error)]
@@ -151,6 +151,6 @@ pub struct Effects {
     pub deliveries: Items<Delivery>,
     /// Calls of this vat's application that have their outcome, in order.
     pub answers: Items<Ended>,
-    /// The fault, where the step took the vat down.
+    /// The fault, if the step took the vat down.
     pub down: Option<u16>,
 }

@@ -17,7 +17,7 @@ pub fn sends_raise_counts()
     ensures { SendsRaiseCounts }
 {}
 
-/// No call of a reference is pending exactly where the world says that it is idle.
+/// No call of a reference is pending exactly if the world says that it is idle.
 pub fn idle_is_none_pending()
     ensures { IdleIsRight }
 {}

@@ -5,7 +5,7 @@ use rpc_journal::rpc_msg::{ExportId, ObjectId, Path, QuestionId};
 pub enum Reason {
     /// It stands for null, or for a descriptor that says none.
     NullCapability,
-    /// It stands for a place of a payload where there is something else than a capability.
+    /// It stands for a place of a payload at which there is something else than a capability.
     NotACapability,
     /// It was promised, and the promise was rejected or its outcome was an exception.
     BrokenPromise,

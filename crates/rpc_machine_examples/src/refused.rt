@@ -10,8 +10,8 @@ ghost use Rattle.rpc_machine_examples.specs.TakenQuestions.{QuestionsStayTaken, 
 use rpc_machine::sends_raise_counts;
 
 /// While its vat stays up, an embargo with its calls lasts, whatever the application does, until its Disembargo comes
-/// back; and a reference whose wire was resolved to something of its own vat goes there under an embargo only, in which
-/// its calls wait.
+/// back. A reference whose wire was resolved to something of its own vat goes there under an embargo only, in which its
+/// calls wait.
 pub fn embargoes_hold()
     ensures last { EmbargoesHold }
     ensures turn { ReceiverKindsEmbargo }
@@ -24,7 +24,7 @@ pub fn questions_stay_taken()
     ensures returned { ReturnedStay }
 {}
 
-/// A Resolve counts one on what its capability names, also where the promise is gone, and nothing on the promise.
+/// A Resolve counts one on what its capability names, also if the promise is gone, and nothing on the promise.
 pub fn resolves_count()
     ensures { ResolvesCount }
 {

@@ -18,7 +18,7 @@ pub fn of_messages()
     ensures { OfMessages }
 {}
 
-/// What the checks of messages find, each fault but want of room, and some refusals of commands.
+/// What the checks of messages find, each fault except lack of room, and some refusals of commands.
 pub fn of_checks()
     ensures { OfChecks }
 {}

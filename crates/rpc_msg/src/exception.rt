@@ -8,7 +8,7 @@ use std::alloc::Global;
 #[derive(Clone, Copy, Debug, PartialEq, Eq, Drop)]
 pub enum ExceptionKind {
     /// It would fail again if it were tried again with nothing else changed. A vat's own exceptions are of this kind,
-    /// except where a question came back Unimplemented.
+    /// except if a question came back Unimplemented.
     Failed,
     /// Something ran short for now. Trying again at once would make it worse; later may do.
     Overloaded,

@@ -67,7 +67,7 @@ pub struct PromiseId(pub u64);
 pub struct ObjectId(pub u64);
 
 /// Which call it is: the vat and the reference through which it was made, and how many calls were accepted through
-/// that reference before. It is set where the application makes the call and copied on every hop; no decision reads
+/// that reference before. It is set when the application makes the call and copied on every hop; no decision reads
 /// it. It is no part of `rpc.capnp`.
 #[derive(Clone, Copy, Debug, PartialEq, Eq, PartialOrd, Ord, Hash, Drop)]
 pub struct Stamp {

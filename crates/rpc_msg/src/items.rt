@@ -95,7 +95,7 @@ impl<T> Items<T> {
         items
     }
 
-    /// The list of one item; it comes back where there is no memory for it.
+    /// The list of one item; it comes back if there is no memory for it.
     pub fn one(alloc: Global, item: T) -> Result<Self, AllocFailed<T>>
     where
         T: Drop,
@@ -128,7 +128,7 @@ impl<T> Items<T> {
         self.items.as_slice()
     }
 
-    /// Puts an item at the end. Where memory is refused, the list stays as it was and the item comes back.
+    /// Puts an item at the end. If memory is refused, the list stays as it was and the item comes back.
     pub fn push(&mut self, item: T) -> Result<(), AllocFailed<T>>
         ensures ok { OnOk result (self.new ≡ self.old ++ item ∷ []) }
         ensures back { IfErr result (λ refused. refused.value ≡ item) }

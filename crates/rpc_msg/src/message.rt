@@ -85,10 +85,10 @@ impl ReturnBody {
     }
 }
 
-/// The outcome of a Call or a Bootstrap (`Return`). Each question gets one, also where its Finish came first, unless
+/// The outcome of a Call or a Bootstrap (`Return`). Each question gets one, also if its Finish came first, unless
 /// it is sent back as Unimplemented.
 ///
-/// Left out: `noFinishNeeded`. So a Finish is always sent, but for a question that came back Unimplemented.
+/// Left out: `noFinishNeeded`. So a Finish is always sent, except for a question that came back Unimplemented.
 #[derive(Drop)]
 pub struct Return {
     /// The id of the question (`answerId`).
@@ -157,10 +157,10 @@ impl ResolvedTo {
 
 /// A promise of the sender was resolved (`Resolve`). It is sent once for each export that is a promise.
 ///
-/// Whatever is still sent to the promise, its sender forwards to what it was resolved to, and never further, even
-/// where that is a promise which has been resolved since: so a Disembargo comes back the way that the calls before it
-/// went. The receiver may have given the promise back before the Resolve came. Then it gives back what the promise
-/// was resolved to as well.
+/// Whatever is still sent to the promise, its sender forwards to what it was resolved to, and never further, even if
+/// that is a promise which has been resolved since. So a Disembargo comes back the way that the calls before it went.
+/// The receiver may have given the promise back before the Resolve came. Then it gives back what the promise was
+/// resolved to as well.
 #[derive(Drop)]
 pub struct Resolve {
     /// The sender's export id of the promise (`promiseId`). It adds nothing to the export's count.
@@ -219,7 +219,7 @@ pub enum PlainMessage {
     /// it is not answered.
     Abort(Exception),
     /// Asks for the receiver's bootstrap object, by a free id (`bootstrap`). A Return answers it, whose payload is
-    /// the capability itself; calls may be sent to that before it comes. Where there is no such object it is an
+    /// the capability itself; calls may be sent to that before it comes. If there is no such object it is an
     /// exception. Left out: the obsolete object id.
     Bootstrap(QuestionId),
     Call(Call),
@@ -271,7 +271,7 @@ pub enum Message {
     Plain(PlainMessage),
     /// A message that the sender received and did not understand, sent back as it was (`unimplemented`). The vat that
     /// gets its own message back goes on as if it had done nothing: a question has failed, what a Resolve named is
-    /// given back, of a Release nothing is needed. Where nothing sensible can be done the connection ends. By its
+    /// given back, of a Release nothing is needed. If nothing sensible can be done the connection ends. By its
     /// type it holds no Unimplemented, though the schema would let it.
     Unimplemented(PlainMessage),
 }

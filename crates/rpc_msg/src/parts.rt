@@ -26,7 +26,7 @@ pub enum Descriptor {
     /// An object of the sender, by the sender's export id, new or known (`senderHosted`).
     SenderHosted(ExportId),
     /// A promise of the sender, by the sender's export id, new or known (`senderPromise`). One Resolve will follow
-    /// for it, however often it was given; none need follow where it was given back before. After its Resolve the id
+    /// for it, however often it was given; none need follow if it was given back before. After its Resolve the id
     /// is not given again until it is free.
     SenderPromise(ExportId),
     /// An object or a promise of the receiver, by the receiver's export id (`receiverHosted`). The sender must have

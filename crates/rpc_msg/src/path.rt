@@ -45,7 +45,7 @@ impl Path {
         }
     }
 
-    /// The path of these steps, where there are at most 16.
+    /// The path of these steps, if there are at most 16.
     pub fn from_ops(ops: &[Op]) -> Option<Self>
         ensures some { IfSome result (λ path. path ≡ ops.now) }
         ensures none { IsNone result ↔ (16 < length ops.now) }

@@ -61,7 +61,7 @@ impl Outgoing {
         self.bytes.truncate(len);
     }
 
-    /// Keeps the frame that sends back, whole, what was not understood, if there is any, behind the others. A `Fault` where it
+    /// Keeps the frame that sends back, whole, what was not understood, if there is any, behind the others. A `Fault` if it
     /// is too large to be sent back, and `Memory`, leave all as it was.
     pub fn keep(&mut self, original: Option<Tree>) -> Result<(), EncodeError>
         ensures { Keeps self.old (option_map view original) result self.new }
@@ -77,7 +77,7 @@ impl Outgoing {
     }
 
     /// Puts the frame of a message behind the bytes: for an Unimplemented of `Other` the oldest that is kept, which is kept
-    /// no longer; for every other message its own. A `Fault` where it has none, and `Memory`, leave all as it was.
+    /// no longer; for every other message its own. A `Fault` if it has none, and `Memory`, leave all as it was.
     pub fn write(&mut self, message: &Message) -> Result<(), EncodeError>
         ensures { Puts self.old message.now result self.new }
     {

@@ -25,7 +25,7 @@ impl fmt::Display for Explained {
 }
 
 /// Why a command was refused, by the core that refused it: the refusal, with the first reference of the command that is not
-/// there, or with its call, task or promise, where it speaks of one. The command stays with the caller.
+/// there, or with its call, task or promise, if it speaks of one. The command stays with the caller.
 pub fn explain(core: &Core, refused: &Refused<Command>) -> Explained
     ensures refusal { result.refusal ≡ refused.now.refusal }
     ensures number { result.number ≡ number_in core.now refused.now.refusal refused.now.back }

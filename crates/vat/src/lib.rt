@@ -29,7 +29,7 @@
 //! served in this order by whoever wants an object's calls in order. [`exchange`] carries the messages of two hosts in one
 //! process.
 //!
-//! Going down: by `shut`, by a fault of the peer, by its Abort, or where room or memory is wanting. The last message is
+//! Going down: by `shut`, by a fault of the peer, by its Abort, or when room or memory runs out. The last message is
 //! then the Abort: send it, and close the connection. Everything else is gone.
 //!
 //! Refusals: a refused command changes nothing and comes back ([`Refused`]); [`explain`] says of which reference, call,

@@ -9,7 +9,7 @@ use rpc_machine::Fault;
 use std::alloc::Global;
 
 /// A vat that is up takes bytes of a stream: it hears the frames that wait and those that are whole now, as far as its load allows it,
-/// to the first with which it goes down. What is no frame takes it down with the fault's number, and want of memory with 33.
+/// to the first with which it goes down. What is no frame takes it down with the fault's number, and running out of memory with 33.
 pub(crate) fn receive(
     speaker: &mut Speaker,
     inflow: &mut Inflow,

@@ -71,7 +71,7 @@ impl Connection {
 
     /// Takes bytes of the peer, in any pieces: the vat hears each frame that is whole now, in order, and the rest waits. While its load
     /// is above the limits, frames wait too. What is no frame, or a frame that is at fault, takes the vat down with the fault's number,
-    /// and want of memory with 33. A vat that is down drops what comes.
+    /// and running out of memory with 33. A vat that is down drops what comes.
     pub fn received(&mut self, bytes: &[u8])
         ensures { Receives self.old bytes.now self.new }
     {
@@ -115,7 +115,7 @@ impl Connection {
     }
 
     /// Hands out the bytes that are to be sent to the peer, once: the frames of all messages that the vat has said by now. Frames that
-    /// wait unheard are heard before, as the load allows it. If a message has no frame, or memory is wanting for it, the vat goes down
+    /// wait unheard are heard before, as the load allows it. If a message has no frame, or memory runs out for it, the vat goes down
     /// with 33, and of what it said from there on an Abort alone is sent. After that of a vat that is down nothing more is.
     pub fn outgoing(&mut self) -> Vec<u8>
         ensures { Gives self.old result.items self.new }
@@ -192,8 +192,8 @@ impl Connection {
         self.inflow.is_empty() && self.speaker.may_hear(self.limits)
     }
 
-    /// Takes a command of any kind, as `Host::command` does. Refused with `Full` too, where what it gives may be too large for
-    /// the frames that carry it (docs/messages.md, "What fits"), and with `Memory`, but for a `Shut`, where there is no place for a
+    /// Takes a command of any kind, as `Host::command` does. Refused with `Full` too, if what it gives may be too large for
+    /// the frames that carry it (docs/messages.md, "What fits"), and with `Memory`, except for a `Shut`, if there is no place for a
     /// call that it may make. A command that is refused is handed back.
     pub fn command(&mut self, command: Command) -> Result<Granted, Refused<Command>>
         ensures done { IfOk result (λ granted. Does self.old.speaker.host command granted self.new.speaker.host × Fits command) }
@@ -208,7 +208,7 @@ impl Connection {
         self.command_with_place(command)
     }
 
-    // Takes a command, where there is a place for a call that it may make.
+    // Takes a command, if there is a place for a call that it may make.
     fn command_with_place(&mut self, command: Command) -> Result<Granted, Refused<Command>>
         requires { is_shut command ≡ false }
         ensures done { IfOk result (λ granted. Does self.old.speaker.host command granted self.new.speaker.host × Fits command) }

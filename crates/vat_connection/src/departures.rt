@@ -15,7 +15,7 @@ use vat_host::Host;
 
 impl Speaker {
     /// Puts the frames of all that the vat has to say behind the bytes, and lets it hear what it is to hear of that, until it has
-    /// no more to say. Where a message has no frame, or memory is wanting for it, the vat goes down with 33, and of those behind
+    /// no more to say. If a message has no frame, or memory runs out for it, the vat goes down with 33, and of those behind
     /// it none is put but an Abort.
     pub(crate) fn say(&mut self)
         ensures { Says self.old self.new }
@@ -124,7 +124,7 @@ fn tell(out: &mut Outgoing, told: Told) -> bool
     true
 }
 
-// Puts the frame of a Release of one of each of these exports behind the bytes, to the first for which memory is wanting; says
+// Puts the frame of a Release of one of each of these exports behind the bytes, to the first for which memory runs out; says
 // whether that was none.
 fn give_back(out: &mut Outgoing, exports: Items<ExportId>) -> bool
     ensures all { IsTrue result → GivesBack out.old exports out.new }

@@ -21,7 +21,7 @@ const BYTES_OF_A_WORD: u64 = 8;
 
 impl Speaker {
     /// Hears what a frame says. The frame of what is not understood is kept to go back. A fault takes the vat down with its number, and
-    /// want of memory with 33.
+    /// running out of memory with 33.
     pub(crate) fn hear_frame(&mut self, frame: &[u8])
         ensures { HearsUp self.old frame.now self.new }
     {

@@ -1,5 +1,5 @@
-//! A vat that speaks with another by bytes, without input or output of its own (docs/embedding.md, "Over bytes"): the bytes of
-//! the peer are handed to it in any pieces, and the bytes for the peer are taken from it.
+//! A vat that speaks with another by bytes, without input or output of its own (docs/embedding.md, "Over bytes"). The
+//! bytes of the peer are handed to it in any pieces, and the bytes for the peer are taken from it.
 //!
 //! - `connection.rt`: `Connection`, a vat with the streams of both directions, and what is told of it. The commands by name: `calls.rt`,
 //!   `refs.rt`, `promises.rt`, `tasks.rt`.

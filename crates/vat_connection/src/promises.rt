@@ -26,7 +26,7 @@ impl Connection {
         self.speaker.host.resolve(promise, reference)
     }
 
-    /// Breaks a promise, as `Core::reject` does. Refused with `Full` too, where the exception's reason may be too long for the
+    /// Breaks a promise, as `Core::reject` does. Refused with `Full` too, if the exception's reason may be too long for the
     /// frames that carry it. A refusal changes nothing, and the exception is handed back.
     pub fn reject(
         &mut self,

@@ -177,7 +177,7 @@ fn fitting(call: CallCommand) -> Result<CallCommand, Refused<CallCommand>>
     })
 }
 
-/// Takes the vat down for want of room, or of memory, if it is up.
+/// Takes the vat down for lack of room, or of memory, if it is up.
 pub(crate) fn lack_room(host: &mut Host)
     ensures { Shuts host.old want_of_room host.new }
 {

@@ -11,7 +11,7 @@ use rpc_msg::{Exception, Items, Payload, RefId, TaskId};
 use vat_host::Refused;
 
 impl Connection {
-    /// Gives a task its results, as `Core::answer` does. Refused with `Full` too, where they may be too large for the frame that
+    /// Gives a task its results, as `Core::answer` does. Refused with `Full` too, if they may be too large for the frame that
     /// carries them (docs/messages.md, "What fits"). A refusal changes nothing, and the results are handed back.
     pub fn answer(
         &mut self,
@@ -28,7 +28,7 @@ impl Connection {
         }
     }
 
-    /// Gives a task an exception, as `Core::fail` does. Refused with `Full` too, where its reason may be too long for the frame
+    /// Gives a task an exception, as `Core::fail` does. Refused with `Full` too, if its reason may be too long for the frame
     /// that carries it. A refusal changes nothing, and the exception is handed back.
     pub fn fail(&mut self, task: TaskId, exception: Exception) -> Result<(), Refused<Exception>>
         ensures asks { AsksToFit self.old (command.Fail task exception) (answered result (λ _. granted.Done) (λ e. e.refusal)) self.new }

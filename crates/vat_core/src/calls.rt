@@ -60,7 +60,7 @@ impl Core {
         Ok(done)
     }
 
-    // Any call: `call` takes a shorter way where it goes to an import at once.
+    // Any call: `call` takes a shorter way if it goes to an import at once.
     #[inline(never)]
     fn call_any(&mut self, call: CallCommand) -> Result<(CallId, Effects), Refused<CallCommand>>
         ensures handed_back { IfErr result (λ e. e.back ≡ call) }

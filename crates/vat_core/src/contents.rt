@@ -6,7 +6,7 @@ use rpc_msg::{Items, Memory, Payload, RefId};
 
 impl Core {
     /// What a call or an answer carries that gives nothing, or one capability: null, or the pointer to that, and the
-    /// references that go with it. In memory of their own; `Memory` where a growth was refused.
+    /// references that go with it. In memory of their own; `Memory` if a growth was refused.
     pub fn contents(&self, given: Option<RefId>) -> Result<(Payload, Items<RefId>), Memory>
         ensures payload { IfOk result (λ contents. contents.0 ≡ payload_of given) }
         ensures refs { IfOk result (λ contents. contents.1 ≡ option_to_list given) }

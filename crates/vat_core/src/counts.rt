@@ -19,7 +19,7 @@ impl Core {
         Some(entry.made)
     }
 
-    /// The ids and counts of its exports and imports, by rising id; in memory of their own. `Memory` where a growth was
+    /// The ids and counts of its exports and imports, by rising id; in memory of their own. `Memory` if a growth was
     /// refused.
     pub fn counts(&self) -> Result<Counts, Memory>
         ensures { IfOk result (λ counts. counts ≡ counts_of self.now) }

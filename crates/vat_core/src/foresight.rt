@@ -20,7 +20,7 @@ impl Core {
         }
     }
 
-    /// The kind in which the peer's export of that id was named first, where it is an import here, and whether a Resolve of it came.
+    /// The kind in which the peer's export of that id was named first, if it is an import here, and whether a Resolve of it came.
     /// Takes no memory.
     pub fn named_as(&self, export: ExportId) -> Option<(SenderKind, bool)>
         ensures { result ≡ named_as (map.get self.now.imports export.0) }

@@ -37,7 +37,7 @@ impl Core {
     }
 
     /// Settles a promise to what a reference leads to: gives what follows. Refused, with nothing changed: `Down`; `Level` at
-    /// level 0; `UnknownRef`; `UnknownPromise`, settled ones too; `Cycle` where the reference leads to the promise. Where
+    /// level 0; `UnknownRef`; `UnknownPromise`, settled ones too; `Cycle` if the reference leads to the promise. If
     /// memory is refused or a limit met, the vat goes down with fault 33.
     pub fn resolve(&mut self, promise: PromiseId, reference: RefId) -> Result<Effects, Refusal>
         ensures unchanged { OnErr result (self.new ≡ self.old) }
@@ -59,7 +59,7 @@ impl Core {
     }
 
     /// Breaks a promise: gives what follows. Refused, with nothing changed and the exception handed back: `Down`; `Level` at
-    /// level 0; `UnknownPromise`, settled ones too. Where memory is refused or a limit met, the vat goes down with fault 33.
+    /// level 0; `UnknownPromise`, settled ones too. If memory is refused or a limit met, the vat goes down with fault 33.
     pub fn reject(
         &mut self,
         promise: PromiseId,

@@ -129,7 +129,7 @@ impl Core {
 
     /// Lets a reference take the shorter path to which its promise was resolved, if one is known: gives what became of it,
     /// and what follows. Refused, with nothing changed: `Down`; `Level` at level 0; `UnknownRef`; `Full` at 4,096 embargoes,
-    /// where it would need one; `Memory`.
+    /// if it would need one; `Memory`.
     pub fn advance(&mut self, id: RefId) -> Result<(Advanced, Effects), Refusal>
         ensures unchanged { OnErr result (self.new ≡ self.old) }
         ensures done { IfOk result (λ done. Obeys self.old (command.Advance id) (Ok (granted.Advanced done.0)) done.1 self.new) }

@@ -15,7 +15,7 @@ use rpc_msg::{Exception, Items, Payload, RefId, TaskId};
 impl Core {
     /// Gives a task its results, with what these references lead to as their capabilities; the references stay the caller's.
     /// Gives what follows. Refused, with nothing changed and the results handed back: `Down`; `Level` for references at level
-    /// 0; `UnknownRef`; `UnknownTask`, answered ones too; `CapCount`. Where memory is refused or a limit met, the vat goes
+    /// 0; `UnknownRef`; `UnknownTask`, answered ones too; `CapCount`. If memory is refused or a limit met, the vat goes
     /// down with fault 33.
     pub fn answer(
         &mut self,
@@ -56,7 +56,7 @@ impl Core {
     }
 
     /// Gives a task an exception: gives what follows. Refused, with nothing changed and the exception handed back: `Down`;
-    /// `UnknownTask`, answered ones too. Where memory is refused or a limit met, the vat goes down with fault 33.
+    /// `UnknownTask`, answered ones too. If memory is refused or a limit met, the vat goes down with fault 33.
     pub fn fail(
         &mut self,
         task: TaskId,

@@ -42,7 +42,7 @@ impl Model for Core {
 }
 
 impl Core {
-    /// The core of a new vat, of that level and with that bootstrap object if it has one. `Memory` where the memory of its
+    /// The core of a new vat, of that level and with that bootstrap object if it has one. `Memory` if the memory of its
     /// Abort was refused.
     pub fn new(
         alloc: Global,
@@ -91,8 +91,9 @@ impl Core {
         self.machine.step.store.level
     }
 
-    /// Takes a message of the other vat, and gives what follows. A vat that is down does nothing. A message that is a fault
-    /// takes the vat down with the fault's number, and so does want of room or of memory (33), which an Abort never needs.
+    /// Takes a message of the other vat, and gives what follows. A vat that is down does nothing. A message that is a
+    /// fault takes the vat down with the fault's number, and so does lack of room or of memory (33), which an Abort
+    /// never needs.
     ///
     /// Whatever the message is, calls of the peer are delivered to those objects alone that it could reach before, and the peer may
     /// reach no more than before; a Bootstrap alone opens the bootstrap object. In each run that leads here, these objects were

@@ -27,8 +27,8 @@ pub enum Event {
     /// No place of the vat names the object any more, which the application hosted. No call is delivered to it until the
     /// application hosts it again.
     Released(ObjectId),
-    /// The vat went down, with that number. If it was by an Abort of the peer, its reason comes with it; it is empty too if memory was
-    /// wanting for that. Nothing is told after it.
+    /// The vat went down, with that number. If it was by an Abort of the peer, its reason comes with it; it is empty
+    /// too if there was no memory for that. Nothing is told after it.
     Down(u16, Text),
 }
 

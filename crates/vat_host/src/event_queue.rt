@@ -65,7 +65,7 @@ impl EventQueue {
         }
     }
 
-    /// Puts what a step left to tell at the end, where there is room unless it is nothing. Takes no memory.
+    /// Puts what a step left to tell at the end, if there is room unless it is nothing. Takes no memory.
     pub(crate) fn append(
         &mut self,
         deliveries: Items<Delivery>,

@@ -15,7 +15,7 @@ pub fn exchange(a: &mut Host, b: &mut Host, rounds: usize) -> bool
     !a.is_idle() || !b.is_idle()
 }
 
-// So many rounds, or fewer where there is nothing more to carry.
+// So many rounds, or fewer if there is nothing more to carry.
 fn go_rounds(a: &mut Host, b: &mut Host, rounds: usize)
     ensures { Exchanges rounds a.old b.old a.new b.new }
 {

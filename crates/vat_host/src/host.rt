@@ -55,7 +55,7 @@ impl Model for Host {
 }
 
 impl Host {
-    /// A new vat, of that level and with that bootstrap object if it has one. `Memory` where the memory of its Abort was
+    /// A new vat, of that level and with that bootstrap object if it has one. `Memory` if the memory of its Abort was
     /// refused.
     pub fn new(
         alloc: Global,
@@ -104,8 +104,8 @@ impl Host {
         !self.kept.messages.is_empty()
     }
 
-    /// Takes a command of any kind, as `Core::command` does, and keeps what follows. Refused with `Memory` too, but for a shut,
-    /// where what follows has no place.
+    /// Takes a command of any kind, as `Core::command` does, and keeps what follows. Refused with `Memory` too, except for a shut,
+    /// if what follows has no place.
     pub fn command(&mut self, command: Command) -> Result<Granted, Refused<Command>>
         ensures { Commands self.old command result self.new }
     {
@@ -145,7 +145,7 @@ impl Host {
         }
     }
 
-    /// Takes a message of the peer, as `Core::receive` does, and keeps what follows. Where that has no place the vat goes down
+    /// Takes a message of the peer, as `Core::receive` does, and keeps what follows. If that has no place the vat goes down
     /// with fault 33.
     pub fn receive(&mut self, message: Message)
         ensures { Hears self.old message self.new }
@@ -210,9 +210,9 @@ impl Host {
         Some(message)
     }
 
-    /// Takes out the oldest event that is to be told: those of one step behind those of the steps before; of one step the calls to
-    /// be served, in their order, then the own calls that ended, and then what its message made known. Behind them all, of a vat that
-    /// is up, each object that is released; once it is down, that.
+    /// Takes out the oldest event that is to be told. Those of one step come behind those of the steps before. Of one
+    /// step the calls to be served come first, in their order, then the own calls that ended, and then what its message
+    /// made known. Behind them all, of a vat that is up, each object that is released; once it is down, that.
     pub fn next_event(&mut self) -> Option<Event>
         ensures { Tells self.old result self.new }
     {
@@ -346,7 +346,7 @@ fn reason_of(message: &Message) -> Option<&Text>
     }
 }
 
-// The text; or an empty one, if memory is wanting for it.
+// The text; or an empty one, if memory runs out for it.
 fn copied(alloc: Global, text: &Text) -> Text
     ensures { (result ≡ text.now) ⊎ (result ≡ []) }
 {

@@ -43,7 +43,7 @@ impl Kept {
         Ok(())
     }
 
-    /// Keeps what a step left to do, and what its message made known, where there is a place for it. Takes no memory.
+    /// Keeps what a step left to do, and what its message made known, if there is a place for it. Takes no memory.
     pub(crate) fn keep(&mut self, effects: Effects, known: Option<Event>)
         requires messages_place { HasPlace effects.sends self.old.messages.1 }
         requires events_place { HasPlace (told effects known) self.old.events.1 }

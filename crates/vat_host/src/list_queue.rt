@@ -51,7 +51,7 @@ impl<T: Drop> ListQueue<T> {
         }
     }
 
-    /// Puts the items of a list at the end, where there is room for one unless it is empty. Takes no memory.
+    /// Puts the items of a list at the end, if there is room for one unless it is empty. Takes no memory.
     pub(crate) fn append(&mut self, list: Items<T>)
         requires { 0 < length list → 0 < self.old.1 }
         ensures items { self.new.0 ≡ self.old.0 ++ list }

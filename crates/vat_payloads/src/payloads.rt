@@ -18,10 +18,10 @@ const MOST_POINTERS: u32 = 65_535;
 // So many capabilities have a pointer each beside that of the text.
 const MOST_CAPS: usize = 65_534;
 
-/// What a call or an answer carries that says some numbers, a text, and some capabilities: a struct whose data words are
-/// the numbers, with the text as its pointer 0 and the capabilities as its pointers 1, 2 and so on; and the references that
-/// go with it, in their order. Refused with `TooLarge` where it has more than 65,534 references or 65,535 numbers, or would
-/// take more than 65,536 words, and with `Memory` where a growth was refused.
+/// What a call or an answer carries that says some numbers, a text, and some capabilities. It is a struct whose data
+/// words are the numbers, with the text as its pointer 0 and the capabilities as its pointers 1, 2 and so on. With it
+/// go the references, in their order. Refused with `TooLarge` if it has more than 65,534 references or 65,535 numbers,
+/// or would take more than 65,536 words, and with `Memory` if a growth was refused.
 pub fn contents(
     alloc: Global,
     numbers: &[u64],
@@ -46,9 +46,9 @@ pub fn contents(
     Ok((payload, Items::from_vec(given)))
 }
 
-/// A payload that says some numbers, a text, if there is one, and so many capabilities: a struct whose data words are the numbers,
-/// with the text as its pointer 0, if there is one, and the capabilities as the pointers behind it. Refused with `Memory`, or if it
-/// has more than 65,535 capabilities or passes a limit of payloads.
+/// A payload that says some numbers, a text, if there is one, and so many capabilities. It is a struct whose data words
+/// are the numbers, with the text as its pointer 0, if there is one, and the capabilities as the pointers behind it.
+/// Refused with `Memory`, or if it has more than 65,535 capabilities or passes a limit of payloads.
 pub fn payload(
     alloc: Global,
     numbers: &[u64],

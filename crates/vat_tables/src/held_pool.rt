@@ -91,8 +91,8 @@ impl<T> HeldPool<T> {
         self.lists.contains(key.0)
     }
 
-    /// Makes room in memory, so that the next so many calls are not refused for want of it, each in a list of its own or
-    /// at the end of one; the limit of 65,536 calls stands beside it. `Err` where there was no room and the growth was
+    /// Makes room in memory, so that the next so many calls are not refused for lack of it, each in a list of its own
+    /// or at the end of one; the limit of 65,536 calls stands beside it. `Err` if there was no room and the growth was
     /// refused. The lists stay as they are, and the room does not fall.
     pub fn reserve(&mut self, more: usize) -> Result<(), Memory>
         ensures same { self.new.lists ≡ self.old.lists }
@@ -108,8 +108,8 @@ impl<T> HeldPool<T> {
         Ok(())
     }
 
-    /// Starts a list with this call. A call that is refused comes back: `Full` at 65,536 calls, and there alone;
-    /// `Memory` where there was no room and the growth was refused. Constant work.
+    /// Starts a list with this call. A call that is refused comes back: `Full` at 65,536 calls, and only then; `Memory`
+    /// if there was no room and the growth was refused. Constant work.
     pub fn start(&mut self, call: T) -> Result<ListKey, (TableFault, T)>
         ensures free { IfOk result (λ key. map.get self.old.lists key.0 ≡ None) }
         ensures ok { IfOk result (λ key. self.new.lists ≡ map.insert self.old.lists key.0 (call ∷ [])) }
@@ -137,7 +137,7 @@ impl<T> HeldPool<T> {
     }
 
     /// Puts a call at the end of a list, which must be there. A call that is refused comes back: `Full` at 65,536
-    /// calls, and there alone; `Memory` where there was no room and the growth was refused. Constant work.
+    /// calls, and only then; `Memory` if there was no room and the growth was refused. Constant work.
     pub fn push(&mut self, key: ListKey, call: T) -> Result<(), (TableFault, T)>
         requires { IsSome (map.get self.old.lists key.0) }
         ensures ok { OnOk result (IfSome (map.get self.old.lists key.0) (λ list. self.new.lists ≡ map.insert self.old.lists key.0 (list ++ call ∷ []))) }
@@ -166,7 +166,7 @@ impl<T> HeldPool<T> {
         Ok(())
     }
 
-    /// Takes the first call of a list, and says whether the list goes on; where it does not, the key is gone. Constant
+    /// Takes the first call of a list, and says whether the list goes on; if it does not, the key is gone. Constant
     /// work, which takes no memory.
     pub fn pop(&mut self, key: ListKey) -> Option<(T, bool)>
         ensures first { PopsFirst self.old.lists key.0 (map.get self.old.lists key.0) result self.new.lists }
@@ -205,7 +205,7 @@ impl<T> HeldPool<T> {
         };
     }
 
-    /// Whether `f` is true of some call of that list; of none where there is no such list. Takes no memory.
+    /// Whether `f` is true of some call of that list; of none if there is no such list. Takes no memory.
     pub fn any_in<F: Fn(&T) -> bool>(&self, key: ListKey, f: F) -> bool
     where
         F: Drop,

@@ -19,7 +19,7 @@ pub(crate) struct NodeIndex {
     promises: Numbered<u32>,
     imports: Numbered<u32>,
     hashed: HashMap<Node, u32>,
-    // How many fields of each outcome are among the hashed, where there are any.
+    // How many fields of each outcome are among the hashed, if there are any.
     fields: Numbered<u32>,
 }
 

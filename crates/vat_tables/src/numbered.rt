@@ -16,7 +16,7 @@ use std::marker::Model;
 use std::mem;
 
 /// Entries under numbers of 64 bits, as many as memory allows: seen by contracts as the entries by number, and how
-/// many new ones need no more memory. Each call but `numbers` is constant work, but where memory grows.
+/// many new ones need no more memory. Each call but `numbers` is constant work, except when memory grows.
 ///
 /// An entry whose number is low stands in the place of its number, and is found at once; the others are hashed.
 #[derive(Drop)]
@@ -55,7 +55,7 @@ fn numbers_of_places<Entry>(places: &[Option<Entry>], alloc: Global) -> Result<V
     Ok(numbers)
 }
 
-// So many more numbers have a place, where there is room.
+// So many more numbers have a place, if there is room.
 fn add_places<Entry>(places: &mut Vec<Option<Entry>>, more: usize)
     requires { vec_len places.old + more ≤ vec_capacity places.old }
     ensures { HasSamePlaces places.old.items places.new.items }
@@ -152,7 +152,7 @@ impl<Entry> Numbered<Entry> {
         Ok(numbers)
     }
 
-    /// Makes room, so that the next so many `add`s are not refused. `Err` where there was no room and the growth was
+    /// Makes room, so that the next so many `add`s are not refused. `Err` if there was no room and the growth was
     /// refused. The entries stay as they are, and the room does not fall.
     pub fn reserve(&mut self, more: usize) -> Result<(), Memory>
         ensures same { self.new.entries ≡ self.old.entries }
@@ -164,7 +164,7 @@ impl<Entry> Numbered<Entry> {
         self.reserve_hashed(more)
     }
 
-    // Gives so many more numbers a place, where none is hashed and there is memory.
+    // Gives so many more numbers a place, if none is hashed and there is memory.
     fn widen(&mut self, more: usize)
         ensures { self.new ≡ self.old }
     {

@@ -13,7 +13,7 @@ use std::marker::Model;
 const KEY_LIMIT: usize = 4_294_967_296;
 
 /// Entries under keys below 2^32 that the table picks, as many as memory allows: seen by contracts as the entries by
-/// key, and how many new ones need no more memory. Each call is constant work, but where memory grows.
+/// key, and how many new ones need no more memory. Each call is constant work, except when memory grows.
 #[derive(Drop)]
 pub struct Picked<Entry> {
     slab: Slab<Entry>,
@@ -65,7 +65,7 @@ impl<Entry> Picked<Entry> {
         self.slab.iter()
     }
 
-    /// Makes room, so that the next so many `add`s are not refused. `Err` where there was no room and the growth was
+    /// Makes room, so that the next so many `add`s are not refused. `Err` if there was no room and the growth was
     /// refused, or it would take keys past 2^32; there may be less room then. The entries stay as they are.
     pub fn reserve(&mut self, more: usize) -> Result<(), Memory>
         ensures same { self.new.entries ≡ self.old.entries }

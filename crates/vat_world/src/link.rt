@@ -67,7 +67,7 @@ impl Link {
         }
     }
 
-    /// Puts these messages at the end, where there is room, and gives back their list, which is empty. Takes no memory.
+    /// Puts these messages at the end, if there is room, and gives back their list, which is empty. Takes no memory.
     #[inline(always)]
     pub(crate) fn append(&mut self, more: Items<Message>) -> Items<Message>
         requires { length more ≤ self.old.1 }

@@ -50,7 +50,7 @@ impl Side {
         })
     }
 
-    /// Whether its vat went down for want of memory: with 33, by no shut, and without meeting a limit.
+    /// Whether its vat went down for lack of memory: with 33, by no shut, and without meeting a limit.
     pub(crate) fn lacked_memory(&self) -> bool
         ensures down { IsTrue result → self.now.core.down ≡ Some want_of_room }
         ensures by_itself { IsTrue result → self.now.was_shut ≡ false }

@@ -21,7 +21,7 @@ use rpc_machine::{Command, Effects, Granted, Refusal};
 use rpc_msg::{Items, Memory, Message, Vat};
 use std::alloc::Global;
 
-/// A command at a vat. Answers what its core answers, with the effects of going down where the link or the journal could
+/// A command at a vat. Answers what its core answers, with the effects of going down if the link or the journal could
 /// not grow. The commands of a call that takes its usual course go to the core's call of their name at once.
 pub(crate) fn obey(
     alloc: Global,
@@ -192,7 +192,7 @@ pub(crate) fn tell_refused(
     } = quiet;
 }
 
-// What is left of an answer: where there was no room, a reference that was to advance did not.
+// What is left of an answer: if there was no room, a reference that was to advance did not.
 fn left_of(granted: Granted, room: bool) -> Granted
     ensures { Ok result ≡ cond room (Ok granted) (given_up (Ok granted)) }
 {
@@ -213,7 +213,7 @@ fn no_effects(alloc: Global) -> Effects
     }
 }
 
-/// A vat receives the oldest message on its way to it. `Empty` where there is none, or the vat is down.
+/// A vat receives the oldest message on its way to it. `Empty` if there is none, or the vat is down.
 #[inline(always)]
 pub(crate) fn deliver(
     alloc: Global,

@@ -24,10 +24,10 @@ use std::alloc::Global;
 use std::marker::Model;
 
 /// Two vats of level 1, the messages on their way between them, and the journal of what happens. It keeps the room that both
-/// vats need to go down, so that want of memory takes a vat down and is written.
+/// vats need to go down, so that running out of memory takes a vat down and is written.
 ///
-/// Contracts see it as the world of `docs/protocol.md`, and every value of this type is one to which a run of two new vats
-/// leads, with the journal of that run: so what is promised of every run holds of it (`promises`).
+/// Contracts see it as the world of `docs/protocol.md`, and every value of this type is one to which a run of two new
+/// vats leads, with the journal of that run. So what is promised of every run holds of it (`promises`).
 pub struct World {
     a: Side,
     b: Side,
@@ -61,7 +61,7 @@ impl Model for World {
 }
 
 impl World {
-    /// Two new vats of level 1 with those bootstrap objects, if they have one. `Memory` where the room that they keep was
+    /// Two new vats of level 1 with those bootstrap objects, if they have one. `Memory` if the room that they keep was
     /// refused.
     pub fn new(
         alloc: Global,
@@ -81,13 +81,13 @@ impl World {
         })
     }
 
-    /// Lets an event happen, and answers it: what a command answers, what a received message did, or `Empty` where there is
+    /// Lets an event happen, and answers it: what a command answers, what a received message did, or `Empty` if there is
     /// no message or the vat is down. What happened is at the end of the journal. A command that is refused is handed back.
-    /// Where a link or the journal can't grow for it, the acting vat goes down with fault 33.
+    /// If a link or the journal can't grow for it, the acting vat goes down with fault 33.
     ///
-    /// Whatever happened before: the calls delivered through a reference are a beginning of those made through it, in order,
-    /// each once, all at the object for which it stands; all of them once none is held or on its way; each ends as it was
-    /// answered; and what else is promised (`journal`). The vats keep their bootstrap objects.
+    /// Whatever happened before, the calls delivered through a reference are a beginning of those made through it, in
+    /// order, each once, all at the object for which it stands. All of them are delivered once none is held or on its
+    /// way. Each ends as it was answered. What else is promised, `journal` says. The vats keep their bootstrap objects.
     #[inline(always)]
     pub fn step(&mut self, event: Event) -> StepAnswer
         ensures steps { Steps self.old event result self.new }
@@ -213,19 +213,20 @@ impl World {
     /// The entries of all that happened, the oldest first: those of a run of two new vats (`reached`), whatever they were
     /// commanded and whenever messages came.
     ///
-    /// By it the calls delivered through a reference are a beginning of those made through it, in order (`in_order`); no two
-    /// of these are one (`numbered`), so each is delivered once; all are at one object (`at_one`), the one for which the
-    /// reference stands by the journal (`to_object`), and it stands for nothing else (`means_one`), for good (`lasting`); and
-    /// while both vats are up, where none is held or on its way, all are delivered: once one was (`in_full`), and from the
-    /// first where the reference stands for an object (`none_lost`). Each delivery has the interface, method and payload of
-    /// the call that was made, and one new reference for each that was sent (`as_made`); each call ends once, as it was
-    /// answered, or with an exception that says why where its reference stands for broken, and with new references for those
-    /// that came (`ends`). A vat delivers nothing after it went down (`quiet`). While both are up, the count of each export
-    /// is what the other vat holds and what is on its way (`counts`). No check refuses a message of the other vat, but for
-    /// the limit of waiting calls and the Abort of one that is down (`unrefused`); a vat goes down once, for a shut, for that
-    /// limit, for want of room or memory, or because the other vat went down before (`downs`, `told`), and of each run that
-    /// leads here all is so that is promised of runs: a vat that was shut has the number of that shut (`sound`). And the
-    /// check of traces finds the journal good, with a head in front too (`is_good`, `headed`).
+    /// By it the calls delivered through a reference are a beginning of those made through it, in order (`in_order`).
+    /// No two of these are one (`numbered`), so each is delivered once. All are at one object (`at_one`), the one for
+    /// which the reference stands by the journal (`to_object`). It stands for nothing else (`means_one`), for good
+    /// (`lasting`). While both vats are up, if none is held or on its way, all are delivered: once one was (`in_full`),
+    /// and from the first if the reference stands for an object (`none_lost`). Each delivery has the interface, method
+    /// and payload of the call that was made, and one new reference for each that was sent (`as_made`). Each call ends
+    /// once, as it was answered, or with an exception that says why if its reference stands for broken, and with new
+    /// references for those that came (`ends`). A vat delivers nothing after it went down (`quiet`). While both are up,
+    /// the count of each export is what the other vat holds and what is on its way (`counts`). No check refuses a
+    /// message of the other vat, except for the limit of waiting calls and the Abort of one that is down (`unrefused`).
+    /// A vat goes down once, for a shut, for that limit, for lack of room or memory, or because the other vat went down
+    /// before (`downs`, `told`). Of each run that leads here all is so that is promised of runs: a vat that was shut
+    /// has the number of that shut (`sound`). And the check of traces finds the journal good, with a head in front too
+    /// (`is_good`, `headed`).
     pub fn journal(&self) -> &[JournalEntry]
         ensures entries { result.now ≡ self.now.journal }
         ensures reached { IsReached self.now }
@@ -254,7 +255,7 @@ impl World {
         self.journal.entries()
     }
 
-    /// Puts the counts of both vats' exports and imports at the end of the journal. `Memory` where a growth was refused:
+    /// Puts the counts of both vats' exports and imports at the end of the journal. `Memory` if a growth was refused:
     /// the world is as it was.
     pub fn note_tables(&mut self) -> Result<(), Memory>
         ensures ok { OnOk result (self.new ≡ record (self.old) { journal = self.old.journal ++ tables_entry self.old.world ∷ [] }) }
@@ -267,9 +268,9 @@ impl World {
         Ok(())
     }
 
-    /// Whether no call of that reference of that vat is held, embargoed or in a Call message on its way: so all that were
-    /// made through it, and not delivered, have another end; and while both vats are up, none was left out where the reference
-    /// stands for an object (`all_came`). Takes no memory.
+    /// Whether no call of that reference of that vat is held, embargoed or in a Call message on its way. So all that
+    /// were made through it, and not delivered, have another end. While both vats are up, none was left out if the
+    /// reference stands for an object (`all_came`). Takes no memory.
     pub fn idle(&self, vat: Vat, reference: RefId) -> bool
         ensures idle { result ≡ is_idle self.now.world (record { vat = vat; number = reference.0 }) }
         ensures none_pending { result ≡ true ↔ pending self.now.world (record { vat = vat; number = reference.0 }) ≡ [] }
@@ -301,7 +302,7 @@ impl World {
         }
     }
 
-    /// Whether that vat went down for want of memory: with 33, by no shut, and without meeting a limit, whose number is the same.
+    /// Whether that vat went down for lack of memory: with 33, by no shut, and without meeting a limit, whose number is the same.
     /// Takes no memory.
     pub fn lacked_memory(&self, vat: Vat) -> bool
         ensures down { IsTrue result → (core self.now.world vat).down ≡ Some want_of_room }
