@@ -14,7 +14,7 @@ ghost use Rattle.core_step_commands.specs.Named.{IsNamed};
 
 use core_step::{Step, send};
 use core_step_checks::{Known, known_of_wire, leads_back, wire_target};
-use core_store::settle;
+use core_store::{settle, shorten};
 use core_store_handles::{set_head, turn_under};
 use core_store_waits::open_embargo;
 use rpc_journal::Advanced;
@@ -150,8 +150,46 @@ fn advance_from(step: &mut Step, id: RefId, from: &Reference, wire: &Node) -> Ad
 /// Lets a reference take the shorter path, if one is known and that is not refused. It stays as it is while its calls
 /// wait under an embargo, while nothing is known, and if its wire leads back to itself. Else it leads to what its wire
 /// was resolved to; if that is of this vat, its calls wait until the Disembargo that it sends is back. Takes no memory,
-/// but at most three of the slack.
+/// but at most three of the slack, and what there is to make the ways that it looks along short.
 pub fn advance(step: &mut Step, id: RefId) -> Advanced
+    requires ready { IsReady step.old }
+    requires slack { 3 ≤ step.old.store.slack }
+    requires allowed { refused (state_of step.old.store) (command.Advance id) ≡ None }
+    ensures acts { Acts (progress_of step.old) (command.Advance id) (granted.Advanced result) (progress_of step.new) }
+    ensures left { step.old.store.slack ≤ step.new.store.slack + 3 }
+    ensures taken { step.new.store.waits.taken ≡ step.old.store.waits.taken }
+    ensures ready { IsReady step.new }
+{
+    shorten_ways(step, id);
+    advance_walked(step, id)
+}
+
+// Has the reference, and what its wire was resolved to, lead at once to where they lead, as far as there is memory for that.
+fn shorten_ways(step: &mut Step, id: RefId)
+    requires { IsReady step.old }
+    ensures { step.new ≡ step.old }
+{
+    let Some(reference) = step.store.refs.get(id.0) else {
+        return;
+    };
+    let head = reference.head;
+    let wire = shorten(&mut step.store, head);
+    shorten_beyond(step, wire);
+}
+
+// The same of what a wire was resolved to.
+fn shorten_beyond(step: &mut Step, wire: Node)
+    requires { IsReady step.old }
+    ensures { step.new ≡ step.old }
+{
+    let Known::Leads(_, to) = known_of_wire(&step.store, wire) else {
+        return;
+    };
+    shorten(&mut step.store, to);
+}
+
+// The same as `advance`, if the ways are short.
+fn advance_walked(step: &mut Step, id: RefId) -> Advanced
     requires ready { IsReady step.old }
     requires slack { 3 ≤ step.old.store.slack }
     requires allowed { refused (state_of step.old.store) (command.Advance id) ≡ None }

@@ -17,8 +17,24 @@ use vat_tables::TableFault;
 
 /// The descriptor of a node, in a message that is to be sent: an object, a promise or a field is exported, or has one more on
 /// the count of its export. `Full` if that takes the table of exports or the count past its limit. Takes no memory, but
-/// at most one of the slack.
+/// at most one of the slack, and what there is to make the way from the node short.
 pub fn describe(store: &mut Store, node: Node) -> Result<Descriptor, TableFault>
+    requires sound { IsSound store.old }
+    requires slack { 0 < store.old.slack }
+    ensures ok { IfOk result (λ said. Describes (state_of store.old) node said (state_of store.new)) }
+    ensures full { IfErr result (λ fault. fault ≡ TableFault.Full) }
+    ensures fits { (counts : Node → Option ℕ) → AreCounts (state_of store.old) counts → HasExportRoom (state_of store.old) counts (settle (state_of store.old) node) → IsOk result }
+    ensures left { (store.old.slack ≤ store.new.slack + 1) × (store.new.slack ≤ store.old.slack) }
+    ensures waits { store.new.waits ≡ store.old.waits }
+    ensures noted { noted_of store.new.names ≡ noted_of store.old.names }
+    ensures sound { IsSound store.new }
+{
+    core_store::shorten(store, node);
+    describe_walked(store, node)
+}
+
+// The same, if the way from the node is short.
+fn describe_walked(store: &mut Store, node: Node) -> Result<Descriptor, TableFault>
     requires sound { IsSound store.old }
     requires slack { 0 < store.old.slack }
     ensures ok { IfOk result (λ said. Describes (state_of store.old) node said (state_of store.new)) }

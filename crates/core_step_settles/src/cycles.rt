@@ -17,7 +17,8 @@ use std::alloc::Global;
 
 /// The value that an outcome takes under that key: if a capability would lead to itself by those behind it, an open
 /// promise that no command settles takes its place. Of the step only promises change. `Err` for lack of memory; the step
-/// is only to be dropped then. Takes no memory if no capability leads to a field of the outcome.
+/// is only to be dropped then. If no capability leads to a field of the outcome, it takes memory only to make the ways from
+/// them short, as far as there is any.
 pub fn fit(step: &mut Step, alloc: Global, key: u64, value: Value) -> Result<Value, Memory>
     requires ready { IsReady step.old }
     ensures fits { IfOk result (λ fit. FitsWith (state_of step.old.store) key value fit (state_of step.new.store)) }
@@ -35,8 +36,7 @@ pub fn fit(step: &mut Step, alloc: Global, key: u64, value: Value) -> Result<Val
     }
 }
 
-// The capabilities of an outcome, if none leads to itself, in the list in which they stood. Each walk is made once: from
-// where it comes to a capability that stands, what was kept of that one is known.
+// The capabilities of an outcome, if none leads to itself. The way from each is short from now on.
 fn untangle(
     step: &mut Step,
     alloc: Global,
@@ -45,6 +45,25 @@ fn untangle(
     caps: Items<Node>,
 ) -> Result<Items<Node>, Memory>
     requires ready { IsReady step.old }
+    ensures ok { IfOk result (λ fit. UntanglesWith (state_of step.old.store) key payload.now 0 caps fit (state_of step.new.store)) }
+    ensures only { OnOk result (progress_of step.new ≡ with_promises (progress_of step.old) step.new.store.waits.promises) }
+    ensures taken { OnOk result (step.new.store.waits.taken ≡ step.old.store.waits.taken) }
+    ensures ready { OnOk result (IsReady step.new) }
+{
+    core_store::shorten_all(&mut step.store, &caps);
+    untangle_walked(step, alloc, key, payload, caps)
+}
+
+// The same, in the list in which they stood. Each walk is made once: from where it comes to a capability that stands, what
+// was kept of that one is known.
+fn untangle_walked(
+    step: &mut Step,
+    alloc: Global,
+    key: u64,
+    payload: &Payload,
+    caps: Items<Node>,
+) -> Result<Items<Node>, Memory>
+    requires { IsReady step.old }
     ensures ok { IfOk result (λ fit. UntanglesWith (state_of step.old.store) key payload.now 0 caps fit (state_of step.new.store)) }
     ensures only { OnOk result (progress_of step.new ≡ with_promises (progress_of step.old) step.new.store.waits.promises) }
     ensures taken { OnOk result (step.new.store.waits.taken ≡ step.old.store.waits.taken) }

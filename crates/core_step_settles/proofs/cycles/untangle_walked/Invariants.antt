@@ -3,7 +3,7 @@ use Rattle.core_store.specs.Holding.{state_of}
 use Rattle.core_step.specs.InProgress.{progress_of, IsReady}
 use Rattle.core_step_settles.specs.Circles.{SoFar, with_promises}
 use Rattle.core_step_settles.specs.Ends.{Falls, KnowsEnds}
-use Rattle.core_step_settles.proofs.cycles.untangle.Given as goal
+use Rattle.core_step_settles.proofs.cycles.untangle_walked.Given as goal
 
 abbrev pub invariant-loop-at : goal.invariant-loop-at
 invariant-loop-at l = record {
