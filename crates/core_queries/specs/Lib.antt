@@ -3,6 +3,8 @@
 --   embargo.
 -- - `Peers`: which imports and questions are named.
 -- - `Sizes`: how many entries each of the four tables has.
+-- - `Tasks`: who made the calls that tasks are.
 pub mod Places
 pub mod Peers
 pub mod Sizes
+pub mod Tasks

@@ -2,6 +2,7 @@ ghost use Rattle.std.specs.Prelude.{◌≡◌, ◌&&◌, [], Some, not, is_some}
 ghost use Rattle.std.specs.FinMap as map;
 ghost use Rattle.rpc_uses.specs.Results.{answer_is_over, caller_is_over, cancelled, is_unwanted};
 ghost use Rattle.core_store.specs.Holding.{state_of, IsSound};
+ghost use Rattle.core_queries.specs.Tasks.{task_caller};
 
 use core_store::Store;
 use rpc_machine::{AnswerEntry, Caller};
@@ -18,6 +19,26 @@ pub fn wants_results(store: &Store, task: TaskId) -> bool
         return false;
     };
     !is_unwanted(store, *outcome)
+}
+
+/// Whether the task is not answered yet and nobody has use for its results. Constant work. No call may be taken out to be routed.
+pub fn is_cancelled(store: &Store, task: TaskId) -> bool
+    requires sound { IsSound store.now }
+    requires none_taken { store.now.waits.taken ≡ [] }
+    ensures { result ≡ cancelled (state_of store.now) task }
+{
+    let Some(outcome) = store.tasks.get(task.0) else {
+        return false;
+    };
+    is_unwanted(store, *outcome)
+}
+
+/// Who made the call that the task is, if the task is not answered yet. Constant work.
+pub fn task_caller(store: &Store, task: TaskId) -> Option<Caller>
+    ensures { result ≡ task_caller (state_of store.now) task }
+{
+    let outcome = store.tasks.get(task.0)?;
+    store.waits.caller(*outcome)
 }
 
 // Whether nobody has use for the outcome.

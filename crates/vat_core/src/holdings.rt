@@ -4,11 +4,12 @@ ghost use Rattle.rpc_uses.specs.Objects.{named_objects, names_object};
 ghost use Rattle.rpc_uses.specs.Results.{cancelled};
 ghost use Rattle.core_queries.specs.Peers.{names_import, names_question};
 ghost use Rattle.core_queries.specs.Places.{embargoed_reference, import_kind, leads_to};
+ghost use Rattle.core_queries.specs.Tasks.{task_caller};
 ghost use Rattle.core_queries.specs.Sizes.{sizes_of};
 
 use crate::vat::Core;
 use core_queries::{ImportKind, Place, TableSizes};
-use rpc_machine::Refusal;
+use rpc_machine::{Caller, Refusal};
 use rpc_msg::{EmbargoId, ExportId, ObjectId, QuestionId, RefId, TaskId};
 
 impl Core {
@@ -53,6 +54,22 @@ impl Core {
         ensures { result ≡ (is_some (map.get self.now.tasks task.0) && not (cancelled self.now task)) }
     {
         core_queries::wants_results(&self.machine.step.store, task)
+    }
+
+    /// Whether the task is not answered yet and nobody has use for its results: the other answer of `wants_results`, for a task that
+    /// is not answered. Constant work; takes no memory.
+    pub fn is_cancelled(&self, task: TaskId) -> bool
+        ensures { result ≡ cancelled self.now task }
+    {
+        core_queries::is_cancelled(&self.machine.step.store, task)
+    }
+
+    /// Who made the call that the task is: the application, or the peer by a question. `None` if the task is answered, or failed,
+    /// or never was. Constant work; takes no memory.
+    pub fn task_caller(&self, task: TaskId) -> Option<Caller>
+        ensures { result ≡ task_caller self.now task }
+    {
+        core_queries::task_caller(&self.machine.step.store, task)
     }
 
     /// Where calls through a reference go, which is where its head settles; and whether they wait under an embargo before.
