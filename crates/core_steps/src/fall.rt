@@ -1,5 +1,6 @@
 ghost use Rattle.std.specs.Prelude.{◌≡◌, ℕ, true, false, None};
 ghost use Rattle.rpc_machine.specs.Down.{falling, silent, fallen, ShutsFrom};
+ghost use Rattle.rpc_machine.specs.Numbers.{want_of_room};
 ghost use Rattle.core_store.specs.Holding.{state_of};
 ghost use Rattle.core_steps.specs.Whole.{fallen_as, IsResting, meets_limit};
 
@@ -7,12 +8,9 @@ use crate::machine::{Machine, Named};
 use core_step::Arisen;
 use core_step_sweeps::Thought;
 use core_store::Store;
-use rpc_machine::Effects;
+use rpc_machine::{Effects, Fault};
 use rpc_msg::Items;
 use vat_tables::{POOL_LIMIT, TABLE_LIMIT};
-
-// The fault of a step for which there was no memory, or which would pass a limit.
-pub(crate) const WANT_OF_ROOM: u16 = 33;
 
 /// Takes the vat down with that number, whatever became of its step: one Abort alone is said. If room was lacking, it
 /// keeps whether a limit was met. Takes no memory.
@@ -20,10 +18,10 @@ pub fn fall_as(machine: &mut Machine, named: Named, number: u16) -> Effects
     requires can_abort { machine.old.spare.can_abort ≡ true }
     ensures effects { result ≡ falling number }
     ensures state { state_of machine.new.step.store ≡ fallen_as named number }
-    ensures limit { number ≡ WANT_OF_ROOM → machine.new.met_limit ≡ meets_limit machine.old.step.store }
+    ensures limit { number ≡ want_of_room → machine.new.met_limit ≡ meets_limit machine.old.step.store }
     ensures resting { IsResting machine.new }
 {
-    if number == WANT_OF_ROOM {
+    if number == Fault::WantOfRoom.code() {
         machine.met_limit = meets_limit(&machine.step.store);
     }
     let Effects {
@@ -33,6 +31,17 @@ pub fn fall_as(machine: &mut Machine, named: Named, number: u16) -> Effects
         down: _,
     } = fall_silently_as(machine, named, number);
     machine.spare.fall(number)
+}
+
+// Takes the vat down because there was no memory for its step, or a limit would be passed.
+pub(crate) fn fall_for_room(machine: &mut Machine, named: Named) -> Effects
+    requires can_abort { machine.old.spare.can_abort ≡ true }
+    ensures effects { result ≡ falling want_of_room }
+    ensures state { state_of machine.new.step.store ≡ fallen_as named want_of_room }
+    ensures limit { machine.new.met_limit ≡ meets_limit machine.old.step.store }
+    ensures resting { IsResting machine.new }
+{
+    fall_as(machine, named, Fault::WantOfRoom.code())
 }
 
 // Whether a table is full, or no more calls can wait.

@@ -9,7 +9,7 @@ ghost use Rattle.core_step_sweeps.specs.Over.{AreOver};
 ghost use Rattle.core_steps.specs.Whole.{IsResting, WasDone, Tries};
 ghost use Rattle.rpc_machine.specs.Progress.{quiet};
 
-use crate::fall::{WANT_OF_ROOM, fall_as, named_of};
+use crate::fall::{fall_for_room, named_of};
 use crate::machine::Machine;
 use crate::quiet_steps::{begin_quietly, end_silently};
 use crate::settlement::settle_step;
@@ -38,7 +38,7 @@ pub fn resolve(machine: &mut Machine, promise: PromiseId, reference: RefId) -> E
         reference,
     );
     let Ok(()) = ended else {
-        return fall_as(machine, named, WANT_OF_ROOM);
+        return fall_for_room(machine, named);
     };
     end_settled(&mut machine.step, machine.thought.over.as_slice())
 }
@@ -82,7 +82,7 @@ pub fn reject(machine: &mut Machine, promise: PromiseId, exception: Exception) -
         exception,
     );
     let Ok(()) = ended else {
-        return fall_as(machine, named, WANT_OF_ROOM);
+        return fall_for_room(machine, named);
     };
     end_settled(&mut machine.step, machine.thought.over.as_slice())
 }

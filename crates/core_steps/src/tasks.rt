@@ -8,7 +8,7 @@ ghost use Rattle.core_step.specs.InProgress.{progress_of, IsIdle, IsReady};
 ghost use Rattle.core_step_sweeps.specs.Over.{AreOver};
 ghost use Rattle.core_steps.specs.Whole.{IsResting, WasDone};
 
-use crate::fall::{WANT_OF_ROOM, fall_as, named_of};
+use crate::fall::{fall_for_room, named_of};
 use crate::machine::Machine;
 use crate::settlement::settle_step;
 use core_step::{Step, begin};
@@ -36,7 +36,7 @@ pub fn answer(machine: &mut Machine, task: TaskId, payload: Payload, refs: Items
         refs,
     );
     let Ok(()) = ended else {
-        return fall_as(machine, named, WANT_OF_ROOM);
+        return fall_for_room(machine, named);
     };
     end_settled(&mut machine.step, machine.thought.over.as_slice())
 }
@@ -75,7 +75,7 @@ pub fn fail(machine: &mut Machine, task: TaskId, exception: Exception) -> Effect
     let step = &mut machine.step;
     let ended = fail_whole(step, &mut machine.thought, machine.alloc, task, exception);
     let Ok(()) = ended else {
-        return fall_as(machine, named, WANT_OF_ROOM);
+        return fall_for_room(machine, named);
     };
     end_settled(&mut machine.step, machine.thought.over.as_slice())
 }

@@ -8,8 +8,8 @@ use Rattle.core_steps.proofs.tasks.answer.Goals as goal
 
 pub returns-in_default-clause-obeys : goal.returns-in_default-clause-obeys
 returns-in_default-clause-obeys c =
-    fell (state_of c.args.machine.now.step.store) (command.Answer c.args.task c.args.payload c.args.refs) c.fall_as.result (state_of c.fall_as.new.machine.step.store) c.requires.allowed tt c.fall_as.ensures.effects
-    (c.fall_as.ensures.state ∙ c.named_of-named.ensures 33)
+    fell (state_of c.args.machine.now.step.store) (command.Answer c.args.task c.args.payload c.args.refs) c.fall_for_room.result (state_of c.fall_for_room.new.machine.step.store) c.requires.allowed tt c.fall_for_room.ensures.effects
+    (c.fall_for_room.ensures.state ∙ c.named_of-named.ensures 33)
 
 pub returns-clause-obeys : goal.returns-clause-obeys
 returns-clause-obeys c =
