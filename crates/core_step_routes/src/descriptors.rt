@@ -29,8 +29,10 @@ pub fn describe(store: &mut Store, node: Node) -> Result<Descriptor, TableFault>
     ensures noted { noted_of store.new.names ≡ noted_of store.old.names }
     ensures sound { IsSound store.new }
 {
+    // A copy: what is passed by value can't be used again, though its type is `Copy`.
+    let from = node;
     core_store::shorten(store, node);
-    describe_walked(store, node)
+    describe_walked(store, from)
 }
 
 // The same, if the way from the node is short.
