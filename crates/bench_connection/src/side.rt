@@ -84,7 +84,8 @@ impl Side {
     fn next(&mut self) -> Result<Event> {
         for _ in 0..u64::MAX {
             match self.connection.next_event() {
-                Some(Event::Resolved(_)) | Some(Event::Lifted(_)) | Some(Event::Released(_)) => {}
+                Some(Event::Resolved(_) | Event::Lifted(_)) => {}
+                Some(Event::Cancelled(_) | Event::Released(_)) => {}
                 Some(event) => return Ok(event),
                 None => break,
             }

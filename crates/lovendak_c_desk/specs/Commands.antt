@@ -127,6 +127,7 @@ unless_released object (Some (event.Released o)) = cond (nat_eq o.0 object) None
 unless_released object (Some (event.Served call)) = Some (event.Served call)
 unless_released object (Some (event.Ended call)) = Some (event.Ended call)
 unless_released object (Some (event.Resolved place)) = Some (event.Resolved place)
+unless_released object (Some (event.Cancelled task)) = Some (event.Cancelled task)
 unless_released object (Some (event.Lifted reference)) = Some (event.Lifted reference)
 unless_released object (Some (event.Down number reason)) = Some (event.Down number reason)
 

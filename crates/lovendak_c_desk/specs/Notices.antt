@@ -29,6 +29,7 @@ bytes_of (event.Served call) = call.payload.bytes
 bytes_of (event.Ended call) = bytes_of_outcome call.outcome
 bytes_of (event.Resolved place) = []
 bytes_of (event.Lifted reference) = []
+bytes_of (event.Cancelled task) = []
 bytes_of (event.Released object) = []
 bytes_of (event.Down number reason) = reason
 
@@ -37,6 +38,7 @@ refs_of (event.Served call) = call.refs
 refs_of (event.Ended call) = call.refs
 refs_of (event.Resolved place) = []
 refs_of (event.Lifted reference) = []
+refs_of (event.Cancelled task) = []
 refs_of (event.Released object) = []
 refs_of (event.Down number reason) = []
 
@@ -97,5 +99,6 @@ notice_of (event.Ended call) = record silent {
 }
 notice_of (event.Resolved p) = record silent { kind = 6; place = number_of_place p; number = id_of_place p }
 notice_of (event.Lifted r) = record silent { kind = 7; number = r.0 }
+notice_of (event.Cancelled t) = record silent { kind = 5; number = t.0 }
 notice_of (event.Released o) = record silent { kind = 4; object = o.0 }
 notice_of (event.Down number reason) = record silent { kind = 3; number = number; payload_len = length reason }

@@ -11,8 +11,8 @@ use vat_connection::{Delivery, Ended, Event, Outcome, PeerPlace};
 #[repr(C)]
 #[derive(Clone, Copy, Debug, PartialEq, Eq, Drop)]
 pub struct Notice {
-    /// 1 a call to serve, 2 an own call that ended, 3 the vat is down, 4 an object is released, 6 what stands at a place of the peer is
-    /// known, 7 the embargo of a reference is over.
+    /// 1 a call to serve, 2 an own call that ended, 3 the vat is down, 4 an object is released, 5 a task is cancelled, 6 what stands at a
+    /// place of the peer is known, 7 the embargo of a reference is over.
     pub kind: u32,
     /// Of 1: its method.
     pub method: u32,
@@ -22,7 +22,8 @@ pub struct Notice {
     pub exception: u32,
     /// Of 6: which kind of place it is, as `Lead::kind`.
     pub place: u32,
-    /// Of 1 the task, of 2 the call, of 3 the number with which the vat went down, of 6 the number of the place, of 7 the reference.
+    /// Of 1 and 5 the task, of 2 the call, of 3 the number with which the vat went down, of 6 the number of the place, of 7 the
+    /// reference.
     pub number: u64,
     /// Of 1: the object that is called. Of 4: the object.
     pub object: u64,
@@ -64,6 +65,11 @@ impl Notice {
             Event::Lifted(reference) => Notice {
                 kind: 7,
                 number: reference.0,
+                ..Notice::new()
+            },
+            Event::Cancelled(task) => Notice {
+                kind: 5,
+                number: task.0,
                 ..Notice::new()
             },
             Event::Released(object) => Notice {
@@ -157,7 +163,7 @@ pub(crate) fn bytes_of(event: &Event) -> &[u8]
         Event::Served(delivery) => delivery.payload.bytes(),
         Event::Ended(ended) => bytes_of_outcome(&ended.outcome),
         Event::Down(_, reason) => reason.as_str().as_bytes(),
-        Event::Resolved(_) | Event::Lifted(_) | Event::Released(_) => &[],
+        Event::Resolved(_) | Event::Lifted(_) | Event::Cancelled(_) | Event::Released(_) => &[],
     }
 }
 
@@ -177,6 +183,10 @@ pub(crate) fn refs_of(event: &Event) -> &[RefId]
     match event {
         Event::Served(delivery) => delivery.refs.as_slice(),
         Event::Ended(ended) => ended.refs.as_slice(),
-        Event::Resolved(_) | Event::Lifted(_) | Event::Released(_) | Event::Down(..) => &[],
+        Event::Resolved(_)
+        | Event::Lifted(_)
+        | Event::Cancelled(_)
+        | Event::Released(_)
+        | Event::Down(..) => &[],
     }
 }

@@ -3,8 +3,10 @@
 //!
 //! - `asks.rt`: what is asked of a vat. `told.rt`: what it tells. `scene.rt`: what is done with a connection, and how a scene is
 //!   played.
-//! - The scenes: `conversations.rt`, `streams.rt`, `limits.rt`, `released.rt`, `going_down.rt`, and `hosts.rt` with hosts in the place of connections.
+//! - The scenes: `conversations.rt`, `streams.rt`, `limits.rt`, `cancelled.rt`, `released.rt`,
+//!   `going_down.rt`, and `hosts.rt` with hosts in the place of connections.
 mod asks;
+mod cancelled;
 mod conversations;
 mod going_down;
 mod hosts;

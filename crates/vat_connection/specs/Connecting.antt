@@ -12,7 +12,7 @@ use Rattle.rpc_machine.specs.declared.command.Refusal.{Refusal}
 use Rattle.rpc_machine.specs.State.{start}
 use Rattle.vat_host.specs.declared.event.Event.{Event}
 use Rattle.vat_host.specs.declared.event.Event.TheVariants as event
-use Rattle.vat_host.specs.Hosting.{Hosted, TellsDown as HostTellsDown, TellsNothing, TellsOldest as HostTellsOldest, TellsReleased as HostTellsReleased, has_only_down, idle}
+use Rattle.vat_host.specs.Hosting.{Hosted, TellsDown as HostTellsDown, TellsNothing, TellsOldest as HostTellsOldest, TellsFreed as HostTellsFreed, has_only_down, idle}
 use Rattle.peer_adapter.specs.Peering.{fresh as fresh_adapter}
 use Rattle.rpc_outgoing.specs.Outflows.{nothing_out}
 use Rattle.vat_connection.specs.Calling.{Obeys, ObeysToFit}
@@ -117,9 +117,9 @@ open_behind e calls = calls
 abbrev pub TellsOldest : Connected → Event → Connected → Type 0
 TellsOldest old e new = HostTellsOldest old.speaker.host e new.speaker.host × (new ≡ record (with_host old new.speaker.host) { open_calls = open_behind e old.open_calls })
 
--- The vat is up, all that its steps left was told, and that an object is released.
-abbrev pub TellsReleased : Connected → Event → Connected → Type 0
-TellsReleased old e new = HostTellsReleased old.speaker.host e new.speaker.host × (new ≡ with_host old new.speaker.host)
+-- The vat is up, all that its steps left was told, and that an object is released, or that a task is cancelled.
+abbrev pub TellsFreed : Connected → Event → Connected → Type 0
+TellsFreed old e new = HostTellsFreed old.speaker.host e new.speaker.host × (new ≡ with_host old new.speaker.host)
 
 -- The vat is down, all that its steps left was told, and the oldest call that is open ends with that.
 abbrev pub CutsOff : Connected → Event → Connected → Type 0
@@ -130,11 +130,11 @@ CutsOff old e new = ⊥
 abbrev pub TellsDown : Connected → Event → Connected → Type 0
 TellsDown old e new = HostTellsDown old.speaker.host e new.speaker.host × (old.open_calls ≡ []) × (new ≡ with_host old new.speaker.host)
 
--- What is told: the oldest event that a step left. Behind them, while the vat is up, each object that is released. Once it is down, each
--- own call that is open, the oldest first, as cut off; and then, once, that the vat is down. If there is nothing to tell, what came
+-- What is told: the oldest event that a step left. Behind them, while the vat is up, each task that is cancelled, and each object that is
+-- released. Once it is down, each own call that is open, the oldest first, as cut off; and then, once, that the vat is down. If there is nothing to tell, what came
 -- beside Calls is counted no more.
 abbrev pub TellsNext : Connected → Option Event → Connected → Type 0
-TellsNext old (Some e) new = TellsOldest old e new ⊎ (TellsReleased old e new ⊎ (CutsOff old e new ⊎ TellsDown old e new))
+TellsNext old (Some e) new = TellsOldest old e new ⊎ (TellsFreed old e new ⊎ (CutsOff old e new ⊎ TellsDown old e new))
 TellsNext old None new =
     TellsNothing old.speaker.host old.speaker.host × (new ≡ record old { speaker = record (old.speaker) { heard = all_told old.speaker.heard } })
 

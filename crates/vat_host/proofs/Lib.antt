@@ -1,7 +1,9 @@
 mod Doing
 mod Falling
 mod Going
+mod Idle
 mod Knowing
 mod Looking
+mod Over
 mod Waiting
 mod Reasons

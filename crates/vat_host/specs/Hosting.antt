@@ -4,6 +4,7 @@ use Rattle.std.specs.FinMap as map
 use Rattle.std.specs.Coded.{Coded, code_by, coded×, coded_list}
 use Rattle.rpc_msg.specs.contracts.message.Message as message_row
 use Rattle.rpc_msg.specs.declared.ids.ObjectId.{ObjectId}
+use Rattle.rpc_msg.specs.declared.ids.TaskId.{TaskId}
 use Rattle.rpc_msg.specs.declared.message.Message.{Message}
 use Rattle.rpc_msg.specs.declared.message.Message.TheVariants as message
 use Rattle.rpc_msg.specs.declared.message.PlainMessage.TheVariants as plain
@@ -27,24 +28,26 @@ use Rattle.vat_host.specs.declared.event.Event.{Event}
 use Rattle.vat_host.specs.declared.event.Event.TheVariants as event
 use Rattle.vat_host.specs.Objects.{Objects, no_objects, objects_code, with_object}
 use Rattle.vat_host.specs.Queues.{told}
+use Rattle.vat_host.specs.Unanswered.{IsCancelledAt, NoneIsCancelledOf, Unanswered, followed, heard_at, none_unanswered, told_of, unanswered_code}
 use Rattle.vat_host.specs.Watching.{known_by}
 
 -- The state of the core, and what is to be done, the oldest first: messages to send to the peer, and what its steps left to tell; the
--- objects that the application hosted and was not told that they are released, and the bootstrap object; and whether the application
--- was told that the vat is down, with the reason that is to be told with it.
+-- objects that the application hosted and was not told that they are released, and the bootstrap object; the calls of the peer that
+-- are not answered; and whether the application was told that the vat is down, with the reason that is to be told with it.
 pub record Hosted : Type 0 where
   pub core : State
   pub messages : List Message
   pub events : List Event
   pub objects : Objects
+  pub unanswered : Unanswered
   pub down_notice : DownNotice
 
 abbrev pub hosted_code : Coded Hosted
 hosted_code =
-    code_by ((State × List Message) × (List Event × (Objects × DownNotice)))
-    (coded× (coded× state_code (coded_list message_row.the_row.coded)) (coded× (coded_list event_row.the_row.coded) (coded× objects_code notice_row.the_row.coded)))
-    (λ h. ((h.core, h.messages), (h.events, (h.objects, h.down_notice))))
-    (λ p. record { core = p.0.0; messages = p.0.1; events = p.1.0; objects = p.1.1.0; down_notice = p.1.1.1 })
+    code_by ((State × List Message) × (List Event × (Objects × (Unanswered × DownNotice))))
+    (coded× (coded× state_code (coded_list message_row.the_row.coded)) (coded× (coded_list event_row.the_row.coded) (coded× objects_code (coded× unanswered_code notice_row.the_row.coded))))
+    (λ h. ((h.core, h.messages), (h.events, (h.objects, (h.unanswered, h.down_notice)))))
+    (λ p. record { core = p.0.0; messages = p.0.1; events = p.1.0; objects = p.1.1.0; unanswered = p.1.1.1.0; down_notice = p.1.1.1.1 })
     (λ _. refl)
 
 -- What a host keeps room for: one message more, while its vat is up, which is its Abort.
@@ -53,7 +56,7 @@ HasPlaceForAbort s room = s.down ≡ None → 0 < room
 
 -- Nothing is to be done, and nothing was hosted.
 abbrev pub idle : State → Hosted
-idle s = record { core = s; messages = []; events = []; objects = with_object s.bootstrap no_objects; down_notice = record { told = false; reason = [] } }
+idle s = record { core = s; messages = []; events = []; objects = with_object s.bootstrap no_objects; unanswered = none_unanswered; down_notice = record { told = false; reason = [] } }
 
 -- All that the steps left was told; that the vat is down was not, and it is.
 abbrev pub has_only_down : Hosted → Bool
@@ -63,8 +66,17 @@ has_only_down h = (length h.events == 0) && is_some h.core.down && not h.down_no
 abbrev pub has_released : Hosted → Bool
 has_released h = is_none h.core.down && not (map.len h.objects == least_known h.core)
 
-abbrev pub is_idle : Hosted → Bool
-is_idle h = (length h.messages == 0) && (length h.events == 0) && not (has_only_down h) && not (has_released h)
+-- A call of the peer to a vat that is up is cancelled, and that was not told.
+abbrev pub HasCancelled : Hosted → Type 0
+HasCancelled h = (h.core.down ≡ None) × ((q : ℕ) × ((t : TaskId) × IsCancelledAt h.core h.unanswered q t))
+
+-- No message is to be sent, and nothing is to be told.
+pub record IsIdle (h : Hosted) : Type 0 where
+  pub messages : h.messages ≡ []
+  pub events : h.events ≡ []
+  pub down : has_only_down h ≡ false
+  pub released : has_released h ≡ false
+  pub cancelled : ¬ (HasCancelled h)
 
 -- The core took a step: what follows of it stands behind what was to be done, and behind that what its message made known.
 abbrev pub stepped_so : Hosted → Effects → Option Event → State → Hosted
@@ -73,6 +85,7 @@ stepped_so old effects known s = record {
   messages = old.messages ++ effects.sends;
   events = old.events ++ told effects known;
   objects = old.objects;
+  unanswered = followed effects s old.unanswered;
   down_notice = old.down_notice;
 }
 
@@ -120,12 +133,26 @@ with_reason h reason = record h { down_notice = record (h.down_notice) { reason 
 abbrev pub NotesReason : Hosted → Message → Hosted → Type 0
 NotesReason old m new = (reason : List ℕ) × IsReason old.core.down (reason_of m) old.down_notice.reason reason × (new ≡ with_reason old reason)
 
+-- What the message says of calls of the peer is noted; or it is not, and the vat is down then.
+abbrev pub IsNoted : State → Message → State → Unanswered → Unanswered → Type 0
+IsNoted s m t old new = (new ≡ heard_at s m old) ⊎ (IsSome t.down × (new ≡ old))
+
+abbrev pub with_notes : Hosted → List ℕ → Unanswered → Hosted
+with_notes h reason calls = record h { unanswered = calls; down_notice = record (h.down_notice) { reason = reason } }
+
+-- What is to be known of a message that takes the vat to that state is noted before: the reason of an Abort, and what it says of calls.
+abbrev pub Notes : Hosted → Message → State → Hosted → Type 0
+Notes old m t new =
+    (kept : List ℕ × Unanswered)
+    × (IsReason old.core.down (reason_of m) old.down_notice.reason kept.0 × IsNoted old.core m t old.unanswered kept.1)
+    × (new ≡ with_notes old kept.0 kept.1)
+
 abbrev pub HearsSilently : Hosted → Message → Hosted → Type 0
 HearsSilently old m new = (effects : Effects) × Receives old.core m effects new.core × (new ≡ stepped_so old effects (known_by m old.core new.core) new.core)
 
--- A message comes, as the core receives it, and the reason of an Abort is kept.
+-- A message comes, as the core receives it.
 abbrev pub Hears : Hosted → Message → Hosted → Type 0
-Hears old m new = (mid : Hosted) × NotesReason old m mid × HearsSilently mid m new
+Hears old m new = (mid : Hosted) × Notes old m new.core mid × HearsSilently mid m new
 
 -- ---- what is told
 
@@ -152,26 +179,28 @@ AreNamedBut s objects root = (o : ObjectId) → IsSome (map.get objects o.0) →
 abbrev pub IsReleased : Hosted → ObjectId → Type 0
 IsReleased h o = IsUnnamedAmong h.core h.objects h.core.bootstrap o
 
--- All else was told, the vat is up, and it is told that an object is released.
-abbrev pub TellsReleased : Hosted → Event → Hosted → Type 0
-TellsReleased old (event.Released o) new = (old.events ≡ []) × (old.core.down ≡ None) × IsReleased old o × (new ≡ record old { objects = map.remove old.objects o.0 })
-TellsReleased old e new = ⊥
+-- All that the steps left was told, the vat is up, and it is told that an object is released, or that a task is cancelled.
+abbrev pub TellsFreed : Hosted → Event → Hosted → Type 0
+TellsFreed old (event.Released o) new = (old.events ≡ []) × (old.core.down ≡ None) × IsReleased old o × (new ≡ record old { objects = map.remove old.objects o.0 })
+TellsFreed old (event.Cancelled t) new =
+    (old.events ≡ []) × (old.core.down ≡ None) × ((q : ℕ) × IsCancelledAt old.core old.unanswered q t × (new ≡ record old { unanswered = told_of q old.unanswered }))
+TellsFreed old e new = ⊥
 
 -- A place of the vat names each object that was hosted and not told as released, but for the bootstrap object.
 abbrev pub AllAreNamed : Hosted → Type 0
 AllAreNamed h = AreNamedBut h.core h.objects h.core.bootstrap
 
--- A vat that is down was told to be; of one that is up no object is released.
-abbrev pub NoneIsReleased : Option ℕ → Hosted → Type 0
-NoneIsReleased (Some n) h = h.down_notice.told ≡ true
-NoneIsReleased None h = AllAreNamed h
+-- A vat that is down was told to be; of one that is up no object is released, and no task is cancelled.
+abbrev pub NoneIsFreed : Option ℕ → Hosted → Type 0
+NoneIsFreed (Some n) h = h.down_notice.told ≡ true
+NoneIsFreed None h = AllAreNamed h × NoneIsCancelledOf h.core h.unanswered
 
 -- Nothing is to be told.
 abbrev pub TellsNothing : Hosted → Hosted → Type 0
-TellsNothing old new = (old.events ≡ []) × NoneIsReleased old.core.down old × (new ≡ old)
+TellsNothing old new = (old.events ≡ []) × NoneIsFreed old.core.down old × (new ≡ old)
 
--- What is told: the oldest event that a step left. Behind them, of a vat that is up, each object that is released; once it is down,
--- that.
+-- What is told: the oldest event that a step left. Behind them, of a vat that is up, each task that is cancelled, and each object that
+-- is released; once it is down, that.
 abbrev pub Tells : Hosted → Option Event → Hosted → Type 0
-Tells old (Some e) new = TellsOldest old e new ⊎ (TellsReleased old e new ⊎ TellsDown old e new)
+Tells old (Some e) new = TellsOldest old e new ⊎ (TellsFreed old e new ⊎ TellsDown old e new)
 Tells old None new = TellsNothing old new

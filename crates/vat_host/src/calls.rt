@@ -20,6 +20,7 @@ impl Host {
             Ok(done) => done,
             Err(refusal) => return Err(refusal),
         };
+        self.unanswered.follow(&effects, &self.core);
         self.kept.keep(effects, None);
         Ok(call)
     }
@@ -41,6 +42,7 @@ impl Host {
             Ok(done) => done,
             Err(refused) => return Err(refused),
         };
+        self.unanswered.follow(&effects, &self.core);
         self.kept.keep(effects, None);
         Ok(call)
     }
@@ -55,6 +57,7 @@ impl Host {
             Ok(effects) => effects,
             Err(refusal) => return Err(refusal),
         };
+        self.unanswered.follow(&effects, &self.core);
         self.kept.keep(effects, None);
         Ok(())
     }

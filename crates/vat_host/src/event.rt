@@ -1,7 +1,7 @@
 //! What an application is told.
 
 use rpc_journal::{Delivery, Ended};
-use rpc_msg::{ExportId, ObjectId, QuestionId, RefId, Text};
+use rpc_msg::{ExportId, ObjectId, QuestionId, RefId, TaskId, Text};
 
 /// A place that the peer has.
 #[derive(Clone, Copy, Debug, PartialEq, Eq, Drop)]
@@ -24,6 +24,9 @@ pub enum Event {
     Resolved(PeerPlace),
     /// The embargo of a reference is over: its calls wait no more.
     Lifted(RefId),
+    /// Nobody has use for the results of the task any more: the peer's Finish came, no call waits for them, and no place names a field
+    /// of them. The task is still to be answered or failed, since a Return is owed; what it is answered with goes nowhere.
+    Cancelled(TaskId),
     /// No place of the vat names the object any more, which the application hosted. No call is delivered to it until the
     /// application hosts it again.
     Released(ObjectId),

@@ -1,5 +1,5 @@
-ghost use Rattle.std.specs.Prelude.{◌≡◌, ◌==◌, ◌&&◌, ◌||◌, length, not};
-ghost use Rattle.vat_host.specs.Hosting.{is_idle};
+ghost use Rattle.std.specs.Prelude.{◌≡◌, ◌==◌, ◌&&◌, MatchBool, length};
+ghost use Rattle.vat_host.specs.Hosting.{IsIdle};
 ghost use Rattle.vat_host.specs.Exchanging.{Carries, Exchanges};
 
 use crate::host::Host;
@@ -9,7 +9,7 @@ use crate::host::Host;
 /// among them.
 pub fn exchange(a: &mut Host, b: &mut Host, rounds: usize) -> bool
     ensures exchanged { Exchanges rounds a.old b.old a.new b.new }
-    ensures left { result ≡ (not (is_idle a.new) || not (is_idle b.new)) }
+    ensures left { MatchBool result (¬ (IsIdle a.new × IsIdle b.new)) (IsIdle a.new × IsIdle b.new) }
 {
     go_rounds(a, b, rounds);
     !a.is_idle() || !b.is_idle()

@@ -1,16 +1,18 @@
-ghost use Rattle.std.specs.Prelude.{◌≡◌, ◌⊎◌, ◌==◌, not, length, [], ◌∷◌, None, Some, true, false, IfOk, IfSome, IfNone, option_copied};
+ghost use Rattle.std.specs.Prelude.{◌≡◌, ◌⊎◌, ◌==◌, not, length, [], ◌∷◌, None, Some, true, false, IfOk, IfSome, IfNone, IsSome, MatchBool, option_copied};
 ghost use Rattle.rpc_machine.specs.State.{start};
 ghost use Rattle.rpc_machine.specs.Down.{ShutsFrom};
 ghost use Rattle.rpc_machine.specs.declared.command.Effects.{Effects};
 ghost use Rattle.rpc_machine.specs.declared.command.Command.TheVariants as command;
 ghost use Rattle.std.specs.FinMap as map;
 ghost use Rattle.laws_released.specs.Known.{least_known, unnamed_root};
-ghost use Rattle.vat_host.specs.Hosting.{AllAreNamed, Commands, Hears, HearsSilently, IsReleased, NotesReason, Tells, reason_of, has_only_down, has_released, hosted_by, idle, is_abort, is_idle, stepped};
+ghost use Rattle.vat_host.specs.Hosting.{AllAreNamed, Commands, HasCancelled, Hears, HearsSilently, IsIdle, IsReleased, NotesReason, Tells, reason_of, has_only_down, has_released, hosted_by, idle, is_abort, stepped};
 ghost use Rattle.vat_host.specs.Objects.{no_objects, with_object};
+ghost use Rattle.vat_host.specs.Unanswered.{NoneIsCancelledOf};
 
 use crate::event::{DownNotice, Event};
 use crate::hosted_objects::{HostedObjects, is_unnamed};
 use crate::kept::Kept;
+use crate::unanswered::Unanswered;
 use crate::watched::Watched;
 use rpc_machine::{Command, Effects, Fault, Granted, Level, Refusal};
 use rpc_msg::{Items, Memory, Message, ObjectId, PlainMessage, Text, Vat};
@@ -24,6 +26,7 @@ pub struct Host {
     pub(crate) core: Core,
     pub(crate) kept: Kept,
     pub(crate) objects: HostedObjects,
+    pub(crate) unanswered: Unanswered,
     down_notice: DownNotice,
     alloc: Global,
 }
@@ -35,6 +38,7 @@ impl Drop for Host {
             core: _,
             kept: _,
             objects: _,
+            unanswered: _,
             down_notice: _,
             alloc: _,
         } = self;
@@ -49,7 +53,7 @@ impl Model for Host {
 
     ghost coded = { hosted_code };
 
-    ghost view = { λ a. record { core = a.core; messages = a.kept.messages.0; events = a.kept.events.0; objects = a.objects; down_notice = a.down_notice } };
+    ghost view = { λ a. record { core = a.core; messages = a.kept.messages.0; events = a.kept.events.0; objects = a.objects; unanswered = a.unanswered; down_notice = a.down_notice } };
 
     ghost invariant = { λ a. HasPlaceForAbort a.core a.kept.messages.1 × KnowsAll a.core a.objects };
 }
@@ -72,6 +76,7 @@ impl Host {
             core,
             kept,
             objects,
+            unanswered: Unanswered::new(alloc),
             down_notice: DownNotice {
                 told: false,
                 reason: Text::from_string(String::new(alloc)),
@@ -89,12 +94,15 @@ impl Host {
 
     /// Whether nothing is to be done: no message to send, and no event to tell.
     pub fn is_idle(&self) -> bool
-        ensures { result ≡ is_idle self.now }
+        ensures { MatchBool result (IsIdle self.now) (¬ (IsIdle self.now)) }
     {
-        self.kept.messages.is_empty()
-            && self.kept.events.is_empty()
-            && !self.has_only_down()
-            && !self.has_released()
+        if !self.kept.messages.is_empty() || !self.kept.events.is_empty() {
+            return false;
+        }
+        if self.has_only_down() || self.has_released() {
+            return false;
+        }
+        !self.has_cancelled()
     }
 
     /// Whether a message is to be sent.
@@ -124,6 +132,7 @@ impl Host {
         };
         match self.core.command(command) {
             Answer::Done(granted, effects) => {
+                self.unanswered.follow(&effects, &self.core);
                 self.kept.keep(effects, None);
                 Ok(granted)
             }
@@ -154,8 +163,12 @@ impl Host {
         let Ok(()) = self.kept.make_place() else {
             return self.receive_last(message);
         };
+        let Ok(()) = self.unanswered.hear(&message, &self.core) else {
+            return self.receive_last(message);
+        };
         let watched = Watched::by(&message, &self.core);
         let effects = self.core.receive(message);
+        self.unanswered.follow(&effects, &self.core);
         self.kept.keep(effects, watched.made_known(&self.core));
     }
 
@@ -175,10 +188,12 @@ impl Host {
     #[cold]
     #[inline(never)]
     fn receive_last(&mut self, message: Message)
-        ensures { HearsSilently self.old message self.new }
+        ensures heard { HearsSilently self.old message self.new }
+        ensures down { IsSome self.new.core.down }
     {
         if is_abort(&message) {
             let effects = self.core.receive(message);
+            self.unanswered.follow(&effects, &self.core);
             self.kept.keep(effects, None);
             return;
         }
@@ -190,6 +205,7 @@ impl Host {
         ensures { (effects : Effects) × ShutsFrom self.old.core number self.old.core.down effects self.new.core × (self.new ≡ stepped self.old effects self.new.core) }
     {
         let effects = self.core.shut(number);
+        self.unanswered.follow(&effects, &self.core);
         self.kept.keep(effects, None);
     }
 
@@ -212,7 +228,11 @@ impl Host {
 
     /// Takes out the oldest event that is to be told. Those of one step come behind those of the steps before. Of one
     /// step the calls to be served come first, in their order, then the own calls that ended, and then what its message
-    /// made known. Behind them all, of a vat that is up, each object that is released; once it is down, that.
+    /// made known. Behind them all, of a vat that is up, each task that is cancelled, and then each object that is released; once it is
+    /// down, that.
+    ///
+    /// A task that is cancelled is found among the calls of the peer of which the Finish came before the Return, and that are wanted
+    /// all the same: the work grows with these, of which there are none if no Finish comes early.
     pub fn next_event(&mut self) -> Option<Event>
         ensures { Tells self.old result self.new }
     {
@@ -221,7 +241,7 @@ impl Host {
         }
         match self.core.down() {
             Some(number) => self.next_down(number),
-            None => self.next_released(),
+            None => self.next_freed(),
         }
     }
 
@@ -239,10 +259,26 @@ impl Host {
         Some(Event::Down(number, mem::replace(&mut self.down_notice.reason, none)))
     }
 
+    // A task that is cancelled, or else an object that is released.
+    fn next_freed(&mut self) -> Option<Event>
+        requires told { self.old.events ≡ [] }
+        requires up { self.old.core.down ≡ None }
+        ensures { Tells self.old result self.new }
+    {
+        match self.unanswered.first_cancelled(&self.core) {
+            Some((question, task)) => {
+                self.unanswered.tell(question);
+                Some(Event::Cancelled(task))
+            }
+            None => self.next_released(),
+        }
+    }
+
     // An object that is released, if there is one.
     fn next_released(&mut self) -> Option<Event>
         requires told { self.old.events ≡ [] }
         requires up { self.old.core.down ≡ None }
+        requires none_cancelled { NoneIsCancelledOf self.old.core self.old.unanswered }
         ensures { Tells self.old result self.new }
     {
         let object = self.released()?;
@@ -298,6 +334,16 @@ impl Host {
             return false;
         }
         self.knows_more()
+    }
+
+    /// Whether a task of a vat that is up is cancelled, which is to be told.
+    pub fn has_cancelled(&self) -> bool
+        ensures { MatchBool result (HasCancelled self.now) (¬ (HasCancelled self.now)) }
+    {
+        if self.core.down().is_some() {
+            return false;
+        }
+        self.unanswered.first_cancelled(&self.core).is_some()
     }
 
     // Whether it knows more objects than places name, beside the bootstrap object.

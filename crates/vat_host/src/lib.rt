@@ -7,11 +7,12 @@
 //!   and one for an Abort is kept from the beginning on, so nothing that a step says is lost.
 //! - `list_queue.rt`, `event_queue.rt`: queues that take in whole lists, each in one place, and give out single items. Memory of
 //!   lists whose items were all taken out goes back to the core.
-//! - `hosted_objects.rt`: the objects of the application, by which a released one is known. `watched.rt`: what a message makes known.
+//! - `hosted_objects.rt`: the objects of the application, by which a released one is known. `unanswered.rt`: the calls of the peer that
+//!   are not answered, by which a cancelled task is known. `watched.rt`: what a message makes known.
 //! - `exchanges.rt`: two hosts hand their messages to each other.
 //!
-//! Contracts see a host as `Hosted` (`specs/Hosting`): the state of its core, its two queues, the objects that were hosted, and whether
-//! the application was told that the vat is down.
+//! Contracts see a host as `Hosted` (`specs/Hosting`): the state of its core, its two queues, the objects that were hosted, the calls of
+//! the peer that are not answered, and whether the application was told that the vat is down.
 #![tactic(auto)]
 
 mod calls;
@@ -25,6 +26,7 @@ mod list_queue;
 mod promises;
 mod refs;
 mod tasks;
+mod unanswered;
 mod watched;
 
 pub use event::{Event, PeerPlace};

@@ -33,6 +33,7 @@ impl Host {
             Ok(effects) => effects,
             Err(refusal) => return Err(refusal),
         };
+        self.unanswered.follow(&effects, &self.core);
         self.kept.keep(effects, None);
         Ok(())
     }
@@ -58,6 +59,7 @@ impl Host {
             Ok(effects) => effects,
             Err(refused) => return Err(refused),
         };
+        self.unanswered.follow(&effects, &self.core);
         self.kept.keep(effects, None);
         Ok(())
     }

@@ -92,6 +92,7 @@ impl Host {
             Ok(done) => done,
             Err(refusal) => return Err(refusal),
         };
+        self.unanswered.follow(&effects, &self.core);
         self.kept.keep(effects, None);
         Ok(became)
     }
@@ -106,6 +107,7 @@ impl Host {
             Ok(effects) => effects,
             Err(refusal) => return Err(refusal),
         };
+        self.unanswered.follow(&effects, &self.core);
         self.kept.keep(effects, None);
         Ok(())
     }

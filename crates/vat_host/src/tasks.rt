@@ -32,6 +32,7 @@ impl Host {
             Ok(effects) => effects,
             Err(refused) => return Err(refused),
         };
+        self.unanswered.follow(&effects, &self.core);
         self.kept.keep(effects, None);
         Ok(())
     }
@@ -53,6 +54,7 @@ impl Host {
             Ok(effects) => effects,
             Err(refused) => return Err(refused),
         };
+        self.unanswered.follow(&effects, &self.core);
         self.kept.keep(effects, None);
         Ok(())
     }

@@ -1,6 +1,7 @@
 pub mod Calls
 pub mod Carried
 pub mod Happening
+pub mod Known
 pub mod OneHost
 pub mod Released
 pub mod Served

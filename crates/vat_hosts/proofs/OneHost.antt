@@ -13,7 +13,7 @@ use Rattle.laws_authority.specs.Runs.{Event as Logged, DidCommand, GotMessage, R
 use Rattle.laws_authority.specs.Runs as run
 use Rattle.vat_host.specs.declared.event.Event.{Event}
 use Rattle.vat_host.specs.declared.event.Event.TheVariants as event
-use Rattle.vat_host.specs.Hosting.{Hosted, Does, Hears, Tells, TellsDown, TellsReleased, idle}
+use Rattle.vat_host.specs.Hosting.{Hosted, Does, Hears, Tells, TellsDown, TellsFreed, idle}
 use Rattle.vat_host.specs.Watching.{known_by}
 use Rattle.vat_hosts.specs.Calls.{calls_told, of_calls}
 use Rattle.vat_hosts.specs.OneHost.{Act, Acts, ActsAll, Happening, TakesOut, calls_in, happened_by, happened_in, told_by, told_to}
@@ -91,13 +91,14 @@ hears xs h k m so (mid, (reason, noted, mid_is), (e, receives, is)) = record {
 tells_beside : (xs : List Act) (h k : Hosted) (e : Event) → So xs h → of_calls e ≡ [] → k.core ≡ h.core → k.events ≡ h.events → So (xs ++ Asks (Some e) ∷ []) k
 tells_beside xs h k e so none core_is events = beside xs (Asks (Some e)) h k so refl core_is (told_same xs (Asks (Some e)) h k none (ap (λ (l : List Event). flat_map of_calls l) events))
 
-tells_released : (xs : List Act) (h k : Hosted) (e : Event) → So xs h → TellsReleased h e k → So (xs ++ Asks (Some e) ∷ []) k
-tells_released xs h k (event.Released o) so (none, up, released, is) = tells_beside xs h k (event.Released o) so refl (ap (λ (j : Hosted). j.core) is) (ap (λ (j : Hosted). j.events) is)
-tells_released xs h k (event.Served d) so tells = absurd tells
-tells_released xs h k (event.Ended x) so tells = absurd tells
-tells_released xs h k (event.Resolved place) so tells = absurd tells
-tells_released xs h k (event.Lifted r) so tells = absurd tells
-tells_released xs h k (event.Down n reason) so tells = absurd tells
+tells_freed : (xs : List Act) (h k : Hosted) (e : Event) → So xs h → TellsFreed h e k → So (xs ++ Asks (Some e) ∷ []) k
+tells_freed xs h k (event.Released o) so (none, up, released, is) = tells_beside xs h k (event.Released o) so refl (ap (λ (j : Hosted). j.core) is) (ap (λ (j : Hosted). j.events) is)
+tells_freed xs h k (event.Cancelled t) so (none, up, (q, cancelled, is)) = tells_beside xs h k (event.Cancelled t) so refl (ap (λ (j : Hosted). j.core) is) (ap (λ (j : Hosted). j.events) is)
+tells_freed xs h k (event.Served d) so tells = absurd tells
+tells_freed xs h k (event.Ended x) so tells = absurd tells
+tells_freed xs h k (event.Resolved place) so tells = absurd tells
+tells_freed xs h k (event.Lifted r) so tells = absurd tells
+tells_freed xs h k (event.Down n reason) so tells = absurd tells
 
 tells_down : (xs : List Act) (h k : Hosted) (e : Event) → So xs h → TellsDown h e k → So (xs ++ Asks (Some e) ∷ []) k
 tells_down xs h k (event.Down n reason) so (none, still, down, why, is) = tells_beside xs h k (event.Down n reason) so refl (ap (λ (j : Hosted). j.core) is) (ap (λ (j : Hosted). j.events) is)
@@ -105,11 +106,12 @@ tells_down xs h k (event.Served d) so tells = absurd tells
 tells_down xs h k (event.Ended x) so tells = absurd tells
 tells_down xs h k (event.Resolved place) so tells = absurd tells
 tells_down xs h k (event.Lifted r) so tells = absurd tells
+tells_down xs h k (event.Cancelled t) so tells = absurd tells
 tells_down xs h k (event.Released o) so tells = absurd tells
 
 asks : (xs : List Act) (h k : Hosted) (e : Option Event) → So xs h → Tells h e k → So (xs ++ Asks e ∷ []) k
 asks xs h k (Some e) so (inl is) = beside xs (Asks (Some e)) h k so refl (sym (ap (λ (j : Hosted). j.core) is)) (told_oldest xs e h k (ap (λ (j : Hosted). j.events) is))
-asks xs h k (Some e) so (inr (inl tells)) = tells_released xs h k e so tells
+asks xs h k (Some e) so (inr (inl tells)) = tells_freed xs h k e so tells
 asks xs h k (Some e) so (inr (inr tells)) = tells_down xs h k e so tells
 asks xs h k None so (none, why, is) = beside xs (Asks None) h k so refl (ap (λ (j : Hosted). j.core) is) (told_same xs (Asks None) h k refl (ap (λ (j : Hosted). flat_map of_calls j.events) is))
 

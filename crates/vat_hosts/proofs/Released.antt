@@ -1,13 +1,7 @@
 -- What a host told as released is not served until it is hosted.
-use Rattle.std.proofs.Common.{◌≡◌, ◌≢◌, ℕ, Bool, true, false, nat_lt, List, [], ◌∷◌, ◌++◌, map, Option, None, Some, Result, Ok, Err, inl, inr, refl, sym, ap, subst, ◌∙◌, arith, cond, is_some}
-use Rattle.rpc_msg.specs.declared.ids.ExportId.{ExportId}
+use Rattle.std.proofs.Common.{◌≡◌, ◌≢◌, ℕ, Bool, true, false, nat_lt, List, [], ◌∷◌, ◌++◌, map, Option, None, Some, Result, Ok, Err, inl, inr, refl, sym, ap, subst, ◌∙◌, arith}
 use Rattle.rpc_msg.specs.declared.ids.ObjectId.{ObjectId}
-use Rattle.rpc_msg.specs.declared.ids.RefId.{RefId}
-use Rattle.rpc_msg.specs.declared.message.DisembargoContext.{DisembargoContext}
-use Rattle.rpc_msg.specs.declared.message.DisembargoContext.TheVariants as context
 use Rattle.rpc_msg.specs.declared.message.Message.{Message}
-use Rattle.rpc_msg.specs.declared.message.Message.TheVariants as message
-use Rattle.rpc_msg.specs.declared.message.PlainMessage.TheVariants as plain
 use Rattle.rpc_journal.specs.declared.report.Delivery.{Delivery}
 use Rattle.rpc_journal.specs.declared.report.Ended.{Ended}
 use Rattle.rpc_machine.specs.declared.command.Command.{Command}
@@ -24,31 +18,24 @@ use Rattle.laws_released.specs.Released.{ComesUnhosted, ReleasedStays}
 use Rattle.laws_released.specs.Released as way
 use Rattle.vat_host.specs.declared.event.Event.{Event}
 use Rattle.vat_host.specs.declared.event.Event.TheVariants as event
-use Rattle.vat_host.specs.declared.event.PeerPlace.TheVariants as place
 use Rattle.vat_host.specs.Hosting.{Hosted, Tells, idle}
 use Rattle.vat_host.specs.Queues.{listed, told}
-use Rattle.vat_host.specs.Watching.{became, event_if, import_if, known_by, reference_if, watched_at, watched_by}
+use Rattle.vat_host.specs.Watching.{known_by}
 use Rattle.vat_hosts.specs.OneHost.{Act, Acts, ActsAll}
 use Rattle.vat_hosts.specs.OneHost.Act.{Commands, Takes, Receives, Asks}
 use Rattle.vat_hosts.specs.Released.{IsHostedIn, ReleasedAreNotServed}
+use Rattle.vat_hosts.proofs.Known.{AreKnown, Each, known_are}
 
 -- ---- what waits to be told
-
--- Each of them is such an event.
-abbrev Each : (Event → Type 0) → List Event → Type 0
-Each P [] = Unit {0}
-Each P (e ∷ es) = P e × Each P es
 
 each_append : (P : Event → Type 0) (es fs : List Event) → Each P es → Each P fs → Each P (es ++ fs)
 each_append P [] fs first then = then
 each_append P (e ∷ es) fs (one, first) then = (one, each_append P es fs first then)
 
--- What a step left to tell is such, if each call to serve is, and each of another kind but that an object is released, or the vat down.
+-- What a step left to tell is such, if each call to serve is.
 pub record IsOfSteps (P : Event → Type 0) : Type 0 where
   pub ended : (x : Ended) → P (event.Ended x)
-  pub import : (e : ExportId) → P (event.Resolved (place.Import e))
-  pub question : (q : ℕ) → P (event.Resolved (place.Question (record { 0 = q })))
-  pub lifted : (r : RefId) → P (event.Lifted r)
+  pub known : AreKnown P
 
 module _ (P : Event → Type 0) (all : IsOfSteps P) where
   served_are : (ds : List Delivery) (more : List Event) → ((y : Delivery) → IsIn y ds → P (event.Served y)) → Each P more → Each P (map event.Served ds ++ more)
@@ -62,45 +49,11 @@ module _ (P : Event → Type 0) (all : IsOfSteps P) where
   told_are : (x : Effects) (known : Option Event) → ((y : Delivery) → IsIn y x.deliveries → P (event.Served y)) → Each P (listed known) → Each P (told x known)
   told_are x known each then = served_are x.deliveries (map event.Ended x.answers ++ listed known) each (ended_are x.answers (listed known) then)
 
-  if_so : (b : Bool) (e : Event) → P e → Each P (listed (event_if b e))
-  if_so true e holds = (holds, tt)
-  if_so false e holds = tt
-
-  of_import : (b : Bool) (e : ExportId) (t : State) → Each P (listed (became (import_if b e) t))
-  of_import true e t = if_so _ (event.Resolved (place.Import e)) (all.import e)
-  of_import false e t = tt
-
-  of_reference : (r : Option RefId) (t : State) → Each P (listed (became (reference_if r) t))
-  of_reference None t = tt
-  of_reference (Some r) t = if_so _ (event.Lifted r) (all.lifted r)
-
-  of_context : (c : DisembargoContext) (s t : State) → Each P (listed (became (watched_at s c) t))
-  of_context (context.SenderLoopback e) s t = tt
-  of_context (context.ReceiverLoopback e) s t = of_reference _ t
-
-  became_so : (m : Message) (s t : State) → Each P (listed (became (watched_by m s) t))
-  became_so (message.Plain (plain.Resolve x)) s t = of_import _ x.promise t
-  became_so (message.Plain (plain.Return x)) s t = if_so _ (event.Resolved (place.Question (record { 0 = x.answer.0 }))) (all.question x.answer.0)
-  became_so (message.Plain (plain.Disembargo x)) s t = of_context x.context s t
-  became_so (message.Plain (plain.Abort exception)) s t = tt
-  became_so (message.Plain (plain.Bootstrap q)) s t = tt
-  became_so (message.Plain (plain.Call c)) s t = tt
-  became_so (message.Plain (plain.Finish f)) s t = tt
-  became_so (message.Plain (plain.Release r)) s t = tt
-  became_so (message.Plain (plain.Other k)) s t = tt
-  became_so (message.Unimplemented p) s t = tt
-
-  unless_down : (down : Bool) (known : Option Event) → Each P (listed known) → Each P (listed (cond down None known))
-  unless_down true known each = tt
-  unless_down false known each = each
-
-  known_are : (m : Message) (s t : State) → Each P (listed (known_by m s t))
-  known_are m s t = unless_down (is_some t.down) (became (watched_by m s) t) (became_so m s t)
-
   -- What is told when a host is asked leaves the others.
   left_by : (h k : Hosted) (e : Option Event) → Tells h e k → Each P h.events → Each P k.events
   left_by h k (Some e) (inl is) each = (subst (λ (l : List Event). Each P l) (ap (λ (j : Hosted). j.events) is) each).1
   left_by h k (Some (event.Released o)) (inr (inl (none, up, released, is))) each = subst (λ (l : List Event). Each P l) (sym (ap (λ (j : Hosted). j.events) is)) each
+  left_by h k (Some (event.Cancelled t)) (inr (inl (none, up, (q, cancelled, is)))) each = subst (λ (l : List Event). Each P l) (sym (ap (λ (j : Hosted). j.events) is)) each
   left_by h k (Some (event.Served y)) (inr (inl tells)) each = absurd tells
   left_by h k (Some (event.Ended x)) (inr (inl tells)) each = absurd tells
   left_by h k (Some (event.Resolved p)) (inr (inl tells)) each = absurd tells
@@ -111,6 +64,7 @@ module _ (P : Event → Type 0) (all : IsOfSteps P) where
   left_by h k (Some (event.Ended x)) (inr (inr tells)) each = absurd tells
   left_by h k (Some (event.Resolved p)) (inr (inr tells)) each = absurd tells
   left_by h k (Some (event.Lifted r)) (inr (inr tells)) each = absurd tells
+  left_by h k (Some (event.Cancelled t)) (inr (inr tells)) each = absurd tells
   left_by h k (Some (event.Released o)) (inr (inr tells)) each = absurd tells
   left_by h k None (none, why, is) each = subst (λ (l : List Event). Each P l) (sym (ap (λ (j : Hosted). j.events) is)) each
 
@@ -127,21 +81,23 @@ module _ (P : Event → Type 0) (all : IsOfSteps P) where
       let same : mid.events ≡ h.events = ap (λ (j : Hosted). j.events) mid_is in
       subst (λ (l : List Event). Each P l) (sym (ap (λ (j : Hosted). j.events) is))
       (each_append P mid.events (told e (known_by m mid.core k.core)) (subst (λ (l : List Event). Each P l) (sym same) each)
-      (told_are e (known_by m mid.core k.core) (heard m e (subst (λ (j : Hosted). CoreReceives j.core m e k.core) mid_is receives)) (known_are m mid.core k.core)))
+      (told_are e (known_by m mid.core k.core) (heard m e (subst (λ (j : Hosted). CoreReceives j.core m e k.core) mid_is receives)) (known_are P all.known m mid.core k.core)))
   stays_each h k (Asks e) tells served heard each = left_by h k e tells each
 
--- ---- no event that waits is a release
+-- ---- what waits is left by steps
 
-abbrev NoRelease : Event → Type 0
-NoRelease (event.Released o) = ⊥
-NoRelease e = Unit {0}
+-- It is told of a step: neither that an object is released nor that the vat is down.
+abbrev pub IsOfStep : Event → Type 0
+IsOfStep (event.Released o) = ⊥
+IsOfStep (event.Down n reason) = ⊥
+IsOfStep e = Unit {0}
 
-no_release : IsOfSteps NoRelease
-no_release = record { ended = λ x. tt; import = λ e. tt; question = λ q. tt; lifted = λ r. tt }
+of_step : IsOfSteps IsOfStep
+of_step = record { ended = λ x. tt; known = record { resolved = λ p. tt; lifted = λ r. tt } }
 
-none_waits : (h k : Hosted) (xs : List Act) → Each NoRelease h.events → ActsAll h xs k → Each NoRelease k.events
-none_waits h k [] each same = subst (λ (j : Hosted). Each NoRelease j.events) (sym same) each
-none_waits h k (x ∷ xs) each (mid, first, more) = none_waits mid k xs (stays_each NoRelease no_release h mid x first (λ c g e o is y i. tt) (λ m e r y i. tt) each) more
+pub each_of_step : (h k : Hosted) (xs : List Act) → Each IsOfStep h.events → ActsAll h xs k → Each IsOfStep k.events
+each_of_step h k [] each same = subst (λ (j : Hosted). Each IsOfStep j.events) (sym same) each
+each_of_step h k (x ∷ xs) each (mid, first, more) = each_of_step mid k xs (stays_each IsOfStep of_step h mid x first (λ c g e o is y i. tt) (λ m e r y i. tt) each) more
 
 -- ---- after it was told
 
@@ -151,7 +107,7 @@ NotTo o (event.Served y) = y.object ≢ o
 NotTo o e = Unit {0}
 
 not_to : (o : ObjectId) → IsOfSteps (NotTo o)
-not_to o = record { ended = λ x. tt; import = λ e. tt; question = λ q. tt; lifted = λ r. tt }
+not_to o = record { ended = λ x. tt; known = record { resolved = λ p. tt; lifted = λ r. tt } }
 
 -- A way goes on by one step.
 then_command : (o : ObjectId) (t u : State) (c : Command) (a : Result Granted Refusal) (x : Effects) → Obeys t c a x u → (Hosts c a o → ⊥) → (s : State) → ComesUnhosted o t s → ComesUnhosted o u s
@@ -183,6 +139,7 @@ module _ (stays : ReleasedStays) (o : ObjectId) (s : State) (other : s.bootstrap
       same_core : (h k : Hosted) (e : Option Event) → Tells h e k → h.core ≡ k.core
       same_core h k (Some e) (inl is) = ap (λ (j : Hosted). j.core) is
       same_core h k (Some (event.Released o)) (inr (inl (none, up, released, is))) = sym (ap (λ (j : Hosted). j.core) is)
+      same_core h k (Some (event.Cancelled t)) (inr (inl (none, up, (q, cancelled, is)))) = sym (ap (λ (j : Hosted). j.core) is)
       same_core h k (Some (event.Served y)) (inr (inl tells)) = absurd tells
       same_core h k (Some (event.Ended x)) (inr (inl tells)) = absurd tells
       same_core h k (Some (event.Resolved p)) (inr (inl tells)) = absurd tells
@@ -193,6 +150,7 @@ module _ (stays : ReleasedStays) (o : ObjectId) (s : State) (other : s.bootstrap
       same_core h k (Some (event.Ended x)) (inr (inr tells)) = absurd tells
       same_core h k (Some (event.Resolved p)) (inr (inr tells)) = absurd tells
       same_core h k (Some (event.Lifted r)) (inr (inr tells)) = absurd tells
+      same_core h k (Some (event.Cancelled t)) (inr (inr tells)) = absurd tells
       same_core h k (Some (event.Released q)) (inr (inr tells)) = absurd tells
       same_core h k None (none, why, is) = sym (ap (λ (j : Hosted). j.core) is)
 
@@ -234,7 +192,7 @@ zero_if_none n none = grind (arith)
 
 pub not_served : ReleasedStays → ReleasedAreNotServed
 not_served stays vat level root xs old before o released (inl is) ys mid acts not y new tells =
-    absurd (subst (λ (l : List Event). Each NoRelease l) (ap (λ (j : Hosted). j.events) is) (none_waits (idle (start vat level root)) old xs tt before)).0
+    absurd (subst (λ (l : List Event). Each IsOfStep l) (ap (λ (j : Hosted). j.events) is) (each_of_step (idle (start vat level root)) old xs tt before)).0
 not_served stays vat level root xs old before o released (inr (inr down)) ys mid acts not y new tells = absurd down
 not_served stays vat level root xs old before o released (inr (inl (none, up, is_released, is))) ys mid acts not y new tells =
     let zero = zero_if_none (names old.core (is_object o)) is_released.unnamed in

@@ -13,7 +13,7 @@ use Rattle.rpc_machine.specs.Steps.{Obeys, Receives}
 use Rattle.laws_steps.specs.NodesThere.{IsReached, Stays}
 use Rattle.laws_authority.specs.Authority.{AuthorityIsGiven, AuthorityIsKept, EachIsOfPeerOrOwn, IsOfPeer, IsOwn}
 use Rattle.laws_authority.specs.Grants.{Gives}
-use Rattle.laws_authority.specs.Once.{AllAtMostOnce, ends_in, times_ended}
+use Rattle.laws_authority.specs.Once.{AllAtMostOnce, ends_in, tasks_in, times_delivered, times_ended}
 use Rattle.laws_authority.specs.Reach.{IsIn, Reaches, Now}
 use Rattle.laws_authority.specs.Runs.{Event as Logged, DidCommand, GotMessage, RunsTo, WasGiven, logged}
 use Rattle.laws_authority.specs.Runs as run
@@ -23,7 +23,7 @@ use Rattle.vat_host.specs.declared.event.Event.TheVariants as event
 use Rattle.vat_host.specs.Hosting.{idle}
 use Rattle.vat_hosts.specs.Calls.{calls_told}
 use Rattle.vat_hosts.specs.OneHost.{calls_in, told_to}
-use Rattle.vat_hosts.specs.Served.{HasObject, HostsServeWhatIsGiven, IsServedByCommand, IsServedByMessage, WasServed, times_told}
+use Rattle.vat_hosts.specs.Served.{HasObject, HostsServeWhatIsGiven, IsServedByCommand, IsServedByMessage, WasServed, times_served, times_told}
 use Rattle.vat_hosts.proofs.OneHost.{So, so_all, so_new}
 
 -- ---- calls to serve
@@ -116,6 +116,29 @@ log_ends k [] = refl
 log_ends k (DidCommand s c x ∷ log) = let a = times-append k (calls_in log) (calls_told x) in let b = step_ends k x in let c = log_ends k log in omega arith
 log_ends k (GotMessage s m x ∷ log) = let a = times-append k (calls_in log) (calls_told x) in let b = step_ends k x in let c = log_ends k log in omega arith
 
+-- ---- tasks that are told
+
+pub serves-append : (k : ℕ) (xs ys : List Event) → times_served k (xs ++ ys) ≡ times_served k xs + times_served k ys
+serves-append k [] ys = omega arith
+serves-append k (x ∷ xs) ys = let e = serves-append k xs ys in omega arith
+
+none_serves : (k : ℕ) (xs : List Ended) → times_served k (map event.Ended xs) ≡ 0
+none_serves k [] = refl
+none_serves k (x ∷ xs) = let e = none_serves k xs in omega arith
+
+all_served : (k : ℕ) (ds : List Delivery) → times_served k (map event.Served ds) ≡ tasks_in k ds
+all_served k [] = refl
+all_served k (d ∷ ds) = let e = all_served k ds in omega arith
+
+step_serves : (k : ℕ) (x : Effects) → times_served k (calls_told x) ≡ tasks_in k x.deliveries
+step_serves k x =
+    let a = serves-append k (map event.Served x.deliveries) (map event.Ended x.answers) in let b = none_serves k x.answers in let c = all_served k x.deliveries in omega arith
+
+log_serves : (k : ℕ) (log : List Logged) → times_served k (calls_in log) ≡ times_delivered k log
+log_serves k [] = refl
+log_serves k (DidCommand s c x ∷ log) = let a = serves-append k (calls_in log) (calls_told x) in let b = step_serves k x in let c = log_serves k log in omega arith
+log_serves k (GotMessage s m x ∷ log) = let a = serves-append k (calls_in log) (calls_told x) in let b = step_serves k x in let c = log_serves k log in omega arith
+
 -- ---- the law
 
 pub served_rightly : AuthorityIsGiven → AuthorityIsKept → EachIsOfPeerOrOwn → AllAtMostOnce → HostsServeWhatIsGiven
@@ -125,6 +148,7 @@ served_rightly given kept each once vat level root xs h acts = record {
   happened = so.happened;
   told = so.told;
   served = λ y i. serves given kept each h.core so.log so.ran y (subst (λ (l : List Event). IsIn (event.Served y) l) so.told i);
+  tasks = λ k. let a = once.deliveries h.core so.log so.ran k in let b = log_serves k so.log in let c : times_served k (told_to xs h) ≡ times_served k (calls_in so.log) = ap (times_served k) so.told in omega arith;
   ended = λ k. let a = once.ends h.core so.log so.ran k in let b = log_ends k so.log in let c : times_told k (told_to xs h) ≡ times_told k (calls_in so.log) = ap (times_told k) so.told in omega arith;
 }
   where

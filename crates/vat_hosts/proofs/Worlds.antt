@@ -16,7 +16,7 @@ use Rattle.rpc_machine.specs.World.{World, Happening, Run, core, inbox, new_worl
 use Rattle.rpc_machine.proofs.StaysDown.{command_down, receive_down}
 use Rattle.vat_host.specs.declared.event.Event.{Event}
 use Rattle.vat_host.specs.declared.event.Event.TheVariants as event
-use Rattle.vat_host.specs.Hosting.{Hosted, Does, Refuses, Tells, TellsDown, TellsOldest, TellsReleased}
+use Rattle.vat_host.specs.Hosting.{Hosted, Does, Refuses, Tells, TellsDown, TellsOldest, TellsFreed}
 use Rattle.vat_host.specs.Watching.{known_by}
 use Rattle.vat_hosts.specs.Calls.{calls_told, of_calls}
 use Rattle.vat_hosts.specs.Hosts.{Act, Acts, ActsAll, Done, HandsTo, Hosts, done_by, host, in_hand, new_hosts, put_host, put_in_hand, told_by, without}
@@ -310,20 +310,23 @@ module _ (root_a root_b : Option ObjectId) where
   asks_down v xs p (event.Ended x) h so tells = absurd tells
   asks_down v xs p (event.Resolved place) h so tells = absurd tells
   asks_down v xs p (event.Lifted r) h so tells = absurd tells
+  asks_down v xs p (event.Cancelled t) h so tells = absurd tells
   asks_down v xs p (event.Released o) h so tells = absurd tells
 
-  asks_released : (v : Vat) (xs : List Act) (p : Hosts) (e : Event) (h : Hosted) → So xs p → TellsReleased (host p v) e h → So (xs ++ Asks v (Some e) ∷ []) (put_host p v h)
-  asks_released v xs p (event.Released o) h so (none, up, released, is) =
+  asks_freed : (v : Vat) (xs : List Act) (p : Hosts) (e : Event) (h : Hosted) → So xs p → TellsFreed (host p v) e h → So (xs ++ Asks v (Some e) ∷ []) (put_host p v h)
+  asks_freed v xs p (event.Released o) h so (none, up, released, is) =
       asks_beside v xs p (event.Released o) h so refl (ap (λ (k : Hosted). k.core) is) (ap (λ (k : Hosted). k.messages) is) (ap (λ (k : Hosted). k.events) is)
-  asks_released v xs p (event.Served d) h so tells = absurd tells
-  asks_released v xs p (event.Ended x) h so tells = absurd tells
-  asks_released v xs p (event.Resolved place) h so tells = absurd tells
-  asks_released v xs p (event.Lifted r) h so tells = absurd tells
-  asks_released v xs p (event.Down n reason) h so tells = absurd tells
+  asks_freed v xs p (event.Cancelled t) h so (none, up, (q, cancelled, is)) =
+      asks_beside v xs p (event.Cancelled t) h so refl (ap (λ (k : Hosted). k.core) is) (ap (λ (k : Hosted). k.messages) is) (ap (λ (k : Hosted). k.events) is)
+  asks_freed v xs p (event.Served d) h so tells = absurd tells
+  asks_freed v xs p (event.Ended x) h so tells = absurd tells
+  asks_freed v xs p (event.Resolved place) h so tells = absurd tells
+  asks_freed v xs p (event.Lifted r) h so tells = absurd tells
+  asks_freed v xs p (event.Down n reason) h so tells = absurd tells
 
   asks : (v : Vat) (xs : List Act) (p : Hosts) (event : Option Event) (h : Hosted) → So xs p → Tells (host p v) event h → So (xs ++ Asks v event ∷ []) (put_host p v h)
   asks v xs p (Some e) h so (inl tells) = asks_oldest v xs p e h so tells
-  asks v xs p (Some e) h so (inr (inl tells)) = asks_released v xs p e h so tells
+  asks v xs p (Some e) h so (inr (inl tells)) = asks_freed v xs p e h so tells
   asks v xs p (Some e) h so (inr (inr tells)) = asks_down v xs p e h so tells
   asks v xs p None h so (none, why, is) = asks_silently v xs p None h so refl refl (ap (λ (k : Hosted). k.core) is, ap (λ (k : Hosted). k.messages) is, ap (λ (k : Hosted). flat_map of_calls k.events) is)
 

@@ -1,5 +1,6 @@
 -- Whatever the peer of a host sends: each call that the host has its application serve is an own call of the application, or is for an
--- object that the peer was given and has not given back; and no own call ends twice (docs/laws/hosts.md, "One host and any peer").
+-- object that the peer was given and has not given back; none is served twice, and no own call ends twice (docs/laws/hosts.md, "One host
+-- and any peer").
 use Rattle.std.specs.Prelude.{◌≡◌, ◌⊎◌, ℕ, ◌+◌, ◌≤◌, nat_eq, Option, List, [], ◌∷◌, Result, flat_map}
 use Rattle.rpc_msg.specs.declared.ids.ObjectId.{ObjectId}
 use Rattle.rpc_msg.specs.declared.ids.Vat.{Vat}
@@ -53,6 +54,15 @@ WasServed [] y = ⊥
 WasServed (DidCommand s c x ∷ log) y = IsServedByCommand s c x log y ⊎ WasServed log y
 WasServed (GotMessage s m x ∷ log) y = IsServedByMessage s m x log y ⊎ WasServed log y
 
+abbrev pub serves_of : ℕ → Event → ℕ
+serves_of k (event.Served y) = one_if (nat_eq k y.task.0)
+serves_of k e = 0
+
+-- how often it is told that the task with the number k is to be served
+abbrev pub times_served : ℕ → List Event → ℕ
+times_served k [] = 0
+times_served k (e ∷ es) = serves_of k e + times_served k es
+
 -- ---- own calls that end
 
 abbrev pub ends_of : ℕ → Event → ℕ
@@ -74,6 +84,7 @@ pub record IsOneVat (xs : List Act) (h : Hosted) : Type 0 where
   pub happened : happened_in log ≡ flat_map happened_by xs
   pub told : told_to xs h ≡ calls_in log
   pub served : (y : Delivery) → IsIn (event.Served y) (told_to xs h) → WasServed log y
+  pub tasks : (k : ℕ) → times_served k (told_to xs h) ≤ 1
   pub ended : (k : ℕ) → times_told k (told_to xs h) ≤ 1
 
 -- Whatever is done with a new host.

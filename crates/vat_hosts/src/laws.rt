@@ -24,7 +24,7 @@ pub fn exchange_hands_over()
 
 /// Whatever is done with a new host, and whatever its peer sends: it is a run of one vat, and what its application is told of calls is
 /// what the run tells. Each call that it is to serve is its own, or is for an object that the peer was given and has not given back. No
-/// own call ends twice.
+/// call is served twice, and no own call ends twice.
 pub fn hosts_serve_what_is_given()
     ensures { HostsServeWhatIsGiven }
 {

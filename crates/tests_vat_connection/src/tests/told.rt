@@ -13,6 +13,7 @@ pub(crate) enum Told {
     Ended(CallId, Came, Given),
     Resolved(PeerPlace),
     Lifted(RefId),
+    Cancelled(TaskId),
     Released(ObjectId),
     Down(u16),
     /// It went down by the peer's Abort, whose reason says that fault.
@@ -57,6 +58,7 @@ pub(crate) fn said_by(event: &Event) -> Told {
         Event::Ended(call) => ended(call),
         Event::Resolved(place) => Told::Resolved(*place),
         Event::Lifted(reference) => Told::Lifted(*reference),
+        Event::Cancelled(task) => Told::Cancelled(*task),
         Event::Released(object) => Told::Released(*object),
         Event::Down(number, reason) => down(*number, reason.as_str()),
     }

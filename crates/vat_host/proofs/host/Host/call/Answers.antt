@@ -8,17 +8,17 @@ use Rattle.vat_host.proofs.host.Host.call.Goals as goal
 pub returns-in-Err-clause-refused : goal.returns-in-Err-clause-refused
 returns-in-Err-clause-refused c =
     refuses c.args.self.now c.self.inside.core c.call.new.self (command.Call c.args.call) c.in-Err.refused.refusal
-    c.self.inside.kept.messages.0 c.make_place.new.self.messages.0 c.self.inside.kept.events.0 c.make_place.new.self.events.0 c.self.inside.objects c.self.inside.down_notice
+    c.self.inside.kept.messages.0 c.make_place.new.self.messages.0 c.self.inside.kept.events.0 c.make_place.new.self.events.0 c.self.inside.objects c.self.inside.unanswered c.self.inside.down_notice
     c.self.view_is c.make_place.ensures.messages c.make_place.ensures.events c.in-Err.ensures.unchanged c.in-Err.ensures.refused
 
 pub returns-clause-done : goal.returns-clause-done
 returns-clause-done c = (
   c.in-Ok-call.done.1,
-  obeyed c.args.self.now c.self.inside.core c.call.new.self (command.Call c.args.call) (granted.Call c.in-Ok-call.done.0) c.in-Ok-call.done.1 c.self.inside.kept.messages.0 c.self.inside.kept.events.0 c.self.inside.objects c.self.inside.down_notice c.self.view_is c.in-Ok-call.ensures.done,
+  obeyed c.args.self.now c.self.inside.core c.call.new.self (command.Call c.args.call) (granted.Call c.in-Ok-call.done.0) c.in-Ok-call.done.1 c.self.inside.kept.messages.0 c.self.inside.kept.events.0 c.self.inside.objects c.self.inside.unanswered c.self.inside.down_notice c.self.view_is c.in-Ok-call.ensures.done,
   kept c.args.self.now c.self.inside.core c.call.new.self c.in-Ok-call.done.1
       c.self.inside.kept.messages.0 c.make_place.new.self.messages.0 c.keep.new.self.messages.0
-      c.self.inside.kept.events.0 c.make_place.new.self.events.0 c.keep.new.self.events.0 c.self.inside.objects c.self.inside.down_notice
-      c.self.view_is c.make_place.ensures.messages c.make_place.ensures.events c.keep.ensures.messages c.keep.ensures.events,
+      c.self.inside.kept.events.0 c.make_place.new.self.events.0 c.keep.new.self.events.0 c.self.inside.objects c.self.inside.unanswered c.follow.new.self c.self.inside.down_notice
+      c.self.view_is c.make_place.ensures.messages c.make_place.ensures.events c.keep.ensures.messages c.keep.ensures.events c.follow.ensures,
 )
 
 pub invariant_of-self-2 : goal.invariant_of-self-2

@@ -16,11 +16,11 @@ pub returns-in-Done : goal.returns-in-Done
 returns-in-Done c = (
   c.in-Done.effects,
   obeyed c.args.self.now c.self.inside.core c.command.new.self c.args.command c.in-Done.granted c.in-Done.effects
-      c.self.inside.kept.messages.0 c.self.inside.kept.events.0 c.self.inside.objects c.self.inside.down_notice c.self.view_is c.in-Done.ensures.answers.obeys,
+      c.self.inside.kept.messages.0 c.self.inside.kept.events.0 c.self.inside.objects c.self.inside.unanswered c.self.inside.down_notice c.self.view_is c.in-Done.ensures.answers.obeys,
   kept_by c.args.self.now c.self.inside.core c.command.new.self c.args.command c.in-Done.effects
       c.self.inside.kept.messages.0 c.make_place.new.self.messages.0 c.keep.new.self.messages.0
-      c.self.inside.kept.events.0 c.make_place.new.self.events.0 c.keep.new.self.events.0 c.self.inside.objects c.self.inside.down_notice
-      c.self.view_is c.make_place.ensures.messages c.make_place.ensures.events c.keep.ensures.messages c.keep.ensures.events
+      c.self.inside.kept.events.0 c.make_place.new.self.events.0 c.keep.new.self.events.0 c.self.inside.objects c.self.inside.unanswered c.follow.new.self c.self.inside.down_notice
+      c.self.view_is c.make_place.ensures.messages c.make_place.ensures.events c.keep.ensures.messages c.keep.ensures.events c.follow.ensures
       (sym c.hosted_by.ensures.value ∙ c.in_default-hosted_by.is),
 )
 
@@ -33,7 +33,7 @@ invariant_of-self-in-Done c = (
 pub returns-in-Refused : goal.returns-in-Refused
 returns-in-Refused c = (
   refuses c.args.self.now c.self.inside.core c.command.new.self c.args.command c.in-Refused.refusal
-      c.self.inside.kept.messages.0 c.make_place.new.self.messages.0 c.self.inside.kept.events.0 c.make_place.new.self.events.0 c.self.inside.objects c.self.inside.down_notice
+      c.self.inside.kept.messages.0 c.make_place.new.self.messages.0 c.self.inside.kept.events.0 c.make_place.new.self.events.0 c.self.inside.objects c.self.inside.unanswered c.self.inside.down_notice
       c.self.view_is c.make_place.ensures.messages c.make_place.ensures.events
       c.in-Refused.ensures.answers.unchanged c.in-Refused.ensures.answers.obeys,
   c.in-Refused.ensures.answers.handed_back,

@@ -20,8 +20,8 @@ invariant_of-self-in-Ok c = (
 pub returns-in-Ok-clause-done : goal.returns-in-Ok-clause-done
 returns-in-Ok-clause-done c = (
   quiet,
-  obeyed c.args.self.now c.self.inside.core c.host.new.self (command.Host c.args.object) (granted.Reference c.in-Ok.made) quiet c.self.inside.kept.messages.0 c.self.inside.kept.events.0 c.self.inside.objects c.self.inside.down_notice c.self.view_is c.in-Ok.ensures.done,
-  hosts c.args.self.now c.self.inside.core c.host.new.self c.args.object c.self.inside.kept.messages.0 c.self.inside.kept.events.0 c.self.inside.objects c.put.new.self c.self.inside.down_notice c.self.view_is c.in_ok-put.ensures.ok,
+  obeyed c.args.self.now c.self.inside.core c.host.new.self (command.Host c.args.object) (granted.Reference c.in-Ok.made) quiet c.self.inside.kept.messages.0 c.self.inside.kept.events.0 c.self.inside.objects c.self.inside.unanswered c.self.inside.down_notice c.self.view_is c.in-Ok.ensures.done,
+  hosts c.args.self.now c.self.inside.core c.host.new.self c.args.object c.self.inside.kept.messages.0 c.self.inside.kept.events.0 c.self.inside.objects c.put.new.self c.self.inside.unanswered c.self.inside.down_notice c.self.view_is c.in_ok-put.ensures.ok,
 )
 
 pub invariant_of-self-in-Err : goal.invariant_of-self-in-Err
@@ -34,8 +34,8 @@ invariant_of-self-in-Err c = (
 
 pub returns-in-Err-clause-refused : goal.returns-in-Err-clause-refused
 returns-in-Err-clause-refused c =
-    subst (λ (m : Objects). Refuses c.args.self.now (command.Host c.args.object) c.in-Err.refusal (hosted c.host.new.self c.self.inside.kept.messages.0 c.self.inside.kept.events.0 m c.self.inside.down_notice))
+    subst (λ (m : Objects). Refuses c.args.self.now (command.Host c.args.object) c.in-Err.refusal (hosted c.host.new.self c.self.inside.kept.messages.0 c.self.inside.kept.events.0 m c.self.inside.unanswered c.self.inside.down_notice))
     (sym (taken_back c.self.inside.objects c.put.new.self c.take.new.self c.args.object (sym c.has.ensures ∙ c.if-has.false) c.in_ok-put.ensures.ok c.take.ensures))
     (refuses c.args.self.now c.self.inside.core c.host.new.self (command.Host c.args.object) c.in-Err.refusal
-    c.self.inside.kept.messages.0 c.self.inside.kept.messages.0 c.self.inside.kept.events.0 c.self.inside.kept.events.0 c.self.inside.objects c.self.inside.down_notice
+    c.self.inside.kept.messages.0 c.self.inside.kept.messages.0 c.self.inside.kept.events.0 c.self.inside.kept.events.0 c.self.inside.objects c.self.inside.unanswered c.self.inside.down_notice
     c.self.view_is refl refl c.in-Err.ensures.unchanged c.in-Err.ensures.refused)

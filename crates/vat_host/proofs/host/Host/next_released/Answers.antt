@@ -8,7 +8,7 @@ use Rattle.vat_host.proofs.host.Host.next_released.Goals as goal
 
 pub invariant_of-self : goal.invariant_of-self
 invariant_of-self c =
-    let is : IsReleased (hosted c.self.inside.core c.self.inside.kept.messages.0 c.self.inside.kept.events.0 c.self.inside.objects c.self.inside.down_notice) c.in_ok-object.object =
+    let is : IsReleased (hosted c.self.inside.core c.self.inside.kept.messages.0 c.self.inside.kept.events.0 c.self.inside.objects c.self.inside.unanswered c.self.inside.down_notice) c.in_ok-object.object =
     subst (λ (h : Hosted). IsReleased h c.in_ok-object.object) (sym (c.self.view_is ∙ c.released.ensures.same)) c.in_ok-object.ensures.some in (
       c.self.invariant.0,
       subst (λ (m : Objects). KnowsAll c.self.inside.core m) (sym c.take.ensures)

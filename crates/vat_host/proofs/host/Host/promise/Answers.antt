@@ -9,14 +9,14 @@ use Rattle.vat_host.proofs.host.Host.promise.Goals as goal
 pub returns-in-Err-clause-refused : goal.returns-in-Err-clause-refused
 returns-in-Err-clause-refused c =
     refuses c.args.self.now c.self.inside.core c.promise.new.self command.Promise c.in-Err.refusal
-    c.self.inside.kept.messages.0 c.self.inside.kept.messages.0 c.self.inside.kept.events.0 c.self.inside.kept.events.0 c.self.inside.objects c.self.inside.down_notice
+    c.self.inside.kept.messages.0 c.self.inside.kept.messages.0 c.self.inside.kept.events.0 c.self.inside.kept.events.0 c.self.inside.objects c.self.inside.unanswered c.self.inside.down_notice
     c.self.view_is refl refl c.in-Err.ensures.unchanged c.in-Err.ensures.refused
 
 pub returns-clause-done : goal.returns-clause-done
 returns-clause-done c = (
   quiet,
-  obeyed c.args.self.now c.self.inside.core c.promise.new.self command.Promise (granted.Promise c.in-Ok.made.0 c.in-Ok.made.1) quiet c.self.inside.kept.messages.0 c.self.inside.kept.events.0 c.self.inside.objects c.self.inside.down_notice c.self.view_is c.in-Ok.ensures.done,
-  silent c.args.self.now c.self.inside.core c.promise.new.self c.self.inside.kept.messages.0 c.self.inside.kept.events.0 c.self.inside.objects c.self.inside.down_notice c.self.view_is,
+  obeyed c.args.self.now c.self.inside.core c.promise.new.self command.Promise (granted.Promise c.in-Ok.made.0 c.in-Ok.made.1) quiet c.self.inside.kept.messages.0 c.self.inside.kept.events.0 c.self.inside.objects c.self.inside.unanswered c.self.inside.down_notice c.self.view_is c.in-Ok.ensures.done,
+  silent c.args.self.now c.self.inside.core c.promise.new.self c.self.inside.kept.messages.0 c.self.inside.kept.events.0 c.self.inside.objects c.self.inside.unanswered c.self.inside.down_notice c.self.view_is,
 )
 
 pub invariant_of-self-2 : goal.invariant_of-self-2

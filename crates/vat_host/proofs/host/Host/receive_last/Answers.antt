@@ -4,12 +4,12 @@ use Rattle.rpc_machine.specs.Numbers.{want_of_room}
 use Rattle.vat_host.specs.declared.event.Event.{Event}
 use Rattle.vat_host.specs.Hosting.{stepped_so}
 use Rattle.vat_host.proofs.Doing.{shut_known}
-use Rattle.vat_host.proofs.Falling.{received}
+use Rattle.vat_host.proofs.Falling.{down_shut, received}
 use Rattle.vat_host.proofs.Knowing.{by_message}
 use Rattle.vat_host.proofs.host.Host.receive_last.Goals as goal
 
-pub returns : goal.returns
-returns c = (
+pub returns-clause-heard : goal.returns-clause-heard
+returns-clause-heard c = (
   c.shut.ensures.0,
   received c.args.self.now.core c.args.message c.shut.ensures.0 c.shut.new.self.core (sym c.is_abort.ensures ∙ c.if-is_abort.false)
       (subst (λ (n : ℕ). ShutsFrom c.args.self.now.core n c.args.self.now.core.down c.shut.ensures.0 c.shut.new.self.core) c.code.ensures c.shut.ensures.1),
@@ -18,6 +18,11 @@ returns c = (
       (sym (shut_known c.args.message c.args.self.now.core want_of_room c.shut.ensures.0 c.shut.new.self.core
       (subst (λ (n : ℕ). ShutsFrom c.args.self.now.core n c.args.self.now.core.down c.shut.ensures.0 c.shut.new.self.core) c.code.ensures c.shut.ensures.1))),
 )
+
+pub returns-clause-down : goal.returns-clause-down
+returns-clause-down c =
+    down_shut c.args.self.now.core want_of_room c.shut.ensures.0 c.shut.new.self.core
+    (subst (λ (n : ℕ). ShutsFrom c.args.self.now.core n c.args.self.now.core.down c.shut.ensures.0 c.shut.new.self.core) c.code.ensures c.shut.ensures.1)
 
 pub invariant_of-self : goal.invariant_of-self
 invariant_of-self c = (search rules, by_message c.self.inside.core c.args.message c.receive-effects.result c.receive-effects.new.self c.self.inside.objects c.receive-effects.ensures.steps c.self.invariant.1)

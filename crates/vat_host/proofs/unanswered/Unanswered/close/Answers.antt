@@ -1,0 +1,11 @@
+use Rattle.std.proofs.Common.{ap, ◌∙◌}
+use Rattle.std.specs.FinMap as map
+use Rattle.finite_maps.proofs.Trees.{seen-remove}
+use Rattle.vat_host.specs.Unanswered.{Unanswered}
+use Rattle.vat_host.proofs.Over.{alike}
+use Rattle.vat_host.proofs.unanswered.Unanswered.close.Goals as goal
+
+pub returns : goal.returns
+returns c =
+    alike _ _ _ _ (c.remove.ensures.removed ∙ ap (λ (u : Unanswered). map.remove u.tasks c.args.number) c.self.view_is)
+    (seen-remove c.self.inside.over c.remove-2.new.self c.args.self.now.over c.args.number (ap (λ (u : Unanswered). u.over) c.self.view_is) c.remove-2.ensures.updates)
