@@ -1,0 +1,3 @@
+pub mod OneDesk
+pub mod Reaching
+pub mod Served

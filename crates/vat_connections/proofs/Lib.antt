@@ -1,0 +1,7 @@
+pub mod Counts
+pub mod Downs
+pub mod Moving
+pub mod Numbers
+pub mod OneConnection
+pub mod Served
+pub mod Working
