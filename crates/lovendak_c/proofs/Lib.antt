@@ -1,2 +1,4 @@
 pub mod Full
 pub mod Raws
+pub mod TreeRaws
+pub mod TreesFull

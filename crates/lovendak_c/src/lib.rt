@@ -6,6 +6,9 @@
 //!   is asked of the vat.
 //! - The commands by name: `calls.rt`, `refs.rt`, `promises.rt`, `tasks.rt`. `payloads.rt`: payloads made and looked into.
 //! - `codes.rt`: the code that each call answers.
+//! - Trees, which need no vat: `tree_raw.rt`, `tree_handle.rt`: `TreeHandle`, which C keeps: the address of boxed trees (of
+//!   `lovendak_c_trees`), or of none. `trees.rt`: contents are built. `tree_paths.rt`: payloads are looked into. `tree_codes.rt`: the
+//!   code that each of these calls answers.
 //!
 //! Each call takes the desk out of its handle, has the desk do what it is for, and puts it back. So its contract is that of the
 //! desk's call, on what the handle has (`specs/Calls.antt`).
@@ -25,3 +28,8 @@ mod streams;
 mod tasks;
 #[cfg(test)]
 mod tests;
+mod tree_codes;
+mod tree_handle;
+mod tree_paths;
+mod tree_raw;
+mod trees;

@@ -4,6 +4,7 @@ mod asking;
 mod handles;
 mod payloads;
 mod telling;
+mod trees;
 
 use crate::handle::Handle;
 use crate::streams::{lovendak_outgoing, lovendak_pending, lovendak_received};

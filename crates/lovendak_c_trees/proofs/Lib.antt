@@ -1,0 +1,4 @@
+pub mod Bits
+pub mod Copied
+pub mod Looked
+pub mod Sets
