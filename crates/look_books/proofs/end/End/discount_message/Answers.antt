@@ -1,0 +1,10 @@
+use Rattle.std.proofs.Common.{ℕ, ◌-◌, ap, ◌∙◌}
+use Rattle.look_books.specs.Acts.{number_of}
+use Rattle.look_books.specs.Ends.{kept_of}
+use Rattle.look_books.specs.After.{put, said_by}
+use Rattle.look_books.proofs.end.End.discount_message.Goals as goal
+
+pub returns : goal.returns
+returns c =
+    ap (λ (f : ℕ → ℕ). record (kept_of c.args.self.now) { said = f })
+    (c.in_ok-set.ensures ∙ ap (λ (n : ℕ). put (number_of c.args.kind) n (said_by c.args.self.now.kinds)) (c.saturating_sub-count.ensures ∙ ap (λ (n : ℕ). n - 1) c.of.ensures))
