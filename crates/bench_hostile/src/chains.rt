@@ -1,7 +1,7 @@
 //! A chain of outcomes that the peer has the vat keep, each of which leads to the one before.
 
 use crate::astray::Astray;
-use crate::contents::{fields, path_to, result_at};
+use crate::contents::{fields, path_to, repeated, result_at};
 use crate::played::Played;
 use crate::side::{BEGUN, Side};
 use rpc_msg::{Items, Path};
@@ -17,10 +17,7 @@ pub(crate) fn of_outcomes(side: &mut Side, size: u16) -> Result<Played, Astray> 
 pub(crate) fn named_often(side: &mut Side, size: u16) -> Result<Played, Astray> {
     chain(side, size)?;
     let end = result_at(u32::from(size) + 1, path_to(side.alloc, 0, 0)?);
-    let mut descriptors = Items::new(side.alloc);
-    for _ in 0..size {
-        descriptors.push(end)?;
-    }
+    let descriptors = repeated(side.alloc, end, size)?;
     let payload = fields(side.alloc, 0, size)?;
     side.returns(payload, descriptors, false)?;
     let links = u64::from(size);

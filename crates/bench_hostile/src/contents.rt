@@ -1,7 +1,7 @@
 //! Payloads of words, and the places in them.
 
 use crate::astray::Astray;
-use rpc_msg::{Descriptor, Op, Path, Payload, QuestionId};
+use rpc_msg::{Descriptor, Items, Op, Path, Payload, QuestionId};
 use std::alloc::Global;
 
 /// A null pointer that goes with so many capabilities.
@@ -39,6 +39,19 @@ pub(crate) fn path_to(alloc: Global, down: usize, field: u16) -> Result<Path, As
 /// What stands at that place of a question's results.
 pub(crate) fn result_at(question: u32, path: Path) -> Descriptor {
     Descriptor::ReceiverAnswer(QuestionId(question), path)
+}
+
+/// The same so many times.
+pub(crate) fn repeated<T: Copy + Drop>(
+    alloc: Global,
+    one: T,
+    size: u16,
+) -> Result<Items<T>, Astray> {
+    let mut items = Items::new(alloc);
+    for _ in 0..size {
+        items.push(one)?;
+    }
+    Ok(items)
 }
 
 // The payload of these words, in one segment.

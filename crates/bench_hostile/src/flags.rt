@@ -1,7 +1,7 @@
 //! Many descriptors in one message, which a flag gives back.
 
 use crate::astray::Astray;
-use crate::contents::null_with;
+use crate::contents::{null_with, repeated};
 use crate::played::Played;
 use crate::side::{BEGUN, Side};
 use rpc_msg::{Descriptor, ExportId, Items, Path, RefId, TaskId};
@@ -66,12 +66,4 @@ pub(crate) fn of_own(side: &mut Side, size: u16) -> Result<Played, Astray> {
     let payload = null_with(side.alloc, 0)?;
     side.returns(payload, Items::new(side.alloc), true)?;
     Ok(BEGUN.more(2, 1, u64::from(size)))
-}
-
-fn repeated(alloc: Global, passed: RefId, size: u16) -> Result<Items<RefId>, Astray> {
-    let mut refs = Items::new(alloc);
-    for _ in 0..size {
-        refs.push(passed)?;
-    }
-    Ok(refs)
 }

@@ -14,8 +14,13 @@
 //! - `given`: so many descriptors of one id in a Call of this vat, which the peer's Return gives back.
 //! - `trace`: a trace to be checked, in which a Return with so many descriptors is followed by so many Finishes.
 //!
+//! Chains that are made from the first link on, and the first is named so many times, twice: `called`, outcomes, by
+//! descriptors of a Call that goes on; `returned`, by those of a Return; `exported`, promises of the vat, by those of a Call.
+//! `moved`: so many calls wait, and 64 times they are moved on and wait again.
+//!
 //! Those of the application: `promises`, a chain of promises that are resolved from the first on, and calls through it;
-//! `backwards`, the same from the last on; `call`, a call with so many references near the limit of exports.
+//! `backwards`, the same from the last on; `call`, a call with so many references near the limit of exports; `advanced`, the
+//! first of a chain of promises asks so many times for a shorter path.
 #![tactic(auto)]
 
 mod astray;
@@ -24,6 +29,7 @@ mod contents;
 mod exports;
 mod fields;
 mod flags;
+mod onward;
 mod played;
 mod promises;
 mod side;
@@ -38,7 +44,7 @@ use std::alloc::Global;
 use std::env;
 use std::process::ExitCode;
 
-const INPUTS: [&str; 15] = [
+const INPUTS: [&str; 20] = [
     "fields",
     "deep",
     "circle",
@@ -51,9 +57,14 @@ const INPUTS: [&str; 15] = [
     "results",
     "given",
     "trace",
+    "called",
+    "returned",
+    "exported",
+    "moved",
     "promises",
     "backwards",
     "call",
+    "advanced",
 ];
 
 fn main(rt: HostRuntime) -> Result<ExitCode> {
@@ -111,7 +122,21 @@ fn play_at(side: &mut Side, what: &str, size: u16) -> Result<Played, Astray> {
         "kept" => chains::of_outcomes(side, size),
         "wide" => chains::named_often(side, size),
         "call" => exports::near_the_limit(side, size),
+        "called" | "returned" | "exported" | "moved" | "advanced" => {
+            play_onward(side, what, size)
+        }
         _ => play_flag(side, what, size),
+    }
+}
+
+fn play_onward(side: &mut Side, what: &str, size: u16) -> Result<Played, Astray> {
+    match what {
+        "called" => onward::in_calls(side, size),
+        "returned" => onward::in_returns(side, size),
+        "exported" => onward::exported(side, size),
+        "moved" => onward::moved(side, size),
+        "advanced" => onward::advanced(side, size),
+        _ => Err(Astray::NoInput),
     }
 }
 

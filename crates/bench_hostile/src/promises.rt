@@ -6,14 +6,12 @@ use crate::side::Side;
 use rpc_msg::{Items, PromiseId, RefId};
 
 /// A promise, and the reference to it.
-type Made = (PromiseId, RefId);
+pub(crate) type Made = (PromiseId, RefId);
 
 /// They are resolved from the first on; and as many calls go through the first, before the last is resolved.
 pub(crate) fn from_the_first(side: &mut Side, size: u16) -> Result<Played, Astray> {
     let promises = make_all(side, size)?;
-    for index in 0..promises.len() {
-        lead_on(side, &promises, index)?;
-    }
+    lead_all(side, &promises)?;
     call_first(side, &promises)?;
     Ok(all_delivered(size))
 }
@@ -28,7 +26,8 @@ pub(crate) fn from_the_last(side: &mut Side, size: u16) -> Result<Played, Astray
     Ok(all_delivered(size))
 }
 
-fn make_all(side: &mut Side, size: u16) -> Result<Vec<Made>, Astray> {
+/// So many promises, which are open.
+pub(crate) fn make_all(side: &mut Side, size: u16) -> Result<Vec<Made>, Astray> {
     let mut promises = Vec::new(side.alloc);
     for _ in 0..size {
         promises.push(side.promise()?)?;
@@ -36,8 +35,16 @@ fn make_all(side: &mut Side, size: u16) -> Result<Vec<Made>, Astray> {
     Ok(promises)
 }
 
-// The promise of that number is resolved to the next, if there is one.
-fn lead_on(side: &mut Side, promises: &[Made], index: usize) -> Result<(), Astray> {
+/// Each promise is resolved to the next, from the first on.
+pub(crate) fn lead_all(side: &mut Side, promises: &[Made]) -> Result<(), Astray> {
+    for index in 0..promises.len() {
+        lead_on(side, promises, index)?;
+    }
+    Ok(())
+}
+
+/// The promise of that number is resolved to the next, if there is one.
+pub(crate) fn lead_on(side: &mut Side, promises: &[Made], index: usize) -> Result<(), Astray> {
     let next = promises.get(index.saturating_add(1));
     match (promises.get(index), next) {
         (Some(promise), Some(next)) => side.resolve(promise.0, next.1),

@@ -6,7 +6,8 @@ use crate::played::Played;
 use rpc_machine::{CallCommand, Effects, Level, Refusal};
 use rpc_msg::{
     Call, CallId, Descriptor, ExportId, Finish, Items, Message, ObjectId, Path, Payload,
-    PlainMessage, PromiseId, QuestionId, RefId, Return, ReturnBody, Stamp, Target, TaskId, Vat,
+    PlainMessage, PromiseId, QuestionId, RefId, Release, Return, ReturnBody, Stamp, Target, TaskId,
+    Vat,
 };
 use std::alloc::Global;
 use vat_core::Core;
@@ -124,12 +125,31 @@ impl Side {
         }))
     }
 
+    /// The peer's Return of that question of the vat.
+    pub(crate) fn returns_to(
+        &mut self,
+        question: u32,
+        payload: Payload,
+        descriptors: Items<Descriptor>,
+    ) -> Result<(), Astray> {
+        self.receive(PlainMessage::Return(Return {
+            answer: QuestionId(question),
+            release_param_caps: false,
+            body: ReturnBody::Results(payload, descriptors),
+        }))
+    }
+
     /// The peer's Finish of a question, whose results it keeps.
     pub(crate) fn finishes(&mut self, question: u32) -> Result<(), Astray> {
         self.receive(PlainMessage::Finish(Finish {
             question: QuestionId(question),
             release_result_caps: false,
         }))
+    }
+
+    /// The peer's Release of an export that was given once.
+    pub(crate) fn releases(&mut self, export: ExportId) -> Result<(), Astray> {
+        self.receive(PlainMessage::Release(Release { export, count: 1 }))
     }
 
     /// The application answers a task.
@@ -203,5 +223,10 @@ impl Side {
     pub(crate) fn resolve(&mut self, promise: PromiseId, reference: RefId) -> Result<(), Astray> {
         let done = self.core.resolve(promise, reference);
         self.did(done)
+    }
+
+    pub(crate) fn advance(&mut self, reference: RefId) -> Result<(), Astray> {
+        let (_advanced, effects) = self.core.advance(reference)?;
+        self.took(effects)
     }
 }
