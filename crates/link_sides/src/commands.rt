@@ -10,7 +10,7 @@ ghost use Rattle.link_sides.specs.Rooms.{held_of, IsReady};
 ghost use Rattle.link_sides.specs.Sides.{down_by, AnswersSo, HasBack, IsOwn, IsQuiet, IsShutBy, IsSpare, IsTold};
 
 use crate::answers::{ask, no_effects};
-use crate::entries::{WANT_OF_ROOM, make_room, tell_fall, tell_whole};
+use crate::entries::{make_room, tell_fall, tell_whole};
 use crate::kept::Kept;
 use core_telling::{
     Answer, Core, Note as Own, back_of, index_of_call, note_of, write_note, write_refused,
@@ -18,7 +18,7 @@ use core_telling::{
 use laws_ends::{names_stay, overflow_is_shut};
 use link_logs::{Note, Told};
 use link_rings::Waiting;
-use rpc_machine::{Command, Effects, Granted, Refusal};
+use rpc_machine::{Command, Effects, Fault, Granted, Refusal};
 use rpc_msg::{Memory, Message};
 use std::alloc::Global;
 use std::snapshot::Snapshot;
@@ -84,7 +84,7 @@ fn without_room(
     ensures answers { AnswersSo command result.0 result.1 }
     ensures ready { IsReady kept.new }
 {
-    let note = shut(kept, WANT_OF_ROOM, waiting);
+    let note = shut(kept, Fault::WantOfRoom.code(), waiting);
     (note, Answer::Refused(Refusal::Down, command))
 }
 
@@ -360,10 +360,11 @@ fn tell_shut(
     let start = kept.journal.len();
     let vat = kept.core.vat();
     kept.core.recycle(effects);
-    let mut fallen = kept.core.shut(WANT_OF_ROOM);
+    let number = Fault::WantOfRoom.code();
+    let mut fallen = kept.core.shut(number);
     let told = Told::Shut(Snapshot::of(&fallen));
     let sent = fallen.sends.len();
-    tell_fall(kept, vat, WANT_OF_ROOM, &mut fallen, waiting);
+    tell_fall(kept, vat, number, &mut fallen, waiting);
     kept.core.recycle(fallen);
     let entries = kept.journal.len() - start;
     Note {

@@ -10,9 +10,6 @@ use link_rings::Waiting;
 use rpc_machine::Effects;
 use rpc_msg::{Memory, Message, Vat};
 
-/// The fault of a vat that found no room.
-pub(crate) const WANT_OF_ROOM: u16 = 33;
-
 /// Writes the entries of a step that took the vat down, and puts its Abort, if there is one, behind the frames that wait: in
 /// the room that is kept for both.
 pub(crate) fn tell_fall(

@@ -4,12 +4,12 @@ ghost use Rattle.link_logs.specs.Steps.{StepsSo, input_of, sends_of};
 ghost use Rattle.link_sides.specs.Rooms.{held_of, IsReady};
 ghost use Rattle.link_sides.specs.Sides.{down_by, TellsSo};
 
-use crate::entries::{WANT_OF_ROOM, make_room, tell_fall, tell_whole};
+use crate::entries::{make_room, tell_fall, tell_whole};
 use crate::kept::Kept;
 use link_logs::{Note, Told};
 use link_rings::Waiting;
 use rpc_journal::JournalEntry;
-use rpc_machine::Effects;
+use rpc_machine::{Effects, Fault};
 use rpc_msg::{Memory, Message};
 use std::snapshot::Snapshot;
 
@@ -68,10 +68,11 @@ pub(crate) fn receive(
         Err(Memory) => {}
     }
     kept.core.recycle(effects);
-    let mut fallen = kept.core.shut(WANT_OF_ROOM);
+    let number = Fault::WantOfRoom.code();
+    let mut fallen = kept.core.shut(number);
     let told = Told::Received(heard, Snapshot::of(&fallen), false);
     let sent = fallen.sends.len();
-    tell_fall(kept, vat, WANT_OF_ROOM, &mut fallen, waiting);
+    tell_fall(kept, vat, number, &mut fallen, waiting);
     kept.core.recycle(fallen);
     let entries = kept.journal.len() - start;
     (
@@ -80,6 +81,6 @@ pub(crate) fn receive(
             sent,
             entries,
         },
-        Err(WANT_OF_ROOM),
+        Err(number),
     )
 }

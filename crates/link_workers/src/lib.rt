@@ -5,7 +5,6 @@
 mod both;
 mod gate;
 mod job;
-mod open;
 mod pair_end;
 mod signals;
 mod worker;

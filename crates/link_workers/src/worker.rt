@@ -4,12 +4,12 @@ ghost use Rattle.link_workers.specs.Ending.{AtStep, AtLine, IsEnding};
 
 use crate::gate::Gate;
 use crate::job::Job;
-use crate::open::{Closes, Open};
 use crate::pair_end::PairEnd;
 use crate::worker_end::WorkerEnd;
+use rpc_journal::{Delivery, Ended};
 use rpc_machine::{Command, Effects, Event, Granted, Refusal};
 use rpc_msg::{Items, Memory, Payload, TaskId, Vat};
-use script_language::{Act, GiveFault, Line, LineCommand, Names};
+use script_language::{Act, Closes, GiveFault, Line, LineCommand, Names, OpenWork};
 use std::alloc::Global;
 use std::sync::Wait;
 use std::thread;
@@ -32,7 +32,7 @@ pub fn work<R: Wait, E: PairEnd, G: Gate, C: Clock>(
     let mut worker = Worker {
         end,
         names: Names::new(job.alloc),
-        open: Open::new(job.alloc),
+        open: OpenWork::new(job.alloc),
         idle: 0,
     };
     let why = worker.work(rt, job);
@@ -52,7 +52,7 @@ pub fn work<R: Wait, E: PairEnd, G: Gate, C: Clock>(
 struct Worker<E: PairEnd> {
     end: E,
     names: Names,
-    open: Open,
+    open: OpenWork,
     /// How many turns in a row found no frame.
     idle: u32,
 }
@@ -90,6 +90,7 @@ impl<E: PairEnd> Worker<E> {
             if vat_of(line) != Some(job.vat) {
                 continue;
             }
+            // Each arm by itself: a result that is handed on whole leaves its clauses to be proved by cases.
             match self.play_line(job, null, i + 1, line) {
                 Ok(()) => {}
                 Err(why) => return Err(why),
@@ -227,7 +228,7 @@ impl<E: PairEnd> Worker<E> {
         ensures ending { IfErr result (AtStep (E.down_by self.new.end)) }
     {
         match event {
-            Event::Command(_, command) => self.ask(job, said_by(line), command),
+            Event::Command(_, command) => self.ask(job, line.command(), command),
             // a script for two threads has no line that says this
             Event::Deliver(_) => Ok(()),
         }
@@ -319,8 +320,8 @@ impl<E: PairEnd> Worker<E> {
         ensures { self.new.end ≡ self.old.end }
     {
         let (deliveries, answers) = (&effects.deliveries, &effects.answers);
-        self.open.add_tasks(deliveries)?;
-        self.open.end_calls(answers);
+        add_tasks(&mut self.open, deliveries)?;
+        end_calls(&mut self.open, answers);
         self.names.note_deliveries(alloc, vat, deliveries)?;
         self.names.note_outcomes(alloc, vat, answers)
     }
@@ -335,10 +336,15 @@ fn vat_of(line: &Line) -> Option<Vat> {
     }
 }
 
-/// What a line asks of its vat.
-fn said_by(line: &Line) -> Option<&LineCommand> {
-    match line {
-        Line::Command(_, said) => Some(said),
-        _ => None,
+fn add_tasks(work: &mut OpenWork, deliveries: &[Delivery]) -> Result<(), Memory> {
+    for delivery in deliveries {
+        work.add_task(delivery.task, delivery.stamp)?;
+    }
+    Ok(())
+}
+
+fn end_calls(work: &mut OpenWork, answers: &[Ended]) {
+    for answer in answers {
+        work.close(Closes::Call(answer.call));
     }
 }

@@ -1,5 +1,5 @@
 -- What a line does when its turn comes (docs/script.md, "Lines").
-use Rattle.std.specs.Prelude.{Result, Ok}
+use Rattle.std.specs.Prelude.{Option, None, Some, Result, Ok}
 use Rattle.rpc_msg.specs.declared.ids.RefId.{RefId}
 use Rattle.rpc_machine.specs.declared.command.Command.{Command}
 use Rattle.rpc_machine.specs.declared.event.Event.TheVariants as event
@@ -7,9 +7,20 @@ use Rattle.script_language.specs.declared.act.Act.{Act}
 use Rattle.script_language.specs.declared.act.Act.TheVariants as act
 use Rattle.script_language.specs.declared.line.Line.{Line}
 use Rattle.script_language.specs.declared.line.Line.TheVariants as line
+use Rattle.script_language.specs.declared.line.LineCommand.{LineCommand}
 use Rattle.script_language.specs.declared.names.Names.{Names}
 use Rattle.script_language.specs.declared.fault.NameFault.{NameFault}
 use Rattle.script_language.specs.Bindings.{of_one, names_of, command_for, taken, got}
+
+-- what a line asks of its vat
+abbrev pub command_in : Line → Option LineCommand
+command_in line.Skip = None
+command_in (line.Deliver v) = None
+command_in (line.Turn v) = None
+command_in line.Tables = None
+command_in (line.Take v l) = None
+command_in (line.Got v l) = None
+command_in (line.Command v said) = Some said
 
 -- What a line does, or the first thing that it names and that is not there.
 abbrev pub act_for : Names → Line → Result Act NameFault

@@ -10,6 +10,7 @@ use Rattle.rpc_machine.specs.declared.command.Command.{Command}
 use Rattle.rpc_machine.specs.declared.command.Command.TheVariants as command
 use Rattle.rpc_machine.specs.declared.command.Granted.{Granted}
 use Rattle.rpc_machine.specs.declared.command.Granted.TheVariants as granted
+use Rattle.rpc_machine.specs.declared.command.Effects.{Effects}
 use Rattle.rpc_journal.specs.declared.report.Delivery.{Delivery}
 use Rattle.rpc_journal.specs.declared.report.Ended.{Ended}
 use Rattle.script_language.specs.declared.line.LineCommand.{LineCommand}
@@ -171,3 +172,13 @@ with_tasks names (d ∷ ds) = with_tasks (record names { tasks = map.insert name
 abbrev pub with_outcomes : VatNames → List Ended → VatNames
 with_outcomes names [] = names
 with_outcomes names (e ∷ es) = with_outcomes (record names { outcomes = map.insert names.outcomes e.call.0 e.refs }) es
+
+abbrev pub with_tasks_of : Vat → List Delivery → Names → Names
+with_tasks_of v ds names = with_names_of v (with_tasks (names_of v names) ds) names
+
+abbrev pub with_outcomes_of : Vat → List Ended → Names → Names
+with_outcomes_of v es names = with_names_of v (with_outcomes (names_of v names) es) names
+
+-- The references that a vat's application was handed in a step are kept: those of its tasks, and of the outcomes of its calls.
+abbrev pub handed : Names → Vat → Effects → Names
+handed names v told = with_outcomes_of v told.answers (with_tasks_of v told.deliveries names)

@@ -6,6 +6,7 @@
 -- - `Carried`: the payloads and the exception of a script's commands.
 -- - `Bindings`: what the names of a script stand for.
 -- - `Acting`: what a line does when its turn comes.
+-- - `OpenWork`: what is not over yet at a vat that plays a script.
 pub mod Letters
 pub mod Words
 pub mod Lines
@@ -13,3 +14,4 @@ pub mod Scripts
 pub mod Carried
 pub mod Bindings
 pub mod Acting
+pub mod OpenWork

@@ -7,7 +7,7 @@
 //! - `names.rt` is what a script's user sees of names. Beneath it `bound.rt` is one table of names, an ordered map that
 //!   contracts see as a finite map. `handed.rt` keeps which references came with tasks and outcomes. `bindings.rt` finds and
 //!   binds at one vat. `given_commands.rt` makes the commands, with the payloads and the exception of `carried.rt`.
-//! - `act.rt`: what a line of any kind does.
+//! - `act.rt`: what a line of any kind does. `open_work.rt`: what is not over yet at a vat that plays a script.
 //!
 //! The definitions are functions of the line's bytes: `Words` has each word, or what is wrong with it, `Lines` each line,
 //! `Scripts` a whole script, `Bindings` the names and what lines ask by them, `Acting` what each line does. A fault is the
@@ -25,6 +25,7 @@ mod handed;
 mod line;
 mod name;
 mod names;
+mod open_work;
 mod parts;
 mod reading;
 mod script;
@@ -35,4 +36,5 @@ pub use fault::{GiveFault, LineFault, NameFault, ReadFault, ScriptFault};
 pub use line::{CallLine, FieldLine, GotLine, Line, LineCommand, Program, TakeLine};
 pub use name::Name;
 pub use names::Names;
+pub use open_work::{Closes, OpenWork};
 pub use script::read_script;

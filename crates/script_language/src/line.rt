@@ -1,4 +1,5 @@
-ghost use Rattle.std.specs.Prelude.{◌≡◌, map};
+ghost use Rattle.std.specs.Prelude.{◌≡◌, map, option_copied};
+ghost use Rattle.script_language.specs.Acting.{command_in};
 ghost use Rattle.script_language.specs.Lines.{line_of, line_for, is_marked, is_skipped, words_for, Reads};
 ghost use Rattle.script_language.specs.Scripts.{AreWordsOf};
 
@@ -110,6 +111,16 @@ pub enum Line {
 }
 
 impl Line {
+    /// What it asks of its vat, if that is what it says.
+    pub fn command(&self) -> Option<&LineCommand>
+        ensures { option_copied result ≡ command_in self.now }
+    {
+        match self {
+            Line::Command(_, said) => Some(said),
+            _ => None,
+        }
+    }
+
     /// What a line says: its text stands without the newline, and may be of any length. `Line` with the first thing
     /// that is wrong if it is no line of that program, and there alone; `Memory` if a growth was refused.
     pub fn read(alloc: Global, program: Program, text: &str) -> Result<Line, ReadFault>

@@ -7,13 +7,12 @@ ghost use Rattle.vat_connection.specs.Connecting.{Gives};
 ghost use Rattle.vat_call_lib.specs.Scripts.{StopsAt};
 
 use crate::failure::{BrokenOff, Failure};
-use crate::open::Closes;
 use crate::player::{Player, VAT};
 use crate::report::tell;
 use rpc_journal::JournalEntry;
 use rpc_machine::{Command, Event, Granted, Refusal};
 use rpc_msg::{Items, Memory, Payload, TaskId};
-use script_language::{Act, GiveFault, Line, LineCommand};
+use script_language::{Act, Closes, GiveFault, Line, LineCommand};
 use std::io::{BufRead, Write};
 use std::slice;
 use vat_connection::Event as Told;
@@ -34,6 +33,7 @@ impl<R: BufRead + Drop, W: Write + Drop, T: Write + Drop> Player<R, W, T> {
             Err(GiveFault::Memory) => return Err(Failure::BrokenOff(BrokenOff::Memory)),
             Err(GiveFault::Name(fault)) => return Err(Failure::Unnamed(number, fault)),
         };
+        // Each arm by itself: a result that is handed on whole leaves its clauses to be proved by cases.
         match self.act(line, act) {
             Ok(()) => return Ok(()),
             Err(why) => return Err(Failure::BrokenOff(why)),
@@ -58,7 +58,7 @@ impl<R: BufRead + Drop, W: Write + Drop, T: Write + Drop> Player<R, W, T> {
     fn happen(&mut self, line: &Line, event: Event) -> Result<(), BrokenOff> {
         match event {
             Event::Command(_, command) => {
-                self.obey(said_by(line), command)?;
+                self.obey(line.command(), command)?;
                 self.settle()
             }
             // a script for one vat has no line that says this
@@ -150,7 +150,7 @@ impl<R: BufRead + Drop, W: Write + Drop, T: Write + Drop> Player<R, W, T> {
     fn note(&mut self, told: Told) -> Result<Option<JournalEntry>, BrokenOff> {
         let entry = match told {
             Told::Served(call) => {
-                self.open.add_task(call.task)?;
+                self.open.add_task(call.task, call.stamp)?;
                 self.names
                     .note_deliveries(self.alloc, VAT, slice::from_ref(&call))?;
                 JournalEntry::Delivered(VAT, call)
@@ -165,13 +165,5 @@ impl<R: BufRead + Drop, W: Write + Drop, T: Write + Drop> Player<R, W, T> {
             _other => return Ok(None),
         };
         Ok(Some(entry))
-    }
-}
-
-/// What a line asks of its vat.
-fn said_by(line: &Line) -> Option<&LineCommand> {
-    match line {
-        Line::Command(_, said) => Some(said),
-        _ => None,
     }
 }

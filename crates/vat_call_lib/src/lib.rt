@@ -2,7 +2,7 @@
 //!
 //! - `script.rt`: the lines of a script for it. `player.rt`: a vat with its streams, and how it plays lines; `acts.rt`: what it does
 //!   for a line, and for what its peer sends.
-//! - `frames.rt`: frames are read one at a time. `report.rt`: what is told. `open.rt`: what is not over yet.
+//! - `frames.rt`: frames are read one at a time. `report.rt`: what is told.
 //! - `end.rt`: how a conversation ends. `failure.rt`: why it fails.
 #![tactic(auto)]
 
@@ -10,7 +10,6 @@ mod acts;
 mod end;
 mod failure;
 mod frames;
-mod open;
 mod player;
 mod report;
 mod script;

@@ -6,9 +6,8 @@ ghost use Rattle.vat_call_lib.specs.Scripts.{Stops};
 use crate::end::Ending;
 use crate::failure::{BrokenOff, Failure};
 use crate::frames::Frames;
-use crate::open::Open;
 use rpc_msg::{Memory, ObjectId, Payload, Vat};
-use script_language::{Line, Names};
+use script_language::{Closes, Line, Names, OpenWork};
 use std::alloc::Global;
 use std::io::{BufRead, Write};
 use vat_connection::{Connection, Level};
@@ -27,7 +26,7 @@ pub struct Player<R, W, T> {
     pub(crate) out: W,
     pub(crate) told: T,
     pub(crate) names: Names,
-    pub(crate) open: Open,
+    pub(crate) open: OpenWork,
     pub(crate) alloc: Global,
 }
 
@@ -41,7 +40,7 @@ impl<R: BufRead + Drop, W: Write + Drop, T: Write + Drop> Player<R, W, T> {
             out,
             told,
             names: Names::new(alloc),
-            open: Open::new(alloc),
+            open: OpenWork::new(alloc),
             alloc,
         })
     }
@@ -58,6 +57,7 @@ impl<R: BufRead + Drop, W: Write + Drop, T: Write + Drop> Player<R, W, T> {
             Err(Memory) => return Err(Failure::BrokenOff(BrokenOff::Memory)),
         };
         for (i, line) in lines.iter().enumerate() {
+            // Each arm by itself: a result that is handed on whole leaves its clauses to be proved by cases.
             match self.play_line(&null, i + 1, line) {
                 Ok(()) => {}
                 Err(why) => return Err(why),
@@ -66,6 +66,7 @@ impl<R: BufRead + Drop, W: Write + Drop, T: Write + Drop> Player<R, W, T> {
                 return Ok(Ending::Down(number));
             }
         }
+        // The same.
         match self.go_on(&null) {
             Ok(ending) => return Ok(ending),
             Err(why) => return Err(Failure::BrokenOff(why)),
@@ -79,7 +80,9 @@ impl<R: BufRead + Drop, W: Write + Drop, T: Write + Drop> Player<R, W, T> {
             if let Some(number) = self.vat.core().down() {
                 return Ok(Ending::Down(number));
             }
-            if let Some(task) = self.open.take_task() {
+            if let Some((task, _)) = self.open.oldest_task() {
+                // also if the vat refuses the answer
+                self.open.close(Closes::Task(task));
                 self.answer(null, task)?;
             } else if self.open.calls_are_over() {
                 return Ok(Ending::Done {

@@ -21,6 +21,7 @@ pub fn read_lines(alloc: Global, script: &[u8]) -> Result<Items<Line>, Failure>
         Err(ScriptFault::NotText) => return Err(Failure::NotText),
         Err(ScriptFault::Line(number, fault)) => return Err(Failure::Line(number, fault)),
     };
+    // Each arm returns by itself: where arms join, what each says is lost to the clauses.
     match first_other(&lines) {
         Some(at) => return Err(Failure::OtherVat(at + 1)),
         None => return Ok(lines),

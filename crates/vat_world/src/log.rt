@@ -8,17 +8,15 @@ ghost use Rattle.vat_world.specs.Rooms.{stage_of, side_of, IsReady, HasRoom, Kee
 use crate::link::Link;
 use crate::side::Side;
 use core_telling::{Journal, count, put_effects, write_fall};
-use rpc_machine::Effects;
+use rpc_machine::{Effects, Fault};
 use rpc_msg::{Items, Memory, Vat};
 use std::alloc::Global;
 use std::mem;
 
-/// The fault of a vat that found no room.
-const WANT_OF_ROOM: u16 = 33;
-
-/// Tells the step that the vat's core took, and answers whether there was room: its messages go from the effects on the link to
-/// the peer, and the entries of its effects stand behind its own entries, which are those from `start` on. Where there is no room
-/// for all of that, the vat goes down with fault 33 in the room that is kept, and its own entries are taken back.
+/// Tells the step that the vat's core took, and answers whether there was room. Its messages go from the effects on the
+/// link to the peer. The entries of its effects stand behind its own entries, which are those from `start` on. If there
+/// is no room for all of that, the vat goes down with fault 33 in the room that is kept, and its own entries are taken
+/// back.
 #[inline(always)]
 pub(crate) fn log_step(
     alloc: Global,
@@ -72,13 +70,14 @@ pub(crate) fn log_overflow(
         log_fall(alloc, vat, acting, peer, journal, number, effects);
         return;
     }
+    let number = Fault::WantOfRoom.code();
     let Effects {
         sends: _,
         deliveries: _,
         answers: _,
         down: _,
-    } = mem::replace(effects, acting.core.shut(WANT_OF_ROOM));
-    log_fall(alloc, vat, acting, peer, journal, WANT_OF_ROOM, effects);
+    } = mem::replace(effects, acting.core.shut(number));
+    log_fall(alloc, vat, acting, peer, journal, number, effects);
 }
 
 // Tells, in the room that is kept, a step that took the vat down.
@@ -106,7 +105,7 @@ fn log_fall(
     send(alloc, &mut peer.inbox, effects);
 }
 
-// Puts the messages of a step on the link, where there is room.
+// Puts the messages of a step on the link, if there is room.
 #[inline(always)]
 fn send(alloc: Global, inbox: &mut Link, effects: &mut Effects)
     requires { length effects.old.sends ≤ inbox.old.1 }

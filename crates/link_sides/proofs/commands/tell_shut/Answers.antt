@@ -1,5 +1,6 @@
-use Rattle.std.proofs.Common.{Ok, refl, ap, ◌∙◌}
+use Rattle.std.proofs.Common.{ℕ, Ok, refl, ap, subst, ◌∙◌}
 use Rattle.rpc_machine.specs.State.{State}
+use Rattle.rpc_machine.specs.Down.{ShutsFrom}
 use Rattle.link_sides.proofs.Answering.{shut_by}
 use Rattle.link_sides.proofs.Stepping.{overflowed_at}
 use Rattle.link_sides.proofs.commands.tell_shut.Goals as goal
@@ -16,9 +17,12 @@ returns-clause-obeys c =
       queued = c.tell_fall.ensures.queued;
     })
     c.overflow_is_shut.ensures c.args.kept.now.core c.recycle.new.self c.shut-fallen.new.self c.recycle-2.new.self c.args.asked.now.value _ (Ok c.args.granted) c.args.effects refl c.requires.up c.requires.step
-    c.requires.still_up c.recycle.ensures c.shut-fallen.ensures (c.recycle-2.ensures ∙ c.tell_fall.ensures.core)
+    c.requires.still_up c.recycle.ensures
+    (subst (λ (n : ℕ). ShutsFrom c.recycle.new.self n c.recycle.new.self.down c.shut-fallen.result c.shut-fallen.new.self) c.code-number.ensures c.shut-fallen.ensures)
+    (c.recycle-2.ensures ∙ c.tell_fall.ensures.core)
     c.tell_fall.ensures.journal
 
 pub returns-clause-shut : goal.returns-clause-shut
 returns-clause-shut c =
-    shut_by c.recycle.new.self c.shut-fallen.new.self 33 _ c.shut-fallen.result _ c.of.ensures (ap (λ (s : State). s.down) c.recycle.ensures ∙ c.requires.still_up) c.shut-fallen.ensures
+    shut_by c.recycle.new.self c.shut-fallen.new.self 33 _ c.shut-fallen.result _ c.of.ensures (ap (λ (s : State). s.down) c.recycle.ensures ∙ c.requires.still_up)
+    (subst (λ (n : ℕ). ShutsFrom c.recycle.new.self n c.recycle.new.self.down c.shut-fallen.result c.shut-fallen.new.self) c.code-number.ensures c.shut-fallen.ensures)

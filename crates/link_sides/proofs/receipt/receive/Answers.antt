@@ -1,4 +1,5 @@
-use Rattle.std.proofs.Common.{List, ◌++◌, refl, sym, ap, ◌∙◌}
+use Rattle.std.proofs.Common.{ℕ, List, ◌++◌, refl, sym, ap, subst, ◌∙◌}
+use Rattle.rpc_machine.specs.Down.{ShutsFrom}
 use Rattle.rpc_journal.specs.declared.entry.JournalEntry.{JournalEntry}
 use Rattle.rpc_machine.specs.Journal.{effect_entries}
 use Rattle.core_telling.proofs.Falling.{receives_fall}
@@ -44,5 +45,7 @@ returns-clause-receives c =
       queued = queues_from _ _ _ _ c.make_room.ensures.frames c.make_room.ensures.made c.make_room.ensures.heard c.tell_fall-2.ensures.queued;
     })
     c.receive-effects.new.self c.recycle-2.new.self c.shut-fallen.new.self c.recycle-3.new.self c.args.message c.args.room c.receive-effects.result c.of-heard.result refl c.of-heard.ensures c.requires.up
-    c.receive-effects.ensures.steps (sym c.in_default.ensures) (c.recycle-2.ensures ∙ c.make_room.ensures.core) c.shut-fallen.ensures (c.recycle-3.ensures ∙ c.tell_fall-2.ensures.core)
+    c.receive-effects.ensures.steps (sym c.in_default.ensures) (c.recycle-2.ensures ∙ c.make_room.ensures.core)
+    (subst (λ (n : ℕ). ShutsFrom c.recycle-2.new.self n c.recycle-2.new.self.down c.shut-fallen.result c.shut-fallen.new.self) c.code-number.ensures c.shut-fallen.ensures)
+    (c.recycle-3.ensures ∙ c.tell_fall-2.ensures.core)
     (c.tell_fall-2.ensures.journal ∙ ap (λ (l : List JournalEntry). l ++ effect_entries c.vat-vat.result c.shut-fallen.result) (c.make_room.ensures.journal ∙ c.push.ensures.entries))
