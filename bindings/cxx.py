@@ -24,10 +24,9 @@ SOURCES, BUILD, PEERS = HERE / "c++", HERE / "build/c++", HERE.parent / "interop
 DROP_IN, PROGRAMS, OWN_TESTS = BUILD / "liblovendak-capnp-rpc.so", BUILD / "test", BUILD / "own-tests"
 # The tests of libcapnp that a vat does not pass, by line: `setPipeline`, the trace of an exception, and a transport whose `send` throws
 # (569, 1308, 1329); how many messages ask for a named export (130); file descriptors (512, 559); that the peer learns to what a bootstrap
-# object leads that is a promise (723); and that the work of a call ends which its caller dropped (732, 763, 801, 943), since no event of a
-# vat tells of that yet. The deed `open` of the probe asks for the same.
+# object leads that is a promise (723).
 FAILS = {
-    "rpc-test": {569, 732, 763, 801, 943, 1308, 1329}, "rpc-twoparty-test": {130, 512, 559, 723}, "ez-rpc-test": set(), "membrane-test": set(),
+    "rpc-test": {569, 1308, 1329}, "rpc-twoparty-test": {130, 512, 559, 723}, "ez-rpc-test": set(), "membrane-test": set(),
     "direct-rpc-twoparty-test": {512, 559, 723}, "direct-ez-rpc-test": set(),
 }
 DRAWN = 30
@@ -86,13 +85,19 @@ def tested(name, under=()):
     return wrong
 
 
+def listens(address):
+    """Whether somebody listens at a Unix socket, which is there a little before."""
+    with open("/proc/net/unix") as sockets:
+        return any(line.rstrip("\n").endswith(f" {address}") and line.split()[3] == "00010000" for line in sockets)
+
+
 @contextlib.contextmanager
 def serving(words, address, wrong, **more):
     """A server at a Unix socket. It has to live on until it is told to end."""
     server = subprocess.Popen(words, stdout=subprocess.DEVNULL, stderr=subprocess.PIPE, text=True, **more)
     try:
         for _ in range(600):
-            if Path(address).exists() or server.poll() is not None:
+            if listens(address) or server.poll() is not None:
                 break
             time.sleep(0.05)
         yield server
@@ -145,6 +150,7 @@ AT_THE_LIMITS = [
     ("flood", 1000, "0 failed | alive"),
     ("echo", 500000, "500000 | alive"),
     ("hold", 4000, "1 things, 0 nevers | alive"),
+    ("open", 4000, "1 things, 4000 nevers, then 1 things, 0 nevers | alive"),
     ("chain", 1000, "done | alive"),
     ("nest", 40, "40 | alive"),
     ("give", 1000, "1000 | alive"),

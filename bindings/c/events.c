@@ -73,6 +73,14 @@ static void released(struct pair *p, lovendak_vat *vat, uint64_t object, int lin
 }
 #define RELEASED(p, vat, object) released(p, vat, object, __LINE__)
 
+/* The next event: nobody has use for the results of the task. */
+static void cancelled(struct pair *p, lovendak_vat *vat, uint64_t task, int line) {
+  lovendak_event event = told(p, vat, LOVENDAK_CANCELLED, line);
+  check(event.number, task, "the task that is cancelled", line);
+  check(event.object + event.payload_len + event.refs_len + event.place, 0, "the rest of the event", line);
+}
+#define CANCELLED(p, vat, task) cancelled(p, vat, task, __LINE__)
+
 /* An own call that has ended with that many capabilities; the reference of the first. */
 static uint64_t ended(struct pair *p, lovendak_vat *vat, uint64_t call, size_t caps) {
   lovendak_event event = TOLD(p, vat, LOVENDAK_ENDED);
@@ -374,6 +382,124 @@ static void once_it_is_down(struct pair *p) {
   NOTHING_TOLD(p, &p->a);
 }
 
+/* ---- A task is cancelled once nobody has use for its results, whatever comes last. */
+
+/* By the Finish. What the task is answered with goes nowhere. */
+static void by_a_finish(struct pair *p) {
+  uint64_t made = call(&p->a, p->root, 0, 0);
+  speak(p);
+  uint64_t task = serve(p, &p->b, NULL), own = host(&p->b, OBJECT);
+  DONE(lovendak_finish(&p->a, made));
+  NOTHING_TOLD(p, &p->b);
+  speak(p);
+  CANCELLED(p, &p->b, task);
+  NOTHING_TOLD(p, &p->b);
+  answer(&p->b, task, own, 1);
+  drop(&p->b, own);
+  RELEASED(p, &p->b, OBJECT);
+  speak(p);
+  NOTHING_TOLD(p, &p->a);
+}
+
+/* It comes behind all calls, and before the objects that are released. */
+static void in_one_piece(struct pair *p) {
+  uint64_t given = give(p, OBJECT), dropped = call(&p->b, given, 0, 0), kept = call(&p->b, given, 0, 0);
+  DONE(lovendak_finish(&p->b, dropped));
+  drop(&p->b, given);
+  speak(p);
+  uint64_t first = serve(p, &p->a, NULL), second = serve(p, &p->a, NULL);
+  CANCELLED(p, &p->a, first);
+  RELEASED(p, &p->a, OBJECT);
+  DONE(lovendak_fail(&p->a, first, LOVENDAK_FAILED, (const uint8_t *)"", 0));
+  answer(&p->a, second, 0, 0);
+  speak(p);
+  ended(p, &p->b, kept, 0);
+  NOTHING_TOLD(p, &p->b);
+}
+
+/* The peer's call on the results waits for them, although both calls are finished. It is cancelled itself as it is delivered. */
+static void behind_a_call_that_waits(struct pair *p) {
+  uint64_t made = call(&p->a, p->root, 0, 0), result = first_of(&p->a, made), on_result = call(&p->a, result, 0, 0);
+  drop(&p->a, result);
+  DONE(lovendak_finish(&p->a, made));
+  DONE(lovendak_finish(&p->a, on_result));
+  speak(p);
+  uint64_t task = serve(p, &p->b, NULL), own = host(&p->b, OBJECT);
+  NOTHING_TOLD(p, &p->b);
+  answer(&p->b, task, own, 1);
+  task = serve(p, &p->b, NULL);
+  CANCELLED(p, &p->b, task);
+  NOTHING_TOLD(p, &p->b);
+  answer(&p->b, task, 0, 0);
+  drop(&p->b, own);
+  RELEASED(p, &p->b, OBJECT);
+  speak(p);
+  NOTHING_TOLD(p, &p->a);
+}
+
+/* A reference leads to a part of the results. */
+static void behind_a_reference(struct pair *p) {
+  uint64_t made = call(&p->a, p->root, 0, 0), result = first_of(&p->a, made), given;
+  call(&p->a, p->root, result, 1);
+  drop(&p->a, result);
+  DONE(lovendak_finish(&p->a, made));
+  speak(p);
+  uint64_t task = serve(p, &p->b, NULL);
+  serve(p, &p->b, &given);
+  NOTHING_TOLD(p, &p->b);
+  LEADS(&p->b, given, .kind = LOVENDAK_OWN_CALL);
+  drop(&p->b, given);
+  CANCELLED(p, &p->b, task);
+  NOTHING_TOLD(p, &p->b);
+}
+
+/* It is told of the peer's calls, not of an own call to an object of the same vat. */
+static void not_of_an_own_call(struct pair *p) {
+  uint64_t own = host(&p->a, OBJECT), made = call(&p->a, own, 0, 0), task = serve(p, &p->a, NULL);
+  DONE(lovendak_finish(&p->a, made));
+  NOTHING_TOLD(p, &p->a);
+  answer(&p->a, task, 0, 0);
+  NOTHING_TOLD(p, &p->a);
+}
+
+/* It was answered before the Finish came, or while the event waited. */
+static void not_once_it_is_answered(struct pair *p) {
+  for (int waits = 0; waits < 2; waits++) {
+    uint64_t made = call(&p->a, p->root, 0, 0);
+    say(&p->a, &p->b);
+    uint64_t task = serve(p, &p->b, NULL);
+    DONE(lovendak_finish(&p->a, made));
+    if (waits) say(&p->a, &p->b);
+    answer(&p->b, task, 0, 0);
+    speak(p);
+    NOTHING_TOLD(p, &p->b);
+    NOTHING_TOLD(p, &p->a);
+  }
+}
+
+/* With the Finish behind the Return it is never too early. */
+static void not_behind_its_return(struct pair *p) {
+  DONE(lovendak_set_finishes(&p->a, LOVENDAK_AFTER_RETURN));
+  DONE(lovendak_finish(&p->a, call(&p->a, p->root, 0, 0)));
+  speak(p);
+  uint64_t task = serve(p, &p->b, NULL);
+  NOTHING_TOLD(p, &p->b);
+  answer(&p->b, task, 0, 0);
+  speak(p);
+  NOTHING_TOLD(p, &p->b);
+}
+
+static void not_once_it_is_down(struct pair *p) {
+  uint64_t made = call(&p->a, p->root, 0, 0);
+  speak(p);
+  serve(p, &p->b, NULL);
+  DONE(lovendak_finish(&p->a, made));
+  say(&p->a, &p->b);
+  DONE(lovendak_shut(&p->b, 5));
+  IS(TOLD(p, &p->b, LOVENDAK_WENT_DOWN).number, 5);
+  NOTHING_TOLD(p, &p->b);
+}
+
 /* ---- What the peer's places came to, and where references lead. */
 
 /* A question's results, of which references were made before they came; of another question there are none. */
@@ -524,6 +650,14 @@ static const struct {
     {"hosted while the event waits", hosted_while_the_event_waits},
     {"the bootstrap object", bootstrap_object},
     {"once it is down", once_it_is_down},
+    {"by a Finish", by_a_finish},
+    {"in one piece", in_one_piece},
+    {"behind a call that waits", behind_a_call_that_waits},
+    {"behind a reference", behind_a_reference},
+    {"not of an own call", not_of_an_own_call},
+    {"not once it is answered", not_once_it_is_answered},
+    {"not behind its Return", not_behind_its_return},
+    {"not once it is down", not_once_it_is_down},
     {"of a question", of_a_question},
     {"of an import", of_an_import},
     {"to own things", to_own_things},

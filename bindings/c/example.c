@@ -50,17 +50,40 @@ static uint64_t make_counter(struct counters *c, uint64_t first) {
 /* No call for the counter comes any more, and its object may be another one from now on. */
 static void release_counter(struct counters *c, uint64_t object) { c->unused[c->unused_len++] = object - 1; }
 
+/* The bytes of a struct of `count` data words, which are that number, and of so many capabilities. */
+static uint32_t contents(uint16_t count, uint64_t number, uint16_t caps, uint8_t *out, size_t room, size_t *len) {
+  lovendak_tree tree = LOVENDAK_EMPTY;
+  uint32_t root, code = lovendak_tree_new(&tree);
+  if (!code) code = lovendak_tree_struct(&tree, count, caps, &root);
+  for (uint16_t i = 0; !code && i < count; i++) code = lovendak_tree_set_number(&tree, root, 64, i, number);
+  for (uint16_t i = 0; !code && i < caps; i++) code = lovendak_tree_set_cap(&tree, root, i, i);
+  if (!code) code = lovendak_tree_write(&tree, root, caps, out, room, len);
+  lovendak_tree_free(&tree);
+  return code;
+}
+
 /* Answers the event's call with what it was given, or with a number or an object. */
-static uint32_t answer(struct service *s, size_t count, uint64_t number, uint32_t caps, uint64_t object) {
+static uint32_t answer(struct service *s, uint16_t count, uint64_t number, uint16_t caps, uint64_t object) {
   uint8_t out[64];
   size_t len;
   uint64_t ref;
-  uint32_t code = lovendak_contents(&number, count, 0, (const uint8_t *)"", 0, caps, out, sizeof out, &len);
-  if (code || caps == 0) return code ? code : lovendak_answer(&s->vat, s->event.number, out, len, s->refs, 0);
+  uint32_t code = contents(count, number, caps, out, sizeof out, &len);
+  if (code || caps == 0) return code ? code : lovendak_answer(&s->vat, s->event.number, out, len, NULL, 0);
   if ((code = lovendak_host(&s->vat, object, &ref))) return code;
   code = lovendak_answer(&s->vat, s->event.number, out, len, &ref, 1);
   lovendak_drop_ref(&s->vat, ref);
   return code;
+}
+
+/* The first data word of the event's payload; 0 if that is no struct. */
+static uint32_t first_number(const struct service *s, uint64_t *number) {
+  lovendak_tree tree = LOVENDAK_EMPTY;
+  uint32_t read, code = lovendak_tree_new(&tree);
+  *number = 0;
+  if (!code) code = lovendak_tree_read(&tree, s->payload, s->event.payload_len, (uint32_t)s->event.refs_len, &read);
+  if (!code) code = lovendak_tree_number(&tree, read, NULL, 0, 64, 0, number);
+  lovendak_tree_free(&tree);
+  return code == LOVENDAK_NOTHING ? LOVENDAK_OK : code;
 }
 
 static uint32_t fail(struct service *s, uint32_t kind, const char *reason, size_t len) {
@@ -70,9 +93,9 @@ static uint32_t fail(struct service *s, uint32_t kind, const char *reason, size_
 
 static uint32_t serve(struct service *s) {
   const lovendak_event *e = &s->event;
-  uint64_t number = 0, made;
-  uint32_t code = lovendak_number_at(s->payload, e->payload_len, (uint32_t)e->refs_len, 0, &number);
-  if (code && code != LOVENDAK_NOTHING) return code;
+  uint64_t number, made;
+  uint32_t code = first_number(s, &number);
+  if (code) return code;
   if (e->interface_id == REGISTRY && e->object == ROOT) switch (e->method) {
     case MAKE_COUNTER:
       made = make_counter(&s->counters, number);

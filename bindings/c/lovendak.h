@@ -12,21 +12,23 @@
  *
  * Each function except `lovendak_version` returns a code. Results are written if the code is LOVENDAK_OK, and otherwise only if the
  * function says so. A command that is refused changes nothing, with one exception: the reference of a refused `lovendak_call` may have
- * taken the shorter path. Of several codes EMPTY_HANDLE comes first.
+ * taken one step of the shorter path, as by `lovendak_advance`. Of several codes EMPTY_HANDLE comes first.
  *
  * Memory: the library keeps no pointer that it was given, and returns none of its own. What goes in is read during the call, what
  * comes out is copied into room of the caller. If the library is out of memory it says so; it never ends the process.
  *
- * Threads: one call at a time for a handle, from any thread. Two handles share nothing. There is no lock, no clock, no callback and no
- * global state.
+ * Threads: one call at a time for a handle, from any thread; a handle of trees stays on its thread. Two handles share nothing. There is
+ * no lock, no clock, no callback and no global state.
  *
  * What the library can't check, and its caller must not do:
  * - change the bytes of a handle, or use two copies of it, which would be one vat. It may be moved if the old bytes are not used
  *   again.
- * - use a handle in two threads at once, in a signal handler, or in the forked child of a process with threads.
- * - pass a pointer that is null or not aligned, even beside a length of 0, or that has less behind it than the length says; or two
- *   in one call whose memory overlaps.
- * - pass a handle to `lovendak_new` that was never set. All zeros are an empty one: `lovendak_vat vat = LOVENDAK_EMPTY;`
+ * - use a handle in two threads at once, in a signal handler, or in the forked child of a process with threads; or a handle of trees on
+ *   another thread than the one on which `lovendak_tree_new` filled it.
+ * - pass a pointer that is not aligned, or that has less behind it than the length says; or two in one call whose memory overlaps.
+ *   Beside a length of 0 a pointer may be null. Every other pointer is not null.
+ * - pass a handle to `lovendak_new` or `lovendak_tree_new` that was never set. All zeros are an empty one:
+ *   `lovendak_vat vat = LOVENDAK_EMPTY;`
  */
 #ifndef LOVENDAK_H
 #define LOVENDAK_H
@@ -46,6 +48,12 @@ typedef struct lovendak_vat {
   void *at;
 } lovendak_vat;
 
+/* Contents that are built, and payloads that are looked into, which `lovendak_tree_free` frees, or nothing. It needs no vat. */
+typedef struct lovendak_tree {
+  uint32_t magic;
+  void *at;
+} lovendak_tree;
+
 #define LOVENDAK_EMPTY {0, NULL}
 
 enum {
@@ -61,12 +69,12 @@ enum {
   LOVENDAK_CAP_COUNT = 9,       /* the payload has another number of capabilities than references were given */
   LOVENDAK_LONG_PATH = 10,      /* a path has more than 16 steps */
   LOVENDAK_LEVEL = 11,          /* a vat of level 0 has no promises and sends no references */
-  LOVENDAK_EMPTY_HANDLE = 100,  /* the handle has no vat */
-  LOVENDAK_IN_USE = 101,        /* the handle has a vat */
+  LOVENDAK_EMPTY_HANDLE = 100,  /* the handle has no vat, or no trees */
+  LOVENDAK_IN_USE = 101,        /* the handle has a vat, or trees */
   LOVENDAK_NO_PAYLOAD = 102,    /* the bytes are no payload, or the text is no UTF-8 */
   LOVENDAK_ROOM = 103,          /* too little room: nothing was taken, and the lengths are said */
   LOVENDAK_NOTHING = 104,       /* there is nothing of the kind */
-  LOVENDAK_NO_SUCH_NUMBER = 105 /* no such level, kind of exception, number to shut with, or index */
+  LOVENDAK_NO_SUCH_NUMBER = 105 /* no such level, kind of exception, number to shut with, index or width */
 };
 
 /* Kinds of exceptions. */
@@ -78,7 +86,7 @@ enum {
   LOVENDAK_ENDED = 2,
   LOVENDAK_WENT_DOWN = 3,
   LOVENDAK_RELEASED = 4,
-  LOVENDAK_CANCELLED = 5, /* no such event comes in this version */
+  LOVENDAK_CANCELLED = 5,
   LOVENDAK_RESOLVED = 6,
   LOVENDAK_LIFTED = 7
 };
@@ -102,6 +110,9 @@ enum { LOVENDAK_AT_ONCE = 0, LOVENDAK_AFTER_RETURN = 1 };
 /* What `lovendak_advance` did. */
 enum { LOVENDAK_UNCHANGED = 0, LOVENDAK_SWITCHED = 1, LOVENDAK_EMBARGOED = 2, LOVENDAK_BROKE = 3 };
 
+/* Kinds of what stands at a place of contents. */
+enum { LOVENDAK_TREE_NULL = 0, LOVENDAK_TREE_STRUCT = 1, LOVENDAK_TREE_LIST = 2, LOVENDAK_TREE_CAP = 3 };
+
 /* What an application is told. A field that an event has no use for is 0. */
 typedef struct lovendak_event {
   uint32_t kind;         /* LOVENDAK_SERVE a call to serve, LOVENDAK_ENDED an own call that ended, LOVENDAK_WENT_DOWN; the others below */
@@ -109,8 +120,8 @@ typedef struct lovendak_event {
   uint32_t is_exception; /* ended: 1 if it failed; then the reason, as UTF-8, comes in the payload's room */
   uint32_t exception;    /* ended: the kind of the exception */
   uint32_t place;        /* resolved: LOVENDAK_IMPORT or LOVENDAK_ANSWER */
-  uint64_t number;       /* to serve: the task; ended: the call; down: the number with which the vat went down; resolved: that of the
-                            place; lifted: the reference */
+  uint64_t number;       /* to serve, cancelled: the task; ended: the call; down: the number with which the vat went down; resolved: that
+                            of the place; lifted: the reference */
   uint64_t object;       /* to serve, released: the object, by the number that its application gave it */
   uint64_t interface_id; /* to serve: the interface */
   size_t payload_len;    /* bytes of the payload, or of the reason; down: of the reason of the Abort with which the peer ended it */
@@ -139,7 +150,8 @@ uint32_t lovendak_free(lovendak_vat *vat);
 /* From here to `lovendak_shut`, each function returns EMPTY_HANDLE if the handle is empty. */
 
 /* Takes bytes that came from the peer, in any pieces, and drops them if the vat is down. A fault in them, or running out of memory, is
- * no code: it takes the vat down, which is an event. */
+ * no code: it takes the vat down, which is an event. Whatever the bytes are: of the peer's calls you are told only of those for objects
+ * that you gave this peer on this handle, and that it had not given back when the call reached them. */
 uint32_t lovendak_received(lovendak_vat *vat, const uint8_t *bytes, size_t len);
 
 /* The peer's stream has ended: the vat goes down with 0, or with 2 if the stream ended inside a message. */
@@ -150,17 +162,21 @@ uint32_t lovendak_ended(lovendak_vat *vat);
 uint32_t lovendak_outgoing(lovendak_vat *vat, uint8_t *out, size_t room, size_t *len);
 
 /* How many bytes the next `lovendak_outgoing` gives, with that much room: 0 if none are to be sent. And whether there is an event (1)
- * or none (0). Queued messages become frames first, as by `lovendak_outgoing`; no bytes and no event are taken out. */
+ * or none (0). No bytes and no event are taken out. The vat goes on first, as by `lovendak_outgoing` and `lovendak_next_event`:
+ * messages of the peer that wait are heard, as far as the limits allow, and queued messages become frames. If both are 0, a vat with
+ * limits may still hear more when it is asked again. */
 uint32_t lovendak_pending(lovendak_vat *vat, size_t *bytes, uint32_t *has_event);
 
 /* How much is held of the peer. `words`: the words of the messages of calls for which no Return was said, and of other messages until
- * `lovendak_next_event` said that there is no event. `bytes`: those that wait to be sent. */
+ * `lovendak_next_event` or `lovendak_pending` found no event. `bytes`: those that wait to be sent. */
 uint32_t lovendak_load(lovendak_vat *vat, uint64_t *words, uint64_t *bytes);
 
 /* Sets limits of the load: while its words, or the bytes that wait in the vat, are above, messages of the peer wait unheard, in their
  * order. `lovendak_outgoing` and `lovendak_pending` take these bytes out of the vat, for the caller to fetch. So at most twice as many
  * bytes wait as the limit says, and what one message adds. A new vat has no limits. Limits that are too low for what two applications
- * ask of each other at a time stop both. */
+ * ask of each other at a time stop both.
+ * With limits, sending may cause events, and a `lovendak_next_event` that finds none may let more be heard. So send and then take
+ * events, again and again, until neither gives anything, and `lovendak_wants_bytes` says 1 or the load is above a limit. */
 uint32_t lovendak_set_limits(lovendak_vat *vat, uint64_t words, uint64_t bytes);
 
 /* When the Finish of a call goes from now on, if the call is finished before its Return came: at once (LOVENDAK_AT_ONCE, as from the
@@ -178,7 +194,10 @@ uint32_t lovendak_wants_bytes(lovendak_vat *vat, uint32_t *answer);
  * before own calls that ended, and these before what the message made known:
  * - LOVENDAK_RESOLVED: what stands at a place of the peer is known now. A reference that leads there may lead on: `lovendak_advance` it.
  * - LOVENDAK_LIFTED: the embargo of a reference is over. Its calls wait no more.
- * Behind them all come, while the vat is up, the objects that are released:
+ * Behind them all come, while the vat is up, the tasks that are cancelled, and then the objects that are released:
+ * - LOVENDAK_CANCELLED: nobody has use for the results of a call of the peer any more. The peer has finished it, no call waits for its
+ *   results, and no reference leads to a part of them. Stop the work on its task, and answer or fail it all the same; what it is answered
+ *   with goes nowhere. It is told once, and not of a task that was answered.
  * - LOVENDAK_RELEASED: no reference, no export and nothing else of the vat names the object any more, which `lovendak_host` named
  *   once. No call for it comes until it is hosted again, so the application may let go of it. A task of it may still be open. The
  *   bootstrap object is never released.
@@ -205,7 +224,9 @@ uint32_t lovendak_shares_nothing(lovendak_vat *vat, uint32_t *answer);
 /* How many calls were made through a reference. UNKNOWN_REF. */
 uint32_t lovendak_calls_made(lovendak_vat *vat, uint64_t ref, uint64_t *made);
 
-/* Commands. Each may return DOWN (except `lovendak_shut`), FULL and MEMORY, and the codes that are named beside it. */
+/* Commands. Each except `lovendak_shut` may return DOWN and MEMORY, and each the codes that are named beside it. Those that make
+ * something, and `lovendak_advance`, return FULL at a limit. `lovendak_call`, `lovendak_answer`, `lovendak_fail` and `lovendak_reject`
+ * return FULL if what they carry is too large for a message. */
 
 /* Asks the peer for its bootstrap object: a call, whose result is that object. */
 uint32_t lovendak_bootstrap(lovendak_vat *vat, uint64_t *call);
@@ -277,6 +298,86 @@ uint32_t lovendak_text_at(const uint8_t *payload, size_t len, uint32_t caps, uin
 
 /* Which of the references is at a path of pointers' numbers. NOTHING if there is no capability; NO_PAYLOAD, MEMORY. */
 uint32_t lovendak_ref_at(const uint8_t *payload, size_t len, uint32_t caps, const uint16_t *path, size_t steps, size_t *index);
+
+/* Trees: contents of any fields, built place by place, and payloads looked into by paths. The places of a schema's fields are those
+ * that `capnp compile -ocapnp` prints: a number of so many bits stands at so many times its width in the data, and a pointer has its
+ * number.
+ *
+ * A handle has structs, lists and payloads under numbers, which are counted from 0. They may be begun and put together in any
+ * order: each but the root is put into another with `lovendak_tree_put` or `lovendak_tree_push`, and the root is written with
+ * `lovendak_tree_write`. A width is 1, 8, 16, 32 or 64 bits; what is signed or a float has the same bits.
+ *
+ * A call that is refused changes nothing. Each of these functions except `lovendak_tree_new` returns EMPTY_HANDLE if the handle is
+ * empty, and each may return MEMORY. NOTHING is also returned if nothing stands under a number, or something that the call is not
+ * for. */
+
+/* Has an empty handle have trees. IN_USE if it has them, MEMORY. */
+uint32_t lovendak_tree_new(lovendak_tree *tree);
+
+/* Frees all trees, and leaves the handle empty. EMPTY_HANDLE if it is empty already, which does no harm. */
+uint32_t lovendak_tree_free(lovendak_tree *tree);
+
+/* Begins a struct of so many data words, which are 0, and so many pointers, which are null. FULL after 4,294,967,296 numbers. */
+uint32_t lovendak_tree_struct(lovendak_tree *tree, uint16_t data_words, uint16_t pointers, uint32_t *made);
+
+/* Begins a list of so many pointers, which are null: of texts, of data, of lists, of capabilities. FULL above 65,535. */
+uint32_t lovendak_tree_list(lovendak_tree *tree, uint32_t count, uint32_t *made);
+
+/* Begins a list of structs of so many data words and pointers each, of which it has none. FULL as for a struct. */
+uint32_t lovendak_tree_structs(lovendak_tree *tree, uint16_t data_words, uint16_t pointers, uint32_t *made);
+
+/* Puts a number of so many bits into the data of the struct `at`, at so many times its width. NO_SUCH_NUMBER of another width, and if
+ * the number has more bits; NOTHING past the end of the data. */
+uint32_t lovendak_tree_set_number(lovendak_tree *tree, uint32_t at, uint32_t bits, uint32_t index, uint64_t number);
+
+/* Has a pointer of the struct or of the list `at` lead to a text (UTF-8 without a zero behind it), to bytes, to a list of numbers of so
+ * many bits, or to the capability of that index. What it led to before is let go. NOTHING past the last pointer, NO_PAYLOAD of a text
+ * that is no UTF-8, NO_SUCH_NUMBER as for a number. */
+uint32_t lovendak_tree_set_text(lovendak_tree *tree, uint32_t at, uint32_t pointer, const uint8_t *text, size_t len);
+uint32_t lovendak_tree_set_data(lovendak_tree *tree, uint32_t at, uint32_t pointer, const uint8_t *bytes, size_t len);
+uint32_t lovendak_tree_set_numbers(lovendak_tree *tree, uint32_t at, uint32_t pointer, uint32_t bits, const uint64_t *numbers,
+                                   size_t count);
+uint32_t lovendak_tree_set_cap(lovendak_tree *tree, uint32_t at, uint32_t pointer, uint32_t index);
+
+/* Has a pointer of the struct or of the list `at` lead to what stands under the number `from`, also to a payload that was read. That
+ * number then stands for nothing. NOTHING past the last pointer; FULL if it nests more than 128 levels deep. */
+uint32_t lovendak_tree_put(lovendak_tree *tree, uint32_t at, uint32_t pointer, uint32_t from);
+
+/* Puts the struct under the number `from` at the end of a list of structs. That number then stands for nothing. NOTHING if its lengths
+ * are not those of the list. */
+uint32_t lovendak_tree_push(lovendak_tree *tree, uint32_t list, uint32_t from);
+
+/* Writes what stands under a number as the payload that goes with so many capabilities; it stays. ROOM if it takes more bytes; `len`
+ * says how many. CAP_COUNT if the index of a capability is not below their number, FULL if it is too much for a payload, or nests more
+ * than 64 levels deep. */
+uint32_t lovendak_tree_write(lovendak_tree *tree, uint32_t at, uint32_t caps, uint8_t *out, size_t room, size_t *len);
+
+/* Reads a payload, which goes with so many capabilities, and keeps a copy of it under a number. The functions below look into it at no
+ * cost but that of the path. NO_PAYLOAD if the bytes are none. */
+uint32_t lovendak_tree_read(lovendak_tree *tree, const uint8_t *payload, size_t len, uint32_t caps, uint32_t *made);
+
+/* A path goes from the root of a payload that was read, by the number of a pointer in a struct, and by the index of an element in a
+ * list of pointers or structs. Behind null and past the last pointer or element there is null. NOTHING if a step goes on from something
+ * else. The root itself is the path of no steps. */
+
+/* What stands at a path, LOVENDAK_TREE_NULL to LOVENDAK_TREE_CAP, and its number: how many elements a list has, the index of a
+ * capability, or 0. */
+uint32_t lovendak_tree_kind(lovendak_tree *tree, uint32_t at, const uint32_t *path, size_t steps, uint32_t *kind, uint32_t *number);
+
+/* The number of so many bits at so many times its width in the data of a struct (0 past its end, and if it is null), or an element of a
+ * list of numbers of that width. NO_SUCH_NUMBER of another width, NOTHING if there is no such number. */
+uint32_t lovendak_tree_number(lovendak_tree *tree, uint32_t at, const uint32_t *path, size_t steps, uint32_t bits, uint32_t index,
+                              uint64_t *number);
+
+/* The text at a path, UTF-8 without a zero behind it, and the bytes of a list of bytes; none if it is null. NOTHING if there is
+ * something else; ROOM if it is longer, and `len` says how many bytes it has. */
+uint32_t lovendak_tree_text(lovendak_tree *tree, uint32_t at, const uint32_t *path, size_t steps, uint8_t *out, size_t room,
+                            size_t *len);
+uint32_t lovendak_tree_data(lovendak_tree *tree, uint32_t at, const uint32_t *path, size_t steps, uint8_t *out, size_t room,
+                            size_t *len);
+
+/* The index of the capability at a path, which is that of its reference. NOTHING if there is something else. */
+uint32_t lovendak_tree_cap(lovendak_tree *tree, uint32_t at, const uint32_t *path, size_t steps, uint32_t *index);
 
 #ifdef __cplusplus
 }

@@ -14,6 +14,8 @@ COUNTER, REGISTRY = 0xA5E1C0FFEE000001, 0xA5E1C0FFEE000004
 ADD = 0
 MAKE_COUNTER, MAKE_REGISTRY, ECHO, FAIL, SAME = 0, 3, 4, 5, 6
 ROOT = 0
+# The most that a client's calls that are not answered may have, and that may wait for it in the vat.
+MOST_WORDS, MOST_BYTES = 1 << 17, 1 << 20
 
 
 class Failed(Exception):
@@ -27,28 +29,46 @@ class Client(asyncio.Protocol):
 
     def connection_made(self, transport):
         self.transport, self.vat, self.sums, self.numbers = transport, Vat(root=ROOT), {}, itertools.count(1)
+        self.vat.set_limits(MOST_WORDS, MOST_BYTES)
+        self.may_write = True
 
     def connection_lost(self, error):
         print(f"a client has gone, and left {len(self.sums)} counters", flush=True)
 
     def data_received(self, data):
         self.vat.received(data)
-        for event in self.vat.events():
-            if event.kind == SERVED:
-                with contextlib.suppress(Refused):  # a vat that is down refuses all
-                    self.serve(event)
-            elif event.kind == RELEASED:
-                del self.sums[event.object]
-        self.transport.write(self.vat.outgoing())
+        said = True
+        while said:  # what waited unheard is heard as bytes are taken
+            for event in self.vat.events():
+                self.hear(event)
+            said = self.vat.outgoing()
+            self.transport.write(said)
         if self.vat.down() is not None:
             self.transport.close()
+        else:
+            self.choose_reading()
 
     def pause_writing(self):
-        """A client that reads no answers is not heard, so that no more of them wait for it."""
-        self.transport.pause_reading()
+        self.may_write = False
+        self.choose_reading()
 
     def resume_writing(self):
-        self.transport.resume_reading()
+        self.may_write = True
+        self.choose_reading()
+
+    def choose_reading(self):
+        """A client that reads no answers is not heard, so that no more of them wait for it, and neither is one that asks too much."""
+        if self.may_write and self.vat.wants_bytes():
+            self.transport.resume_reading()
+        else:
+            self.transport.pause_reading()
+
+    def hear(self, event):
+        if event.kind == SERVED:
+            with contextlib.suppress(Refused):  # a vat that is down refuses all
+                self.serve(event)
+        elif event.kind == RELEASED:
+            del self.sums[event.object]
 
     def serve(self, call):
         """Answers a call, and lets go of what came with it and of what was given."""

@@ -43,8 +43,12 @@ static size_t frameLength(kj::ArrayPtr<const kj::byte> bytes) {
   return bytes.size() < length ? 0 : length;
 }
 
-void Link::ready() {
-  while (auto count = vat->outgoing(room)) pending.addAll(room.slice(0, count));
+bool Link::ready() {
+  size_t count;
+  do {
+    count = vat->outgoing(room);
+    pending.addAll(room.slice(0, count));
+  } while (count == room.size());
   auto held = pending.size();
   size_t sent = 0;
   while (auto length = frameLength(pending.asPtr().slice(sent, held))) {
@@ -53,6 +57,7 @@ void Link::ready() {
   }
   memmove(pending.begin(), pending.begin() + sent, held - sent);
   pending.resize(held - sent);
+  return false;
 }
 
 void Link::sendFrame(kj::ArrayPtr<const word> frame) {

@@ -28,7 +28,7 @@ private:
   kj::Own<Vat> vat;
   kj::Promise<void> reading;
 
-  void ready() override;
+  bool ready() override;
   kj::Own<capnp::RpcFlowController> newStream() override { return connection->newStream(); }
   void sendFrame(kj::ArrayPtr<const capnp::word> frame);
   kj::Promise<void> read();

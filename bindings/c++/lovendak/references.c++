@@ -88,11 +88,18 @@ void Vat::followAll(Directory::Place place) {
   for (auto& client: directory.at(place)) follow(*client);
 }
 
-// An own call was answered, or an own promise settled.
+// An own call was answered, or an own promise settled. No event tells which references lead on, so all that stand there are followed, once
+// a turn.
 void Vat::settledOwn() {
+  ownSettled = true;
+  commanded();
+}
+
+void Vat::followOwn() {
+  if (!ownSettled) return;
+  ownSettled = false;
   followAll({LOVENDAK_OWN_CALL, 0});
   followAll({LOVENDAK_OWN_PROMISE, 0});
-  commanded();
 }
 
 void Vat::drop(uint64_t reference) {

@@ -59,17 +59,23 @@ void StreamConnection::setWriteLimit(uint64_t bytes) {
 
 kj::Own<RpcFlowController> StreamConnection::newStream() { return kj::heap<SocketWindow>(stream); }
 
-void StreamConnection::ready() {
-  if (writing) return;
+bool StreamConnection::ready() {
+  isMore = true;
+  if (writing) return false;
   writing = true;
-  writer = kj::evalLater([this]() { return write(); }).eagerlyEvaluate([this](kj::Exception&& exception) {
-    writing = false;
-    vat->failed(kj::mv(exception));
+  auto turn = kj::evalLater([this]() {
+    vat->turn();
+    return write();
   });
+  // A stream that fails is written to no more.
+  writer = turn.eagerlyEvaluate([this](kj::Exception&& exception) { vat->failed(kj::mv(exception)); });
+  return true;
 }
 
+// Writes what there is, until there is no more.
 kj::Promise<void> StreamConnection::write() {
-  underWay = vat->outgoing(writeRoom);
+  underWay = isMore ? vat->outgoing(writeRoom) : 0;
+  isMore = underWay == writeRoom.size();
   if (underWay == 0) {
     writing = false;
     return kj::READY_NOW;

@@ -34,11 +34,11 @@ private:
   uint64_t mostWords = kj::maxValue, mostBytes = kj::maxValue;
   kj::Array<kj::byte> readRoom, writeRoom;
   size_t underWay = 0;
-  bool writing = false;
+  bool writing = false, isMore = false;
   kj::Promise<void> reader, writer;
   kj::ForkedPromise<void> disconnected;
 
-  void ready() override;
+  bool ready() override;
   kj::Own<capnp::RpcFlowController> newStream() override;
   kj::Promise<void> read();
   kj::Promise<void> write();

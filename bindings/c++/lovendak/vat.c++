@@ -31,6 +31,7 @@ void Vat::taskFailed(kj::Exception&& exception) { KJ_LOG(ERROR, exception); }
 void Vat::received(kj::ArrayPtr<const kj::byte> bytes) {
   if (bytes.size() == 0) return;
   lovendak_received(&handle, bytes.begin(), bytes.size());
+  maySay = true;
   pump();
 }
 
@@ -41,15 +42,19 @@ size_t Vat::outgoing(kj::ArrayPtr<kj::byte> room) {
     lovendak_outgoing(&handle, room.begin() + count, room.size() - count, &more);
     count += more;
   } while (more != 0 && count < room.size());
-  if (count == 0) transportReady = false;
+  if (more == 0) transportReady = false;
   // A message that can't be sent takes the vat down, and what waited for bytes to be sent is heard now.
   bool fell = !down && lovendak_down(&handle, &lastNumber) == LOVENDAK_OK;
-  if (fell || (limited && count != 0)) schedulePump();
+  if (fell || (limited && count != 0)) {
+    maySay = true;
+    schedulePump();
+  }
   return count;
 }
 
 void Vat::ended() {
   lovendak_ended(&handle);
+  maySay = true;
   pump();
 }
 
@@ -63,6 +68,7 @@ void Vat::shut(kj::Exception&& why) {
   if (down) return;
   if (networkException == nullptr) networkException = kj::mv(why);
   lovendak_shut(&handle, 0);
+  maySay = true;
   pump();
 }
 
@@ -116,10 +122,12 @@ void Vat::pump() {
   }
   auto self = kj::addRef(*this);
   pumping = true;
+  pumpWanted = false;
   KJ_DEFER(pumping = false);
   do {
     pumpAgain = false;
-    handleEvents();
+    if (handleEvents()) maySay = true;
+    followOwn();
     announce();
     auto gone = kj::mv(lettingGo);
   } while (pumpAgain);
@@ -133,14 +141,22 @@ void Vat::pump() {
   }
 }
 
-// After a command: the transport is told at once, and what there is to handle is handled in a later turn.
+// After a command: the transport is told at once, and what there is to handle is handled in a later turn, that of the transport if it has
+// one.
 void Vat::commanded() {
+  maySay = true;
   if (pumping) {
     pumpAgain = true;
     return;
   }
   announce();
-  schedulePump();
+  pumpWanted = true;
+  if (!transportTurns) schedulePump();
+}
+
+void Vat::turn() {
+  transportTurns = false;
+  if (pumpWanted) pump();
 }
 
 void Vat::schedulePump() {
@@ -152,11 +168,13 @@ void Vat::schedulePump() {
   }));
 }
 
+// Tells the transport, if the vat may have said something since it was told last.
 void Vat::announce() {
-  if (transportReady) return;
+  if (transportReady || !maySay) return;
   KJ_IF_MAYBE(it, transport) {
     transportReady = true;
-    it->ready();
+    maySay = false;
+    if (it->ready()) transportTurns = true;
   }
 }
 
@@ -165,9 +183,15 @@ void Vat::letGo(kj::Own<ClientHook> hook) {
   commanded();
 }
 
-void Vat::handleEvents() {
+// Whether there were any. What waited unheard may be heard as they are taken, and answered.
+bool Vat::handleEvents() {
   lovendak_event event;
-  while (nextEvent(event)) handleEvent(event);
+  bool any = false;
+  while (nextEvent(event)) {
+    any = true;
+    handleEvent(event);
+  }
+  return any;
 }
 
 // The next event, with what goes with it in `eventWords` and `eventReferences`.

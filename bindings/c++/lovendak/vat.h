@@ -32,6 +32,9 @@ public:
   size_t outgoing(kj::ArrayPtr<kj::byte> room);
   // Fills the room with bytes for the peer, as far as there are any, and says how many it took.
 
+  void turn();
+  // Handles what happened since the last turn.
+
   void ended();
   // The peer's stream has ended.
   void failed(kj::Exception&& why);
@@ -71,7 +74,8 @@ private:
   lovendak_vat handle = LOVENDAK_EMPTY;
   kj::Maybe<Transport&> transport;
   bool down = false, limited = false;
-  bool pumping = false, pumpAgain = false, pumpScheduled = false, transportReady = false;
+  bool pumping = false, pumpAgain = false, pumpWanted = false, pumpScheduled = false, transportReady = false, transportTurns = false;
+  bool ownSettled = false, maySay = false;
   kj::Maybe<kj::Exception> networkException;
   kj::String abortReason;
   uint32_t lastNumber = 0;
@@ -95,7 +99,7 @@ private:
   void commanded();
   void schedulePump();
   void announce();
-  void handleEvents();
+  bool handleEvents();
   bool nextEvent(lovendak_event& event);
   void handleEvent(const lovendak_event& event);
   void serve(const lovendak_event& event);
@@ -116,6 +120,7 @@ private:
   void stand(VatClient& client, const lovendak_place& place);
   void followAll(Directory::Place place);
   void settledOwn();
+  void followOwn();
   void drop(uint64_t reference);
 
   // Commands: commands.c++.

@@ -60,11 +60,11 @@ from .contents import Contents, carried
 from .errors import DISCONNECTED, FAILED, FAULTS, KINDS, NAMES, OVERLOADED, REFUSALS, UNIMPLEMENTED, Refused
 from .library import LIBRARY, NOTHING, ROOM, SO, TAKES, Handle, Told, ask, done
 from .places import Broken, Lead, Place, TableSizes
-from .vat import DOWN, ENDED, LIFTED, RELEASED, RESOLVED, SERVED, Event, Vat
+from .vat import CANCELLED, DOWN, ENDED, LIFTED, RELEASED, RESOLVED, SERVED, Event, Vat
 
 __version__ = "0.1.0"
 __all__ = [
-    "DISCONNECTED", "DOWN", "ENDED", "FAILED", "FAULTS", "KINDS", "LIBRARY", "LIFTED", "NAMES", "NOTHING", "OVERLOADED", "REFUSALS",
-    "RELEASED", "RESOLVED", "ROOM", "SERVED", "SO", "TAKES", "UNIMPLEMENTED", "Broken", "Contents", "Event", "Handle", "Lead", "Place",
-    "Refused", "TableSizes", "Told", "Vat", "ask", "carried", "done",
+    "CANCELLED", "DISCONNECTED", "DOWN", "ENDED", "FAILED", "FAULTS", "KINDS", "LIBRARY", "LIFTED", "NAMES", "NOTHING", "OVERLOADED",
+    "REFUSALS", "RELEASED", "RESOLVED", "ROOM", "SERVED", "SO", "TAKES", "UNIMPLEMENTED", "Broken", "Contents", "Event", "Handle", "Lead",
+    "Place", "Refused", "TableSizes", "Told", "Vat", "ask", "carried", "done",
 ]

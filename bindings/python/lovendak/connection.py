@@ -15,7 +15,7 @@ from .errors import FAILED, Disconnected, Failed, Overloaded, Refused, WriteErro
 from .interfaces import Interface
 from .objects import Forward, Object
 from .remotes import Reference, Remote, Running
-from .vat import DOWN, ENDED, RELEASED, SERVED, Event, Vat
+from .vat import CANCELLED, DOWN, ENDED, RELEASED, SERVED, Event, Vat
 
 # The number of the bootstrap object.
 ROOT = 0
@@ -56,7 +56,7 @@ class Connection(asyncio.Protocol):
         if root is not None:
             self._add(ROOT, root, root)
         self.vat = Vat(root=None if root is None else ROOT)
-        self._has_limits = limits is not None
+        self._limits = limits
         if limits is not None:
             self.vat.set_limits(*limits)
 
@@ -123,7 +123,7 @@ class Connection(asyncio.Protocol):
 
     def _choose_reading(self) -> None:
         is_read = self._may_write.is_set() or not self._holds_back
-        if is_read and not (self._has_limits and not self.vat.wants_bytes()):
+        if is_read and (self._limits is None or self.vat.wants_bytes()):
             self._transport.resume_reading()
         else:
             self._transport.pause_reading()
@@ -179,14 +179,23 @@ class Connection(asyncio.Protocol):
             for event in self.vat.events():
                 self._hear(event)
             said = self.vat.outgoing()
-            if not said:
-                break
-            if not self._transport.is_closing():
+            if said and not self._transport.is_closing():
                 self._transport.write(said)
+            if not said and not self._goes_on():
+                break
         if self.vat.down() is not None:
             self._transport.close()
-        elif self._has_limits:
+        elif self._limits is not None:
             self._choose_reading()
+
+    def _goes_on(self) -> bool:
+        """Whether there is more to be told or sent, or messages that waited are heard when the vat is asked again. They are heard as bytes
+        are asked for, and once all events were told."""
+        if any(self.vat.pending()):
+            return True
+        if self._limits is None or self.vat.down() is not None or self.vat.wants_bytes():
+            return False
+        return all(held <= most for held, most in zip(self.vat.load(), self._limits))
 
     def _give_back(self) -> None:
         while self._later:
@@ -202,6 +211,8 @@ class Connection(asyncio.Protocol):
             return
         if event.kind == RELEASED:
             self._forget(event.object)
+        elif event.kind == CANCELLED and (serving := self._serving.get(event.task)) is not None:
+            serving.cancel()
         contents = event.contents and Contents(event.contents.payload, [Remote(Reference(self, ref), None) for ref in event.contents.refs])
         if event.kind == SERVED:
             assert contents is not None
@@ -213,7 +224,13 @@ class Connection(asyncio.Protocol):
         """Begins to serve a call. Its object is there, since none is called that was not hosted after its release was told."""
         _, target = self._objects[event.object]
         serving = self._serving[event.task] = self.loop.create_task(self._serve(target, event, params))
-        serving.add_done_callback(lambda _: self._serving.pop(event.task))
+        serving.add_done_callback(partial(self._served, event.task))
+
+    def _served(self, task: int, serving: "asyncio.Task[None]") -> None:
+        """A method has ended. One that was cancelled may not even have begun."""
+        self._serving.pop(task)
+        if serving.cancelled():
+            self._fail(task, FAILED, "cancelled")
 
     async def _serve(self, target: Object, event: Event, params: Contents) -> None:
         task = event.task
@@ -221,9 +238,6 @@ class Connection(asyncio.Protocol):
             results = await target._serve(event.interface, event.method, params)
             with self._lent(results.refs) as refs, self._refusing():
                 self.vat.answer(task, Contents(results.payload, refs))
-        except asyncio.CancelledError:
-            self._fail(task, FAILED, "cancelled")
-            raise
         except Failed as failed:
             self._fail(task, failed.kind, str(failed))
         except Exception as error:

@@ -58,6 +58,8 @@ def contents_of(kind: "type[Contents]", words: List[int], text: Optional[str], r
 
 
 def carried(function: str, contents: Contents) -> Tuple[bytes, int, Any, int]:
-    """Contents as the library takes them."""
+    """Contents as the library takes them. TypeError if they are none."""
+    if not isinstance(contents, Contents):
+        raise TypeError(f"{function}: {contents!r} is no Contents")
     refs = numbers(function, U64, contents.refs)
     return contents.payload, len(contents.payload), refs, len(refs)

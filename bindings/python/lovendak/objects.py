@@ -12,8 +12,10 @@ class Object:
     given the fields of the parameters by their names, and returns a dict of the results' fields, or None if all have their defaults.
 
     Methods begin in the order of the calls. A method that raises `Failed` fails its call with that kind and reason; any other
-    exception is logged, and fails it too. What a method does not serve fails as `Unimplemented`. If the connection ends while a
-    method is under way, the method is cancelled as a task of asyncio is.
+    exception is logged, and fails it too. What a method does not serve fails as `Unimplemented`.
+
+    If nobody has use any more for what a method that is under way gives, or if the connection ends, the method is cancelled as a task of
+    asyncio is. `asyncio.shield` keeps from it what has to be done to its end.
 
     A connection over which an object went keeps it as long as the peer may call it: until the peer has released it, or the connection
     ends. A bootstrap object stays until the connection ends."""

@@ -8,7 +8,7 @@ from .errors import FAULTS, KINDS
 from .library import LIBRARY, NOTHING, ROOM, SIZE, U16, U32, U64, Handle, Led, Told, ask, done, filled, numbers, room
 from .places import Lead, Place, TableSizes, lead_of
 
-SERVED, ENDED, DOWN, RELEASED, RESOLVED, LIFTED = 1, 2, 3, 4, 6, 7
+SERVED, ENDED, DOWN, RELEASED, CANCELLED, RESOLVED, LIFTED = 1, 2, 3, 4, 5, 6, 7
 
 
 class Event:
@@ -16,6 +16,9 @@ class Event:
 
     - SERVED, a call to serve: `task`, `object`, `interface`, `method`, `contents`.
     - ENDED, an own call that ended: `call`, and `contents`, or `exception`, which is a pair of its kind and its reason.
+    - CANCELLED, nobody has use for the results of a call of the peer any more: its `task`. The peer has finished it, no call waits for
+      its results, and no reference leads to a part of them. Stop the work on it, and answer or fail it all the same; what it is answered
+      with goes nowhere. It comes behind all other events of a vat that is up but RELEASED, once, and not of a task that was answered.
     - RELEASED, nothing in the vat names an object any more that was hosted, no reference and nothing that the peer has: `object`. No call
       for it comes until it is hosted again, so its application may let go of it. A task of it may still be open. It comes behind all
       other events of a vat that is up. If the object is hosted again while the event waits, it is not told; the bootstrap object is never
@@ -55,6 +58,8 @@ class Event:
                 self.contents = Contents(payload, refs)
         elif told.kind == DOWN:
             self.number, self.fault, self.reason = told.number, FAULTS.get(told.number), payload.decode(errors="replace")
+        elif told.kind == CANCELLED:
+            self.task = told.number
         elif told.kind == RELEASED:
             self.object = told.object
         elif told.kind == RESOLVED:
@@ -67,6 +72,8 @@ class Event:
             return f"<down with {self.number}{f', {self.fault}' if self.fault else ''}{f': {self.reason}' if self.reason else ''}>"
         if self.kind == SERVED:
             return f"<task {self.task}: method {self.method} of {self.interface:#x} of object {self.object}>"
+        if self.kind == CANCELLED:
+            return f"<task {self.task} is cancelled>"
         if self.kind == RELEASED:
             return f"<object {self.object} is released>"
         if self.kind == RESOLVED:
@@ -85,7 +92,7 @@ class Vat:
     answered or failed, promises to be resolved or rejected.
 
     A command that is refused raises Refused, and changes nothing. A number that is out of range raises ValueError, and what is no
-    number TypeError.
+    number, or no Contents, TypeError.
 
     Any thread may use a vat: a lock of its own lets one in at a time, and two vats don't wait for each other."""
 
@@ -126,8 +133,9 @@ class Vat:
         return size if most is None else min(size, most - have)
 
     def pending(self) -> Tuple[int, bool]:
-        """How many bytes there are to be sent, and whether there is an event. It takes nothing. What was said since a part of the bytes
-        was taken may not be counted yet, but there are 0 only if none are to be sent."""
+        """How many bytes there are to be sent, and whether there is an event. No bytes and no event are taken out. Before, messages of
+        the peer that wait are heard, as far as the limits allow, and queued messages become frames. What was said since a part of the
+        bytes was taken may not be counted yet, but there are 0 only if none are to be sent."""
         size, has_event = SIZE(), U32()
         self._asked("pending", c.byref(size), c.byref(has_event))
         return size.value, has_event.value == 1
@@ -159,8 +167,8 @@ class Vat:
 
     def events(self) -> Iterator[Event]:
         """What there is to tell, until there is no more. The events of one command or message come behind those of earlier ones: first
-        calls to serve, then own calls that ended, then what it made known. Behind them all come the objects that are released, and of a
-        vat that is down at last that it is."""
+        calls to serve, then own calls that ended, then what it made known. Behind them all come the tasks that are cancelled, then the
+        objects that are released, and of a vat that is down at last that it is."""
         while (event := self._next()) is not None:
             yield event
 

@@ -12,7 +12,7 @@ interface Desk extends(Pinged) {
   # What the other desk echoes.
   later @3 () -> (desk :Desk);
   # A promise.
-  wait @4 (number :UInt32) -> (number :UInt32);
+  wait @4 (number :UInt32) -> (number :UInt32, desk :Desk);
   fail @5 (how :Text) -> ();
   missing @6 () -> ();
   import @7 (from :UInt8) -> (to :UInt8);

@@ -12,7 +12,7 @@ from pathlib import Path
 from unittest import mock
 
 import lovendak.service
-from lovendak import DISCONNECTED, OVERLOADED, schema
+from lovendak import DISCONNECTED, ENDED, OVERLOADED, Contents, Vat, schema
 from lovendak.connection import Connection
 from lovendak.errors import SchemaError, WriteError
 from lovendak.service import Disconnected, Failed, Object, Overloaded, Unimplemented, connect, serve
@@ -220,6 +220,7 @@ class Calls(Service):
 
     async def test_cancelled_calls(self):
         call = self.desk.wait(number=1)
+        await until(lambda: self.root.waiting)
         with self.assertRaises(asyncio.TimeoutError):
             await asyncio.wait_for(call, 0.01)
         kept = self.desk.keep(desk=self.desk)
@@ -230,8 +231,30 @@ class Calls(Service):
         self.assertEqual(await desk.echo(data=b"x"), {"data": b"x"})
         with self.assertRaises(Failed):
             kept.at("kept", "desk")
-        self.root.waiting[1].set_result(1)
+        await until(lambda: self.root.cancelled == [1])
         self.assertEqual(await self.desk.echo(data=b"y"), {"data": b"y"})
+
+    async def test_methods_go_on_if_something_waits_for_their_results(self):
+        call = self.desk.wait(number=1)
+        kept = self.desk.keep(desk=call.at("desk"))
+        await until(lambda: self.root.waiting)
+        call.cancel()
+        await self.desk.ping()
+        self.assertEqual(self.root.cancelled, [])
+        del call, kept
+        gc.collect()
+        await until(lambda: self.root.cancelled == [1])
+
+    async def test_a_method_that_is_cancelled_before_it_begins(self):
+        client, transport = Vat(), mock.Mock(**{"is_closing.return_value": False})
+        params = DESK.method("wait").params.write({"number": 1})
+        client.finish(client.call(client.result_of(client.bootstrap()), DESK.method("wait").interface, DESK.method("wait").number, params))
+        served = Connection(self.root)
+        served.connection_made(transport)
+        served.data_received(client.outgoing())
+        self.assertEqual(served.vat.table_sizes().answers, 2)
+        await until(lambda: not served._serving)
+        self.assertEqual((served.vat.table_sizes().answers, self.root.waiting), (1, {}))
 
     async def test_nothing_is_left(self):
         own = Desk()
@@ -239,10 +262,11 @@ class Calls(Service):
         calls += [self.desk.ask(desk=own, data=b"x"), self.desk.fail(how="overloaded"), calls[0].at("kept", "desk").ping()]
         await asyncio.gather(*calls, return_exceptions=True)
         self.desk.keep(desk=calls[1].at("kept", "desk"))
-        self.desk.wait(number=1).cancel()
-        await self.desk.ping()
-        self.root.waiting[1].set_result(1)
-        del calls, self.desk
+        call = self.desk.wait(number=1)
+        await until(lambda: self.root.waiting)
+        call.cancel()
+        await until(lambda: self.root.cancelled == [1])
+        del call, calls, self.desk
         gc.collect()
         [served] = self.served
         await until(lambda: self.connection.vat.shares_nothing() and served.vat.shares_nothing())
@@ -294,8 +318,11 @@ class Releases(Service):
             await asyncio.sleep(0.05)
             self.assertEqual(self.connection._transport.write.called, not after_return)
             self.connection._transport = transport
-            self.root.waiting[number].set_result(1)
-            self.assertEqual(await self.desk.echo(data=b"x"), {"data": b"x"})
+            if after_return:
+                self.root.waiting[number].set_result(1)
+            await self.desk.ping()
+            await until(lambda: not self.served[0]._serving)
+            self.assertEqual(self.root.cancelled, [] if after_return else [1])
 
 
 class SeveralConnections(Service):
@@ -316,6 +343,17 @@ class SeveralConnections(Service):
         self.assertEqual(list(self.root.waiting), list(range(100)))
         self.connection.close()
         await self.raises(Disconnected, "the connection ended", calls[0])
+
+    async def test_forwarded_calls_are_cancelled(self):
+        class Asking(Desk):
+            async def ask(self, desk, data):
+                return {"data": bytes((await desk.wait(number=7))["number"])}
+
+        _, connection = await self.over(Asking())
+        call = connection.bootstrap(DESK).ask(desk=self.desk)
+        await until(lambda: self.root.waiting)
+        call.cancel()
+        await until(lambda: self.root.cancelled == [7])
 
     async def test_one_number_for_a_capability(self):
         _, connection = await self.over(Desk())
@@ -416,6 +454,27 @@ class Slowness(Service):
             self.assertLess(sum(not it.done() for it in root.waiting.values()), 20)  # each call has more than five words
             root.waiting[number].set_result(number + 1)
         self.assertEqual([it["number"] for it in await asyncio.gather(*calls)], list(range(1, 301)))
+
+    async def test_a_call_that_waited_behind_other_messages_is_heard(self):
+        client, transport = Vat(), mock.Mock(**{"is_closing.return_value": False, "get_write_buffer_size.return_value": 0})
+        server = Connection(Desk(), limits=(1, 1 << 20))  # each message has more than one word
+        server.connection_made(transport)
+
+        async def answered():
+            await asyncio.sleep(0.05)
+            for written in transport.write.call_args_list:
+                client.received(written.args[0])
+            transport.write.reset_mock()
+            return [event.call for event in client.events() if event.kind == ENDED]
+
+        asked = client.bootstrap(), client.bootstrap()
+        desk = client.result_of(asked[0])
+        server.data_received(client.outgoing())
+        self.assertEqual(await answered(), list(asked))
+        client.finish(asked[1])
+        call = client.call(desk, 7, 0, Contents.of())  # the server knows no such interface
+        server.data_received(client.outgoing())
+        self.assertEqual(await answered(), [call])
 
     async def test_calls_to_a_peer_that_does_not_read(self):
         listener = socket.create_server(("127.0.0.1", 0))

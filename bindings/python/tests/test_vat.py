@@ -6,7 +6,7 @@ import unittest
 
 import lovendak
 from lovendak import (
-    DOWN, ENDED, FAILED, LIFTED, OVERLOADED, RELEASED, RESOLVED, SERVED, Broken, Contents, Lead, Place, Refused, TableSizes, Vat,
+    CANCELLED, DOWN, ENDED, FAILED, LIFTED, OVERLOADED, RELEASED, RESOLVED, SERVED, Broken, Contents, Lead, Place, Refused, TableSizes, Vat,
 )
 
 THREADS = 4
@@ -66,6 +66,8 @@ class Refusals(unittest.TestCase):
             "drop_ref: 'x' is no number": lambda: self.vat.drop_ref("x"),
             "contents: 1.5 is no number": lambda: Contents.of([1.5]),
             "call: None is no number": lambda: self.vat.call(self.ref, None, 0, Contents.of()),
+            "call: None is no Contents": lambda: self.vat.call(self.ref, 1, 0, None),
+            "answer: b'' is no Contents": lambda: self.vat.answer(0, b""),
         }
         for text, wrong in cases.items():
             with self.subTest(text), self.assertRaises(TypeError) as raised:
@@ -181,6 +183,23 @@ class Objects(unittest.TestCase):
         [event] = self.client.events()
         self.assertEqual((event.kind, event.object, repr(event)), (RELEASED, 9, "<object 9 is released>"))
 
+    def test_cancelled(self):
+        client, server = self.client, self.server
+        calls = [client.call(self.root, 7, number, Contents.of()) for number in range(2)]
+        speak(client, server)
+        first, second = server.events()
+        server.answer(second.task, Contents.of())
+        for call in calls:
+            client.finish(call)
+        speak(client, server)
+        server.drop_ref(server.host(9))
+        cancelled, released = server.events()
+        self.assertEqual((cancelled.kind, cancelled.task, repr(cancelled)), (CANCELLED, first.task, f"<task {first.task} is cancelled>"))
+        self.assertEqual(released.kind, RELEASED)
+        server.fail(first.task, FAILED, "given up")
+        speak(client, server)
+        self.assertEqual((list(server.events()), list(client.events())), ([], []))
+
     def test_a_bootstrap_object_is_not_released(self):
         self.server.drop_ref(self.server.host(0))
         self.client.drop_ref(self.root)
@@ -235,7 +254,8 @@ class Objects(unittest.TestCase):
             self.client.set_finishes(after_return)
             self.client.finish(self.client.call(self.root, 7, 0, Contents.of()))
             speak(self.client, self.server)
-            [event] = self.server.events()
+            event, *more = self.server.events()
+            self.assertEqual([it.kind for it in more], [] if after_return else [CANCELLED])
             self.server.answer(event.task, Contents.of())
             self.assertEqual(self.server.table_sizes(), TableSizes(questions=0, answers=answers, exports=1, imports=0))
             speak(self.client, self.server)

@@ -86,7 +86,8 @@ impl Client {
                 Event::Ended(ended) => self.ended.push(ended),
                 Event::Served(call) => self.vat.let_go(&call.params.refs)?, // it serves no objects
                 Event::Down(..) => return Err(event.to_string().into()),
-                Event::Resolved(_) | Event::Lifted(_) | Event::Released(_) => {} // it hosts nothing, and waits for nothing else
+                // It hosts nothing, and waits for nothing else.
+                Event::Resolved(_) | Event::Lifted(_) | Event::Cancelled(_) | Event::Released(_) => {}
             }
         }
         Ok(())

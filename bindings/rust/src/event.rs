@@ -20,6 +20,10 @@ pub enum Event {
     Resolved(PeerPlace),
     /// The embargo of a reference is over: its calls wait no more.
     Lifted(RefId),
+    /// Nobody has use for the results of a call of the peer any more: the peer has finished it, no call waits for its results, and no
+    /// reference leads to a part of them. Stop the work on its task, and `answer` or `fail` it all the same; what it is answered with
+    /// goes nowhere. It comes behind all other events of a vat that is up but `Released`, once, and not of a task that was answered.
+    Cancelled(TaskId),
     /// Nothing in the vat names the object any more, which was hosted: no reference, and nothing that the peer has. No call for it comes
     /// until it is hosted again, so its application may let go of it. A task of it may still be open. It comes behind all other events of
     /// a vat that is up. If it is hosted again while the event waits, it is not told; the bootstrap object is never released.
@@ -37,6 +41,7 @@ impl fmt::Display for Event {
             Event::Ended(ended) => ended.fmt(f),
             Event::Resolved(place) => write!(f, "{place} is known"),
             Event::Lifted(reference) => write!(f, "the embargo of {reference} is over"),
+            Event::Cancelled(task) => write!(f, "{task} is cancelled"),
             Event::Released(object) => write!(f, "{object} is released"),
             Event::Down(number, reason) => {
                 write!(f, "the vat went down with {number}")?;

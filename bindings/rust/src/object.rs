@@ -16,6 +16,7 @@ pub type Outcome = Result<Contents<Capability>, Exception>;
 ///
 /// The calls of a connection come one after the other, in their order. The next one waits while `call` works, but not for its answer,
 /// which may be sent later and from another thread. So `call` must not wait for a call over the same connection; [`Call::then`] doesn't.
+/// If nobody has use for the answer any more, [`Answer::when_cancelled`] tells.
 pub trait Object: Send + Sync {
     /// Serves a call, whose answer is sent now or later. If it panics, the call fails.
     fn call(&self, call: Incoming, answer: Answer);
@@ -68,7 +69,43 @@ impl Answer {
         }
     }
 
-    /// Ends the call as another call ends. An object that passes all calls on to a capability, of whichever connection:
+    /// Whether nobody has use for what the call gives any more: its caller has given it up and nothing waits for its results, or the
+    /// connection has ended. It is to be answered all the same, or dropped.
+    pub fn is_cancelled(&self) -> bool {
+        self.0.as_ref().map_or(false, |(connection, task)| connection.is_cancelled(*task))
+    }
+
+    /// Has something done once nobody has use for what the call gives any more, which may be now, unless it is answered before. It is done
+    /// between the events of the connection, as [`Call::then`] does it.
+    ///
+    /// ```
+    /// use lovendak::{Answer, Incoming, Object};
+    /// use std::sync::mpsc;
+    /// use std::thread;
+    /// use std::time::Duration;
+    ///
+    /// /// It answers after an hour.
+    /// struct Alarm;
+    ///
+    /// impl Object for Alarm {
+    ///     fn call(&self, call: Incoming, answer: Answer) {
+    ///         let (cancel, cancelled) = mpsc::channel();
+    ///         answer.when_cancelled(move || drop(cancel.send(())));
+    ///         thread::spawn(move || {
+    ///             if cancelled.recv_timeout(Duration::from_secs(3600)).is_err() {
+    ///                 answer.send(Ok(call.params));
+    ///             }
+    ///         });
+    ///     }
+    /// }
+    /// ```
+    pub fn when_cancelled(&self, act: impl FnOnce() + Send + 'static) {
+        if let Some((connection, task)) = &self.0 {
+            connection.when_cancelled(*task, Box::new(act));
+        }
+    }
+
+    /// Ends the call as another call ends, which is given up if this one is cancelled. An object that passes all calls on to a capability, of whichever connection:
     ///
     /// ```
     /// use lovendak::{Answer, Incoming, Object, Remote};
@@ -82,6 +119,9 @@ impl Answer {
     /// }
     /// ```
     pub fn follow(self, call: Call) {
+        if let Some(give_up) = call.giving_up() {
+            self.when_cancelled(give_up);
+        }
         call.then(|outcome| self.send(outcome));
     }
 

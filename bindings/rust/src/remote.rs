@@ -5,7 +5,7 @@ use crate::contents::Contents;
 use crate::event::Exception;
 use crate::ids::{CallId, RefId};
 use crate::object::Outcome;
-use crate::shared::{Dropped, Shared, lock};
+use crate::shared::{Act, Dropped, Shared, lock};
 use crate::structs::Struct;
 use std::fmt;
 use std::future::Future;
@@ -82,7 +82,8 @@ impl fmt::Debug for Remote {
 
 /// A call that was made. It is a `Future` of its outcome, and can be waited for by [`wait`](Call::wait) too.
 ///
-/// Dropping it gives it up: nobody hears how it ends. The method at the peer runs on, and capabilities that `at` gave stay.
+/// Dropping it gives it up: nobody hears how it ends, and the peer is told that it may end its work on it. Capabilities that `at` gave
+/// stay.
 #[must_use = "a call that is dropped is given up"]
 pub struct Call(Stage);
 
@@ -195,6 +196,17 @@ impl Call {
             Stage::Refused(exception) => act(Err(exception.unwrap_or_else(taken))),
         }
     }
+
+    /// What gives it up, also if something is to be done once it has ended.
+    pub(crate) fn giving_up(&self) -> Option<Act> {
+        match &self.0 {
+            Stage::Made(Made { slot, .. }) => {
+                let slot = slot.clone();
+                Some(Box::new(move || slot.give_up()))
+            }
+            Stage::Refused(_) => None,
+        }
+    }
 }
 
 impl Future for Call {
@@ -248,6 +260,12 @@ impl Slot {
                 }
             }
         }
+    }
+
+    /// Nobody waits any more.
+    fn give_up(&self) {
+        let waited = mem::replace(&mut *lock(&self.0), Waiting::Taken);
+        drop(waited); // code of an application, while nothing is locked
     }
 
     fn then(&self, act: Box<dyn FnOnce(Outcome) + Send>) {

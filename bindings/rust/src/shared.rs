@@ -1,5 +1,6 @@
 //! A connection as its application, its objects and its driver share it: a vat, what was passed over it, and who waits for what.
 
+mod cancelling;
 mod lending;
 mod telling;
 
@@ -11,6 +12,8 @@ use crate::object::{Object, Outcome};
 use crate::refusal::Refusal;
 use crate::remote::Slot;
 use crate::vat::{Finishes, Level, Vat};
+pub(crate) use cancelling::Act;
+use cancelling::Cancelling;
 use std::collections::HashMap;
 use std::mem;
 use std::sync::{Arc, Condvar, Mutex, MutexGuard, PoisonError};
@@ -47,11 +50,14 @@ pub(crate) struct Shared {
 
 struct State {
     vat: Vat,
+    /// What may be held of the peer, in words and bytes.
+    limits: (u64, u64),
     objects: HashMap<ObjectId, Hosted>,
     /// The numbers of objects, by their keys.
     numbers: HashMap<usize, ObjectId>,
     next_object: u64,
     calls: HashMap<CallId, Arc<Slot>>,
+    cancelling: HashMap<TaskId, Cancelling>,
     unsent: Vec<u8>,
     /// How many bytes the driver has taken, and not yet written.
     taken: usize,
@@ -88,6 +94,16 @@ impl State {
     /// Whether no more of the peer is read: it does not read itself, or the vat holds as much of it as its limits say.
     fn is_held(&mut self, holds_back: bool) -> bool {
         !self.has_ended && (holds_back && self.waiting() > MOST_HELD || !self.vat.wants_bytes())
+    }
+
+    /// Whether there is more to be told or sent, or messages that waited are heard when the vat is asked again.
+    fn goes_on(&mut self) -> bool {
+        let pending = self.vat.pending();
+        if pending.has_event || pending.bytes > 0 {
+            return true;
+        }
+        let (load, (words, bytes)) = (self.vat.load(), self.limits);
+        !self.vat.wants_bytes() && self.vat.down().is_none() && load.words <= words && load.bytes <= bytes
     }
 
     /// A number for an object that has none.
@@ -128,10 +144,12 @@ impl Shared {
     pub fn new(root: Option<Arc<dyn Object>>) -> Result<Arc<Shared>, Refusal> {
         let state = State {
             vat: Vat::new(Level::One, root.as_ref().map(|_| ObjectId(0)))?,
+            limits: (u64::MAX, u64::MAX),
             objects: HashMap::new(),
             numbers: HashMap::new(),
             next_object: 0,
             calls: HashMap::new(),
+            cancelling: HashMap::new(),
             unsent: Vec::new(),
             taken: 0,
             telling: None,
@@ -214,7 +232,7 @@ impl Shared {
     }
 
     pub fn answer(self: &Arc<Self>, task: TaskId, outcome: Outcome) {
-        let promised = self.with(|state| {
+        let (promised, cancelling) = self.with(|state| {
             let (answered, promised) = match &outcome {
                 Ok(results) => {
                     self.lending(state, &results.refs, |vat, refs| vat.answer_parts(task, &results.payload, refs))
@@ -224,8 +242,9 @@ impl Shared {
             if let Err(Exception { kind, reason }) = answered {
                 let _ = state.vat.fail(task, kind, sendable(&reason)); // a vat that is down refuses it
             }
-            promised
+            (promised, state.cancelling.remove(&task))
         });
+        drop(cancelling); // code of an application, while nothing is locked
         self.keep(promised);
     }
 
@@ -234,7 +253,10 @@ impl Shared {
     }
 
     pub fn set_limits(&self, words: u64, bytes: u64) {
-        self.with(|state| state.vat.set_limits(words, bytes));
+        self.with(|state| {
+            state.limits = (words, bytes);
+            state.vat.set_limits(words, bytes);
+        });
     }
 
     pub fn close(&self) {

@@ -19,6 +19,7 @@ use std::borrow::Cow;
 /// | `Data` | `set_data` | `data` |
 /// | `List` of numbers | `set_numbers` | `numbers` |
 /// | `List` of structs | `set_structs` | `structs` |
+/// | `List` of texts, data, lists, interfaces | `set_pointers` | `structs` |
 /// | a struct | `set_struct` | `struct_at` |
 /// | an interface | `set_reference` | `reference` |
 ///
@@ -169,6 +170,22 @@ impl<R: Clone + 'static> Struct<R> {
     /// ```
     pub fn set_structs(&mut self, pointer: u16, items: impl IntoIterator<Item = Struct<R>>) -> &mut Struct<R> {
         self.set(pointer, Node::Structs(items.into_iter().collect()))
+    }
+
+    /// Writes a list of pointers: of texts, data, lists or references. Each is pointer 0 of a struct, and `structs` reads it so.
+    ///
+    /// ```
+    /// # use lovendak::{ContentsError, Struct};
+    /// let name = |name| std::mem::take(Struct::new().set_text(0, name));
+    /// let mut it = Struct::new();
+    /// it.set_pointers(0, [name("ann"), name("bob")]);
+    /// let names = it.structs(0)?;
+    /// assert_eq!((names.len(), names[1].text(0)?), (2, "bob"));
+    /// # Ok::<(), ContentsError>(())
+    /// ```
+    pub fn set_pointers(&mut self, pointer: u16, items: impl IntoIterator<Item = Struct<R>>) -> &mut Struct<R> {
+        let first = |item: Struct<R>| item.pointers.into_iter().next().unwrap_or(Node::Null);
+        self.set(pointer, Node::Pointers(items.into_iter().map(first).collect()))
     }
 
     /// The structs there. A list of numbers or pointers, which an earlier version of the schema may have had, gives structs whose

@@ -105,7 +105,8 @@ impl Vat {
         ok(ffi::lovendak_ended(&mut self.handle));
     }
 
-    /// What there is to be sent and to be told. It takes nothing.
+    /// What there is to be sent and to be told. No bytes and no event are taken out. Before, messages of the peer that wait are heard,
+    /// as far as the limits allow, and queued messages become frames.
     pub fn pending(&mut self) -> Pending {
         let (mut bytes, mut has_event) = (0, 0);
         ok(ffi::lovendak_pending(&mut self.handle, &mut bytes, &mut has_event));
@@ -167,8 +168,8 @@ impl Vat {
 
     /// The oldest event. The events of one command or message come behind those of the ones before it; of one, calls to serve
     /// come before own calls that ended, and these before what it made known (`Resolved`, `Lifted`). Behind them all come, of a vat that
-    /// is up, the objects that are `Released`. Of a vat that is down, each own call that is open ends then with `Disconnected`, and last
-    /// comes, once, that it is down.
+    /// is up, the tasks that are `Cancelled`, and then the objects that are `Released`. Of a vat that is down, each own call that is open
+    /// ends then with `Disconnected`, and last comes, once, that it is down.
     pub fn next_event(&mut self) -> Option<Event> {
         let mut event = LovendakEvent::default();
         loop {
@@ -212,6 +213,7 @@ impl Vat {
             }),
             3 => Event::Down(event.number as u16, String::from_utf8_lossy(payload).into_owned()),
             4 => Event::Released(ObjectId(event.object)),
+            5 => Event::Cancelled(TaskId(event.number)),
             6 => Event::Resolved(PeerPlace::of(event.place, event.number)),
             7 => Event::Lifted(RefId(event.number)),
             _ => return None,

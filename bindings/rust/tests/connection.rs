@@ -1,13 +1,14 @@
 //! Objects and calls over connections.
 
 use lovendak::{
-    Answer, Call, Capability, Connection, Contents, ExceptionKind, Finishes, Incoming, Level, Object, Outcome, Promise,
-    Remote, Resolver, Struct, Vat,
+    Answer, Call, CallId, Capability, Connection, Contents, Event, ExceptionKind, Finishes, Incoming, Level, Object,
+    Outcome, Promise, Remote, Resolver, Struct, Vat,
 };
 use std::collections::BTreeMap;
 use std::io::{Read, Write};
 use std::net::{TcpListener, TcpStream};
 use std::os::unix::net::UnixStream;
+use std::sync::atomic::{AtomicBool, Ordering};
 use std::sync::{Arc, Mutex};
 use std::time::{Duration, Instant};
 use std::{panic, thread};
@@ -21,6 +22,7 @@ const WAIT: u16 = 4;
 const PANIC: u16 = 5;
 const IGNORE: u16 = 6;
 const WAIT_HERE: u16 = 7;
+const ASK_TO_WAIT: u16 = 8;
 
 /// It keeps what it was told, and is told of what is gone.
 #[derive(Default)]
@@ -47,6 +49,10 @@ impl Object for Desk {
                 answer.send(Ok(Contents::of(Struct::default().set_struct(2, kept)).unwrap()));
             }
             (DESK, ASK) => answer.follow(echo(&given.and_then(Capability::into_remote).unwrap(), number)),
+            (DESK, ASK_TO_WAIT) => {
+                let asked = given.and_then(Capability::into_remote).unwrap();
+                answer.follow(asked.call(DESK, WAIT, Struct::default().set_number(0, number)));
+            }
             (DESK, LATER) => {
                 let (promise, resolver) = Promise::new();
                 *self.later.lock().unwrap() = Some(resolver);
@@ -72,6 +78,13 @@ impl Desk {
 
     fn gone(&self) -> usize {
         *self.gone.lock().unwrap()
+    }
+
+    /// The call of the lowest number that waits.
+    fn first_waiting(&self) -> (u64, Answer) {
+        let mut waiting = self.waiting.lock().unwrap();
+        let number = *waiting.keys().next().unwrap();
+        (number, waiting.remove(&number).unwrap())
     }
 }
 
@@ -375,6 +388,55 @@ fn calls_that_are_dropped_are_given_up() {
     connection.close();
 }
 
+/// A call that is answered later has begun.
+fn waiting(root: &Desk, call: Call, number: u64) -> Call {
+    until(|| root.waiting.lock().unwrap().contains_key(&number));
+    call
+}
+
+impl Desk {
+    fn is_cancelled(&self, number: u64) -> bool {
+        self.waiting.lock().unwrap()[&number].is_cancelled()
+    }
+
+    /// What is true once something was done as that call is cancelled.
+    fn told_of(&self, number: u64) -> Arc<AtomicBool> {
+        let (told, tells) = (Arc::new(AtomicBool::new(false)), self.waiting.lock().unwrap());
+        let tell = told.clone();
+        tells[&number].when_cancelled(move || tell.store(true, Ordering::Relaxed));
+        told
+    }
+}
+
+/// By a call of its object, and by one of an object of another connection, which passes it on.
+#[test]
+fn objects_are_told_of_calls_that_are_given_up() {
+    let (root, other_root) = (Arc::new(Desk::default()), Arc::new(Desk::default()));
+    let ((one, _), (two, server)) = (connected(&root), connected(&other_root));
+    let (desk, other) = (one.bootstrap(), two.bootstrap());
+    let direct = |number| waiting(&root, desk.call(DESK, WAIT, Struct::default().set_number(0, number)), number);
+    let passed_on = |number| waiting(&root, with(&other, ASK_TO_WAIT, desk.clone(), number), number);
+    for (call, kept, dropped, answered) in [(direct(0), direct(1), 0, 1), (passed_on(2), passed_on(3), 2, 3)] {
+        let (told, not_told) = (root.told_of(dropped), root.told_of(answered));
+        assert!(!root.is_cancelled(dropped) && !told.load(Ordering::Relaxed));
+        drop(call);
+        until(|| told.load(Ordering::Relaxed));
+        assert!(root.is_cancelled(dropped) && root.told_of(dropped).load(Ordering::Relaxed));
+        drop(root.waiting.lock().unwrap().remove(&answered));
+        assert_eq!(kind(kept.wait()), ExceptionKind::Failed);
+        assert!(!not_told.load(Ordering::Relaxed));
+    }
+    // As the connection ends.
+    let open = waiting(&other_root, other.call(DESK, WAIT, Struct::default().set_number(0, 20u64)), 20);
+    let told = other_root.told_of(20);
+    two.close();
+    server.wait_ended();
+    until(|| told.load(Ordering::Relaxed));
+    assert!(other_root.is_cancelled(20) && other_root.told_of(20).load(Ordering::Relaxed));
+    assert_eq!(kind(open.wait()), ExceptionKind::Disconnected);
+    one.close();
+}
+
 #[test]
 fn no_message_ends_a_connection() {
     let root = Arc::new(Desk::default());
@@ -431,7 +493,7 @@ fn who_asks_too_much_is_not_heard() {
     let answers = thread::spawn(move || {
         for _ in 0..desks {
             until(|| !answering.waiting.lock().unwrap().is_empty());
-            let (number, answer) = answering.waiting.lock().unwrap().pop_first().unwrap();
+            let (number, answer) = answering.first_waiting();
             answer.send(Ok(Contents::of(Struct::default().set_number(0, number + 1)).unwrap()));
         }
     });
@@ -441,6 +503,39 @@ fn who_asks_too_much_is_not_heard() {
     answers.join().unwrap();
     connection.close();
     server.wait_ended();
+}
+
+#[test]
+fn a_call_that_waited_behind_other_messages_is_heard() {
+    let (mut here, there) = UnixStream::pair().unwrap();
+    here.set_read_timeout(Some(Duration::from_secs(5))).unwrap();
+    let server = Connection::accepted(there, Arc::new(Desk::default())).unwrap();
+    server.set_limits(1, 1 << 20); // each message has more than one word
+    let mut vat = Vat::new(Level::One, None).unwrap();
+    let asked: Vec<CallId> = (0..40).map(|_| vat.bootstrap().unwrap()).collect();
+    let desk = vat.result_of(asked[0]).unwrap();
+    let mut next_ended = |vat: &mut Vat| {
+        here.write_all(&vat.outgoing()).unwrap();
+        loop {
+            match vat.next_event() {
+                Some(Event::Ended(ended)) => return ended.call,
+                Some(_) => {}
+                None => {
+                    let mut bytes = [0; 1000];
+                    let count = here.read(&mut bytes).unwrap();
+                    vat.received(&bytes[..count]);
+                }
+            }
+        }
+    };
+    for call in &asked {
+        assert_eq!(next_ended(&mut vat), *call);
+    }
+    for call in &asked[1..] {
+        vat.finish(*call).unwrap();
+    }
+    let call = vat.call(desk, DESK, ECHO, &Contents::of(Struct::default().set_number(0, 1)).unwrap()).unwrap();
+    assert_eq!(next_ended(&mut vat), call);
 }
 
 #[test]

@@ -69,6 +69,22 @@ fn what_is_written_is_read() {
 }
 
 #[test]
+fn lists_of_pointers() {
+    let (mut text, mut reference) = (Struct::new(), Struct::new());
+    text.set_text(0, "a").set_text(1, "stays behind");
+    reference.set_reference(0, RefId(7));
+    let mut it = Struct::new();
+    it.set_pointers(0, [text, Struct::new(), reference]);
+    let contents = Contents::of(&it).unwrap();
+    let words = [structure(0, 0, 1), list(0, 6, 3), list(2, 2, 2), 0, 3, 0x61];
+    assert_eq!(contents, Contents { payload: message(&[&words]), refs: vec![RefId(7)] });
+    let read = contents.root().unwrap();
+    let items = read.structs(0).unwrap();
+    assert_eq!((items.len(), items[0].text(0), items[1].has(0)), (3, Ok("a"), false));
+    assert_eq!(items[2].reference(0), Ok(Some(RefId(7))));
+}
+
+#[test]
 fn the_library_writes_and_reads_the_same() {
     let mut it = Struct::new();
     it.set_number(0, 5u64).set_number(1, 1u64 << 63).set_text(0, "grüß Gott");

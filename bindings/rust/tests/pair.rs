@@ -145,6 +145,26 @@ fn place(vat: &mut Vat, reference: RefId) -> Place {
 }
 
 #[test]
+fn tasks_are_cancelled() {
+    let (mut a, mut b, _, root) = pair();
+    let calls = [a.call(root, 1, 0, &nothing()).unwrap(), a.call(root, 1, 1, &nothing()).unwrap()];
+    exchange(&mut a, &mut b);
+    let (first, second) = (served(&mut b), served(&mut b));
+    b.answer(second.task, &nothing()).unwrap();
+    for call in calls {
+        a.finish(call).unwrap();
+    }
+    exchange(&mut a, &mut b);
+    let own = b.host(ObjectId(9)).unwrap();
+    b.drop_ref(own).unwrap();
+    assert_eq!(b.next_event(), Some(Event::Cancelled(first.task)));
+    assert_eq!(b.next_event(), Some(Event::Released(ObjectId(9))));
+    b.fail(first.task, ExceptionKind::Failed, "given up").unwrap();
+    exchange(&mut a, &mut b);
+    assert_eq!((a.next_event(), b.next_event()), (None, None));
+}
+
+#[test]
 fn objects_are_released() {
     let (mut a, mut b, asked, root) = pair();
     let own = a.host(ObjectId(9)).unwrap();
@@ -332,6 +352,7 @@ fn numbers_have_names() {
         (Event::Resolved(PeerPlace::Import(5)), "import 5 is known"),
         (Event::Resolved(PeerPlace::Answer(6)), "the answer to question 6 is known"),
         (Event::Lifted(RefId(7)), "the embargo of reference 7 is over"),
+        (Event::Cancelled(TaskId(4)), "task 4 is cancelled"),
         (Event::Released(ObjectId(8)), "object 8 is released"),
     ] {
         assert_eq!(event.to_string(), line);

@@ -40,7 +40,7 @@ fn main() -> Result<(), Box<dyn Error>> {
             Event::Ended(ended) => client.let_go(&ended.outcome?.refs)?,
             Event::Served(heard) => println!("object {} hears {}", heard.object.0, heard.params.root()?.text(0)?),
             Event::Down(..) => return Err(event.to_string().into()),
-            Event::Resolved(_) | Event::Lifted(_) | Event::Released(_) => {}
+            Event::Resolved(_) | Event::Lifted(_) | Event::Cancelled(_) | Event::Released(_) => {}
         }
     }
     Ok(())

@@ -1,6 +1,6 @@
 //! What the driver of a connection does: bytes come and go, and events are told.
 
-use super::{Shared, State, lock};
+use super::{Act, Shared, State, lock};
 use crate::capability::Capability;
 use crate::contents::Contents;
 use crate::event::{Event, Exception, Served};
@@ -24,8 +24,12 @@ pub(crate) enum Next {
 enum Told {
     Call(Served, Option<Arc<dyn Object>>),
     End(Result<Contents, Exception>, Option<Arc<Slot>>),
+    /// Nobody has use for the results of a call any more.
+    Cancelled(Vec<Act>),
     /// Objects that nobody can call any more.
     Gone(Vec<Arc<dyn Object>>),
+    /// The connection has ended, with these calls and objects.
+    Down(Vec<Act>, Vec<Arc<dyn Object>>),
     Nothing,
 }
 
@@ -37,11 +41,12 @@ impl State {
                 Told::Call(call, object)
             }
             Event::Ended(ended) => Told::End(ended.outcome, self.calls.remove(&ended.call)),
+            Event::Cancelled(task) => Told::Cancelled(self.cancel(task)),
             Event::Released(number) => Told::Gone(self.forget(number).into_iter().collect()),
             Event::Down(..) => {
                 self.numbers.clear();
                 self.has_ended = true;
-                Told::Gone(self.objects.drain().map(|(_, it)| it.object).collect())
+                Told::Down(self.cancel_all(), self.objects.drain().map(|(_, it)| it.object).collect())
             }
             Event::Resolved(_) | Event::Lifted(_) => Told::Nothing,
         })
@@ -104,8 +109,11 @@ impl Shared {
                         guarded(|| slot.end(outcome));
                     }
                 }
-                Told::Gone(objects) => {
-                    self.changed.notify_all(); // the connection may have ended
+                Told::Cancelled(acts) => acts.into_iter().for_each(guarded),
+                Told::Gone(objects) => objects.iter().for_each(|object| guarded(|| object.gone())),
+                Told::Down(acts, objects) => {
+                    self.changed.notify_all();
+                    acts.into_iter().for_each(guarded);
                     objects.iter().for_each(|object| guarded(|| object.gone()));
                 }
                 Told::Nothing => {}
@@ -115,16 +123,18 @@ impl Shared {
 
     /// What is told next; without it, this thread does not tell of events any more.
     fn next_told(&self) -> Option<Told> {
-        // What can't be sent is an event too, so the vat is asked for its bytes before.
-        let told = self.quietly(State::next_told);
-        told.or_else(|| {
-            self.quietly(|state| {
-                let told = state.next_told();
-                if told.is_none() {
-                    state.telling = None;
-                }
-                told
-            })
+        self.quietly(|state| loop {
+            if let Some(told) = state.next_told() {
+                return Some(told);
+            }
+            // What can't be sent is an event too, and messages that waited may be heard as the vat is asked for its bytes.
+            let said = state.vat.outgoing();
+            let is_over = said.is_empty() && !state.goes_on();
+            state.unsent.extend(said);
+            if is_over {
+                state.telling = None;
+                return None;
+            }
         })
     }
 
