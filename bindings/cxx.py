@@ -6,6 +6,7 @@
 - `calculator`: its client and server over libcapnp, over the drop-in by `LD_PRELOAD`, and straight on the stream, each with each.
 - `interop CLIENT SERVER`: the peers of `interop/`, which know nothing of the vat, by `LD_PRELOAD`: each scenario, and drawn conversations.
 - `probe ..`: what applications do at the limits of a vat; a server that dies; calls through a proxy.
+- `limits`: with limits, a call behind messages that waited is heard.
 - `refusing`: each allocation of the library is refused in turn, in a conversation within one process."""
 import contextlib
 import itertools
@@ -23,11 +24,10 @@ HERE = Path(__file__).resolve().parent
 SOURCES, BUILD, PEERS = HERE / "c++", HERE / "build/c++", HERE.parent / "interop/build"
 DROP_IN, PROGRAMS, OWN_TESTS = BUILD / "liblovendak-capnp-rpc.so", BUILD / "test", BUILD / "own-tests"
 # The tests of libcapnp that a vat does not pass, by line: `setPipeline`, the trace of an exception, and a transport whose `send` throws
-# (569, 1308, 1329); how many messages ask for a named export (130); file descriptors (512, 559); that the peer learns to what a bootstrap
-# object leads that is a promise (723).
+# (569, 1308, 1329); file descriptors (512, 559).
 FAILS = {
-    "rpc-test": {569, 1308, 1329}, "rpc-twoparty-test": {130, 512, 559, 723}, "ez-rpc-test": set(), "membrane-test": set(),
-    "direct-rpc-twoparty-test": {512, 559, 723}, "direct-ez-rpc-test": set(),
+    "rpc-test": {569, 1308, 1329}, "rpc-twoparty-test": {512, 559}, "ez-rpc-test": set(), "membrane-test": set(),
+    "direct-rpc-twoparty-test": {512, 559}, "direct-ez-rpc-test": set(),
 }
 DRAWN = 30
 
@@ -213,4 +213,5 @@ def checks():
     for overs in itertools.product(("libcapnp", "stream"), OVER, ("libcapnp", "stream")):
         if set(overs) != {"libcapnp"}:
             yield f"c++ proxy {' '.join(overs)}", lambda overs=overs: probed(PROXIED, *overs)
+    yield "c++ limits", lambda: ran([*VALGRIND, PROGRAMS / "limits"])
     yield "c++ refusing", lambda: ran([*VALGRIND, PROGRAMS / "refusing"])

@@ -7,8 +7,9 @@
  * After bytes came, and after each command, take events until there are none, and then send. A command may cause an event with no
  * bytes coming: a call through a reference to an object of the vat itself is delivered at once.
  *
- * A message has at most 65,536 words (512 KiB), payload and envelope together. A call or an answer that would be larger is refused
- * with FULL. A larger one that comes takes the vat down with 4, and the peer gets an Abort with the reason `fault 4`.
+ * A message has at most 65,536 words (512 KiB), payload and envelope together. Contents or a reason that may be too large for a message
+ * that carries them are refused with FULL (docs/messages.md, "What fits"). A larger message that comes takes the vat down with 4, and
+ * the peer gets an Abort with the reason `fault 4`.
  *
  * Each function except `lovendak_version` returns a code. Results are written if the code is LOVENDAK_OK, and otherwise only if the
  * function says so. A command that is refused changes nothing, with one exception: the reference of a refused `lovendak_call` may have
@@ -59,7 +60,7 @@ typedef struct lovendak_tree {
 enum {
   LOVENDAK_OK = 0,
   LOVENDAK_MEMORY = 1,          /* out of memory */
-  LOVENDAK_FULL = 2,            /* a limit is reached, or contents are too large for a message */
+  LOVENDAK_FULL = 2,            /* a limit is reached, or contents or a reason may be too large for a message */
   LOVENDAK_DOWN = 3,            /* the vat is down */
   LOVENDAK_UNKNOWN_REF = 4,     /* no such reference: it was dropped, or is of another vat */
   LOVENDAK_UNKNOWN_CALL = 5,    /* no such call, or it was finished */
@@ -149,12 +150,14 @@ uint32_t lovendak_free(lovendak_vat *vat);
 
 /* From here to `lovendak_shut`, each function returns EMPTY_HANDLE if the handle is empty. */
 
-/* Takes bytes that came from the peer, in any pieces, and drops them if the vat is down. A fault in them, or running out of memory, is
- * no code: it takes the vat down, which is an event. Whatever the bytes are: of the peer's calls you are told only of those for objects
- * that you gave this peer on this handle, and that it had not given back when the call reached them. */
+/* Takes bytes that came from the peer, in any pieces, and drops them if the vat is down or the stream is over. A fault in them, or
+ * running out of memory, is no code: it takes the vat down, which is an event. Whatever the bytes are: of the peer's calls you are told
+ * only of those for objects that you gave this peer on this handle, and that it had not given back when the call reached them. The
+ * bootstrap object counts as given once the peer asks for it. */
 uint32_t lovendak_received(lovendak_vat *vat, const uint8_t *bytes, size_t len);
 
-/* The peer's stream has ended: the vat goes down with 0, or with 2 if the stream ended inside a message. */
+/* The peer's stream has ended: the vat goes down with 0, or with 2 if the stream ended inside a message. If limits have messages wait
+ * unheard, it does so once all were heard. */
 uint32_t lovendak_ended(lovendak_vat *vat);
 
 /* Copies outbound bytes, each once, at most as many as there is room for, and says how many. Ask until it says 0: less than the room
@@ -167,14 +170,16 @@ uint32_t lovendak_outgoing(lovendak_vat *vat, uint8_t *out, size_t room, size_t 
  * limits may still hear more when it is asked again. */
 uint32_t lovendak_pending(lovendak_vat *vat, size_t *bytes, uint32_t *has_event);
 
-/* How much is held of the peer. `words`: the words of the messages of calls for which no Return was said, and of other messages until
- * `lovendak_next_event` or `lovendak_pending` found no event. `bytes`: those that wait to be sent. */
+/* How much of the peer is being handled. `words`: the words of the messages of calls for which no Return was said, and of other messages
+ * until `lovendak_next_event` or `lovendak_pending` found no event. Once they are at most the limit and what one message has (65,545),
+ * they stay so while the vat is up, whatever comes. `bytes`: those that wait to be sent. Not counted are messages that wait unheard, and
+ * what a vat keeps longer (docs/promises/any-peer.md). */
 uint32_t lovendak_load(lovendak_vat *vat, uint64_t *words, uint64_t *bytes);
 
 /* Sets limits of the load: while its words, or the bytes that wait in the vat, are above, messages of the peer wait unheard, in their
- * order. `lovendak_outgoing` and `lovendak_pending` take these bytes out of the vat, for the caller to fetch. So at most twice as many
- * bytes wait as the limit says, and what one message adds. A new vat has no limits. Limits that are too low for what two applications
- * ask of each other at a time stop both.
+ * order. `lovendak_outgoing` and `lovendak_pending` take these bytes out of the vat, for the caller to fetch, and then the vat may make
+ * as many again. What one message adds, and own commands, may pass the limit of bytes. A new vat has no limits. Limits that are too low
+ * for what two applications ask of each other at a time stop both.
  * With limits, sending may cause events, and a `lovendak_next_event` that finds none may let more be heard. So send and then take
  * events, again and again, until neither gives anything, and `lovendak_wants_bytes` says 1 or the load is above a limit. */
 uint32_t lovendak_set_limits(lovendak_vat *vat, uint64_t words, uint64_t bytes);
@@ -185,19 +190,19 @@ uint32_t lovendak_set_limits(lovendak_vat *vat, uint64_t words, uint64_t bytes);
  * NO_SUCH_NUMBER of another number. */
 uint32_t lovendak_set_finishes(lovendak_vat *vat, uint32_t when);
 
-/* Whether more bytes of the peer would be heard (1), or only wait (0): then there are events to take, bytes to send or calls to
- * answer, or the vat is down. An application that reads of its peer only while this says 1, and takes events and bytes meanwhile,
- * holds no more words than the limit says, and what one message adds. */
+/* Whether more bytes of the peer would be heard (1). If not (0), they only wait: there are events to take (until there are none), bytes to
+ * send, or calls without a Return; or they are dropped: the vat is down, or its stream is over. Read from the peer only while this says
+ * 1: what comes else waits unheard, and no limit counts it. */
 uint32_t lovendak_wants_bytes(lovendak_vat *vat, uint32_t *answer);
 
 /* Takes the oldest event. The events of one command or message come after those of earlier ones; among them, calls to serve come
  * before own calls that ended, and these before what the message made known:
  * - LOVENDAK_RESOLVED: what stands at a place of the peer is known now. A reference that leads there may lead on: `lovendak_advance` it.
- * - LOVENDAK_LIFTED: the embargo of a reference is over. Its calls wait no more.
- * Behind them all come, while the vat is up, the tasks that are cancelled, and then the objects that are released:
+ * - LOVENDAK_LIFTED: the embargo of a reference is over. Its calls wait under it no more.
+ * Behind them all come, while the vat is up, the tasks that are cancelled, and the objects that are released:
  * - LOVENDAK_CANCELLED: nobody has use for the results of a call of the peer any more. The peer has finished it, no call waits for its
- *   results, and no reference leads to a part of them. Stop the work on its task, and answer or fail it all the same; what it is answered
- *   with goes nowhere. It is told once, and not of a task that was answered.
+ *   results, and nothing names a part of them. Stop the work on its task, and answer or fail it all the same; what it is answered with
+ *   goes nowhere. It is told once, and not of a task that was answered before this event was found.
  * - LOVENDAK_RELEASED: no reference, no export and nothing else of the vat names the object any more, which `lovendak_host` named
  *   once. No call for it comes until it is hosted again, so the application may let go of it. A task of it may still be open. The
  *   bootstrap object is never released.
@@ -208,7 +213,7 @@ uint32_t lovendak_wants_bytes(lovendak_vat *vat, uint32_t *answer);
  * were sent first, ask again, since a message that can't be sent takes the vat down. */
 uint32_t lovendak_next_event(lovendak_vat *vat, lovendak_event *event, uint8_t *payload, size_t room, uint64_t *refs, size_t refs_room);
 
-/* Where calls through a reference go. Two references that lead to one import lead to one object of the peer. The work grows with the
+/* Where calls through a reference go. Two references that lead to one import lead to one export of the peer. The work grows with the
  * links on the way; `lovendak_advance` makes the way short. DOWN, UNKNOWN_REF. */
 uint32_t lovendak_leads_to(lovendak_vat *vat, uint64_t ref, lovendak_place *place);
 
@@ -226,7 +231,8 @@ uint32_t lovendak_calls_made(lovendak_vat *vat, uint64_t ref, uint64_t *made);
 
 /* Commands. Each except `lovendak_shut` may return DOWN and MEMORY, and each the codes that are named beside it. Those that make
  * something, and `lovendak_advance`, return FULL at a limit. `lovendak_call`, `lovendak_answer`, `lovendak_fail` and `lovendak_reject`
- * return FULL if what they carry is too large for a message. */
+ * return FULL if what they carry may be too large for a message. Of `lovendak_answer`, `lovendak_fail`, `lovendak_resolve` and
+ * `lovendak_reject`: if there is no room or memory for what follows of them, they return OK, and the vat goes down with 33. */
 
 /* Asks the peer for its bootstrap object: a call, whose result is that object. */
 uint32_t lovendak_bootstrap(lovendak_vat *vat, uint64_t *call);
@@ -356,9 +362,9 @@ uint32_t lovendak_tree_write(lovendak_tree *tree, uint32_t at, uint32_t caps, ui
  * cost but that of the path. NO_PAYLOAD if the bytes are none. */
 uint32_t lovendak_tree_read(lovendak_tree *tree, const uint8_t *payload, size_t len, uint32_t caps, uint32_t *made);
 
-/* A path goes from the root of a payload that was read, by the number of a pointer in a struct, and by the index of an element in a
- * list of pointers or structs. Behind null and past the last pointer or element there is null. NOTHING if a step goes on from something
- * else. The root itself is the path of no steps. */
+/* A path goes from the root of a payload that was read, by the number of a pointer in a struct (up to 65,535), and by the index of an
+ * element in a list of pointers or structs. Behind null and past the last pointer or element there is null. NOTHING if a step goes on
+ * from something else. The root itself is the path of no steps. */
 
 /* What stands at a path, LOVENDAK_TREE_NULL to LOVENDAK_TREE_CAP, and its number: how many elements a list has, the index of a
  * capability, or 0. */

@@ -48,7 +48,7 @@ private:
 
   kj::Promise<void> accept();
   Link& linkOf(kj::Own<NetworkConnection>&& connection);
-  kj::Own<ClientHook> rootFor(NetworkConnection& connection);
+  Root rootFor(NetworkConnection& connection);
   Capability::Client restoreOwn(AnyPointer::Reader objectId);
   void end(NetworkConnection* connection);
   Capability::Client baseCreateFor(AnyStruct::Reader clientId) override;
@@ -70,7 +70,7 @@ kj::Promise<void> System::accept() {
 
 Capability::Client System::bootstrap(AnyStruct::Reader vatId) {
   KJ_IF_MAYBE(connection, network.baseConnect(vatId)) {
-    return Capability::Client(linkOf(kj::mv(*connection)).bootstrap());
+    return Capability::Client(linkOf(kj::mv(*connection)).bootstrap(AnyPointer::Reader()));
   }
   return factory.baseCreateFor(vatId);
 }
@@ -78,7 +78,7 @@ Capability::Client System::bootstrap(AnyStruct::Reader vatId) {
 Capability::Client System::restore(AnyStruct::Reader vatId, AnyPointer::Reader objectId) {
   if (objectId.isNull()) return bootstrap(vatId);
   KJ_IF_MAYBE(connection, network.baseConnect(vatId)) {
-    return namedExport(Capability::Client(linkOf(kj::mv(*connection)).bootstrap()), objectId);
+    return Capability::Client(linkOf(kj::mv(*connection)).bootstrap(objectId));
   }
   return restoreOwn(objectId);
 }
@@ -102,13 +102,17 @@ Link& System::linkOf(kj::Own<NetworkConnection>&& connection) {
   return result;
 }
 
-// The bootstrap object for a peer. One that was given is hosted as it is; one that a factory or a restorer makes is made when it is called.
-kj::Own<ClientHook> System::rootFor(NetworkConnection& connection) {
+// The bootstrap object for a peer. One that was given is hosted as it is, unless it is a promise; one that a factory or a restorer makes is
+// made when it is asked for.
+Root System::rootFor(NetworkConnection& connection) {
   KJ_IF_MAYBE(main, bootstrapInterface) {
     return rootOf(*main);
   }
-  return newRoot([this, &connection]() { return factory.baseCreateFor(connection.baseGetPeerVatId()); },
-                 [this](AnyPointer::Reader objectId) { return restoreOwn(objectId); });
+  auto root = newRoot([this, &connection]() { return factory.baseCreateFor(connection.baseGetPeerVatId()); },
+                      [this](AnyPointer::Reader objectId) { return restoreOwn(objectId); });
+  // There is nothing to ask for in a vat that was given nothing.
+  if (restorer == nullptr && &factory == this) root.isAsked = false;
+  return root;
 }
 
 Capability::Client System::restoreOwn(AnyPointer::Reader objectId) {

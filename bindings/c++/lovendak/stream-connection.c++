@@ -27,11 +27,21 @@ private:
     return unknown == nullptr ? bytes : DEFAULT_WINDOW_SIZE;
   }
 };
+
+kj::Maybe<kj::Own<ClientHook>> hookOf(kj::Maybe<Root>& root) {
+  KJ_IF_MAYBE(it, root) {
+    return kj::mv(it->hook);
+  }
+  return nullptr;
+}
 }  // namespace
 
-StreamConnection::StreamConnection(kj::AsyncIoStream& stream, kj::Maybe<kj::Own<ClientHook>> root)
-    : stream(stream), vat(kj::refcounted<Vat>(*this, kj::mv(root))), readRoom(kj::heapArray<kj::byte>(ROOM)),
+StreamConnection::StreamConnection(kj::AsyncIoStream& stream, kj::Maybe<Root> root)
+    : stream(stream), vat(kj::refcounted<Vat>(*this, hookOf(root))), readRoom(kj::heapArray<kj::byte>(ROOM)),
       writeRoom(kj::heapArray<kj::byte>(ROOM)), reader(nullptr), writer(kj::READY_NOW), disconnected(nullptr) {
+  KJ_IF_MAYBE(it, root) {
+    if (it->isAsked) bootstraps.emplace(*vat, vat->exportRoot());
+  }
   disconnected = vat->onDown().then([this]() { return close(); }).fork();
   reader = read().eagerlyEvaluate([this](kj::Exception&& exception) { vat->failed(kj::mv(exception)); });
 }
@@ -89,13 +99,29 @@ kj::Promise<void> StreamConnection::read() {
   }
   return stream.tryRead(readRoom.begin(), 1, readRoom.size()).then([this](size_t count) -> kj::Promise<void> {
     if (count == 0) {
-      vat->ended();
+      ended();
       return kj::READY_NOW;
     }
-    vat->received(readRoom.slice(0, count));
+    received(readRoom.slice(0, count));
     if (vat->isDown()) return kj::READY_NOW;
     return read();
   });
+}
+
+void StreamConnection::received(kj::ArrayPtr<const kj::byte> bytes) {
+  KJ_IF_MAYBE(it, bootstraps) {
+    it->received(bytes);
+  } else {
+    vat->received(bytes);
+  }
+}
+
+void StreamConnection::ended() {
+  KJ_IF_MAYBE(it, bootstraps) {
+    it->ended();
+  } else {
+    vat->ended();
+  }
 }
 
 // The vat is down: nothing more is read, and what it said last is written.

@@ -1,6 +1,8 @@
 // A vat on a stream of bytes.
 #pragma once
 #include <kj/async-io.h>
+#include "bootstraps.h"
+#include "root.h"
 #include "vat.h"
 
 namespace lovendak {
@@ -13,7 +15,7 @@ class StreamConnection final: public Transport {
   // goes out by one write.
 
 public:
-  StreamConnection(kj::AsyncIoStream& stream, kj::Maybe<kj::Own<capnp::ClientHook>> root);
+  StreamConnection(kj::AsyncIoStream& stream, kj::Maybe<Root> root);
   ~StreamConnection() noexcept(false);
 
   capnp::Capability::Client bootstrap() { return capnp::Capability::Client(vat->bootstrap()); }
@@ -31,6 +33,8 @@ private:
 
   kj::AsyncIoStream& stream;
   kj::Own<Vat> vat;
+  kj::Maybe<Bootstraps> bootstraps;
+  // If the bootstrap object is asked for.
   uint64_t mostWords = kj::maxValue, mostBytes = kj::maxValue;
   kj::Array<kj::byte> readRoom, writeRoom;
   size_t underWay = 0;
@@ -41,6 +45,8 @@ private:
   bool ready() override;
   kj::Own<capnp::RpcFlowController> newStream() override;
   kj::Promise<void> read();
+  void received(kj::ArrayPtr<const kj::byte> bytes);
+  void ended();
   kj::Promise<void> write();
   kj::Promise<void> close();
 };

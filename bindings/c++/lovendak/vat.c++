@@ -1,5 +1,8 @@
 #include "vat.h"
 #include <string.h>
+#include <capnp/message.h>
+#include <capnp/rpc.capnp.h>
+#include <capnp/serialize.h>
 #include <kj/debug.h>
 #include "call-context.h"
 #include "client.h"
@@ -24,6 +27,29 @@ Vat::Vat(Transport& transport, kj::Maybe<kj::Own<ClientHook>> root)
   }
 }
 
+// A vat exports its bootstrap object if it is asked for it: here before the peer can ask, and what it says of this is kept from the peer.
+// The export stays until the vat goes down.
+uint32_t Vat::exportRoot() {
+  MallocMessageBuilder bootstrap, finish;
+  bootstrap.initRoot<rpc::Message>().initBootstrap().setQuestionId(0);
+  auto finished = finish.initRoot<rpc::Message>().initFinish();
+  finished.setQuestionId(0);
+  finished.setReleaseResultCaps(false);
+  auto hear = [this](MessageBuilder& message) {
+    auto words = messageToFlatArray(message);
+    auto bytes = words.asBytes();
+    check(lovendak_received(&handle, bytes.begin(), bytes.size()));
+  };
+  hear(bootstrap);
+  size_t count = 0;
+  auto room = eventWords.asBytes();
+  check(lovendak_outgoing(&handle, room.begin(), room.size(), &count));
+  if (count == 0) kj::throwFatalException(whyDown());
+  hear(finish);
+  FlatArrayMessageReader said(eventWords);
+  return said.getRoot<rpc::Message>().getReturn().getResults().getCapTable()[0].getSenderHosted();
+}
+
 Vat::~Vat() noexcept(false) { lovendak_free(&handle); }
 
 void Vat::taskFailed(kj::Exception&& exception) { KJ_LOG(ERROR, exception); }
@@ -36,6 +62,7 @@ void Vat::received(kj::ArrayPtr<const kj::byte> bytes) {
 }
 
 size_t Vat::outgoing(kj::ArrayPtr<kj::byte> room) {
+  bool waits = !wantsBytes();
   size_t count = 0, more = 0;
   do {
     more = 0;
@@ -43,12 +70,11 @@ size_t Vat::outgoing(kj::ArrayPtr<kj::byte> room) {
     count += more;
   } while (more != 0 && count < room.size());
   if (more == 0) transportReady = false;
-  // A message that can't be sent takes the vat down, and what waited for bytes to be sent is heard now.
+  // A message that can't be sent takes the vat down, and what waited may be heard as bytes are asked for, even if there are none.
   bool fell = !down && lovendak_down(&handle, &lastNumber) == LOVENDAK_OK;
-  if (fell || (limited && count != 0)) {
-    maySay = true;
-    schedulePump();
-  }
+  bool gave = limited && count != 0;
+  if (fell || gave) maySay = true;
+  if (fell || gave || waits) schedulePump();
   return count;
 }
 
@@ -91,6 +117,8 @@ kj::Exception Vat::whyDown() {
 
 void Vat::setLimits(uint64_t words, uint64_t bytes) {
   limited = true;
+  mostWords = words;
+  mostBytes = bytes;
   lovendak_set_limits(&handle, words, bytes);
   commanded();
 }
@@ -99,6 +127,18 @@ bool Vat::wantsBytes() {
   uint32_t answer = 1;
   if (limited && !down) lovendak_wants_bytes(&handle, &answer);
   return answer != 0;
+}
+
+// Whether there are events, or messages that wait are heard if the vat is asked for events again.
+bool Vat::goesOn() {
+  size_t unsent = 0;
+  uint32_t isEvent = 0;
+  lovendak_pending(&handle, &unsent, &isEvent);
+  if (unsent != 0) maySay = true;
+  if (isEvent != 0) return true;
+  uint64_t words = 0, bytes = 0;
+  lovendak_load(&handle, &words, &bytes);
+  return !down && !wantsBytes() && words <= mostWords && bytes <= mostBytes;
 }
 
 kj::Promise<void> Vat::whenWantsBytes() {
@@ -183,14 +223,17 @@ void Vat::letGo(kj::Own<ClientHook> hook) {
   commanded();
 }
 
-// Whether there were any. What waited unheard may be heard as they are taken, and answered.
+// Whether there were any. What waited unheard may be heard as they are taken, and once there is none.
 bool Vat::handleEvents() {
   lovendak_event event;
-  bool any = false;
-  while (nextEvent(event)) {
-    any = true;
-    handleEvent(event);
-  }
+  bool any = false, waits = false;
+  do {
+    waits = !wantsBytes();
+    while (nextEvent(event)) {
+      any = true;
+      handleEvent(event);
+    }
+  } while (waits && goesOn());
   return any;
 }
 

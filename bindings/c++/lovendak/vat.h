@@ -27,6 +27,9 @@ public:
   kj::Own<capnp::ClientHook> bootstrap();
   // The peer's bootstrap object.
 
+  uint32_t exportRoot();
+  // Exports the bootstrap object of a new vat, with no word to the peer, and gives the number of the export.
+
   void received(kj::ArrayPtr<const kj::byte> bytes);
   // Bytes of the peer, in any pieces.
   size_t outgoing(kj::ArrayPtr<kj::byte> room);
@@ -74,6 +77,7 @@ private:
   lovendak_vat handle = LOVENDAK_EMPTY;
   kj::Maybe<Transport&> transport;
   bool down = false, limited = false;
+  uint64_t mostWords = kj::maxValue, mostBytes = kj::maxValue;
   bool pumping = false, pumpAgain = false, pumpWanted = false, pumpScheduled = false, transportReady = false, transportTurns = false;
   bool ownSettled = false, maySay = false;
   kj::Maybe<kj::Exception> networkException;
@@ -99,6 +103,7 @@ private:
   void commanded();
   void schedulePump();
   void announce();
+  bool goesOn();
   bool handleEvents();
   bool nextEvent(lovendak_event& event);
   void handleEvent(const lovendak_event& event);
