@@ -1,8 +1,8 @@
 //! Measures two connections in one process, whose bytes go both ways through memory. What it prints differs from run to run;
 //! `docs/benchmarks.md` has figures.
 //!
-//! `bench_connection TRIPS CYCLES` makes so many calls that are answered and finished, and then takes so many shorter paths
-//! behind embargoes.
+//! `bench_connection TRIPS CYCLES` makes TRIPS calls that are answered and finished, and then takes CYCLES shorter paths, each with an
+//! embargo.
 //! Without arguments it does nothing.
 #![tactic(auto)]
 

@@ -19,8 +19,8 @@
 //! `moved`: so many calls wait, and 64 times they are moved on and wait again.
 //!
 //! Those of the application: `promises`, a chain of promises that are resolved from the first on, and calls through it;
-//! `backwards`, the same from the last on; `call`, a call with so many references near the limit of exports; `advanced`, the
-//! first of a chain of promises asks so many times for a shorter path.
+//! `backwards`, the same from the last on; `call`, a call with so many references near the limit of exports; `passed`, two
+//! calls that pass the first of a chain of promises so many times; `advanced`, it asks so many times for a shorter path.
 #![tactic(auto)]
 
 mod astray;
@@ -44,7 +44,7 @@ use std::alloc::Global;
 use std::env;
 use std::process::ExitCode;
 
-const INPUTS: [&str; 20] = [
+const INPUTS: [&str; 21] = [
     "fields",
     "deep",
     "circle",
@@ -64,6 +64,7 @@ const INPUTS: [&str; 20] = [
     "promises",
     "backwards",
     "call",
+    "passed",
     "advanced",
 ];
 
@@ -122,7 +123,7 @@ fn play_at(side: &mut Side, what: &str, size: u16) -> Result<Played, Astray> {
         "kept" => chains::of_outcomes(side, size),
         "wide" => chains::named_often(side, size),
         "call" => exports::near_the_limit(side, size),
-        "called" | "returned" | "exported" | "moved" | "advanced" => {
+        "called" | "returned" | "exported" | "moved" | "passed" | "advanced" => {
             play_onward(side, what, size)
         }
         _ => play_flag(side, what, size),
@@ -135,6 +136,7 @@ fn play_onward(side: &mut Side, what: &str, size: u16) -> Result<Played, Astray>
         "returned" => onward::in_returns(side, size),
         "exported" => onward::exported(side, size),
         "moved" => onward::moved(side, size),
+        "passed" => onward::passed(side, size),
         "advanced" => onward::advanced(side, size),
         _ => Err(Astray::NoInput),
     }

@@ -78,6 +78,16 @@ pub(crate) fn moved(side: &mut Side, size: u16) -> Result<Played, Astray> {
     Ok(chained(ROUNDS).more(u64::from(size), 0, 0))
 }
 
+/// A chain of promises, and two calls of the application that pass the first so many times.
+pub(crate) fn passed(side: &mut Side, size: u16) -> Result<Played, Astray> {
+    let promises = make_all(side, size)?;
+    lead_all(side, &promises)?;
+    pass(side, size)?;
+    pass(side, size)?;
+    let links = u64::from(size).saturating_sub(1);
+    Ok(BEGUN.more(2 + links, 2, 2 * u64::from(size)))
+}
+
 /// A chain of promises that leads to the peer's object, and the first asks so many times for a shorter path.
 pub(crate) fn advanced(side: &mut Side, size: u16) -> Result<Played, Astray> {
     let promises = make_all(side, size)?;
@@ -148,4 +158,10 @@ fn return_with(side: &mut Side, question: u32, size: u16) -> Result<(), Astray> 
     let payload = fields(side.alloc, 0, size)?;
     let descriptors = repeated(side.alloc, result_at(FIRST, field), size)?;
     side.returns_to(asked_as(size.saturating_add(1)), payload, descriptors)
+}
+
+fn pass(side: &mut Side, size: u16) -> Result<(), Astray> {
+    let refs = repeated(side.alloc, PROMISE, size)?;
+    side.call(RefId(0), refs)?;
+    Ok(())
 }

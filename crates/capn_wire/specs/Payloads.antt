@@ -1,10 +1,12 @@
 -- What contracts see of a payload.
-use Rattle.std.specs.Prelude.{◌≡◌, ◌<◌, ◌≤◌, ℕ, slice_index, Bool, ◌==◌, ◌&&◌, nat_eq, List, [], ◌∷◌, Ok, Err, IsOk, None}
+use Rattle.std.specs.Prelude.{◌≡◌, ◌<◌, ◌≤◌, ◌-◌, ℕ, slice_index, Bool, ◌==◌, ◌&&◌, nat_eq, List, [], ◌∷◌, Result, Ok, Err, IsOk, Option, Some, None}
 use Rattle.std.specs.Cmp.{IsEquivalence, and_equiv, on_equiv, nat_eq_equiv}
 use Rattle.std.specs.Cmp.Lexicographic.{pointwise, nat_list_eq_equiv}
 use Rattle.capn_trees.specs.Trees.{Tree, null}
 use Rattle.capn_trees.specs.Writable.{parts, words_visited, all_words, refused}
-use Rattle.capn_reading.specs.Reading.{root_of, message_of, tree_read}
+use Rattle.capn_trees.specs.declared.faults.PayloadFault.{PayloadFault}
+use Rattle.capn_reading.specs.Following.{counted_before}
+use Rattle.capn_reading.specs.Reading.{root_of, message_of, message_within, visited_of, tree_read}
 use Rattle.capn_reading.specs.Framing.{IsFramed}
 
 -- its bytes, and how many capabilities go with it
@@ -36,6 +38,15 @@ pub record Says (p : Contents) (m : List (List ℕ)) (t : Tree) : Type 0 where
 pub record FitsWithin (p : Contents) (levels n : ℕ) : Type 0 where
   pub fits : (k : ℕ) → levels ≤ k → n < 65536 → refused p.caps (parts (tree_of p) k) ≡ None
   pub words : (k : ℕ) → levels ≤ k → all_words words_visited (parts (tree_of p) k) ≤ n
+
+-- the words of a visit, of which the count begins so that it ends at the limit
+abbrev pub words_by : Result ℕ PayloadFault → Option ℕ
+words_by (Ok counted) = Some (counted - counted_before 65536)
+words_by (Err f) = None
+
+-- How many words a visit of the contents counts; none if they nest deeper than that.
+abbrev pub words_in : Contents → ℕ → Option ℕ
+words_in p levels = words_by (visited_of (message_within p.bytes p.caps levels))
 
 -- the payload of a null pointer, with no capabilities: one segment of one word, after the word that says so
 abbrev pub null_payload : Contents

@@ -37,8 +37,8 @@
 #![tactic(auto)]
 
 mod faults;
-mod find;
 pub mod laws;
+mod lookup;
 mod path;
 mod payload;
 

@@ -5,7 +5,7 @@ ghost use Rattle.capn_trees.specs.declared.faults.PayloadFault.TheVariants as fa
 ghost use Rattle.capn_trees.specs.declared.faults.WriteFault.TheVariants as write_faults;
 
 use crate::faults::Memory;
-use crate::find::find;
+use crate::lookup::find;
 use crate::path::{CapAt, Op};
 use capn_reading::{MOST_COUNTED, Message, View, build_tree, visited_within, visited_words};
 use capn_trees::limits::MOST_VISITED;
@@ -35,7 +35,7 @@ impl Model for Payload {
 }
 
 impl Payload {
-    ghost use Rattle.capn_wire.specs.Payloads.{IsEncoded, IsPayload, FitsWithin, Says, tree_of, null_payload, root_payload};
+    ghost use Rattle.capn_wire.specs.Payloads.{IsEncoded, IsPayload, FitsWithin, Says, tree_of, null_payload, root_payload, words_in};
     ghost use Rattle.capn_trees.specs.Trees.{Tree as SpecTree, null, capability};
     ghost use Rattle.capn_trees.specs.Views.{view};
     ghost use Rattle.capn_wire.specs.Walking.{capability_at};
@@ -150,7 +150,8 @@ impl Payload {
     /// How many words a visit of its contents counts, if these nest at most so deep.
     pub fn words_within(&self, levels: u32) -> Option<u32>
         requires { levels ≤ 64 }
-        ensures { IfSome result (λ n. FitsWithin self.now levels n) }
+        ensures exact { result ≡ words_in self.now levels }
+        ensures fits { IfSome result (λ n. FitsWithin self.now levels n) }
     {
         match visited_within(self.bytes(), self.caps(), levels) {
             // The count begins at the difference of these, so that it ends at the limit.

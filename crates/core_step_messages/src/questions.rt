@@ -10,7 +10,7 @@ ghost use Rattle.core_step.specs.InProgress.{progress_of, IsReady};
 ghost use Rattle.core_step_messages.specs.Parts.{ComesBackFor, KeepsFor};
 
 use core_step::{Step, arises, reserve};
-use core_step_settles::tell_call_with;
+use core_step_settles::tell_call;
 use core_store_tables::{forget_question, set_returned};
 use rpc_machine::{Fault, Finishing, Node, Returned, Role, Value};
 use rpc_msg::{Descriptor, Items, Memory, QuestionId};
@@ -67,7 +67,7 @@ fn come_for(step: &mut Step, alloc: Global, role: Role, value: Value) -> Result<
             arises(step, outcome, value);
             Ok(())
         }
-        Role::Direct(call) => tell_call_with(step, alloc, call, value),
+        Role::Direct(call) => tell_call(step, alloc, call, value),
     }
 }
 

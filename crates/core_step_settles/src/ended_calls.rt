@@ -12,29 +12,9 @@ use rpc_msg::{CallId, Items, Memory};
 use std::alloc::Global;
 
 /// The application is told how a call of its own ended, with one new reference for each capability; of a call that it
-/// finished it is told nothing. The value is copied if it is told. `Err` for lack of memory, or of numbers of
-/// references; the step is only to be dropped then.
-pub fn tell_call(step: &mut Step, alloc: Global, call: CallId, value: &Value) -> Result<(), Memory>
-    requires ready { IsReady step.old }
-    ensures told { OnOk result (TellsCall (progress_of step.old) call.0 value.now (map.get (state_of step.old.store).calls call.0) (progress_of step.new)) }
-    ensures taken { OnOk result (step.new.store.waits.taken ≡ step.old.store.waits.taken) }
-    ensures ready { OnOk result (IsReady step.new) }
-{
-    let Some(_) = step.store.calls.get(call.0) else {
-        return Ok(());
-    };
-    let told = copy_value(alloc, value)?;
-    report(step, alloc, call, told)?;
-    Ok(())
-}
-
-/// The same, by a value that is given over, so that nothing is copied.
-pub fn tell_call_with(
-    step: &mut Step,
-    alloc: Global,
-    call: CallId,
-    value: Value,
-) -> Result<(), Memory>
+/// finished it is told nothing. `Err` for lack of memory, or of numbers of references; the step is only to be dropped
+/// then.
+pub fn tell_call(step: &mut Step, alloc: Global, call: CallId, value: Value) -> Result<(), Memory>
     requires ready { IsReady step.old }
     ensures told { OnOk result (TellsCall (progress_of step.old) call.0 value (map.get (state_of step.old.store).calls call.0) (progress_of step.new)) }
     ensures taken { OnOk result (step.new.store.waits.taken ≡ step.old.store.waits.taken) }
@@ -105,7 +85,7 @@ fn report_caps(
 }
 
 /// The same value, in memory of its own.
-pub fn copy_value(alloc: Global, value: &Value) -> Result<Value, Memory>
+pub(crate) fn copy_value(alloc: Global, value: &Value) -> Result<Value, Memory>
     ensures { IfOk result (λ copy. copy ≡ value.now) }
 {
     match value {

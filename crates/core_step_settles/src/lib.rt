@@ -36,7 +36,7 @@ mod tasks;
 pub use answers::returns;
 pub use cycles::fit;
 pub use drains::drain;
-pub use ended_calls::{copy_value, tell_call, tell_call_with};
+pub use ended_calls::tell_call;
 pub use export_resolves::{resolve_fields, resolve_promises};
 pub use fixed_promises::fix_promise;
 pub use outcomes::{settle_outcome, tells};

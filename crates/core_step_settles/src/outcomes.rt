@@ -9,7 +9,7 @@ ghost use Rattle.core_step_settles.specs.Waiting.{RoutesWaiting};
 
 use crate::answers::returns;
 use crate::cycles::fit;
-use crate::ended_calls::{copy_value, tell_call_with};
+use crate::ended_calls::{copy_value, tell_call};
 use crate::export_resolves::resolve_fields;
 use core_step::Step;
 use core_step_routes::route_held;
@@ -50,7 +50,7 @@ pub fn tells(step: &mut Step, alloc: Global, caller: Caller, value: Value) -> Re
 {
     match caller {
         Caller::Application(call) => {
-            tell_call_with(step, alloc, call, value)?;
+            tell_call(step, alloc, call, value)?;
             Ok(())
         }
         Caller::Peer(q) => {

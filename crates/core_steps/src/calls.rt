@@ -98,19 +98,6 @@ pub fn call(machine: &mut Machine, call: CallCommand) -> Result<(CallId, Effects
     ensures handed_back { IfErr result (λ c. c ≡ call) }
     ensures resting { IsResting machine.new }
 {
-    shorten_heads(machine, &call);
-    call_walked(machine, call)
-}
-
-// The same, if the ways from the references of the call are short.
-fn call_walked(machine: &mut Machine, call: CallCommand) -> Result<(CallId, Effects), CallCommand>
-    requires resting { IsResting machine.old }
-    requires reached { IsReached (state_of machine.old.step.store) }
-    requires allowed { refused (state_of machine.old.step.store) (command.Call call) ≡ None }
-    ensures obeys { Tries machine.old (command.Call call) (λ x. granted.Call x.0) (λ x. x.1) result machine.new }
-    ensures handed_back { IfErr result (λ c. c ≡ call) }
-    ensures resting { IsResting machine.new }
-{
     let Ok(provided) = provide(&machine.step.store, machine.alloc, &call) else {
         return Err(call);
     };
@@ -127,8 +114,9 @@ fn call_walked(machine: &mut Machine, call: CallCommand) -> Result<(CallId, Effe
     Ok((id, effects))
 }
 
-// Has the references of a call lead at once to where they lead, as far as there is memory for that.
-fn shorten_heads(machine: &mut Machine, call: &CallCommand)
+/// Has the references of a call lead at once to where they lead, as far as there is memory for that; so what asks where they
+/// lead is quick. References that are not there are passed over.
+pub fn shorten_heads(machine: &mut Machine, call: &CallCommand)
     requires { IsResting machine.old }
     ensures { machine.new ≡ machine.old }
 {

@@ -44,7 +44,7 @@ mod straight_call;
 mod tasks;
 mod undo;
 
-pub use calls::{bootstrap, call, finish};
+pub use calls::{bootstrap, call, finish, shorten_heads};
 pub use core_step::{Arisen, Step};
 pub use core_step_commands::{StraightCall, straight};
 pub use core_step_sweeps::{Thought, sweep};

@@ -24,6 +24,7 @@ pub fn add_ref(store: &mut Store, node: Node) -> RefId
     ensures noted { noted_of store.new.names ≡ noted_of store.old.names }
     ensures sound { IsSound store.new }
 {
+    // A copy: what is passed by value can't be used again, though its type is `Copy`.
     let head = node;
     let Ok(()) = store.names.add(node) else {
         unreachable!()
@@ -73,6 +74,7 @@ pub fn set_head(store: &mut Store, id: RefId, node: Node)
     ensures waits { store.new.waits ≡ store.old.waits }
     ensures sound { IsSound store.new }
 {
+    // A copy: what is passed by value can't be used again, though its type is `Copy`.
     let head = node;
     let Some(reference) = store.refs.get_mut(id.0) else {
         unreachable!()
@@ -98,6 +100,7 @@ pub fn turn_under(store: &mut Store, id: RefId, node: Node, embargo: EmbargoId)
     ensures waits { store.new.waits ≡ store.old.waits }
     ensures sound { IsSound store.new }
 {
+    // A copy: what is passed by value can't be used again, though its type is `Copy`.
     let head = node;
     let Some(reference) = store.refs.get_mut(id.0) else {
         unreachable!()

@@ -24,6 +24,7 @@ pub fn open_embargo(store: &mut Store, reference: RefId, node: Node) -> EmbargoI
     ensures left { store.new.slack ≡ store.old.slack - 1 }
     ensures sound { IsSound store.new }
 {
+    // A copy: what is passed by value can't be used again, though its type is `Copy`.
     let target = node;
     let Ok(id) = store.waits.open_embargo(reference, node) else {
         unreachable!()
@@ -83,6 +84,7 @@ pub fn lift(store: &mut Store, id: EmbargoId) -> Result<(RefId, Node), Memory>
     ensures sound { IsSound store.new }
 {
     let (reference, node) = store.waits.lift(id)?;
+    // A copy: what is passed by value can't be used again, though its type is `Copy`.
     let target = node;
     store.names.sub(target);
     Ok((reference, node))

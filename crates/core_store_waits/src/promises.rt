@@ -106,6 +106,7 @@ fn settle_promise(store: &mut Store, key: u64, to: Node) -> Result<(), Memory>
     ensures same { OnErr result (store.new ≡ store.old) }
     ensures sound { IsSound store.new }
 {
+    // A copy: what is passed by value can't be used again, though its type is `Copy`.
     let target = to;
     store.waits.fix(key, to)?;
     let Ok(()) = store.names.add(target) else {
@@ -130,6 +131,7 @@ pub fn remove_promise(store: &mut Store, key: u64) -> Option<Node>
     ensures sound { IsSound store.new }
 {
     let to = store.waits.promise_link(key)?;
+    // A copy: what is passed by value can't be used again, though its type is `Copy`.
     let target = to;
     store.waits.remove_promise(key);
     store.names.sub(target);

@@ -9,7 +9,7 @@ ghost use Rattle.core_waits.specs.Through.{is_by, stamps_waiting};
 
 use crate::entries::{EmbargoEntry, OutcomeEntry, PromiseEntry};
 use crate::hops::{Hop, Hops, from_field, from_promise, place_of};
-use crate::put::put;
+use crate::lists::put;
 use crate::through::{embargoes_hold, outcomes_hold, promises_hold};
 use rpc_machine::{Caller, HeldCall, Node, Value, WaitingCall};
 use rpc_msg::{EmbargoId, Memory, Path, RefId, Vat};

@@ -1,5 +1,5 @@
--- Each act keeps that outcomes of own calls are of calls, that questions asked for own calls were asked, and that what a
--- Bootstrap's caller is told is what its Return said; so it is in each scene.
+-- Each act keeps that outcomes of own calls are of calls, that questions asked for own calls were asked, that what ends was
+-- asked, and that what a Bootstrap's caller is told is what its Return said; so it is in each scene.
 use Rattle.std.proofs.Common.{◌≡◌, ◌⊎◌, inl, inr, ℕ, ◌+◌, ◌≤◌, Bool, true, false, ◌&&◌, nat_eq, Option, None, Some, List, [], ◌∷◌, ◌++◌, map, append_assoc, refl, sym, ap, subst, ◌∙◌, arith}
 use Rattle.std.specs.Ordering.{nat_cmp}
 use Rattle.std.specs.FinMap as map
@@ -52,9 +52,10 @@ use Rattle.laws_acts.proofs.EachStep.{done, handled, at_end}
 use Rattle.laws_runs.specs.Scenes as scenes
 use Rattle.laws_runs.specs.Scenes.{Scene, IsScene, begins}
 use Rattle.laws_runs.proofs.Reading as reading
+use Rattle.laws_meanings.specs.AskedCalls.{IfAsked, EndsWereAsked}
 use Rattle.laws_meanings.specs.Bootstraps.{IsCall, WasAsked, OutcomeCalled, RoleAsked, QuestionAsked, NumbersAreAsked, SaysRoot, RootsReturn, IfRoot, RootsAreLeft}
 use Rattle.laws_meanings.proofs.Entries.{Claim, EachAfter, each-append, each_always, upto, is_effect, granted_always, nothing_before}
-use Rattle.laws_meanings.proofs.Numbers.{no_effects, other_none, OutcomesCalled, QuestionsAsked, ClearingCalled, puts_outcome, cuts_outcome, puts_question, cuts_question, closes_question, AllToldSo, EndSo, AllEndSo, ends-append, told_call, says_ends, still_call, still_outcomes, still_questions, still_ends}
+use Rattle.laws_meanings.proofs.Numbers.{no_effects, other_none, OutcomesCalled, QuestionsAsked, ClearingCalled, puts_outcome, cuts_outcome, puts_question, cuts_question, closes_question, AllToldSo, EndSo, AllEndSo, ends-append, told_call, says_ends, called_asked, still_call, still_outcomes, still_questions, still_ends}
 use Rattle.laws_meanings.proofs.Asked as asked
 use Rattle.laws_meanings.proofs.Asked.{same_next}
 use Rattle.laws_meanings.proofs.Walked.{in_each}
@@ -72,9 +73,9 @@ module _ (v : Vat) (h : List JournalEntry) (S : Value → Type 0) (E : Outcome �
       rw z (puts_outcome v h d.state.outcomes u _ called i.0, i.1, called, (told_call v h S E x.caller fit called, tt), i.4)
   acted d new i (act.Reports c w from e f u) = rw u (i.0, i.1, i.2, tt, ends-append v h S E d.effects.answers _ i.4 (by (subst (AllToldSo v h S E) e i.3).0, tt))
     where
-      by : IsCall v h c ⊎ S w → EndSo v h S E (record { call = record { 0 = c }; outcome = outcome_of w; refs = new_refs d.state.next_ref (caps_of w) })
-      by (inl a) = inl a
-      by (inr a) = inr (ends_so w d.state.next_ref a)
+      by : WasAsked v h c × (IsCall v h c ⊎ S w) → EndSo v h S E (record { call = record { 0 = c }; outcome = outcome_of w; refs = new_refs d.state.next_ref (caps_of w) })
+      by (n, inl a) = (n, inl a)
+      by (n, inr a) = (n, inr (ends_so w d.state.next_ref a))
   acted d new i (act.TellsNobody c w e f u) = rw u (i.0, i.1, i.2, tt, i.4)
   acted d new i (act.MakesReturn q w x b ds es e f j k u) = rw u (i.0, i.1, i.2, tt, i.4)
   acted d new i (act.Clears x e f u) =
@@ -105,12 +106,9 @@ module _ (v : Vat) (h : List JournalEntry) (S : Value → Type 0) (E : Outcome �
   abbrev AsksNow : State → Command → Granted → Type 0
   AsksNow s c g = ((k : CallCommand) → c ≡ command.Call k → g ≡ first.next_call_of s → IsCall v h s.next_call) × (c ≡ command.Bootstrap → g ≡ first.next_call_of s → WasAsked v h s.next_call)
 
-  called_asked : (c : ℕ) → IsCall v h c → WasAsked v h c
-  called_asked c f = (OfCall f.0, f.1)
-
   started : (s : State) (c : Command) (g : Granted) (new : Moment) → AsksNow s c g → Begins s → Starts (beginning s) c g new → Fine new
   started s c g new n i (first.AsksRoot q e f a u) = rw u (i.0, puts_question v h s.questions q _ (n.1 e a) i.1, tt, tt, tt)
-  started s c g new n i (first.CallsOut y x q t ds es e f j l m o a u) = rw u (i.0, puts_question v h s.questions q _ (called_asked s.next_call (n.0 y e a)) i.1, tt, tt, tt)
+  started s c g new n i (first.CallsOut y x q t ds es e f j l m o a u) = rw u (i.0, puts_question v h s.questions q _ (called_asked v h s.next_call (n.0 y e a)) i.1, tt, tt, tt)
   started s c g new n i (first.CallsHere y x o e f j l m a u) = rw u (puts_outcome v h s.outcomes o _ (n.0 y e a) i.0, i.1, tt, tt, tt)
   started s c g new n i (first.CallsLater y x o z b e f j l m a u) = rw u (puts_outcome v h s.outcomes o _ (n.0 y e a) i.0, i.1, tt, tt, tt)
   started s c g new n i (first.Hosts o e a u) = rw u (i.0, i.1, tt, tt, tt)
@@ -139,7 +137,8 @@ module _ (v : Vat) (h : List JournalEntry) (S : Value → Type 0) (E : Outcome �
   consumed s m new n i (heard.OpensCall c o e f j u) = rw u (puts_outcome v h s.outcomes o _ tt i.0, i.1, tt, tt, tt)
   consumed s m new n i (heard.Loses b x e f j k u) = rw u (i.0, cuts_question v h s.questions b.question i.1, tt, tt, tt)
   consumed s m new n i (heard.ComesToCall b x c e f j k l u) =
-      rw u (i.0, puts_question v h s.questions b.question _ (subst (QuestionAsked v h) f (i.1 b.question)) i.1, tt, (n b x c e f (still_unsent x k) l, tt), tt)
+      let was : RoleAsked v h x.role = subst (QuestionAsked v h) f (i.1 b.question) in
+      rw u (i.0, puts_question v h s.questions b.question _ was i.1, tt, ((subst (RoleAsked v h) l was, n b x c e f (still_unsent x k) l), tt), tt)
   consumed s m new n i (heard.ComesToRelay b x o e f j k l u) =
       rw u (i.0, puts_question v h s.questions b.question _ (subst (QuestionAsked v h) f (i.1 b.question)) i.1, tt, tt, tt)
   consumed s m new n i (heard.IsFinished x z e f j u) = rw u (i.0, i.1, tt, tt, tt)
@@ -224,7 +223,7 @@ own_later h v s c g x t d =
 -- ---- Scenes
 
 module _ (a b : Option ObjectId) (S : Vat → Value → Type 0) (E : Vat → Outcome → List RefId → Type 0) (ends_so : (v : Vat) (x : Value) (k : ℕ) → S v x → E v (outcome_of x) (new_refs k (caps_of x))) where
-  -- An end is of a call, or as is asked.
+  -- An end was asked, and is of a call, or as is asked.
   abbrev IfSo : Claim
   IfSo l (entry.Ended v x) = EndSo v l (S v) (E v) x
   IfSo l e = Unit {0}
@@ -363,10 +362,26 @@ module _ (a b : Option ObjectId) (S : Vat → Value → Type 0) (E : Vat → Out
     good : (x : Scene) → IsScene a b x → Good x
     good x k = in_each a b Good stepped (none A a, none B b, tt) x k
 
+-- ---- With nothing asked of a Bootstrap
+
+abbrev Any : Vat → Value → Type 0
+Any v y = Unit {0}
+
+abbrev AnyEnd : Vat → Outcome → List RefId → Type 0
+AnyEnd v y rs = Unit {0}
+
+any_good : (a b : Option ObjectId) (x : Scene) → IsScene a b x → Good a b Any AnyEnd (λ v y n f. f) x
+any_good a b x k = good a b Any AnyEnd (λ v y n f. f) (λ y i u p ms e z q c f g w l. inr tt) x k
+
 pub numbers_asked : NumbersAreAsked
-numbers_asked a b x k v =
-    let m = mine a b (λ u y. Unit {0}) (λ u y z. Unit {0}) (λ u y n f. f) v x (good a b (λ u y. Unit {0}) (λ u y z. Unit {0}) (λ u y n f. f) (λ y i u p ms e z q c f g w l. inr tt) x k) in
-    record { outcomes = m.0; questions = m.1; later = m.2 }
+numbers_asked a b x k v = let m = mine a b Any AnyEnd (λ u y n f. f) v x (any_good a b x k) in record { outcomes = m.0; questions = m.1; later = m.2 }
+
+as_asked : (a b : Option ObjectId) (h : List JournalEntry) (e : JournalEntry) → IfSo a b Any AnyEnd (λ v y n f. f) h e → IfAsked (history a b h) e
+as_asked a b h (entry.Ended v x) i = i.0
+as_asked a b h e i = tt
+
+pub ends_asked : EndsWereAsked
+ends_asked a b x k before behind e f = as_asked a b before e (upto (IfSo a b Any AnyEnd (λ v y n g. g)) [] x.journal before behind e (any_good a b x k).2 f)
 
 -- ---- Bootstraps
 
@@ -408,8 +423,8 @@ module _ (is_plain : OldestIsPlain) (a b : Option ObjectId) (roots : RootsReturn
       by_asking (OfCall t, o) = inl (t, o)
 
   end_so : (h : List JournalEntry) (v : Vat) (x : Ended) → EndSo v h (Root v) (Ends v) x → asking h v x.call.0 ≡ Some OfBootstrap → EndsRoot (root (history a b h) (other_vat v)) x.outcome x.refs
-  end_so h v x (inl f) g = absurd (let e : Some (OfCall f.0) ≡ Some OfBootstrap = sym f.1 ∙ g in cc)
-  end_so h v x (inr f) g = subst (λ (z : Option ℕ). EndsRoot z x.outcome x.refs) (same_root a b [] h (other_vat v)) f
+  end_so h v x (was, inl f) g = absurd (let e : Some (OfCall f.0) ≡ Some OfBootstrap = sym f.1 ∙ g in cc)
+  end_so h v x (was, inr f) g = subst (λ (z : Option ℕ). EndsRoot z x.outcome x.refs) (same_root a b [] h (other_vat v)) f
 
   as_root : (h : List JournalEntry) (e : JournalEntry) → IfSo a b Root Ends (λ v y k f. says_ends _ y k f) h e → IfRoot (history a b h) e
   as_root h (entry.Ended v x) f = end_so h v x f

@@ -15,7 +15,7 @@ use Rattle.rpc_journal.specs.declared.entry.Origin.TheVariants as origin
 use Rattle.rpc_journal.specs.declared.entry.JournalEntry.{JournalEntry}
 use Rattle.rpc_journal.specs.declared.entry.JournalEntry.TheVariants as entry
 use Rattle.rpc_journal.specs.History.{same_vat, or_rest, if_so}
-use Rattle.rpc_journal.specs.Sources.{Asking, OfBootstrap, asking, asking_one}
+use Rattle.rpc_journal.specs.Sources.{Asking, OfBootstrap, OfCall, asking, asking_one}
 use Rattle.rpc_machine.specs.declared.node.Node.{Node}
 use Rattle.rpc_machine.specs.declared.calls.Caller.{Caller}
 use Rattle.rpc_machine.specs.declared.calls.Caller.TheVariants as caller
@@ -141,11 +141,14 @@ module _ (v : Vat) (h : List JournalEntry) where
   closes_question m k x None f a = puts_question m k (record x { finish = finishing.Sent }) f a
   closes_question m k x (Some said) f a = cuts_question m k a
 
-  -- ---- Who is told what, and what ends how: it is of a call, or as is asked of a Bootstrap
+  pub called_asked : (c : ℕ) → IsCall v h c → WasAsked v h c
+  called_asked c f = (OfCall f.0, f.1)
+
+  -- ---- Who is told what, and what ends how: it was asked, and is of a call, or as is asked of a Bootstrap
 
   module _ (S : Value → Type 0) (E : Outcome → List RefId → Type 0) where
     abbrev pub ToldSo : Caller → Value → Type 0
-    ToldSo (caller.Application c) x = IsCall v h c.0 ⊎ S x
+    ToldSo (caller.Application c) x = WasAsked v h c.0 × (IsCall v h c.0 ⊎ S x)
     ToldSo (caller.Peer q) x = Unit {0}
 
     abbrev pub AllToldSo : List (Caller × Value) → Type 0
@@ -153,7 +156,7 @@ module _ (v : Vat) (h : List JournalEntry) where
     AllToldSo (x ∷ xs) = ToldSo x.0 x.1 × AllToldSo xs
 
     abbrev pub EndSo : Ended → Type 0
-    EndSo x = IsCall v h x.call.0 ⊎ E x.outcome x.refs
+    EndSo x = WasAsked v h x.call.0 × (IsCall v h x.call.0 ⊎ E x.outcome x.refs)
 
     abbrev pub AllEndSo : List Ended → Type 0
     AllEndSo [] = Unit {0}
@@ -164,7 +167,7 @@ module _ (v : Vat) (h : List JournalEntry) where
     ends-append (x ∷ xs) ys a b = (a.0, ends-append xs ys a.1 b)
 
     pub told_call : (c : Caller) (x : Value) → CallerCalled v h c → ToldSo c x
-    told_call (caller.Application c) x f = inl f
+    told_call (caller.Application c) x f = (called_asked c.0 f, inl f)
     told_call (caller.Peer q) x f = tt
 
 -- What says so ends so.
@@ -208,8 +211,8 @@ module _ (v : Vat) (h es : List JournalEntry) where
 
   module _ (S : Value → Type 0) (E : Outcome → List RefId → Type 0) where
     still_end : (x : Ended) → EndSo v h S E x → EndSo v (h ++ es) S E x
-    still_end x (inl f) = inl (still_call x.call.0 f)
-    still_end x (inr f) = inr f
+    still_end x (a, inl f) = (still_asked x.call.0 a, inl (still_call x.call.0 f))
+    still_end x (a, inr f) = (still_asked x.call.0 a, inr f)
 
     pub still_ends : (xs : List Ended) → AllEndSo v h S E xs → AllEndSo v (h ++ es) S E xs
     still_ends [] f = tt

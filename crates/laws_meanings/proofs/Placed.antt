@@ -1,8 +1,7 @@
 -- Sums over places of the calls with one stamp: lists, tables, and what a call writes of itself.
 use Rattle.std.proofs.Common.{◌≡◌, inl, inr, ℕ, ◌+◌, ◌≤◌, ◌<◌, Bool, true, false, ◌&&◌, nat_eq, Option, None, Some, List, [], ◌∷◌, ◌++◌, map, refl, ap, ◌∙◌, arith}
-use Rattle.std.specs.FinMap as map
-use Rattle.finite_maps.specs.Tally.{Map, tally}
-use Rattle.finite_maps.proofs.Tallies.{tally-new, tally-split, tally-insert}
+use Rattle.finite_maps.specs.Tally.{tally}
+use Rattle.finite_maps.proofs.Tallies.{tally-new}
 use Rattle.rpc_msg.specs.Payloads.{Contents as Payload}
 use Rattle.rpc_msg.specs.declared.ids.Vat.{Vat}
 use Rattle.rpc_msg.specs.declared.ids.Stamp.{Stamp}
@@ -28,7 +27,6 @@ use Rattle.laws_acts.specs.Moments.{each_to, held_to}
 use Rattle.laws_acts.specs.SmallActs.{release_messages}
 use Rattle.laws_meanings.specs.OnePlace.{counted, is_call, in_calls, in_held, at_promise, on_way, deliveries_of}
 use Rattle.laws_meanings.specs.NoneLost.{in_yet, in_deliveries}
-use Rattle.laws_nodes.proofs.Sourced.{put, cut}
 
 -- ---- One entry of a table
 

@@ -6,13 +6,13 @@
 --   `Placing`: acts, scenes and runs.
 -- - `NewReferences`: the references that a delivery or an end gives are new. Proofs: `Given`: how often entries give one;
 --   `Giving`: acts and scenes.
--- - `FirstEnds`: each end of a call is its first. Proofs: `Ends`: how often it ended, and what may still end it; `Ending`:
---   acts and scenes.
--- - `AskedCalls`: what ends was asked in the history up to it. Proofs: `Asked`.
+-- - `FirstEnds`: each end of a call is its first. Proofs: `Ends`: how often it ended, by entries; `Ending`: the run of one
+--   vat behind a scene, in which it ends once.
+-- - `AskedCalls`: what ends was asked in the history up to it. Proofs: `Asking`, of which more below.
 -- - `Bootstraps`: what the numbers of own calls were asked for; each Bootstrap ends as its Return says, and that says the
---   other vat's bootstrap object. Proofs: `Numbers`: what entries ask, and what is put in place; `Asking`: acts and scenes;
---   `Rooting`: what is known and returned where no Call with an id comes; `Opening`: which questions are open, and what is
---   sent of their ids; `Hosting`: the bootstrap object stays; `Rooted`: scenes.
+--   other vat's bootstrap object. Proofs: `Numbers`: what entries ask, and what is put in place; `Asked`: the next number;
+--   `Asking`: acts and scenes; `Rooting`: what is known and returned where no Call with an id comes; `Opening`: which
+--   questions are open, and what is sent of their ids; `Hosting`: the bootstrap object stays; `Rooted`: scenes.
 -- - `Tasks`: a task that is there was delivered and not answered; each is answered once. Proofs: `Tasking`.
 -- - `Identities`: each outcome that is not known is of the call that its caller asked. Proofs: `Identified`: what is put in
 --   place; `Whose`: acts; `WhoseFirst`: first acts; `LastAsked`: what entries ask, and sessions; `OfCalls`,

@@ -23,6 +23,7 @@ ghost use Rattle.laws_meanings.specs.WrittenCommands.{CommandsAreWritten, NamesI
 ghost use Rattle.laws_meanings.specs.StepMeanings.{ScenesCommandsKeep, LastWordsAreLed};
 ghost use Rattle.laws_meanings.specs.LastingMeanings.{PlacesLast, MomentsLast, EffectsAreWritten, EntriesAreLed};
 
+use laws_authority::all_at_most_once;
 use laws_messages::named_answers_are_there;
 use laws_nodes::{embargoes_pair, outcomes_have_sources, questions_end};
 use laws_runs::{counts_agree_in_scenes, meanings_last};
@@ -53,7 +54,9 @@ pub fn calls_are_at_one_place()
 /// In each scene each end of a call, or of a Bootstrap, is its first.
 pub fn ends_are_first()
     ensures { EndsAreFirst }
-{}
+{
+    all_at_most_once();
+}
 
 /// If in a scene each delivery is to an object that its call's reference stands for, all that is promised of its
 /// deliveries holds. If each end is as the call was asked and answered, all that is promised of its ends holds.

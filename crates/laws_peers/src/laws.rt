@@ -1,5 +1,5 @@
 //! The functions run no code: what each ensures is the law.
-ghost use Rattle.laws_peers.specs.Alike.{KindsStandAside};
+ghost use Rattle.laws_peers.specs.Alike.{FittingNamesAreAlike, KindsStandAside};
 ghost use Rattle.laws_peers.specs.Fits.{HeardFits};
 
 use laws_messages::exports_resolve_once;
@@ -12,6 +12,12 @@ pub fn kinds_stand_aside()
     exports_resolve_once();
     peer_kinds::stands_aside();
 }
+
+/// A message that names no import in another kind, and resolves no import twice, names each export in one kind, and resolves no
+/// object.
+pub fn fitting_names_are_alike()
+    ensures { FittingNamesAreAlike }
+{}
 
 /// Of any peer: what a vat hears with `peer_kinds` before it names no import in another kind than its own, and no export in two kinds,
 /// except for imports of which a Resolve came. And it is no Resolve of an object.

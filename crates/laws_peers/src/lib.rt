@@ -4,4 +4,4 @@
 
 mod laws;
 
-pub use laws::{heard_kinds_fit, kinds_stand_aside};
+pub use laws::{fitting_names_are_alike, heard_kinds_fit, kinds_stand_aside};

@@ -1,1 +1,3 @@
 pub mod Crossing
+pub mod Later
+pub mod Seen

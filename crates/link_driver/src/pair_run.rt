@@ -1,7 +1,5 @@
 ghost use Rattle.std.specs.Prelude.{◌≡◌, IfOk, IfErr};
 ghost use Rattle.link_rings.specs.declared.fault.LinkFault.TheVariants as fault;
-ghost use Rattle.link_sides.specs.Sides.{down_by};
-ghost use Rattle.link_workers.specs.Ending.{IsEnding};
 ghost use Rattle.link_ends.specs.Ends.{AreEnds};
 ghost use Rattle.link_driver.specs.Runs.{AreWorked};
 
@@ -39,9 +37,7 @@ pub fn run_pair<R: Threads + Wait + Sync, G: Gate, C: Clock + Sync>(
     max_turns: u32,
 ) -> Result<PairRun, (LinkFault, EndA, EndB)>
     requires { AreEnds a.end b.end }
-    ensures ends { IfOk result (λ run. AreWorked a.end b.end run.gathered.both) }
-    ensures ending_a { IfOk result (λ run. IsEnding lines.now (down_by run.gathered.both.side_a) run.a) }
-    ensures ending_b { IfOk result (λ run. IsEnding lines.now (down_by run.gathered.both.side_b) run.b) }
+    ensures worked { IfOk result (λ run. AreWorked a.end b.end lines.now run.a run.b run.gathered.both) }
     ensures unused { IfErr result (λ e. (e.0 ≡ fault.NoThread) × (e.1 ≡ a) × (e.2 ≡ b)) }
 {
     let signals = Signals::new();

@@ -9,11 +9,12 @@ pub(crate) struct Worked<V> {
 }
 
 impl<V> PairEnd for Worked<V> {
-    ghost use Rattle.link_rings.specs.Ends.{IsSameEnd};
     ghost use Rattle.link_sides.specs.Sides.{down_by};
-    ghost use Rattle.std.proofs.Common.{rules};
+    ghost use Rattle.link_driver.specs.Works.{IsLater, StepsBy, later_self, later_through};
 
-    ghost same = { λ x y. IsSameEnd x.end.end y.end.end };
+    ghost same = { λ x y. IsLater x.end.end y.end.end };
+
+    ghost steps = { λ x told y. StepsBy x.end.end told y.end.end };
 
     ghost down_by = { λ x. down_by x.end.end.side };
 
@@ -21,6 +22,7 @@ impl<V> PairEnd for Worked<V> {
         self.end.down()
     }
 
+    #[tactic(auto, using(crate::proofs::Later::takes_later))]
     fn command(&mut self, command: Command) -> Result<(Granted, Effects), Refusal> {
         match self.end.command(command) {
             Answer::Done(granted, effects) => Ok((granted, effects)),
@@ -28,6 +30,7 @@ impl<V> PairEnd for Worked<V> {
         }
     }
 
+    #[tactic(auto, using(crate::proofs::Later::turns_later))]
     fn turn(&mut self) -> Result<Option<Effects>, u16> {
         match self.end.turn() {
             Turn::Idle => Ok(None),
@@ -36,6 +39,7 @@ impl<V> PairEnd for Worked<V> {
         }
     }
 
+    #[tactic(auto, using(crate::proofs::Later::flushes_later))]
     fn flush(&mut self) {
         let _count = self.end.flush();
     }
@@ -44,7 +48,7 @@ impl<V> PairEnd for Worked<V> {
         self.end.recycle(effects);
     }
 
-    ghost same_self = { λ x. Prim.search rules };
+    ghost same_self = { λ x. later_self x.end.end };
 
-    ghost same_through = { λ x y z first then. Prim.search rules };
+    ghost same_through = { λ x y z first then. later_through x.end.end y.end.end z.end.end first then };
 }

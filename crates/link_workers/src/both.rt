@@ -6,6 +6,7 @@ use crate::job::Job;
 use crate::pair_end::PairEnd;
 use crate::worker::work;
 use crate::worker_end::WorkerEnd;
+use rpc_msg::Vat;
 use script_language::Line;
 use std::snapshot::Snapshot;
 use std::sync::Wait;
@@ -18,13 +19,14 @@ use std::time::Clock;
 #[derive(Drop)]
 struct Given<'s, A> {
     end: Snapshot<A>,
+    vat: Vat,
     lines: Snapshot<&'s [Line]>,
 }
 
 impl<'s, A: PairEnd> Promise<(A, Option<WorkerEnd>)> for Given<'s, A> {
     ghost use Rattle.link_workers.specs.Ending.{IsBack};
 
-    ghost kept_by = { λ promise result. IsBack A.same A.down_by promise.lines.value.now promise.end.value result.0 result.1 };
+    ghost kept_by = { λ promise result. IsBack A.steps A.same A.down_by promise.vat promise.lines.value.now promise.end.value result.0 result.1 };
 }
 
 /// Works both ends at once, the first on a thread of its own and the second on this one. None is worked before both threads
@@ -37,8 +39,8 @@ pub fn work_both<R: Threads + Wait + Sync, A: PairEnd + Send, B: PairEnd, G: Gat
     b: B,
 ) -> Result<((A, WorkerEnd), (B, WorkerEnd)), (A, B)>
     ensures ends { IfOk result (λ worked. A.same a worked.0.0 × B.same b worked.1.0) }
-    ensures ending_a { IfOk result (λ worked. IsEnding job_a.now.lines.now (A.down_by worked.0.0) worked.0.1) }
-    ensures ending_b { IfOk result (λ worked. IsEnding job_b.now.lines.now (B.down_by worked.1.0) worked.1.1) }
+    ensures ending_a { IfOk result (λ worked. IsEnding A.steps job_a.now.vat job_a.now.lines.now a worked.0.0 (A.down_by worked.0.0) worked.0.1) }
+    ensures ending_b { IfOk result (λ worked. IsEnding B.steps job_b.now.vat job_b.now.lines.now b worked.1.0 (B.down_by worked.1.0) worked.1.1) }
     ensures unused { IfErr result (λ ends. (ends.0 ≡ a) × (ends.1 ≡ b)) }
 {
     let go = AtomicBool::new(true);
@@ -46,22 +48,23 @@ pub fn work_both<R: Threads + Wait + Sync, A: PairEnd + Send, B: PairEnd, G: Gat
     let start = Snapshot::of(&a);
     let promise = Given {
         end: Snapshot::of(&a),
+        vat: job_a.vat,
         lines: Snapshot::of(&job_a.lines),
     };
     thread::scope(
         thread::scope_env(),
         rt,
         |scope| -> Result<((A, WorkerEnd), (B, WorkerEnd)), (A, B)>
-            requires { (start.value ≡ a) × (promise.end.value ≡ a) × (promise.lines.value.now ≡ job_a.now.lines.now) }
+            requires { (start.value ≡ a) × (promise.end.value ≡ a) × (promise.vat ≡ job_a.now.vat) × (promise.lines.value.now ≡ job_a.now.lines.now) }
             ensures ends { IfOk result (λ worked. A.same a worked.0.0 × B.same b worked.1.0) }
-            ensures ending_a { IfOk result (λ worked. IsEnding job_a.entry.now.lines.now (A.down_by worked.0.0) worked.0.1) }
-            ensures ending_b { IfOk result (λ worked. IsEnding job_b.entry.now.lines.now (B.down_by worked.1.0) worked.1.1) }
+            ensures ending_a { IfOk result (λ worked. IsEnding A.steps job_a.entry.now.vat job_a.entry.now.lines.now a worked.0.0 (A.down_by worked.0.0) worked.0.1) }
+            ensures ending_b { IfOk result (λ worked. IsEnding B.steps job_b.entry.now.vat job_b.entry.now.lines.now b worked.1.0 (B.down_by worked.1.0) worked.1.1) }
             ensures unused { IfErr result (λ ends. (ends.0 ≡ a) × (ends.1 ≡ b)) }
         {
             let started = scope.spawn_with(
                 promise,
                 move || -> (A, Option<WorkerEnd>)
-                    ensures { IsBack A.same A.down_by job_a.entry.now.lines.now a result.0 result.1 }
+                    ensures { IsBack A.steps A.same A.down_by job_a.entry.now.vat job_a.entry.now.lines.now a result.0 result.1 }
                 { once_told(told, rt, job_a, a) },
             );
             match started {
@@ -92,7 +95,7 @@ fn once_told<R: Wait, A: PairEnd, G: Gate, C: Clock>(
     job: &Job<G, C>,
     end: A,
 ) -> (A, Option<WorkerEnd>)
-    ensures { IsBack A.same A.down_by job.now.lines.now end result.0 result.1 }
+    ensures { IsBack A.steps A.same A.down_by job.now.vat job.now.lines.now end result.0 result.1 }
 {
     if !told.load(Ordering::SeqCst) {
         return (end, None);
@@ -109,9 +112,9 @@ fn work_late<R: Wait, A: PairEnd, G: Gate, C: Clock>(
     end: A,
     why: Option<WorkerEnd>,
 ) -> (A, WorkerEnd)
-    requires { IsBack A.same A.down_by job.now.lines.now start.value end why }
+    requires { IsBack A.steps A.same A.down_by job.now.vat job.now.lines.now start.value end why }
     ensures end { A.same start.value result.0 }
-    ensures ending { IsEnding job.now.lines.now (A.down_by result.0) result.1 }
+    ensures ending { IsEnding A.steps job.now.vat job.now.lines.now start.value result.0 (A.down_by result.0) result.1 }
 {
     // Only the contract speaks of it, and the compiler counts it as unused.
     let _ = start;

@@ -1,5 +1,8 @@
-ghost use Rattle.std.specs.Prelude.{◌≡◌, IfErr};
+ghost use Rattle.std.specs.Prelude.{◌≡◌, true, OnOk, IfOk, IfErr, option_copied};
 ghost use Rattle.rpc_msg.specs.Payloads.{null_payload};
+ghost use Rattle.script_language.specs.Bindings.{no_names, handed};
+ghost use Rattle.script_language.specs.declared.act.Act.TheVariants as act;
+ghost use Rattle.link_workers.specs.Playing.{answered, bound, is_of, Answers, Does, Obeys, PlaysLine, TakesFrame, TurnsIf};
 ghost use Rattle.link_workers.specs.Ending.{AtStep, AtLine, IsEnding};
 
 use crate::gate::Gate;
@@ -27,7 +30,7 @@ pub fn work<R: Wait, E: PairEnd, G: Gate, C: Clock>(
     end: E,
 ) -> (E, WorkerEnd)
     ensures end { E.same end result.0 }
-    ensures ending { IsEnding job.now.lines.now (E.down_by result.0) result.1 }
+    ensures ending { IsEnding E.steps job.now.vat job.now.lines.now end result.0 (E.down_by result.0) result.1 }
 {
     let mut worker = Worker {
         end,
@@ -59,8 +62,9 @@ struct Worker<E: PairEnd> {
 
 impl<E: PairEnd> Worker<E> {
     fn work<R: Wait, G: Gate, C: Clock>(&mut self, rt: &R, job: &Job<G, C>) -> WorkerEnd
+        requires { self.old.names ≡ no_names }
         ensures end { E.same self.old.end self.new.end }
-        ensures ending { IsEnding job.now.lines.now (E.down_by self.new.end) result }
+        ensures ending { IsEnding E.steps job.now.vat job.now.lines.now self.old.end self.new.end (E.down_by self.new.end) result }
     {
         let null = match Payload::null(job.alloc) {
             Ok(null) => null,
@@ -81,13 +85,14 @@ impl<E: PairEnd> Worker<E> {
 
     /// Plays the lines of its vat.
     fn play<G: Gate, C: Clock>(&mut self, job: &Job<G, C>, null: &Payload) -> Result<(), WorkerEnd>
-        requires { null.now ≡ null_payload }
+        requires null { null.now ≡ null_payload }
+        requires none { self.old.names ≡ no_names }
         ensures end { E.same self.old.end self.new.end }
-        ensures ending { IfErr result (IsEnding job.now.lines.now (E.down_by self.new.end)) }
+        ensures ending { IfErr result (IsEnding E.steps job.now.vat job.now.lines.now self.old.end self.new.end (E.down_by self.new.end)) }
     {
         let lines = job.lines;
         for (i, line) in lines.iter().enumerate() {
-            if vat_of(line) != Some(job.vat) {
+            if !is_of(job.vat, line) {
                 continue;
             }
             // Each arm by itself: a result that is handed on whole leaves its clauses to be proved by cases.
@@ -106,9 +111,11 @@ impl<E: PairEnd> Worker<E> {
         number: usize,
         line: &Line,
     ) -> Result<(), WorkerEnd>
-        requires { null.now ≡ null_payload }
+        requires null { null.now ≡ null_payload }
+        requires own { is_of job.now.vat line.now ≡ true }
         ensures end { E.same self.old.end self.new.end }
-        ensures ending { IfErr result (AtLine number line.now (E.down_by self.new.end)) }
+        ensures plays { OnOk result (PlaysLine E.steps true job.now.vat self.old.end self.old.names line.now self.new.end self.new.names) }
+        ensures ending { IfErr result (AtLine number self.old.end self.old.names line.now self.new.end (E.down_by self.new.end)) }
     {
         let act = match self.names.act(job.alloc, null, line) {
             Ok(act) => act,
@@ -131,6 +138,7 @@ impl<E: PairEnd> Worker<E> {
     /// Takes turns until one takes a frame.
     fn take_frame<G: Gate, C: Clock>(&mut self, job: &Job<G, C>) -> Result<(), WorkerEnd>
         ensures end { E.same self.old.end self.new.end }
+        ensures takes { OnOk result (TakesFrame E.steps job.now.vat self.old.end self.old.names self.new.end self.new.names) }
         ensures ending { IfErr result (AtStep (E.down_by self.new.end)) }
     {
         for _ in 0..job.max_turns {
@@ -166,6 +174,7 @@ impl<E: PairEnd> Worker<E> {
     /// Takes a turn, and says whether it took a frame. One that took none sleeps.
     fn turn<G: Gate, C: Clock>(&mut self, job: &Job<G, C>) -> Result<bool, WorkerEnd>
         ensures end { E.same self.old.end self.new.end }
+        ensures turns { IfOk result (λ found. TurnsIf E.steps job.now.vat found self.old.end self.old.names self.new.end self.new.names) }
         ensures ending { IfErr result (AtStep (E.down_by self.new.end)) }
     {
         if self.idle >= job.max_turns {
@@ -225,6 +234,7 @@ impl<E: PairEnd> Worker<E> {
         event: Event,
     ) -> Result<(), WorkerEnd>
         ensures end { E.same self.old.end self.new.end }
+        ensures does { OnOk result (Does E.steps job.now.vat self.old.end self.old.names line.now (act.Happens event) self.new.end self.new.names) }
         ensures ending { IfErr result (AtStep (E.down_by self.new.end)) }
     {
         match event {
@@ -242,6 +252,7 @@ impl<E: PairEnd> Worker<E> {
         command: Command,
     ) -> Result<(), WorkerEnd>
         ensures end { E.same self.old.end self.new.end }
+        ensures obeys { OnOk result (Obeys E.steps job.now.vat self.old.end self.old.names (option_copied said.entry) command self.new.end self.new.names) }
         ensures ending { IfErr result (AtStep (E.down_by self.new.end)) }
     {
         let closes = Closes::of(&command);
@@ -273,30 +284,47 @@ impl<E: PairEnd> Worker<E> {
         closes: Closes,
         command: Command,
     ) -> Result<(), Memory>
-        ensures { E.same self.old.end self.new.end }
+        ensures end { E.same self.old.end self.new.end }
+        ensures obeys { OnOk result (Answers E.steps job.now.vat self.old.end self.old.names (option_copied said.entry) command self.new.end self.new.names) }
     {
-        match self.end.command(command) {
+        let answer = self.end.command(command);
+        self.hear(job, said, closes, answer)
+    }
+
+    /// Keeps what the vat granted and handed over.
+    fn hear<G: Gate, C: Clock>(
+        &mut self,
+        job: &Job<G, C>,
+        said: Option<&LineCommand>,
+        closes: Closes,
+        answer: Result<(Granted, Effects), Refusal>,
+    ) -> Result<(), Memory>
+        ensures end { self.new.end ≡ self.old.end }
+        ensures names { OnOk result (self.new.names ≡ answered self.old.names job.now.vat (option_copied said.entry) answer) }
+    {
+        match answer {
             Ok((granted, effects)) => {
                 self.open.close(closes);
                 let bound = self.bind(job.vat, said, granted);
                 let taken = self.take(job, effects);
                 match bound {
-                    Ok(()) => taken,
-                    Err(Memory) => Err(Memory),
+                    Ok(()) => return taken,
+                    Err(Memory) => return Err(Memory),
                 }
             }
-            Err(Refusal::Memory) => Err(Memory),
+            Err(Refusal::Memory) => return Err(Memory),
             Err(Refusal::UnknownTask) => {
                 self.open.close(closes);
-                Ok(())
+                return Ok(());
             }
-            Err(_) => Ok(()),
+            Err(_) => return Ok(()),
         }
     }
 
     /// Binds the names that a line gives to what its command was granted; a call that it made is open.
     fn bind(&mut self, vat: Vat, said: Option<&LineCommand>, granted: Granted) -> Result<(), Memory>
-        ensures { self.new.end ≡ self.old.end }
+        ensures end { self.new.end ≡ self.old.end }
+        ensures names { OnOk result (self.new.names ≡ bound self.old.names vat (option_copied said.entry) granted) }
     {
         if let Granted::Call(call) = granted {
             self.open.add_call(call)?;
@@ -309,7 +337,8 @@ impl<E: PairEnd> Worker<E> {
 
     /// Keeps what the vat handed over, and gives it back.
     fn take<G: Gate, C: Clock>(&mut self, job: &Job<G, C>, effects: Effects) -> Result<(), Memory>
-        ensures { self.new.end ≡ self.old.end }
+        ensures end { self.new.end ≡ self.old.end }
+        ensures names { OnOk result (self.new.names ≡ handed self.old.names job.now.vat effects) }
     {
         let kept = self.keep(job.alloc, job.vat, &effects);
         self.end.recycle(effects);
@@ -317,7 +346,8 @@ impl<E: PairEnd> Worker<E> {
     }
 
     fn keep(&mut self, alloc: Global, vat: Vat, effects: &Effects) -> Result<(), Memory>
-        ensures { self.new.end ≡ self.old.end }
+        ensures end { self.new.end ≡ self.old.end }
+        ensures names { OnOk result (self.new.names ≡ handed self.old.names vat effects.now) }
     {
         let (deliveries, answers) = (&effects.deliveries, &effects.answers);
         add_tasks(&mut self.open, deliveries)?;
@@ -327,12 +357,14 @@ impl<E: PairEnd> Worker<E> {
     }
 }
 
-/// The vat that a line is for.
-fn vat_of(line: &Line) -> Option<Vat> {
+/// Whether a line is for that vat.
+fn is_of(vat: Vat, line: &Line) -> bool
+    ensures { result ≡ is_of vat line.now }
+{
     match line {
-        Line::Turn(vat) | Line::Deliver(vat) => Some(*vat),
-        Line::Take(vat, _) | Line::Got(vat, _) | Line::Command(vat, _) => Some(*vat),
-        Line::Skip | Line::Tables => None,
+        Line::Turn(of) | Line::Deliver(of) => *of == vat,
+        Line::Take(of, _) | Line::Got(of, _) | Line::Command(of, _) => *of == vat,
+        Line::Skip | Line::Tables => false,
     }
 }
 

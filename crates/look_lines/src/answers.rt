@@ -80,9 +80,30 @@ pub(crate) fn write_return<N: Names>(
     }
     out.push_str(": ")?;
     write_outcome(out, view, side, outcome)?;
-    match his {
-        Some(his) if flag && !his.gives.is_empty() => {
-            out.push_str(", gives back its params' capabilities")
+    if let Some(his) = his
+        && flag
+        && !his.gives.is_empty()
+    {
+        out.push_str(", gives back its params' capabilities")?;
+    }
+    write_content(out, view, his, outcome)
+}
+
+/// The content of a Return to that question.
+fn write_content<N: Names>(
+    out: &mut String,
+    view: &View<'_, N>,
+    his: Option<&Question>,
+    outcome: &Outcome<'_>,
+) -> Result<(), AllocError> {
+    let asked = match his {
+        Some(his) => Some(his.asked),
+        None => None,
+    };
+    match outcome {
+        Outcome::Body(ReturnBody::Results(payload, descriptors)) => {
+            view.names
+                .write_results(out, asked, payload, descriptors.as_slice())
         }
         _ => Ok(()),
     }

@@ -1,6 +1,6 @@
 //! How questions, exports and methods are named.
 use crate::names::{Ends, Names};
-use crate::parts::{write_descriptor, write_kind, write_path};
+use crate::parts::{write_descriptor, write_kind};
 use look_books::{Asked, Books, Given, Kind, Origin};
 use look_pieces::Side;
 use rpc_msg::{Descriptor, ExportId, Path, QuestionId, Target};
@@ -27,24 +27,33 @@ pub(crate) fn write_asked<N: Names>(
     }
 }
 
-/// A question of an end, by the message that asked it. Of one that was never asked nothing is written.
+/// The message that asked a question of an end, if there was one, and what it asked.
+fn question_of<N: Names>(
+    view: &View<'_, N>,
+    side: Side,
+    question: QuestionId,
+) -> Option<(u64, Asked)> {
+    let end = view.books.end(side);
+    if let Some(mine) = end.questions.get(&question.0) {
+        return Some((mine.number, mine.asked));
+    }
+    let closed = end.closed.get(&question.0)?;
+    Some((closed.number, closed.asked))
+}
+
+/// A question of an end, by the message that asked it, and what that asked. Of one that was never asked nothing is written.
 pub(crate) fn write_question<N: Names>(
     out: &mut String,
     view: &View<'_, N>,
     side: Side,
     question: QuestionId,
-) -> Result<bool, AllocError> {
-    let end = view.books.end(side);
-    let (number, asked) = match end.questions.get(&question.0) {
-        Some(mine) => (mine.number, mine.asked),
-        None => match end.closed.get(&question.0) {
-            Some(closed) => (closed.number, closed.asked),
-            None => return Ok(false),
-        },
+) -> Result<Option<Asked>, AllocError> {
+    let Some((number, asked)) = question_of(view, side, question) else {
+        return Ok(None);
     };
     write!(out, "{number} ")?;
     write_asked(out, view, asked)?;
-    Ok(true)
+    Ok(Some(asked))
 }
 
 /// Results of a question of an end, and where in them.
@@ -56,11 +65,10 @@ pub(crate) fn write_answer<N: Names>(
     path: &Path,
 ) -> Result<(), AllocError> {
     out.push_str("results of ")?;
-    if !write_question(out, view, side, question)? {
-        return write!(out, "question {}", question.0);
+    match write_question(out, view, side, question)? {
+        Some(asked) => view.names.write_place(out, asked, path),
+        None => write!(out, "question {}", question.0),
     }
-    let _some = write_path(out, ", pointer ", path)?;
-    Ok(())
 }
 
 /// Where a capability was given.

@@ -35,5 +35,8 @@ pub(crate) fn write_call<N: Names>(
         out.push_str(", a tail call")?;
     }
     write_size(out, &call.payload)?;
-    write_descriptors(out, call.descriptors.as_slice())
+    let descriptors = call.descriptors.as_slice();
+    write_descriptors(out, descriptors)?;
+    view.names
+        .write_params(out, method, &call.payload, descriptors)
 }

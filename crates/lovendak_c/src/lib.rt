@@ -1,8 +1,8 @@
-//! The vat for C: a static library without input and output, threads, callbacks or state of its own (docs/languages.md). The
-//! header is `bindings/c/lovendak.h`.
+//! The vat for C: a static library without input and output, threads, callbacks or global state (docs/languages.md). The header is
+//! `bindings/c/lovendak.h`.
 //!
 //! - `raw.rt`, `handle.rt`: `Handle`, which C keeps: the address of a boxed desk (of `lovendak_c_desk`), or of none.
-//! - `life.rt`: a vat is made and let go. `streams.rt`: the bytes of both directions. `events.rt`: events. `queries.rt`: what
+//! - `life.rt`: a vat is made and freed. `streams.rt`: the bytes of both directions. `events.rt`: events. `queries.rt`: what
 //!   is asked of the vat.
 //! - The commands by name: `calls.rt`, `refs.rt`, `promises.rt`, `tasks.rt`. `payloads.rt`: payloads made and looked into.
 //! - `codes.rt`: the code that each call answers.

@@ -25,7 +25,7 @@ pub extern "C" fn lovendak_received(alloc: Global, vat: &mut Handle, bytes: &[u8
     DONE
 }
 
-/// The peer's stream has ended: a vat that is up goes down, with 0, or inside a message with 2.
+/// The peer's stream has ended: a vat that is up goes down, with 0, or inside a message with 2, once no whole message waits unheard.
 #[unsafe(no_mangle)]
 pub extern "C" fn lovendak_ended(alloc: Global, vat: &mut Handle) -> u32
     ensures { DoesOn vat.old.raw.desk vat.new.raw.desk result (λ old new. Finishes old.connection new.connection × (new ≡ with_connection old new.connection)) }
@@ -77,8 +77,8 @@ pub extern "C" fn lovendak_pending(
     DONE
 }
 
-/// Says how much is held of the peer: the words of the messages of calls for which no Return was said, and of other messages until all
-/// events were told; and the bytes that wait to be sent.
+/// Says how much of the peer is being handled: the words of the messages of calls for which no Return was said, and of other messages
+/// until no event was found; and the bytes that wait to be sent.
 #[unsafe(no_mangle)]
 pub extern "C" fn lovendak_load(
     alloc: Global,

@@ -1,4 +1,4 @@
-//! A connection for an interface of plain numbers and copies (docs/languages.md). A part of the outbound bytes may be taken, and
+//! A connection with an interface of plain numbers and copied bytes (docs/languages.md). A part of the outbound bytes may be taken, and
 //! an event can be looked at before it is taken. References, calls, tasks, promises, levels and kinds are plain numbers.
 //!
 //! - `desk.rt`: `Desk`, a connection with what was taken out of it and not handed on; the bytes of both directions. `byte_queue.rt`:

@@ -1,7 +1,7 @@
-//! One desk is a run of one vat, whatever bytes its peer sends: what it hands out in numbers is what its connection tells. No code runs
+//! Laws of one desk and any peer: it is a run of one vat, and what it hands out in numbers is what its connection reports. No code runs
 //! here: what each function ensures is the law.
 //!
-//! How the laws are proved stands in docs/laws/hosts.md.
+//! docs/laws/hosts.md says how the laws are proved.
 #![tactic(auto)]
 
 mod laws;

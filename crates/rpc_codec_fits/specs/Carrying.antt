@@ -1,9 +1,9 @@
 -- The messages that carry to the peer what a command gives, and the room that they have for it.
-use Rattle.std.specs.Prelude.{◌≡◌, ℕ, ◌⊎◌, ◌+◌, ◌*◌, ◌≤◌, ◌==◌, if◌then◌else◌, List, length, None, ⊤}
+use Rattle.std.specs.Prelude.{◌≡◌, ℕ, ◌⊎◌, ◌+◌, ◌*◌, ◌≤◌, ◌==◌, nat_lt, not, Bool, true, false, if◌then◌else◌, List, length, Option, Some, None, ⊤}
 use Rattle.std.specs.List.{AllByRecursion}
 use Rattle.capn_trees.specs.Widths.{packed_size}
 use Rattle.capn_trees.specs.Writable.{refusal}
-use Rattle.rpc_msg.specs.Payloads.{Contents, tree_of, FitsWithin}
+use Rattle.rpc_msg.specs.Payloads.{Contents, tree_of, FitsWithin, words_in}
 use Rattle.rpc_msg.specs.declared.exception.Exception.{Exception}
 use Rattle.rpc_msg.specs.declared.parts.Descriptor.{Descriptor}
 use Rattle.rpc_msg.specs.declared.message.Call.{Call}
@@ -59,14 +59,6 @@ Carries (command.Finish call) m = ⊥
 Carries (command.Advance r) m = ⊥
 Carries (command.Shut number) m = ⊥
 
--- The command gives contents or a reason, which may be too large.
-abbrev pub GivesContents : Command → Type 0
-GivesContents (command.Call c) = ⊤
-GivesContents (command.Answer task p refs) = ⊤
-GivesContents (command.Fail task e) = ⊤
-GivesContents (command.Reject promise e) = ⊤
-GivesContents c = ⊥
-
 -- The messages that carry on what a message brought: its content to any target, its results, or its exception.
 abbrev pub BodyGoesOn : ReturnBody → Message → Type 0
 BodyGoesOn (body.Results p ds) m = Returns p m
@@ -117,6 +109,20 @@ StandsAlone (command.Shut number) = ⊤
 -- the words of the largest table with so many rows: a tag, and 21 of each row
 abbrev pub table_room : ℕ → ℕ
 table_room rows = if rows == 0 then 0 else 1 + 21 * rows
+
+-- Whether a content that takes so many words fits beside so many others and the largest table of its capabilities.
+abbrev pub fits_beside : ℕ → Contents → Option ℕ → Bool
+fits_beside beside p None = false
+fits_beside beside p (Some words) = not (nat_lt 65535 (words + beside + table_room p.caps))
+
+-- Whether what a command gives fits, by its words: beside the 31 others of a Call to the longest path, or the 7 of a Return. A reason
+-- fits if it leaves a Return its 8 words.
+abbrev pub fits : Command → Bool
+fits (command.Call c) = fits_beside 31 c.payload (words_in c.payload 61)
+fits (command.Answer task p refs) = fits_beside 7 p (words_in p 61)
+fits (command.Fail task e) = nat_lt (length e.reason) 524216
+fits (command.Reject promise e) = nat_lt (length e.reason) 524216
+fits c = true
 
 -- A content that nests at most 61 levels deep has room beside so many words and the largest table of its capabilities.
 pub record HasRoom (p : Contents) (beside : ℕ) : Type 0 where

@@ -1,8 +1,9 @@
 //! The room that is left for contents and reasons in the frames that carry them.
-ghost use Rattle.std.specs.Prelude.{◌≡◌, ◌≤◌, ◌<◌, ◌^◌, true, false, IsOk};
+ghost use Rattle.std.specs.Prelude.{◌≡◌, ◌≤◌, ◌<◌, ◌^◌, true, nat_lt, length, IsOk};
+ghost use Rattle.rpc_msg.specs.Payloads.{words_in};
 ghost use Rattle.rpc_msg.specs.declared.message.Message.{Message as SpecMessage};
 ghost use Rattle.rpc_codec.specs.Frames.{message_frame};
-ghost use Rattle.rpc_codec_fits.specs.Carrying.{Carries, GivesContents, GoesOn, StandsAlone, HasRoom, table_room, reason_room};
+ghost use Rattle.rpc_codec_fits.specs.Carrying.{Carries, GoesOn, StandsAlone, HasRoom, fits, fits_beside, table_room, reason_room};
 
 use rpc_machine::Command;
 use rpc_msg::{Exception, Message, Payload, PlainMessage, ResolvedTo, ReturnBody};
@@ -38,7 +39,8 @@ fn table_words(rows: u32) -> u64
 
 fn content_fits(payload: &Payload, beside: u64) -> bool
     requires { beside ≤ 64 }
-    ensures { result ≡ true → HasRoom payload.now beside }
+    ensures exact { result ≡ fits_beside beside payload.now (words_in payload.now 61) }
+    ensures room { result ≡ true → HasRoom payload.now beside }
 {
     let Some(words) = payload.words_within(CONTENT_LEVELS) else {
         return false;
@@ -51,7 +53,8 @@ fn content_fits(payload: &Payload, beside: u64) -> bool
 }
 
 fn reason_fits(exception: &Exception) -> bool
-    ensures { result ≡ true → reason_room exception.now ≤ 65535 }
+    ensures exact { result ≡ nat_lt (length exception.now.reason) 524216 }
+    ensures room { result ≡ true → reason_room exception.now ≤ 65535 }
 {
     let bytes = exception.reason.as_str().len() as u64;
     if 8 * (FRAME_WORDS - REASON_WORDS) <= bytes {
@@ -70,7 +73,7 @@ pub fn fits_envelope(command: &Command) -> bool
     ensures carried { result ≡ true → (m : SpecMessage) → Carries command.now m → IsOk (message_frame m) }
     // and what is carried can be read as it was
     ensures alone { result ≡ true → StandsAlone command.now }
-    ensures others { result ≡ false → GivesContents command.now }
+    ensures exact { result ≡ fits command.now }
 {
     match command {
         Command::Call(call) => content_fits(&call.payload, CALL_WORDS),

@@ -2,7 +2,7 @@
 #![tactic(auto)]
 
 use program_faults::ShownFault;
-use program_files::unread;
+use program_files::{ProgramFailure, unread};
 use rpc_dump_lib::{Failure, Options, dump, status, tell};
 use std::alloc::AllocError;
 use std::env::Args;
@@ -16,12 +16,16 @@ fn main(rt: HostRuntime) -> ExitCode {
     let mut words = match env::args(&rt) {
         Ok(words) => words,
         // a word that is not UTF-8 asks for nothing
-        Err(error) => return ended(&rt, Err(unread(&error, Failure::Usage)), "-"),
+        Err(error) => return ended(
+            &rt,
+            Err(Failure::Program(unread(&error, ProgramFailure::Usage))),
+            "-",
+        ),
     };
     let _program = words.next();
     match collect(&rt, words) {
         Ok(words) => run(&rt, words.as_slice()),
-        Err(AllocError) => ended(&rt, Err(Failure::Memory), "-"),
+        Err(AllocError) => ended(&rt, Err(Failure::Program(ProgramFailure::Memory)), "-"),
     }
 }
 
@@ -40,14 +44,14 @@ fn run(rt: &HostRuntime, words: &[String]) -> ExitCode {
         return ended(rt, dumped, "-");
     }
     let Some((name, words)) = words.split_last() else {
-        return ended(rt, Err(Failure::Usage), "-");
+        return ended(rt, Err(Failure::Program(ProgramFailure::Usage)), "-");
     };
     match options_of(words) {
         Some(options) if !name.as_str().starts_with("--") => {
             let dumped = on_file(rt, options, name.as_str());
             ended(rt, dumped, name.as_str())
         }
-        _ => ended(rt, Err(Failure::Usage), "-"),
+        _ => ended(rt, Err(Failure::Program(ProgramFailure::Usage)), "-"),
     }
 }
 
@@ -63,7 +67,7 @@ fn options_of(words: &[String]) -> Option<Options> {
 fn on_file(rt: &HostRuntime, options: Options, name: &str) -> Result<(), Failure> {
     match File::open(rt, name) {
         Ok(mut file) => dump(rt.alloc(), options, &mut file, &mut rt.stdout()),
-        Err(error) => Err(unread(&error, Failure::Unreadable)),
+        Err(error) => Err(Failure::Program(unread(&error, ProgramFailure::Unreadable))),
     }
 }
 

@@ -6,6 +6,7 @@ use Rattle.std.proofs.KnownBytes.{Consumes-nil, Consumes-trans}
 use Rattle.capn_stream.specs.Fronts.{front_of}
 use Rattle.capn_stream.specs.Readers.{Reader}
 use Rattle.capn_stream.specs.Streams.{IsSplit}
+use Rattle.program_files.specs.declared.fault.ProgramFailure.TheVariants as program
 use Rattle.rpc_dump_lib.specs.declared.failure.Failure.{Failure}
 use Rattle.rpc_dump_lib.specs.declared.failure.Failure.TheVariants as failure
 use Rattle.program_files.specs.Texts.{IsInput}
@@ -26,11 +27,11 @@ nothing_said known old why none stops =
     (input, input_of known known [] (Consumes-nil known), inr (record { rest = input; number = 1; said = said_none input old (none input); stops = stops input }))
 
 -- it can't be read
-pub lines_lost : (rest : List ℕ) (number : ℕ) (why : Failure) → (why ≡ failure.Memory) ⊎ (why ≡ failure.Unreadable) → LinesStop rest number why
+pub lines_lost : (rest : List ℕ) (number : ℕ) (why : Failure) → (why ≡ failure.Program program.Memory) ⊎ (why ≡ failure.Program program.Unreadable) → LinesStop rest number why
 lines_lost rest number why (inl e) = subst (λ (w : Failure). LinesStop rest number w) (sym e) tt
 lines_lost rest number why (inr e) = subst (λ (w : Failure). LinesStop rest number w) (sym e) tt
 
-pub stream_lost : (rest : List ℕ) (number : ℕ) (why : Failure) → (why ≡ failure.Memory) ⊎ (why ≡ failure.Unreadable) → StreamStops rest number why
+pub stream_lost : (rest : List ℕ) (number : ℕ) (why : Failure) → (why ≡ failure.Program program.Memory) ⊎ (why ≡ failure.Program program.Unreadable) → StreamStops rest number why
 stream_lost rest number why (inl e) = subst (λ (w : Failure). StreamStops rest number w) (sym e) tt
 stream_lost rest number why (inr e) = subst (λ (w : Failure). StreamStops rest number w) (sym e) tt
 

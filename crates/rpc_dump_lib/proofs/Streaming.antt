@@ -14,6 +14,7 @@ use Rattle.capn_stream.specs.Fronts.{front_of, IsFrame, IsShort}
 use Rattle.capn_stream.specs.Readers.{Reader, Pushed, PushedBy, Taken, TakenBy, IsWaiting, end_at, end_of}
 use Rattle.capn_stream.specs.Streams.{IsSplit}
 use Rattle.capn_stream.specs.Laws.{Stays, FrontsStay}
+use Rattle.program_files.specs.declared.fault.ProgramFailure.TheVariants as program
 use Rattle.rpc_dump_lib.specs.declared.failure.Failure.{Failure}
 use Rattle.rpc_dump_lib.specs.declared.failure.Failure.TheVariants as failure
 use Rattle.rpc_dump_lib.specs.Conversations.{what_in, IsFault, IsNone, StreamStops, frame_line}
@@ -122,7 +123,7 @@ whole_said trees input left frame bytes text old new number next base before aft
 
 -- it is not said
 pub whole_ends : {W : Type 0} (contents : W → Option (List ℕ)) (trees : Bool) (input left frame bytes : List ℕ) (old new : Reader) (number : ℕ) (base : Option (List ℕ)) (before after : W) (why : Failure)
-    → Taken old (Some frame) new → bytes ≡ frame → (why ≡ failure.Unwritten) ⊎ ((after ≡ before) × ((more : List ℕ) → StreamStops (bytes ++ more) number why))
+    → Taken old (Some frame) new → bytes ≡ frame → (why ≡ failure.Program program.Unwritten) ⊎ ((after ≡ before) × ((more : List ℕ) → StreamStops (bytes ++ more) number why))
     → SaidTo trees input (held_of old ++ left) number base (contents before) → GoesOn trees input (held_of new ++ left) base (contents after) (Err why)
 whole_ends contents trees input left frame bytes old new number base before after why taken same (inl e) s = inl e
 whole_ends contents trees input left frame bytes old new number base before after why taken same (inr fails) s =

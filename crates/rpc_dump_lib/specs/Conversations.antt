@@ -17,6 +17,8 @@ use Rattle.capn_stream.specs.Streams.{IsSplit}
 use Rattle.rpc_codec_parts.specs.Numbers.{number_of}
 use Rattle.rpc_codec.specs.Envelopes.{What}
 use Rattle.rpc_codec.specs.Decoding.{Came, envelope_at}
+use Rattle.program_files.specs.declared.fault.ProgramFailure.{ProgramFailure}
+use Rattle.program_files.specs.declared.fault.ProgramFailure.TheVariants as program
 use Rattle.rpc_dump_lib.specs.declared.failure.Failure.{Failure}
 use Rattle.rpc_dump_lib.specs.declared.failure.Failure.TheVariants as failure
 use Rattle.rpc_dump_lib.specs.declared.options.Options.{Options}
@@ -105,23 +107,24 @@ IsNone rest (front.Complete n) number = IsFault (what_in (take n rest)) number
 IsNone rest (front.Need n) number = (0 < length rest) × (number ≡ 2)
 IsNone rest (front.Fault f) number = number ≡ encoding_number f
 
--- Why the rest of a stream is not said, the first message of which would have that number. Of want of memory, and of a
--- reader or an output that fails, nothing more can be said.
+-- What may stop any input: a lack of memory, and a reader or an output that fails. Of these nothing more can be said.
+abbrev pub StopsAny : ProgramFailure → Type 0
+StopsAny program.Memory = Unit {0}
+StopsAny program.Unreadable = Unit {0}
+StopsAny program.Unwritten = Unit {0}
+StopsAny program.Usage = ⊥
+StopsAny program.NotText = ⊥
+
+-- Why the rest of a stream is not said, the first message of which would have that number.
 abbrev pub StreamStops : List ℕ → ℕ → Failure → Type 0
 StreamStops rest number (failure.Message last fault) = (last ≡ number) × IsNone rest (front_of rest) fault
-StreamStops rest number failure.Memory = Unit {0}
-StreamStops rest number failure.Unreadable = Unit {0}
-StreamStops rest number failure.Unwritten = Unit {0}
-StreamStops rest number failure.Usage = ⊥
+StreamStops rest number (failure.Program why) = StopsAny why
 StreamStops rest number (failure.NotHex line) = ⊥
 
 -- why a line of digits is not said, which has that number
 abbrev pub DigitsStop : List ℕ → ℕ → Failure → Type 0
 DigitsStop digits number (failure.NotHex line) = (line ≡ number) × IsErr (decode_of digits)
-DigitsStop digits number failure.Memory = Unit {0}
-DigitsStop digits number failure.Unreadable = Unit {0}
-DigitsStop digits number failure.Unwritten = Unit {0}
-DigitsStop digits number failure.Usage = ⊥
+DigitsStop digits number (failure.Program why) = StopsAny why
 DigitsStop digits number (failure.Message last fault) = ⊥
 
 abbrev pub LinesStop : List ℕ → ℕ → Failure → Type 0
@@ -136,7 +139,7 @@ pub record Stopped (IsCut : List (List ℕ) → List ℕ → Type 0) (line : Lis
 -- All parts of an input are said, or those up to a rest, and why not the rest. An output that fails may hold anything.
 abbrev pub Says : (List (List ℕ) → List ℕ → Type 0) → (List ℕ → Option (List ℕ)) → (List ℕ → ℕ → Failure → Type 0) → Option (List ℕ) → Option (List ℕ) → Result (Unit {0}) Failure → Type 0
 Says IsCut line Stops old new (Ok done) = (number : ℕ) × Said IsCut line [] number old new
-Says IsCut line Stops old new (Err why) = (why ≡ failure.Unwritten) ⊎ Stopped IsCut line Stops old new why
+Says IsCut line Stops old new (Err why) = (why ≡ failure.Program program.Unwritten) ⊎ Stopped IsCut line Stops old new why
 
 abbrev pub SaysBy : Bool → Bool → List ℕ → Option (List ℕ) → Option (List ℕ) → Result (Unit {0}) Failure → Type 0
 SaysBy false trees input old new result = Says (IsSplit input) (frame_line trees) StreamStops old new result

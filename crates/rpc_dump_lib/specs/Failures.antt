@@ -4,6 +4,8 @@ use Rattle.std.specs.Prelude.{ℕ, Result, Ok, Err, List, [], ◌∷◌, ◌++�
 use Rattle.capn_trees.specs.Numbers.{number_of}
 use Rattle.capn_stream.specs.declared.error.StreamError.{StreamError}
 use Rattle.capn_stream.specs.declared.error.StreamError.TheVariants as stream
+use Rattle.program_files.specs.declared.fault.ProgramFailure.TheVariants as program
+use Rattle.program_files.specs.Failures.{said_of as program_said_of}
 use Rattle.rpc_dump_lib.specs.declared.failure.Failure.{Failure}
 use Rattle.rpc_dump_lib.specs.declared.failure.Failure.TheVariants as failure
 
@@ -11,16 +13,13 @@ abbrev pub status_after : Result (Unit {0}) Failure → ℕ
 status_after (Ok done) = 0
 status_after (Err why) = 2
 
--- What is said of a failure where the input has that name. Of an output that can't be written nothing is said.
+-- What is said of a failure if the input has that name.
 abbrev pub said_of : List ℕ → Failure → List ℕ
-said_of name failure.Usage = codes "usage: rpc_dump [--hex] [--payloads] [FILE]" ++ 10 ∷ []
-said_of name failure.Memory = codes "out of memory" ++ 10 ∷ []
-said_of name failure.Unreadable = codes "cannot read " ++ (name ++ 10 ∷ [])
+said_of name (failure.Program given) = program_said_of (codes "usage: rpc_dump [--hex] [--payloads] [FILE]") name given
 said_of name (failure.NotHex number) = codes "line " ++ (decimal number ++ (codes ": not hexadecimal" ++ 10 ∷ []))
 said_of name (failure.Message number fault) = codes "message " ++ (decimal number ++ (codes ": fault " ++ (decimal fault ++ 10 ∷ [])))
-said_of name failure.Unwritten = []
 
--- the failure of a stream where the message with that number would come
+-- the failure of a stream, in place of the message with that number
 abbrev pub of_stream : StreamError → ℕ → Failure
-of_stream stream.Memory number = failure.Memory
+of_stream stream.Memory number = failure.Program program.Memory
 of_stream (stream.Fault fault) number = failure.Message number (number_of fault)

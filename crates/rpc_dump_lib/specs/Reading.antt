@@ -4,6 +4,7 @@ use Rattle.std.specs.Io.KnownBytes.{Consumes}
 use Rattle.capn_stream.specs.Fronts.{front_of, IsShort}
 use Rattle.capn_stream.specs.Readers.{Reader}
 use Rattle.capn_stream.specs.Streams.{IsSplit}
+use Rattle.program_files.specs.declared.fault.ProgramFailure.TheVariants as program
 use Rattle.rpc_dump_lib.specs.declared.failure.Failure.{Failure}
 use Rattle.rpc_dump_lib.specs.declared.failure.Failure.TheVariants as failure
 use Rattle.rpc_dump_lib.specs.Conversations.{Said, Stopped, StreamStops, frame_line}
@@ -30,7 +31,7 @@ SaidTo trees input rest number old new = Said (IsSplit input) (frame_line trees)
 -- more of them, up to this rest, or why not
 abbrev pub GoesOn : Bool → List ℕ → List ℕ → Option (List ℕ) → Option (List ℕ) → Result ℕ Failure → Type 0
 GoesOn trees input rest old new (Ok number) = SaidTo trees input rest number old new
-GoesOn trees input rest old new (Err why) = (why ≡ failure.Unwritten) ⊎ Stopped (IsSplit input) (frame_line trees) StreamStops old new why
+GoesOn trees input rest old new (Err why) = (why ≡ failure.Program program.Unwritten) ⊎ Stopped (IsSplit input) (frame_line trees) StreamStops old new why
 
 -- Of what a reader gave so far, whatever comes behind it, the messages were said up to what waits.
 pub record Begun (trees : Bool) (known left : Option (List ℕ)) (held : List ℕ) (number : ℕ) (old new : Option (List ℕ)) : Type 0 where

@@ -4,6 +4,7 @@ ghost use Rattle.std.specs.Io.KnownBytes.{Appends};
 ghost use Rattle.rpc_dump_lib.specs.Failures.{said_of, status_after};
 
 use capn_stream::StreamError;
+use program_files::{FAILED, ProgramFailure};
 use std::alloc::AllocError;
 use std::io;
 use std::io::Write;
@@ -11,34 +12,37 @@ use std::io::Write;
 /// How the program is called.
 const USAGE: &str = "usage: rpc_dump [--hex] [--payloads] [FILE]";
 
-/// The status of a program that failed.
-const FAILED: u8 = 2;
-
 /// Why the program stops. Messages and lines are counted from 1.
 #[derive(Clone, Copy, Debug, PartialEq, Eq, Drop)]
 pub enum Failure {
-    /// The program's words ask for nothing.
-    Usage,
-    /// A growth was refused.
-    Memory,
-    /// The input can't be read.
-    Unreadable,
+    /// For a reason that any program may have.
+    Program(ProgramFailure),
     /// The line with that number is not hexadecimal.
     NotHex(u64),
     /// The message with that number is none, with the number of its fault.
     Message(u64, u16),
-    /// The output can't be written.
-    Unwritten,
 }
 
 impl From<AllocError> for Failure {
     ghost use Rattle.std.specs.Prelude.{◌≡◌};
     ghost use Rattle.rpc_dump_lib.specs.declared.failure.Failure.TheVariants as failure;
+    ghost use Rattle.program_files.specs.declared.fault.ProgramFailure.TheVariants as program;
 
-    ghost from_gives = { λ _ why. why ≡ failure.Memory };
+    ghost from_gives = { λ _ why. why ≡ failure.Program program.Memory };
 
     fn from(_refused: AllocError) -> Failure {
-        Failure::Memory
+        Failure::Program(ProgramFailure::Memory)
+    }
+}
+
+impl From<ProgramFailure> for Failure {
+    ghost use Rattle.std.specs.Prelude.{◌≡◌};
+    ghost use Rattle.rpc_dump_lib.specs.declared.failure.Failure.TheVariants as failure;
+
+    ghost from_gives = { λ given why. why ≡ failure.Program given };
+
+    fn from(failure: ProgramFailure) -> Failure {
+        Failure::Program(failure)
     }
 }
 
@@ -46,12 +50,12 @@ impl Failure {
     ghost use Rattle.std.specs.Prelude.{◌≡◌};
     ghost use Rattle.rpc_dump_lib.specs.Failures.{of_stream as failure_of_stream};
 
-    /// Why the stream takes nothing more, where the message with that number would come.
+    /// Why the stream takes nothing more, in place of the message with that number.
     pub fn of_stream(error: StreamError, number: u64) -> Failure
         ensures { result ≡ failure_of_stream error number }
     {
         match error {
-            StreamError::Memory => Failure::Memory,
+            StreamError::Memory => Failure::Program(ProgramFailure::Memory),
             StreamError::Fault(fault) => Failure::Message(number, fault.code()),
         }
     }
@@ -72,11 +76,8 @@ pub fn tell<E: Write>(failure: Failure, name: &str, err: &mut E) -> io::Result<(
     ensures { OnOk result (Appends (E.contents err.old) (E.contents err.new) (said_of name.now failure)) }
 {
     match failure {
-        Failure::Usage => writeln!(err, "{USAGE}"),
-        Failure::Memory => writeln!(err, "out of memory"),
-        Failure::Unreadable => writeln!(err, "cannot read {name}"),
+        Failure::Program(failure) => failure.tell(USAGE, name, err),
         Failure::NotHex(number) => writeln!(err, "line {number}: not hexadecimal"),
         Failure::Message(number, fault) => writeln!(err, "message {number}: fault {fault}"),
-        Failure::Unwritten => Ok(()),
     }
 }

@@ -10,6 +10,7 @@ use crate::failure::Failure;
 use crate::line::{fault_line, line_of};
 use capn_stream::fronts_stay;
 use hex::FromHexError;
+use program_files::{ProgramFailure, write_text};
 use rpc_codec::{DecodeError, decode};
 use rpc_msg::{RefId, Stamp, Vat};
 use std::alloc::{AllocError, Global};
@@ -74,19 +75,17 @@ fn line_of_digits(
             let line = any_line_of(alloc, payloads, frame.as_slice())?;
             Ok(line)
         }
-        Err(FromHexError::OutOfMemory) => Err(Failure::Memory),
+        Err(FromHexError::OutOfMemory) => Err(Failure::Program(ProgramFailure::Memory)),
         Err(_) => Err(Failure::NotHex(number)),
     }
 }
 
 fn write_line<W: Write>(line: &str, out: &mut W) -> Result<(), Failure>
     ensures written { OnOk result (Appends (W.contents out.old) (W.contents out.new) line.now) }
-    ensures fails { IfErr result (λ why. why ≡ Failure.Unwritten) }
+    ensures fails { IfErr result (λ why. why ≡ Failure.Program ProgramFailure.Unwritten) }
 {
-    match out.write_all(line.as_bytes()) {
-        Ok(()) => Ok(()),
-        Err(_) => Err(Failure::Unwritten),
-    }
+    write_text(out, line)?;
+    Ok(())
 }
 
 /// Says the message of a frame, which has that number; or why nothing is said of a stream that goes on with this frame.
@@ -99,12 +98,12 @@ pub fn say_frame<W: Write>(
 ) -> Result<(), Failure>
     requires { IsFrame frame.now }
     ensures said { OnOk result ((text : List ℕ) × (frame_line payloads frame.now ≡ Some text) × Appends (W.contents out.old) (W.contents out.new) text) }
-    ensures fails { IfErr result (λ why. (why ≡ Failure.Unwritten) ⊎ ((out.new ≡ out.old) × ((left : List ℕ) → StreamStops (frame.now ++ left) number why))) }
+    ensures fails { IfErr result (λ why. (why ≡ Failure.Program ProgramFailure.Unwritten) ⊎ ((out.new ≡ out.old) × ((left : List ℕ) → StreamStops (frame.now ++ left) number why))) }
 {
     fronts_stay();
     match message_line(alloc, payloads, frame) {
         Ok(line) => write_line(line.as_str(), out),
-        Err(DecodeError::Memory) => Err(Failure::Memory),
+        Err(DecodeError::Memory) => Err(Failure::Program(ProgramFailure::Memory)),
         Err(DecodeError::Fault(fault)) => Err(Failure::Message(number, fault.code())),
     }
 }
@@ -118,7 +117,7 @@ pub fn say_digits<W: Write>(
     out: &mut W,
 ) -> Result<(), Failure>
     ensures said { OnOk result ((text : List ℕ) × (digits_line payloads digits.now ≡ Some text) × Appends (W.contents out.old) (W.contents out.new) text) }
-    ensures fails { IfErr result (λ why. (why ≡ Failure.Unwritten) ⊎ ((out.new ≡ out.old) × DigitsStop digits.now number why)) }
+    ensures fails { IfErr result (λ why. (why ≡ Failure.Program ProgramFailure.Unwritten) ⊎ ((out.new ≡ out.old) × DigitsStop digits.now number why)) }
 {
     let line = line_of_digits(alloc, payloads, digits, number)?;
     write_line(line.as_str(), out)

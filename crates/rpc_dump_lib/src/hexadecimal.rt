@@ -6,7 +6,7 @@ ghost use Rattle.rpc_dump_lib.specs.Conversations.{IsLines, LinesStop, Says, dig
 
 use crate::failure::Failure;
 use crate::frames::say_digits;
-use program_files::unread;
+use program_files::{ProgramFailure, unread};
 use std::alloc::Global;
 use std::io::{Read, Write};
 
@@ -25,12 +25,12 @@ pub fn dump_hex<R: Read, W: Write>(
 
 fn read_all<R: Read>(alloc: Global, reader: &mut R) -> Result<Vec<u8>, Failure>
     ensures all { IfOk result (λ input. IsInput (R.remaining reader.old) input.items) }
-    ensures fails { IfErr result (λ why. (why ≡ Failure.Memory) ⊎ (why ≡ Failure.Unreadable)) }
+    ensures fails { IfErr result (λ why. (why ≡ Failure.Program ProgramFailure.Memory) ⊎ (why ≡ Failure.Program ProgramFailure.Unreadable)) }
 {
     let mut input = Vec::new(alloc);
     match reader.read_to_end(&mut input) {
         Ok(_) => Ok(input),
-        Err(error) => Err(unread(&error, Failure::Unreadable)),
+        Err(error) => Err(Failure::Program(unread(&error, ProgramFailure::Unreadable))),
     }
 }
 

@@ -2,6 +2,7 @@
 //! (docs/messages.md).
 #![tactic(auto)]
 
+mod envelopes;
 mod failure;
 mod frames;
 mod hexadecimal;
@@ -10,7 +11,6 @@ mod options;
 mod payloads;
 mod pieces;
 mod trees;
-mod write;
 
 pub use failure::{Failure, status, tell};
 pub use line::line_of;

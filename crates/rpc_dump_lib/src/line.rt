@@ -4,7 +4,7 @@ ghost use Rattle.serde_json.specs.Written.{compact_text};
 ghost use Rattle.rpc_codec.specs.Envelopes.{seen_envelope};
 ghost use Rattle.rpc_dump_lib.specs.Lines.{fault_data, line_text};
 
-use crate::write::write_envelope;
+use crate::envelopes::write_envelope;
 use rpc_codec::Envelope;
 use std::alloc::{AllocError, Global};
 use trace_write::write_number;

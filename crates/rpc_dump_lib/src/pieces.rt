@@ -11,7 +11,7 @@ use crate::frames::say_frame;
 use crate::hexadecimal::dump_hex;
 use crate::options::Options;
 use capn_stream::{FrameReader, fronts_stay};
-use program_files::unread;
+use program_files::{ProgramFailure, unread};
 use std::alloc::{AllocError, Global};
 use std::io::{ErrorKind, Read, Write};
 
@@ -78,7 +78,7 @@ fn dump_pieces<R: Read, W: Write>(
         let piece = &room[..count];
         number = dump_piece(alloc, payloads, &mut frames, piece, number, out)?;
     }
-    Err(Failure::Unreadable)
+    Err(Failure::Program(ProgramFailure::Unreadable))
 }
 
 /// Reads into the room, and gives how many bytes came: none at the end alone.
@@ -86,18 +86,18 @@ fn read_some<R: Read>(reader: &mut R, room: &mut [u8]) -> Result<usize, Failure>
     ensures within { IfOk result (λ count. count ≤ length room.new) }
     ensures came { IfOk result (λ count. Consumes (R.remaining reader.old) (R.remaining reader.new) (take count room.new)) }
     ensures end { 0 < length room.old → result ≡ Ok 0 → IsAtEnd (R.remaining reader.new) }
-    ensures fails { IfErr result (λ why. (why ≡ Failure.Memory) ⊎ (why ≡ Failure.Unreadable)) }
+    ensures fails { IfErr result (λ why. (why ≡ Failure.Program ProgramFailure.Memory) ⊎ (why ≡ Failure.Program ProgramFailure.Unreadable)) }
 {
     'tries: for _ in 0..u64::MAX {
         match reader.read(room) {
             Ok(count) => return Ok(count),
             Err(error) => match error.kind() {
                 ErrorKind::Interrupted => {}
-                _ => return Err(unread(&error, Failure::Unreadable)),
+                _ => return Err(Failure::Program(unread(&error, ProgramFailure::Unreadable))),
             },
         }
     }
-    Err(Failure::Unreadable)
+    Err(Failure::Program(ProgramFailure::Unreadable))
 }
 
 /// Whether the stream may end here, where the message with that number would come.

@@ -1,5 +1,5 @@
 //! Replays recorded conversations with peers of C++ (docs/serving.md, "Recorded conversations"). The lines of NAME.script are played
-//! while NAME.in comes, cut in several ways. What the vat sends has to be NAME.out, and what it is told NAME.told.
+//! while NAME.in comes, cut in several ways. What the vat sends has to be NAME.out, and its events NAME.told.
 #![tactic(auto)]
 
 use anyhow::{Result, bail};

@@ -10,29 +10,9 @@ mod trees;
 mod values;
 
 use capn_wire::{CapAt, Op, Payload, Tree};
-use std::alloc::{AllocError, Global};
+use std::alloc::Global;
 use std::test::Fail;
-
-/// The bytes that hexadecimal digits spell. What is no digit only divides.
-fn bytes_of(alloc: Global, text: &str) -> Result<Vec<u8>, AllocError> {
-    let mut bytes = Vec::new(alloc);
-    let mut high = None;
-    for c in text.bytes() {
-        let digit = match c {
-            b'0'..=b'9' => c - b'0',
-            b'a'..=b'f' => c - b'a' + 10,
-            _ => continue,
-        };
-        high = match high {
-            None => Some(digit),
-            Some(first) => {
-                bytes.push(first << 4 | digit)?;
-                None
-            }
-        };
-    }
-    Ok(bytes)
-}
+use tests_parts::bytes_of;
 
 /// Bytes with so many zero words behind them.
 fn with_zeros(alloc: Global, text: &str, words: usize) -> Result<Vec<u8>, Fail> {

@@ -10,7 +10,7 @@ mod outgoing;
 
 use rpc_codec::{Envelope, Unknown, decode};
 use rpc_msg::{RefId, Stamp, Vat};
-use std::alloc::{AllocError, Global};
+use std::alloc::Global;
 use std::test::Fail;
 
 const STAMP: Stamp = Stamp {
@@ -18,27 +18,6 @@ const STAMP: Stamp = Stamp {
     reference: RefId(3),
     index: 7,
 };
-
-/// The bytes that hexadecimal digits spell. What is no digit only divides.
-fn bytes_of(alloc: Global, text: &str) -> Result<Vec<u8>, AllocError> {
-    let mut bytes = Vec::new(alloc);
-    let mut high = None;
-    for c in text.bytes() {
-        let digit = match c {
-            b'0'..=b'9' => c - b'0',
-            b'a'..=b'f' => c - b'a' + 10,
-            _ => continue,
-        };
-        high = match high {
-            None => Some(digit),
-            Some(first) => {
-                bytes.push(first << 4 | digit)?;
-                None
-            }
-        };
-    }
-    Ok(bytes)
-}
 
 fn unknown_of(envelope: Envelope) -> Option<Unknown> {
     match envelope {

@@ -1,4 +1,5 @@
 //! What is said of conversations, with which status they end, and what is said then.
+use program_files::ProgramFailure;
 use rpc_dump_lib::{Failure, Options, dump, status, tell};
 use std::alloc::Global;
 use std::io;
@@ -66,11 +67,14 @@ fn says(
     let mut out = Vec::new(alloc);
     let mut reader = input;
     let mut dumped = dump(alloc, options, &mut reader, &mut out);
-    if matches!(dumped, Err(Failure::Memory | Failure::Unwritten)) {
+    if matches!(
+        dumped,
+        Err(Failure::Program(ProgramFailure::Memory | ProgramFailure::Unwritten))
+    ) {
         // one growth was refused (`--fail-alloc`), in the output too: what was said stands, and none is the second time
         assert!(rt; lines.as_bytes().starts_with(&out));
         assert!(rt; out.is_empty() || out.ends_with(b"\n"));
-        if dumped == Err(Failure::Memory) {
+        if dumped == Err(Failure::Program(ProgramFailure::Memory)) {
             is_told(rt, alloc, dumped, "out of memory\n");
         }
         out.clear();
@@ -168,11 +172,17 @@ impl Write for Broken {
 fn streams_that_break_off(rt: HostRuntime) {
     let mut out = Vec::new(rt.alloc());
     let read = dump(rt.alloc(), STREAM, &mut Broken, &mut out);
-    assert!(rt; read == Err(Failure::Unreadable) || read == Err(Failure::Memory));
+    assert!(rt;
+        read == Err(Failure::Program(ProgramFailure::Unreadable))
+            || read == Err(Failure::Program(ProgramFailure::Memory))
+    );
     assert!(rt; out.is_empty());
     let mut reader = BOOTSTRAP;
     let written = dump(rt.alloc(), STREAM, &mut reader, &mut Broken);
-    assert!(rt; written == Err(Failure::Unwritten) || written == Err(Failure::Memory));
+    assert!(rt;
+        written == Err(Failure::Program(ProgramFailure::Unwritten))
+            || written == Err(Failure::Program(ProgramFailure::Memory))
+    );
 }
 
 #[test]

@@ -1,7 +1,7 @@
 //! Draws a trace as a sequence diagram, in SVG on standard output (`docs/trace.md`, "A picture of a trace").
 #![tactic(auto)]
 
-use program_files::unread;
+use program_files::{ProgramFailure, unread};
 use std::env;
 use std::env::Args;
 use std::fs::File;
@@ -14,7 +14,11 @@ fn main(rt: HostRuntime) -> ExitCode {
     let mut words = match env::args(&rt) {
         Ok(words) => words,
         // a word that is not UTF-8 asks for nothing
-        Err(error) => return ended(&rt, Err(unread(&error, Failure::Usage)), "-"),
+        Err(error) => return ended(
+            &rt,
+            Err(Failure::Program(unread(&error, ProgramFailure::Usage))),
+            "-",
+        ),
     };
     let _program = words.next();
     let Some(name) = words.next() else {
@@ -34,7 +38,7 @@ fn draw_named(rt: &HostRuntime, name: &str, words: Args) -> Result<(), Failure> 
     }
     match Options::of(chosen.as_slice()) {
         Some(options) => draw_file(rt, name, options),
-        None => Err(Failure::Usage),
+        None => Err(Failure::Program(ProgramFailure::Usage)),
     }
 }
 
@@ -50,7 +54,7 @@ fn draw_input(rt: &HostRuntime) -> Result<(), Failure> {
 fn draw_file(rt: &HostRuntime, name: &str, options: Options) -> Result<(), Failure> {
     match File::open(rt, name) {
         Ok(mut file) => draw_trace(rt.alloc(), options, &mut file, &mut rt.stdout()),
-        Err(error) => Err(unread(&error, Failure::Unreadable)),
+        Err(error) => Err(Failure::Program(unread(&error, ProgramFailure::Unreadable))),
     }
 }
 

@@ -1,7 +1,8 @@
 -- Why the program does not draw, what it says of it, and its status (docs/trace.md, "A picture of a trace").
 use Rattle.std.specs.Prelude.{ℕ, ◌≡◌, ◌⊎◌, Option, Result, Ok, Err, List, [], ◌∷◌, ◌++◌, codes, decimal}
-use Rattle.program_files.specs.declared.fault.TextFault.{TextFault}
-use Rattle.program_files.specs.declared.fault.TextFault.TheVariants as text
+use Rattle.program_files.specs.declared.fault.ProgramFailure.{ProgramFailure}
+use Rattle.program_files.specs.declared.fault.ProgramFailure.TheVariants as program
+use Rattle.program_files.specs.Failures.{said_of as program_said_of}
 use Rattle.program_files.specs.Texts.{IsInput, HasNoText}
 use Rattle.trace_json.specs.Faults.{number_of_fault}
 use Rattle.trace_file.specs.declared.fault.FileFault.{FileFault}
@@ -11,19 +12,14 @@ use Rattle.trace_chart_lib.specs.declared.fault.Failure.{Failure}
 use Rattle.trace_chart_lib.specs.declared.fault.Failure.TheVariants as failure
 use Rattle.trace_chart_lib.specs.Drawn.{IsSomeTrace}
 
--- What is said of the faults of a trace and of a file.
+-- What is said of the faults of a trace.
 abbrev pub of_file : FileFault → Failure
-of_file file.Memory = failure.Memory
+of_file file.Memory = failure.Program program.Memory
 of_file (file.Line number fault) = failure.Line number fault
-
-abbrev pub of_text : TextFault → Failure
-of_text text.Memory = failure.Memory
-of_text text.Unreadable = failure.Unreadable
-of_text text.NotText = failure.NotText
 
 -- Why a file has no text.
 abbrev pub ReadFails : Option (List ℕ) → Failure → Type 0
-ReadFails bytes why = (fault : TextFault) × HasNoText bytes fault × (why ≡ of_text fault)
+ReadFails bytes why = (given : ProgramFailure) × HasNoText bytes given × (why ≡ failure.Program given)
 
 -- Why a text has no picture: its fault.
 abbrev pub TextFails : List ℕ → Failure → Type 0
@@ -31,7 +27,7 @@ TextFails text why = (fault : FileFault) × IsFileFault text fault × (why ≡ o
 
 -- There is a picture, and the output fails.
 abbrev pub OutputFails : Option (List ℕ) → Failure → Type 0
-OutputFails bytes why = (why ≡ failure.Unwritten) × (input : List ℕ) × IsInput bytes input × IsSomeTrace input
+OutputFails bytes why = (why ≡ failure.Program program.Unwritten) × (input : List ℕ) × IsInput bytes input × IsSomeTrace input
 
 -- Why a file is not drawn.
 abbrev pub Fails : Option (List ℕ) → Failure → Type 0
@@ -41,14 +37,10 @@ Fails bytes why = ReadFails bytes why ⊎ (((input : List ℕ) × IsInput bytes 
 abbrev pub help_text : List ℕ
 help_text = codes "usage: trace_chart FILE [--ref V/N] [--from N] [--to N]\n\nDraws a trace as a sequence diagram, in SVG on standard output. Without a word the trace is\nread from standard input.\n\n  --ref V/N   what is of reference N of vat V (a or b) stands out\n  --from N    the first entry that is drawn, counted as the trace's lines are\n  --to N      the last one; without it 60 entries are drawn\n\nThe status is 0, or 2 where nothing is drawn.\n"
 
--- What is said of a failure where the file has that name. Of an output that can't be written nothing is said.
+-- What is said of a failure if the file has that name.
 abbrev pub said_of : List ℕ → Failure → List ℕ
-said_of name failure.Usage = codes "usage: trace_chart FILE [--ref V/N] [--from N] [--to N]" ++ 10 ∷ []
-said_of name failure.Memory = codes "out of memory" ++ 10 ∷ []
-said_of name failure.Unreadable = codes "cannot read " ++ (name ++ 10 ∷ [])
-said_of name failure.NotText = codes "cannot read " ++ (name ++ 10 ∷ [])
+said_of name (failure.Program given) = program_said_of (codes "usage: trace_chart FILE [--ref V/N] [--from N] [--to N]") name given
 said_of name (failure.Line number fault) = codes "trace line " ++ (decimal number ++ (codes ": fault " ++ (decimal (number_of_fault fault) ++ 10 ∷ [])))
-said_of name failure.Unwritten = []
 
 -- 2 where it does not draw.
 abbrev pub status_of : Result Unit Failure → ℕ

@@ -6,14 +6,13 @@
 //!   ends. `followed.rt` keeps the names of the calls through the reference that stands out, and `questions.rt` what each
 //!   question is of. `entries.rt` says what of an entry the others want to know.
 //! - `labels.rt` says an entry in words and `messages.rt` a message (`reasons.rt` refusals and faults), `text.rt` writes a
-//!   text as SVG has it, cut if it is too wide, `draw.rt` draws, and `foot.rt` the labels that were cut.
+//!   text as SVG has it, cut if it is too wide, `picture.rt` draws, and `foot.rt` the labels that were cut.
 //! - `options.rt`: the program's options; `fault.rt`: why it fails; `program.rt`: the program without its handles:
 //!   `trace_chart` gives it arguments, files and streams.
 #![tactic(auto)]
 
 mod bars;
 mod chart;
-mod draw;
 mod durations;
 mod entries;
 mod fault;
@@ -23,6 +22,7 @@ mod labels;
 mod messages;
 mod options;
 mod over;
+mod picture;
 mod program;
 mod questions;
 mod reasons;

@@ -1,14 +1,15 @@
 ghost use Rattle.std.specs.Prelude.{◌≡◌, ◌⊎◌, ℕ, List, IfOk, IfErr, OnOk};
 ghost use Rattle.std.specs.Io.KnownBytes.{Appends};
 ghost use Rattle.program_files.specs.Texts.{IsInput};
+ghost use Rattle.program_files.specs.declared.fault.ProgramFailure.TheVariants as program;
 ghost use Rattle.trace_chart_lib.specs.Drawn.{IsSomeTrace};
 ghost use Rattle.trace_chart_lib.specs.Failures.{Fails, TextFails, said_of, status_of, help_text};
 
 use crate::chart::Chart;
-use crate::draw::picture;
 use crate::fault::Failure;
 use crate::options::Options;
-use program_files::{read_text, write_text};
+use crate::picture::picture;
+use program_files::{FAILED, read_text, write_text};
 use std::alloc::Global;
 use std::io;
 use std::io::{Read, Write};
@@ -16,9 +17,6 @@ use trace_file::follow;
 
 /// The status of a program that did what it was asked.
 const DONE: u8 = 0;
-
-/// The status of a program that failed.
-const FAILED: u8 = 2;
 
 /// How the program is called.
 const USAGE: &str = "usage: trace_chart FILE [--ref V/N] [--from N] [--to N]";
@@ -40,7 +38,7 @@ pub fn draw_trace<R: Read, W: Write>(
 ) -> Result<(), Failure>
     ensures drawn { OnOk result (((input : List ℕ) × IsInput (R.remaining reader.old) input × IsSomeTrace input) × ((svg : List ℕ) × Appends (W.contents out.old) (W.contents out.new) svg)) }
     ensures fails { IfErr result (λ why. Fails (R.remaining reader.old) why) }
-    ensures silent { IfErr result (λ why. (out.new ≡ out.old) ⊎ (why ≡ Failure.Unwritten)) }
+    ensures silent { IfErr result (λ why. (out.new ≡ out.old) ⊎ (why ≡ Failure.Program program.Unwritten)) }
 {
     let trace = read_text(alloc, reader)?;
     let svg = svg_of(alloc, trace.as_str(), options)?;
@@ -51,7 +49,7 @@ pub fn draw_trace<R: Read, W: Write>(
 /// Writes what the program is for. `Unwritten` if `out` fails, which may have taken a part of it.
 pub fn write_help<W: Write>(out: &mut W) -> Result<(), Failure>
     ensures written { OnOk result (Appends (W.contents out.old) (W.contents out.new) help_text) }
-    ensures fails { IfErr result (λ why. why ≡ Failure.Unwritten) }
+    ensures fails { IfErr result (λ why. why ≡ Failure.Program program.Unwritten) }
 {
     write_text(out, HELP)?;
     Ok(())
@@ -75,14 +73,10 @@ fn tell<E: Write>(failure: Failure, name: &str, err: &mut E) -> io::Result<()>
     ensures { OnOk result (Appends (E.contents err.old) (E.contents err.new) (said_of name.now failure)) }
 {
     match failure {
-        Failure::Usage => writeln!(err, "{USAGE}"),
-        Failure::Memory => writeln!(err, "out of memory"),
-        Failure::Unreadable => writeln!(err, "cannot read {name}"),
-        Failure::NotText => writeln!(err, "cannot read {name}"),
+        Failure::Program(failure) => failure.tell(USAGE, name, err),
         Failure::Line(number, fault) => {
             writeln!(err, "trace line {number}: fault {}", fault.number())
         }
-        Failure::Unwritten => Ok(()),
     }
 }
 

@@ -4,8 +4,8 @@ ghost use Rattle.serde_json.specs.Written.{compact_text};
 ghost use Rattle.trace_write.specs.Values.{value};
 ghost use Rattle.trace_write.specs.Fits.{Fits};
 
+use crate::entries::write_entry;
 use crate::version::TraceVersion;
-use crate::write_entries::write_entry;
 use rpc_journal::JournalEntry;
 use rpc_msg::Memory;
 use std::alloc::Global;

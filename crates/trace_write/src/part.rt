@@ -3,7 +3,7 @@ ghost use Rattle.serde_json.specs.Data.{Data, put as with_member, object};
 ghost use Rattle.serde_json.specs.View.{view, members_view};
 ghost use Rattle.trace_write.specs.Parts.{only};
 
-use crate::write_members::{add_member, write_only};
+use crate::members::{add_member, write_only};
 use serde_json::{Map, Value, put};
 use std::alloc::{AllocError, Global};
 

@@ -1,4 +1,4 @@
-//! Plays a script over standard input and output, as a client of a vat of any make (docs/serving.md).
+//! Plays a script over standard input and output, as a client of any Cap'n Proto server (docs/serving.md).
 #![tactic(auto)]
 
 use anyhow::{Result, bail};

@@ -1,5 +1,5 @@
 -- Commands: what they give fits into frames, and a call's reference takes the shorter path before.
-use Rattle.std.specs.Prelude.{◌≡◌, IsOk, List, Option, Some, None, Result, Ok, Err, ◌⊎◌}
+use Rattle.std.specs.Prelude.{◌≡◌, false, IsOk, List, Option, Some, None, Result, Ok, Err, ◌⊎◌}
 use Rattle.rpc_msg.specs.Payloads.{Contents}
 use Rattle.rpc_msg.specs.declared.exception.Exception.{Exception}
 use Rattle.rpc_msg.specs.declared.ids.CallId.{CallId}
@@ -15,15 +15,15 @@ use Rattle.rpc_msg.specs.declared.message.Message.{Message}
 use Rattle.rpc_machine.specs.declared.command.Refusal.TheVariants as refusal
 use Rattle.vat_host.specs.Hosting.{Hosted, Does, Refuses}
 use Rattle.rpc_codec.specs.Frames.{message_frame}
-use Rattle.rpc_codec_fits.specs.Carrying.{Carries, GivesContents}
+use Rattle.rpc_codec_fits.specs.Carrying.{Carries, fits}
 
 -- What a command gives fits into the frame of each message that carries it.
 abbrev pub Fits : Command → Type 0
 Fits c = (m : Message) → Carries c m → IsOk (message_frame m)
 
--- A command that gives contents or a reason, which may be too large for that, and nothing is changed.
+-- What a command gives is too large for that by its words, and nothing is changed.
 abbrev pub IsTooLarge : Hosted → Command → Refusal → Hosted → Type 0
-IsTooLarge old c r new = (r ≡ refusal.Full) × GivesContents c × (new ≡ old)
+IsTooLarge old c r new = (r ≡ refusal.Full) × (fits c ≡ false) × (new ≡ old)
 
 abbrev pub call_of : Command → Option CallCommand
 call_of (command.Call c) = Some c

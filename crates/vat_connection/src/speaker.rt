@@ -1,9 +1,10 @@
 //! A vat with the bytes that it says, and its commands.
-ghost use Rattle.std.specs.Prelude.{◌≡◌, ◌⊎◌, Ok, Err, IfOk, IfErr, OnOk, is_some};
+ghost use Rattle.std.specs.Prelude.{◌≡◌, ◌⊎◌, false, Ok, Err, IfOk, IfErr, OnOk, is_some};
 ghost use Rattle.rpc_machine.specs.declared.command.Command.TheVariants as command;
 ghost use Rattle.rpc_machine.specs.declared.command.Refusal.TheVariants as refusal;
 ghost use Rattle.rpc_machine.specs.State.{start};
 ghost use Rattle.vat_host.specs.Hosting.{Does, Refuses, idle};
+ghost use Rattle.rpc_codec_fits.specs.Carrying.{fits};
 ghost use Rattle.rpc_outgoing.specs.Outflows.{nothing_out};
 ghost use Rattle.peer_adapter.specs.Peering.{fresh as fresh_adapter};
 ghost use Rattle.vat_connection.specs.Calling.{Calls, Fits, IsTooLarge, call_of};
@@ -160,7 +161,7 @@ fn call_in(command: Command) -> Option<CallCommand>
 fn fitting(call: CallCommand) -> Result<CallCommand, Refused<CallCommand>>
     ensures same { IfOk result (λ same. same ≡ call) }
     ensures fits { OnOk result (Fits (command.Call call)) }
-    ensures refused { IfErr result (λ e. e.refusal ≡ refusal.Full) }
+    ensures refused { IfErr result (λ e. (e.refusal ≡ refusal.Full) × (fits (command.Call call) ≡ false)) }
     ensures handed_back { IfErr result (λ e. e.back ≡ call) }
 {
     let command = Command::Call(call);

@@ -50,6 +50,12 @@ did_either P (y ∷ xs) x (inr d) = go (did_either P xs x d)
     go (inl d) = inl (inr d)
     go (inr p) = inr p
 
+-- What is done with a connection, as acts of its host.
+pub record Leads (c : Connected) (xs : List Act) (d : Connected) : Type 0 where
+  pub acts : List HostAct
+  pub lead : HostActsAll c.speaker.host acts d.speaker.host
+  pub commanded : flat_map command_of (flat_map happened_by acts) ≡ flat_map commanded_by xs
+
 -- ---- so far
 
 module _ (hosts : HostsServeWhatIsGiven) (vat : Vat) (level : Level) (root : Option ObjectId) where
@@ -258,3 +264,19 @@ module _ (hosts : HostsServeWhatIsGiven) (vat : Vat) (level : Level) (root : Opt
       let run = one before c so in
       subst (λ (l : List Act). So l d) (append_assoc before (x ∷ []) xs)
       (so_all (before ++ x ∷ []) xs mid d (one_act before c mid x so (moves c mid run.log run.ran (reached_so before c so) x first)) more)
+
+  -- What is done then, after what was done so far.
+  pub leads_all : (before xs : List Act) (c d : Connected) → So before c → ActsAll c xs d → Leads c xs d
+  leads_all before [] c d so same = record { acts = []; lead = ap (λ (k : Connected). k.speaker.host) same; commanded = refl }
+  leads_all before (x ∷ xs) c d so (mid, first, more) =
+      let run = one before c so in
+      let m = moves c mid run.log run.ran (reached_so before c so) x first in
+      let rest = leads_all (before ++ x ∷ []) xs mid d (one_act before c mid x so m) more in
+      record {
+        acts = m.acts ++ rest.acts;
+        lead = acts_on c.speaker.host m.acts mid.speaker.host rest.acts d.speaker.host m.lead rest.lead;
+        commanded =
+            commands-append m.acts rest.acts
+            ∙ ap (λ (l : List Command). l ++ flat_map command_of (flat_map happened_by rest.acts)) m.commands
+            ∙ ap (λ (l : List Command). commanded_by x ++ l) rest.commanded;
+      }

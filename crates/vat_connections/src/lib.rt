@@ -1,9 +1,9 @@
-//! One connection is a run of one vat, whatever bytes its peer sends: it has its application serve what the peer was given. No code runs
-//! here: what each function ensures is the law.
+//! Laws of one connection and any peer: it is a run of one vat, and the calls of the peer reach only objects that it was given. No code
+//! runs here: what each function ensures is the law.
 //!
-//! How the laws are proved stands in docs/laws/hosts.md.
+//! docs/laws/hosts.md says how the laws are proved.
 #![tactic(auto)]
 
 mod laws;
 
-pub use laws::connections_serve_what_is_given;
+pub use laws::{connections_serve_what_is_given, released_are_not_served};

@@ -9,6 +9,8 @@ use Rattle.rpc_machine.specs.declared.command.Refusal.{Refusal}
 use Rattle.rpc_machine.specs.declared.command.Refusal.TheVariants as refusal
 use Rattle.rpc_machine.specs.declared.command.Effects.{Effects}
 use Rattle.rpc_machine.specs.State.{State}
+use Rattle.core_store.specs.Holding.{state_of}
+use Rattle.core_steps.specs.declared.machine.Machine.{Machine}
 use Rattle.rpc_machine.specs.Progress.{quiet}
 use Rattle.rpc_machine.specs.Lists.{earliest}
 use Rattle.rpc_machine.specs.Refusals.{refused, refusals, without_room, is_shut}
@@ -30,6 +32,12 @@ refuses_at s t c r same why = refuses t c r (ap (λ (x : State). refused x c) (s
 
 pub obeys_at : (s t new : State) (c : Command) (answer : Result Granted Refusal) (effects : Effects) → s ≡ t → Obeys s c answer effects new → Obeys t c answer effects new
 obeys_at s t new c answer effects same obeys = subst (λ (x : State). Obeys x c answer effects new) same obeys
+
+-- The same once ways were made short.
+pub refuses_walked : (m n : Machine) (t : State) (c : Command) (r : Refusal) → n ≡ m → state_of m.step.store ≡ t → refused (state_of n.step.store) c ≡ Some r → Obeys t c (Err r) quiet (state_of n.step.store)
+refuses_walked m n t c r short same why =
+    let is = ap (λ (x : Machine). state_of x.step.store) short ∙ same in
+    subst (λ (x : State). Obeys x c (Err r) quiet (state_of n.step.store)) is (refuses (state_of n.step.store) c r why)
 
 -- A vat that is down refuses all but a shut.
 pub down_refuses : (s : State) (c : Command) (n : ℕ) → is_shut c ≡ false → s.down ≡ Some n → refused s c ≡ Some refusal.Down

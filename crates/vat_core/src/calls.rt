@@ -9,7 +9,7 @@ use crate::commands::Answer;
 use crate::refused::Refused;
 use crate::vat::Core;
 use core_step_checks::{check_bootstrap, check_call_whole, check_finish};
-use core_steps::{call_straight, straight};
+use core_steps::{call_straight, shorten_heads, straight};
 use laws_nodes::calls_have_their_own;
 use rpc_machine::{CallCommand, Command, Effects, Granted, Refusal};
 use rpc_msg::CallId;
@@ -68,13 +68,14 @@ impl Core {
         ensures done { IfOk result (λ done. Obeys self.old (command.Call call) (Ok (granted.Call done.0)) done.1 self.new) }
         ensures refused { IfErr result (λ e. Obeys self.old (command.Call call) (Err e.refusal) quiet self.new) }
     {
-        let store = &self.machine.step.store;
-        let None = store.down else {
+        let None = self.machine.step.store.down else {
             return Err(Refused {
                 refusal: Refusal::Down,
                 back: call,
             });
         };
+        shorten_heads(&mut self.machine, &call);
+        let store = &self.machine.step.store;
         if let Err(refusal) = check_call_whole(store, self.machine.alloc, &call) {
             return Err(Refused {
                 refusal,

@@ -2,6 +2,10 @@ pub mod Calls
 pub mod Carried
 pub mod Happening
 pub mod Known
+pub mod Unanswered
+pub mod OpenTasks
+pub mod Following
+pub mod Cancelled
 pub mod OneHost
 pub mod Released
 pub mod Served

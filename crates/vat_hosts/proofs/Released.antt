@@ -86,8 +86,9 @@ module _ (P : Event → Type 0) (all : IsOfSteps P) where
 
 -- ---- what waits is left by steps
 
--- It is told of a step: neither that an object is released nor that the vat is down.
+-- It is told of a step: neither that a task is cancelled, nor that an object is released, nor that the vat is down.
 abbrev pub IsOfStep : Event → Type 0
+IsOfStep (event.Cancelled t) = ⊥
 IsOfStep (event.Released o) = ⊥
 IsOfStep (event.Down n reason) = ⊥
 IsOfStep e = Unit {0}

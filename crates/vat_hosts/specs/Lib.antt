@@ -6,8 +6,11 @@
 -- - `OneHost`: what may be done with one host, whatever its peer sends, and what its application is told. Proofs: `OneHost`.
 -- - `Served`: which calls such a host has served, and that own calls end once. Proofs: `Served`.
 -- - `Released`: what such a host told as released. Proofs: `Released`.
+-- - `Cancelled`: what such a host told as cancelled. Proofs: `OpenTasks`: what holds of tasks in each state; `Unanswered`: what a host
+--   keeps of calls, list by list; `Following`: a step; `Cancelled`: act by act.
 
 pub mod Calls
+pub mod Cancelled
 pub mod Exchanges
 pub mod Hosts
 pub mod OneHost

@@ -1,13 +1,17 @@
 //! The functions run no code: what each ensures is the law.
 
+ghost use Rattle.vat_hosts.specs.Cancelled.{CancelledAreTold};
 ghost use Rattle.vat_hosts.specs.Exchanges.{ExchangesHand};
 ghost use Rattle.vat_hosts.specs.Released.{ReleasedAreNotServed};
 ghost use Rattle.vat_hosts.specs.Served.{HostsServeWhatIsGiven};
 ghost use Rattle.vat_hosts.specs.Worlds.{HostsAreWorlds};
 
 use laws_authority::{all_at_most_once, authority_is_given, authority_is_kept};
+use laws_nodes::outcomes_have_sources;
 use laws_released::released_stays;
 use laws_sound::every_run_is_sound;
+use laws_steps::nodes_are_there;
+use laws_tasks::steps_keep_tasks;
 
 /// Whatever is done with two new hosts of level 1, if the messages of each reach the other in order: it is a run of two vats in one
 /// world, of which all holds that is promised of runs.
@@ -39,4 +43,14 @@ pub fn released_are_not_served()
     ensures { ReleasedAreNotServed }
 {
     released_stays();
+}
+
+/// Whatever is done with a new host, and whatever its peer sends: it tells each task of the peer that is cancelled, while its vat is up,
+/// and none twice. So of an idle host whose vat is up each task that is cancelled was told once.
+pub fn cancelled_are_told()
+    ensures { CancelledAreTold }
+{
+    steps_keep_tasks();
+    outcomes_have_sources();
+    nodes_are_there();
 }

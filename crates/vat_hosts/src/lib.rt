@@ -8,5 +8,6 @@
 mod laws;
 
 pub use laws::{
-    exchange_hands_over, hosts_are_worlds, hosts_serve_what_is_given, released_are_not_served,
+    cancelled_are_told, exchange_hands_over, hosts_are_worlds, hosts_serve_what_is_given,
+    released_are_not_served,
 };

@@ -77,18 +77,21 @@ fn converse_by<R: Read, W: Write>(
     bail!("the conversation is too long")
 }
 
-// Serves what was heard and writes what there is, until more is to be read, or the vat is down.
+// Writes what there is and serves what was heard, until more is to be read, or the vat is down. As bytes are taken the vat may hear
+// what waited, and so it may as it finds no event.
 fn answer_all<W: Write>(service: &mut Service, writer: &mut W, has_ended: bool) -> Result<()> {
     for _ in 0..u64::MAX {
+        send(service, writer, has_ended)?;
         if service.vat.core().down().is_some() {
             return Ok(());
         }
         let worked = service.work();
-        let bytes = service.vat.outgoing();
-        if !has_ended {
-            write_all(writer, bytes.as_slice())?;
+        if worked.is_err() {
+            send(service, writer, has_ended)?;
         }
-        worked?;
+        if worked? || service.vat.has_outgoing() {
+            continue;
+        }
         if service.vat.wants_bytes() {
             return Ok(());
         }
@@ -97,6 +100,15 @@ fn answer_all<W: Write>(service: &mut Service, writer: &mut W, has_ended: bool) 
         }
     }
     bail!("the conversation is too long")
+}
+
+// Writes what there is, unless the client has gone.
+fn send<W: Write>(service: &mut Service, writer: &mut W, has_ended: bool) -> Result<()> {
+    let bytes = service.vat.outgoing();
+    if !has_ended {
+        write_all(writer, bytes.as_slice())?;
+    }
+    Ok(())
 }
 
 /// The limits of so many MiB each way.

@@ -1,9 +1,9 @@
 //! Serves the registry of `interop/registry.capnp` over standard input and output (docs/serving.md).
 //!
 //! - `conversation.rt`: the conversation: bytes are read, the service works, and bytes are written.
-//! - `service.rt`: a vat with the objects that it serves: each call is answered, each own call that ended passed on.
+//! - `service.rt`: a vat with the objects that it serves. Each call is answered, and the outcome of each own call is passed on.
 //! - `objects.rt`: the objects by their numbers. `counter.rt`, `printer.rt`, `sink.rt` and `registry.rt`: one interface each.
-//!   `methods.rt`: what the methods of registries do, which have more to do with the vat. `results.rt`: what methods give.
+//!   `methods.rt`: the methods of registries, which use the vat more than others. `results.rt`: the results of methods.
 #![tactic(auto)]
 
 mod conversation;

@@ -54,8 +54,9 @@ impl Service {
         })
     }
 
-    /// Serves what was called, and passes on what own calls gave, until there is nothing left to do.
-    pub fn work(&mut self) -> Result<()> {
+    /// Serves what was called, and passes on what own calls gave, until there is nothing left to do. Says whether there was anything.
+    pub fn work(&mut self) -> Result<bool> {
+        let mut had_events = false;
         for _ in 0..u64::MAX {
             match self.vat.next_event() {
                 Some(Event::Served(call)) => self.serve(call)?,
@@ -64,8 +65,9 @@ impl Service {
                 Some(_other) => {}
                 None => break,
             }
+            had_events = true;
         }
-        Ok(())
+        Ok(had_events)
     }
 
     // Answers a call, unless that is later, and lets go of what came with it. A vat that is down answers nothing.

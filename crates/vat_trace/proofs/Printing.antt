@@ -48,7 +48,7 @@ faults_read script lines fault.Memory said failed = tt
 pub pairs_to : (script trace text : List ℕ) (verdict : Verdict) (status : ℕ)
     → PrintsPair script trace verdict → text ≡ trace ++ complaint verdict → status ≡ status_of verdict → PairsTo script text status
 pairs_to script trace text verdict status prints is ends =
-    let both = prints.2.2 in
+    let both = prints.2.4 in
     let good : verdict ≡ Good _ = both.3 ∙ both.4 in
     let same : text ≡ trace = is ∙ ap (λ (v : Verdict). trace ++ complaint v) good ∙ append-nil trace in
     record { verdict = verdict; prints = subst (λ (t : List ℕ). PrintsPair script t verdict) (sym same) prints; status_is = ends ∙ ap status_of good }

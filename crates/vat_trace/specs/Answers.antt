@@ -2,6 +2,7 @@
 use Rattle.std.specs.Prelude.{ℕ, ◌≡◌, ◌⊎◌, Option, List}
 use Rattle.rpc_check.specs.declared.verdict.Verdict.{Verdict}
 use Rattle.vat_trace_lib.specs.declared.fault.ScriptFault.{ScriptFault}
+use Rattle.program_files.specs.declared.fault.ProgramFailure.TheVariants as program
 use Rattle.vat_trace_lib.specs.declared.fault.Failure.{Failure}
 use Rattle.vat_trace_lib.specs.declared.fault.Failure.TheVariants as failure
 use Rattle.program_files.specs.Texts.{IsInput}
@@ -21,7 +22,7 @@ PairFails input why = (fault : ScriptFault) × FaultsPair input fault × (why �
 -- There is a trace, and the output fails.
 abbrev pub OutputFails : Option (List ℕ) → Failure → Type 0
 OutputFails bytes why =
-    (why ≡ failure.Unwritten) × (input : List ℕ) × IsInput bytes input × (text : List ℕ) × (status : ℕ) × PairsTo input text status
+    (why ≡ failure.Program program.Unwritten) × (input : List ℕ) × IsInput bytes input × (text : List ℕ) × (status : ℕ) × PairsTo input text status
 
 -- Why the program does not do what it was asked: the file, the script, or the output.
 abbrev pub Fails : Option (List ℕ) → Failure → Type 0

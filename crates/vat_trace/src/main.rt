@@ -17,7 +17,7 @@ mod verdicts;
 mod work;
 
 use crate::program::play_pair;
-use program_files::unread;
+use program_files::{ProgramFailure, unread};
 use std::env;
 use std::fs::File;
 use std::process::ExitCode;
@@ -31,7 +31,11 @@ fn main(rt: HostRuntime) -> ExitCode {
     let mut words = match env::args(&rt) {
         Ok(words) => words,
         // a word that is not UTF-8 asks for nothing
-        Err(error) => return ended(&rt, Err(unread(&error, Failure::Usage)), "-"),
+        Err(error) => return ended(
+            &rt,
+            Err(Failure::Program(unread(&error, ProgramFailure::Usage))),
+            "-",
+        ),
     };
     let _program = words.next();
     let Some(word) = words.next() else {
@@ -56,11 +60,11 @@ fn on_input(rt: &HostRuntime) -> Result<u8, Failure> {
 
 fn on_file(rt: &HostRuntime, word: &str, name: &str) -> Result<u8, Failure> {
     if Word::of(word).is_none() {
-        return Err(Failure::Usage);
+        return Err(Failure::Program(ProgramFailure::Usage));
     }
     match File::open(rt, name) {
         Ok(mut file) => play(rt.alloc(), word, &mut file, &mut rt.stdout()),
-        Err(error) => Err(unread(&error, Failure::Unreadable)),
+        Err(error) => Err(Failure::Program(unread(&error, ProgramFailure::Unreadable))),
     }
 }
 
@@ -72,12 +76,12 @@ fn on_threads<R: Threads + Wait + Clock + Sync>(
 ) -> Result<u8, Failure> {
     match File::open(rt, name) {
         Ok(mut file) => play_pair(rt.alloc(), threads, threads, &mut file, &mut rt.stdout()),
-        Err(error) => Err(unread(&error, Failure::Unreadable)),
+        Err(error) => Err(Failure::Program(unread(&error, ProgramFailure::Unreadable))),
     }
 }
 
 fn misused(rt: &HostRuntime) -> ExitCode {
-    ended(rt, Err(Failure::Usage), "-")
+    ended(rt, Err(Failure::Program(ProgramFailure::Usage)), "-")
 }
 
 fn ended(rt: &HostRuntime, played: Result<u8, Failure>, name: &str) -> ExitCode {

@@ -1,10 +1,11 @@
 ghost use Rattle.std.specs.Prelude.{◌≡◌, ◌⊎◌, ℕ, List, IfOk, IfErr, string_bytes};
 ghost use Rattle.std.specs.Io.KnownBytes.{Appends};
 ghost use Rattle.program_files.specs.Texts.{IsInput};
+ghost use Rattle.program_files.specs.declared.fault.ProgramFailure.TheVariants as program;
 ghost use Rattle.vat_trace.specs.Answers.{PairsTo, PairFails, Fails};
 
 use crate::trace::trace_of_pair;
-use program_files::{read_text, write_text};
+use program_files::{ProgramFailure, read_text, write_text};
 use std::alloc::Global;
 use std::io::{Read, Write};
 use std::sync::Wait;
@@ -27,11 +28,13 @@ pub fn play_pair<R: Threads + Wait + Sync, C: Clock + Sync, I: Read, W: Write>(
 ) -> Result<u8, Failure>
     ensures printed { IfOk result (λ status. (input : List ℕ) × IsInput (I.remaining reader.old) input × (text : List ℕ) × PairsTo input text status × Appends (W.contents out.old) (W.contents out.new) text) }
     ensures fails { IfErr result (λ why. Fails (I.remaining reader.old) why) }
-    ensures silent { IfErr result (λ why. (out.new ≡ out.old) ⊎ (why ≡ Failure.Unwritten)) }
+    ensures silent { IfErr result (λ why. (out.new ≡ out.old) ⊎ (why ≡ Failure.Program program.Unwritten)) }
 {
     let input = read_text(alloc, reader)?;
     let printed = answer(alloc, rt, clock, input.as_str())?;
-    write_text(out, printed.text.as_str())?;
+    let Ok(()) = write_text(out, printed.text.as_str()) else {
+        return Err(Failure::Program(ProgramFailure::Unwritten));
+    };
     Ok(printed.status)
 }
 

@@ -1,7 +1,5 @@
 ghost use Rattle.std.specs.Prelude.{◌≡◌, IfOk, IfErr, string_bytes};
-ghost use Rattle.link_sides.specs.Sides.{down_by};
-ghost use Rattle.link_workers.specs.Ending.{IsEnding};
-ghost use Rattle.vat_trace.specs.Pairs.{AreFirst, IsNoted};
+ghost use Rattle.vat_trace.specs.Pairs.{IsNoted, WorksFirst};
 ghost use Rattle.vat_trace.specs.Printed.{PrintsBoth, PrintsLines, FaultsLines, PrintsPair, FaultsPair};
 
 use crate::memory::lacked_memory;
@@ -61,7 +59,7 @@ fn trace_of_lines<R: Threads + Wait + Sync, C: Clock + Sync>(
     clock: &C,
     lines: &[Line],
 ) -> Result<CheckedTrace, ScriptFault>
-    ensures prints { IfOk result (λ trace. PrintsLines (string_bytes trace.text) trace.verdict) }
+    ensures prints { IfOk result (λ trace. PrintsLines lines.now (string_bytes trace.text) trace.verdict) }
     ensures faults { IfErr result (λ fault. FaultsLines lines.now fault) }
 {
     let run = match work_lines(alloc, rt, clock, lines, &OpenGate, CAPACITY, MAX_TURNS) {
@@ -76,14 +74,13 @@ fn trace_of_lines<R: Threads + Wait + Sync, C: Clock + Sync>(
 
 // A run is lent here: at each exit there would be much to drop.
 fn trace_of_run(alloc: Global, lines: &[Line], run: &PairRun) -> Result<CheckedTrace, ScriptFault>
-    requires first { AreFirst run.now.gathered.both }
-    requires ending_a { IsEnding lines.now (down_by run.now.gathered.both.side_a) run.now.a }
-    requires ending_b { IsEnding lines.now (down_by run.now.gathered.both.side_b) run.now.b }
-    ensures prints { IfOk result (λ trace. PrintsLines (string_bytes trace.text) trace.verdict) }
+    requires { WorksFirst lines.now run.now.a run.now.b run.now.gathered.both }
+    ensures prints { IfOk result (λ trace. PrintsLines lines.now (string_bytes trace.text) trace.verdict) }
     ensures faults { IfErr result (λ fault. FaultsLines lines.now fault) }
 {
     // Only the contract speaks of it, and the compiler counts it as unused.
     let _ = lines;
+    // Each arm by itself: a result that is handed on whole leaves its clauses to be proved by cases.
     match judge(run.a, run.b) {
         Ok(()) => {}
         Err(fault) => return Err(fault),

@@ -1,7 +1,6 @@
 ghost use Rattle.std.specs.Prelude.{◌≡◌, IfOk};
-ghost use Rattle.rpc_msg.specs.declared.ids.Vat.TheVariants.{A, B};
-ghost use Rattle.link_driver.specs.Ends.{AreEnds, IsNewCore};
-ghost use Rattle.vat_trace.specs.Pairs.{first_state, first_held};
+ghost use Rattle.link_driver.specs.Ends.{IsNewCore};
+ghost use Rattle.vat_trace.specs.Pairs.{first_state, AreFirst};
 
 use link_driver::{EndA, EndB, LinkFault, Vat, link};
 use rpc_machine::Level;
@@ -15,9 +14,7 @@ const FIRST_OBJECT: ObjectId = ObjectId(0);
 /// The ends of a link of two new vats that both have bootstrap object 0, over rings of that many places. `BadCapacity` if no
 /// ring may have so many, `Memory` if a growth was refused.
 pub(crate) fn new_ends(alloc: Global, capacity: usize) -> Result<(EndA, EndB), LinkFault>
-    ensures ends { IfOk result (λ ends. AreEnds ends.0.end ends.1.end) }
-    ensures first_a { IfOk result (λ ends. ends.0.end.start ≡ first_held A) }
-    ensures first_b { IfOk result (λ ends. ends.1.end.start ≡ first_held B) }
+    ensures { IfOk result (λ ends. AreFirst ends.0.end ends.1.end) }
 {
     let core_a = match new_core(alloc, Vat::A) {
         Ok(core) => core,

@@ -1,7 +1,5 @@
-ghost use Rattle.std.specs.Prelude.{◌≡◌, IfOk};
-ghost use Rattle.link_sides.specs.Sides.{down_by};
-ghost use Rattle.link_workers.specs.Ending.{IsEnding};
-ghost use Rattle.vat_trace.specs.Pairs.{AreFirst};
+ghost use Rattle.std.specs.Prelude.{IfOk};
+ghost use Rattle.vat_trace.specs.Pairs.{WorksFirst};
 
 use crate::vats::new_ends;
 use link_driver::{LinkFault, PairRun, run_pair};
@@ -24,10 +22,9 @@ pub fn work_lines<R: Threads + Wait + Sync, G: Gate, C: Clock + Sync>(
     capacity: usize,
     max_turns: u32,
 ) -> Result<PairRun, LinkFault>
-    ensures first { IfOk result (λ run. AreFirst run.gathered.both) }
-    ensures ending_a { IfOk result (λ run. IsEnding lines.now (down_by run.gathered.both.side_a) run.a) }
-    ensures ending_b { IfOk result (λ run. IsEnding lines.now (down_by run.gathered.both.side_b) run.b) }
+    ensures { IfOk result (λ run. WorksFirst lines.now run.a run.b run.gathered.both) }
 {
+    // Each arm by itself: a result that is handed on whole leaves its clauses to be proved by cases.
     let (a, b) = match new_ends(alloc, capacity) {
         Ok(ends) => ends,
         Err(fault) => return Err(fault),

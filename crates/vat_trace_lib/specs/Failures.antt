@@ -1,7 +1,8 @@
 -- Why the program does not do what it was asked, what it says of it, and its status (docs/trace.md, "Traces as files").
 use Rattle.std.specs.Prelude.{ℕ, ◌≡◌, ◌⊎◌, Option, None, Some, Result, Ok, Err, List, [], ◌∷◌, ◌++◌, codes, decimal}
-use Rattle.program_files.specs.declared.fault.TextFault.{TextFault}
-use Rattle.program_files.specs.declared.fault.TextFault.TheVariants as text
+use Rattle.program_files.specs.declared.fault.ProgramFailure.{ProgramFailure}
+use Rattle.program_files.specs.declared.fault.ProgramFailure.TheVariants as program
+use Rattle.program_files.specs.Failures.{said_of as program_said_of}
 use Rattle.program_files.specs.Texts.{IsInput, HasNoText}
 use Rattle.trace_json.specs.Faults.{number_of_fault}
 use Rattle.trace_file.specs.declared.fault.FileFault.{FileFault}
@@ -16,25 +17,20 @@ use Rattle.vat_trace_lib.specs.declared.words.Word.TheVariants.{Run, Check, Show
 use Rattle.vat_trace_lib.specs.Traces.{Faults}
 use Rattle.vat_trace_lib.specs.Answers.{Answers}
 
--- What is said of the faults of a script, of a trace and of a file.
+-- What is said of the faults of a script and of a trace.
 abbrev pub of_script : ScriptFault → Failure
-of_script script.Memory = failure.Memory
-of_script script.NotText = failure.NotText
+of_script script.Memory = failure.Program program.Memory
+of_script script.NotText = failure.Program program.NotText
 of_script (script.Line number f) = failure.Script number
 of_script (script.Unnamed number f) = failure.Script number
 
 abbrev pub of_file : FileFault → Failure
-of_file file.Memory = failure.Memory
+of_file file.Memory = failure.Program program.Memory
 of_file (file.Line number fault) = failure.Trace number fault
-
-abbrev pub of_text : TextFault → Failure
-of_text text.Memory = failure.Memory
-of_text text.Unreadable = failure.Unreadable
-of_text text.NotText = failure.NotText
 
 -- Why a file has no text.
 abbrev pub ReadFails : Option (List ℕ) → Failure → Type 0
-ReadFails bytes why = (fault : TextFault) × HasNoText bytes fault × (why ≡ of_text fault)
+ReadFails bytes why = (given : ProgramFailure) × HasNoText bytes given × (why ≡ failure.Program given)
 
 -- Why a script is not played, and a text no trace: its fault.
 abbrev pub ScriptFails : List ℕ → Failure → Type 0
@@ -53,22 +49,18 @@ InputFails Upgrade input why = TraceFails input why
 -- There is an answer, and the output fails.
 abbrev pub OutputFails : Word → Option (List ℕ) → Failure → Type 0
 OutputFails w bytes why =
-    (why ≡ failure.Unwritten) × (input : List ℕ) × IsInput bytes input × (text : List ℕ) × (status : ℕ) × Answers w input text status
+    (why ≡ failure.Program program.Unwritten) × (input : List ℕ) × IsInput bytes input × (text : List ℕ) × (status : ℕ) × Answers w input text status
 
 -- Why the program does not do what it was asked: another word, or else the file, what is in it, or the output.
 abbrev pub Fails : Option Word → Option (List ℕ) → Failure → Type 0
-Fails None bytes why = why ≡ failure.Usage
+Fails None bytes why = why ≡ failure.Program program.Usage
 Fails (Some w) bytes why = ReadFails bytes why ⊎ (((input : List ℕ) × IsInput bytes input × InputFails w input why) ⊎ OutputFails w bytes why)
 
--- What is said of a failure where the file has that name. Of an output that can't be written nothing is said.
+-- What is said of a failure if the file has that name.
 abbrev pub said_of : List ℕ → Failure → List ℕ
-said_of name failure.Usage = codes "usage: vat_trace run|pair|check|show|upgrade FILE" ++ 10 ∷ []
-said_of name failure.Memory = codes "out of memory" ++ 10 ∷ []
-said_of name failure.Unreadable = codes "cannot read " ++ (name ++ 10 ∷ [])
-said_of name failure.NotText = codes "cannot read " ++ (name ++ 10 ∷ [])
+said_of name (failure.Program given) = program_said_of (codes "usage: vat_trace run|pair|check|show|upgrade FILE") name given
 said_of name (failure.Script number) = codes "script line " ++ (decimal number ++ (codes ": fault" ++ 10 ∷ []))
 said_of name (failure.Trace number fault) = codes "trace line " ++ (decimal number ++ (codes ": fault " ++ (decimal (number_of_fault fault) ++ 10 ∷ [])))
-said_of name failure.Unwritten = []
 
 -- 2 where it does not do what it was asked.
 abbrev pub status_after : Result ℕ Failure → ℕ

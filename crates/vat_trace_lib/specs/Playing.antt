@@ -1,9 +1,6 @@
 -- What the lines of a script do to two vats and to the script's names (docs/script.md, "Lines" and "Names").
 use Rattle.std.specs.Prelude.{ℕ, ◌≡◌, ◌+◌, Some, Result, Ok, Err, List, [], ◌∷◌, ◌++◌, take}
 use Rattle.rpc_msg.specs.declared.ids.Vat.{Vat}
-use Rattle.rpc_journal.specs.declared.report.Delivery.{Delivery}
-use Rattle.rpc_journal.specs.declared.report.Ended.{Ended}
-use Rattle.rpc_machine.specs.declared.command.Effects.{Effects}
 use Rattle.rpc_machine.specs.World.{tables_entry}
 use Rattle.vat_world.specs.Answer.{Answer}
 use Rattle.vat_world.specs.Answer.TheVariants.{Done, Refused}
@@ -17,7 +14,7 @@ use Rattle.script_language.specs.declared.fault.GiveFault.{GiveFault}
 use Rattle.script_language.specs.declared.fault.GiveFault.TheVariants as gives
 use Rattle.script_language.specs.declared.fault.NameFault.{NameFault}
 use Rattle.script_language.specs.Acting.{act_for}
-use Rattle.script_language.specs.Bindings.{names_of, with_names_of, bind_reference, binds, with_tasks, with_outcomes}
+use Rattle.script_language.specs.Bindings.{names_of, with_names_of, bind_reference, binds, handed}
 use Rattle.vat_world.specs.declared.answer.StepAnswer.{StepAnswer}
 use Rattle.vat_world.specs.declared.answer.StepAnswer.TheVariants as step
 use Rattle.vat_world.specs.World.{Seen, Steps}
@@ -25,16 +22,6 @@ use Rattle.vat_trace_lib.specs.declared.fault.ScriptFault.{ScriptFault}
 use Rattle.vat_trace_lib.specs.declared.fault.ScriptFault.TheVariants as fault
 
 -- ---- What the names are told
-
-abbrev pub with_tasks_of : Vat → List Delivery → Names → Names
-with_tasks_of v ds names = with_names_of v (with_tasks (names_of v names) ds) names
-
-abbrev pub with_outcomes_of : Vat → List Ended → Names → Names
-with_outcomes_of v es names = with_names_of v (with_outcomes (names_of v names) es) names
-
--- The references that a vat's application was handed are kept: those of its tasks, and of the outcomes of its calls.
-abbrev pub handed : Names → Vat → Effects → Names
-handed names v told = with_outcomes_of v told.answers (with_tasks_of v told.deliveries names)
 
 -- A command that is granted binds what its line names; a refused one binds nothing.
 abbrev pub answered : Names → Vat → LineCommand → Answer → Names

@@ -1,6 +1,7 @@
+ghost use Rattle.program_files.specs.declared.fault.ProgramFailure.TheVariants as program;
 ghost use Rattle.vat_trace_lib.specs.declared.fault.Failure.TheVariants as failure;
 
-use program_files::{TextFault, Unwritten};
+use program_files::ProgramFailure;
 use rpc_msg::Memory;
 use script_language::{LineFault, NameFault};
 use std::alloc::AllocError;
@@ -28,20 +29,22 @@ pub enum ScriptFault {
 /// Why the program does not do what it was asked.
 #[derive(Clone, Copy, Debug, PartialEq, Eq, Drop)]
 pub enum Failure {
-    /// The words behind the program's name ask for nothing.
-    Usage,
-    /// A growth was refused.
-    Memory,
-    /// The file can't be read.
-    Unreadable,
-    /// Its bytes are not UTF-8.
-    NotText,
+    /// For a reason that any program may have.
+    Program(ProgramFailure),
     /// The line of the script that is at fault, counted from 1.
     Script(usize),
     /// The first line that is none of a trace, counted from 1, and what is wrong with it.
     Trace(usize, TraceFault),
-    /// The output can't be written.
-    Unwritten,
+}
+
+impl From<ProgramFailure> for Failure {
+    ghost use Rattle.std.specs.Prelude.{◌≡◌};
+
+    ghost from_gives = { λ given why. why ≡ failure.Program given };
+
+    fn from(failure: ProgramFailure) -> Failure {
+        Failure::Program(failure)
+    }
 }
 
 impl From<ScriptFault> for Failure {
@@ -52,8 +55,8 @@ impl From<ScriptFault> for Failure {
 
     fn from(fault: ScriptFault) -> Failure {
         match fault {
-            ScriptFault::Memory => Failure::Memory,
-            ScriptFault::NotText => Failure::NotText,
+            ScriptFault::Memory => Failure::Program(ProgramFailure::Memory),
+            ScriptFault::NotText => Failure::Program(ProgramFailure::NotText),
             ScriptFault::Line(number, _) => Failure::Script(number),
             ScriptFault::Unnamed(number, _) => Failure::Script(number),
         }
@@ -68,53 +71,28 @@ impl From<FileFault> for Failure {
 
     fn from(fault: FileFault) -> Failure {
         match fault {
-            FileFault::Memory => Failure::Memory,
+            FileFault::Memory => Failure::Program(ProgramFailure::Memory),
             FileFault::Line(number, fault) => Failure::Trace(number, fault),
         }
-    }
-}
-
-impl From<TextFault> for Failure {
-    ghost use Rattle.std.specs.Prelude.{◌≡◌};
-    ghost use Rattle.vat_trace_lib.specs.Failures.{of_text};
-
-    ghost from_gives = { λ fault why. why ≡ of_text fault };
-
-    fn from(fault: TextFault) -> Failure {
-        match fault {
-            TextFault::Memory => Failure::Memory,
-            TextFault::Unreadable => Failure::Unreadable,
-            TextFault::NotText => Failure::NotText,
-        }
-    }
-}
-
-impl From<Unwritten> for Failure {
-    ghost use Rattle.std.specs.Prelude.{◌≡◌};
-
-    ghost from_gives = { λ _ why. why ≡ failure.Unwritten };
-
-    fn from(_fault: Unwritten) -> Failure {
-        Failure::Unwritten
     }
 }
 
 impl From<AllocError> for Failure {
     ghost use Rattle.std.specs.Prelude.{◌≡◌};
 
-    ghost from_gives = { λ _ why. why ≡ failure.Memory };
+    ghost from_gives = { λ _ why. why ≡ failure.Program program.Memory };
 
     fn from(_fault: AllocError) -> Failure {
-        Failure::Memory
+        Failure::Program(ProgramFailure::Memory)
     }
 }
 
 impl From<Memory> for Failure {
     ghost use Rattle.std.specs.Prelude.{◌≡◌};
 
-    ghost from_gives = { λ _ why. why ≡ failure.Memory };
+    ghost from_gives = { λ _ why. why ≡ failure.Program program.Memory };
 
     fn from(_fault: Memory) -> Failure {
-        Failure::Memory
+        Failure::Program(ProgramFailure::Memory)
     }
 }

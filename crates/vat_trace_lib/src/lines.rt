@@ -2,7 +2,8 @@ ghost use Rattle.std.specs.Prelude.{◌≡◌, OnOk};
 ghost use Rattle.rpc_msg.specs.Payloads.{null_payload};
 ghost use Rattle.vat_world.specs.World.{Steps};
 ghost use Rattle.vat_world.specs.declared.answer.StepAnswer.{StepAnswer};
-ghost use Rattle.vat_trace_lib.specs.Playing.{PlaysLine, PlaysAll, told, answered, handed};
+ghost use Rattle.script_language.specs.Bindings.{handed};
+ghost use Rattle.vat_trace_lib.specs.Playing.{PlaysLine, PlaysAll, told, answered};
 
 use crate::fault::ScriptFault;
 use rpc_machine::{Effects, Refusal};

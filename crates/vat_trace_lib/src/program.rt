@@ -9,13 +9,10 @@ ghost use Rattle.vat_trace_lib.specs.Failures.{Fails, said_of, status_after};
 use crate::answers::answer;
 use crate::fault::Failure;
 use crate::words::Word;
-use program_files::{read_text, write_text};
+use program_files::{FAILED, ProgramFailure, read_text, write_text};
 use std::alloc::Global;
 use std::io;
 use std::io::{Read, Write};
-
-/// The status of a program that failed.
-const FAILED: u8 = 2;
 
 /// How the program is called.
 const USAGE: &str = "usage: vat_trace run|pair|check|show|upgrade FILE";
@@ -34,10 +31,10 @@ pub fn play<R: Read, W: Write>(
 ) -> Result<u8, Failure>
     ensures printed { IfOk result (λ status. (w : Word) × (word_of word.now ≡ Some w) × (input : List ℕ) × IsInput (R.remaining reader.old) input × (text : List ℕ) × Answers w input text status × Appends (W.contents out.old) (W.contents out.new) text) }
     ensures fails { IfErr result (λ why. Fails (word_of word.now) (R.remaining reader.old) why) }
-    ensures silent { IfErr result (λ why. (out.new ≡ out.old) ⊎ (why ≡ Failure.Unwritten)) }
+    ensures silent { IfErr result (λ why. (out.new ≡ out.old) ⊎ (why ≡ Failure.Program ProgramFailure.Unwritten)) }
 {
     let Some(word) = Word::of(word) else {
-        return Err(Failure::Usage);
+        return Err(Failure::Program(ProgramFailure::Usage));
     };
     let input = read_text(alloc, reader)?;
     let printed = answer(alloc, word, input.as_str())?;
@@ -63,14 +60,10 @@ fn tell<E: Write>(failure: Failure, name: &str, err: &mut E) -> io::Result<()>
     ensures { OnOk result (Appends (E.contents err.old) (E.contents err.new) (said_of name.now failure)) }
 {
     match failure {
-        Failure::Usage => writeln!(err, "{USAGE}"),
-        Failure::Memory => writeln!(err, "out of memory"),
-        Failure::Unreadable => writeln!(err, "cannot read {name}"),
-        Failure::NotText => writeln!(err, "cannot read {name}"),
+        Failure::Program(failure) => failure.tell(USAGE, name, err),
         Failure::Script(number) => writeln!(err, "script line {number}: fault"),
         Failure::Trace(number, fault) => {
             writeln!(err, "trace line {number}: fault {}", fault.number())
         }
-        Failure::Unwritten => Ok(()),
     }
 }

@@ -94,6 +94,7 @@ fn trace_in(
     ensures prints { IfOk result (λ trace. PrintsLines lines.now (string_bytes trace.text) trace.verdict) }
     ensures faults { IfErr result (λ fault. FaultsLines lines.now fault) }
 {
+    // Each arm by itself: a result that is handed on whole leaves its clauses to be proved by cases.
     match play_lines(alloc, world, names, lines) {
         Ok(()) => {}
         Err(fault) => return Err(fault),

@@ -1,9 +1,10 @@
 //! Messages that are read within a limit of words that their reader gives.
-use crate::tests::{bytes_of, with_zeros};
+use crate::tests::with_zeros;
 use capn_wire::{Document, Kind, MOST_COUNTED, Payload, PayloadFault, Place};
 use std::alloc::Global;
 use std::process::Abort;
 use std::test::Fail;
+use tests_parts::bytes_of;
 
 /// A struct of one pointer, to capability 0.
 const SMALL: &str = "00000000 02000000 | 0000000000000100 0300000000000000";

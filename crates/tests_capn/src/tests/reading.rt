@@ -1,9 +1,10 @@
 //! Payloads that are read, and what is found in them.
-use crate::tests::{bytes_of, cap_at, copied, is_made_of, read, read_text, tree_in, with_zeros};
+use crate::tests::{cap_at, copied, is_made_of, read, read_text, tree_in, with_zeros};
 use capn_wire::{CapAt, Memory, Op, Payload, PayloadFault, Tree, WriteFault};
 use std::alloc::Global;
 use std::process::Abort;
 use std::test::Fail;
+use tests_parts::bytes_of;
 
 /// A far pointer in the first of two segments leads to a pad of two words in the second.
 const DOUBLE_FAR: &str =

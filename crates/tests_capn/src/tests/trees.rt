@@ -1,9 +1,10 @@
 //! Trees: read, shown, copied and written.
-use crate::tests::{bytes_of, copied, is_made_of, read_text, tree_in};
+use crate::tests::{copied, is_made_of, read_text, tree_in};
 use capn_wire::laws::write_and_read;
 use capn_wire::{Fields, Items, Payload, Pointers, PushError, Tree, WriteFault};
 use std::alloc::Global;
 use std::test::Fail;
+use tests_parts::bytes_of;
 
 /// How many capabilities go with a tree, the bytes that it is read from and written as, and the tree as Rust shows it.
 const TREES: [(u32, &str, &str); 11] = [

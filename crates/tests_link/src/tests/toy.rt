@@ -165,6 +165,8 @@ impl PairEnd for Toy {
 
     ghost same = { λ x y. y.vat ≡ x.vat };
 
+    ghost steps = { λ x told y. Unit {0} };
+
     ghost down_by = { λ x. x.fallen };
 
     fn down(&self) -> Option<u16> {

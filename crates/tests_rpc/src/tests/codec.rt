@@ -3,7 +3,7 @@ use crate::tests::contents::{call, nested, path, pointing_at, sevens};
 use crate::tests::messages::{
     CALL, MESSAGES, NAMING_CALL, NAMING_CALL_BACK, NAMING_RESOLVE, NAMING_RETURN,
 };
-use crate::tests::{STAMP, bytes_of, unknown_in};
+use crate::tests::{STAMP, unknown_in};
 use capn_trees::{PayloadFault, Tree, WriteFault};
 use rpc_codec::laws::encode_and_decode;
 use rpc_codec::{
@@ -15,6 +15,7 @@ use rpc_msg::{
 };
 use std::alloc::Global;
 use std::test::Fail;
+use tests_parts::bytes_of;
 
 // A message is let go where it is taken by value, at one place: each place at which one goes is dear to prove.
 fn encoded(alloc: Global, message: Message) -> Result<Payload, EncodeError> {

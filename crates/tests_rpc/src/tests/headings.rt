@@ -1,11 +1,11 @@
 //! What frames say of questions. They were written by `capnp encode` with a `rpc.capnp` that has the flags of Cap'n Proto
 //! 1.0, and one more kind of target and of descriptor; a third party's parts were laid down by hand.
-use crate::tests::bytes_of;
 use capn_trees::PayloadFault;
 use rpc_codec::{Heading, read_heading};
 use rpc_msg::QuestionId;
 use std::alloc::{AllocError, Global};
 use std::test::Fail;
+use tests_parts::bytes_of;
 
 /// What a frame says of questions, in numbers.
 #[derive(Clone, Copy)]

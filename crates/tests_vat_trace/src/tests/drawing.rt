@@ -1,6 +1,7 @@
 //! The faults of `trace_chart`, and with which status it ends.
 use crate::tests::streams::Cut;
 use crate::tests::traces::ONE_CALL;
+use program_files::ProgramFailure;
 use std::alloc::Global;
 use std::str;
 use trace_chart_lib::{Failure, Options, draw_trace, status, write_help};
@@ -47,8 +48,14 @@ fn faults_and_misuse_are_said(rt: HostRuntime) {
         assert!(rt; says(rt.alloc(), input, said), "{said}");
     }
     let mut err = Vec::new(rt.alloc());
-    assert!(rt; ends(Err(Failure::Usage), "-", &mut err) == 2);
-    assert!(rt; ends(Err(Failure::Unreadable), "one", &mut err) == 2);
+    assert!(rt; ends(Err(Failure::Program(ProgramFailure::Usage)), "-", &mut err) == 2);
+    assert!(rt;
+        ends(
+            Err(Failure::Program(ProgramFailure::Unreadable)),
+            "one",
+            &mut err
+        ) == 2
+    );
     let said = "usage: trace_chart FILE [--ref V/N] [--from N] [--to N]\ncannot read one\n";
     assert!(rt; err.as_slice() == said.as_bytes());
 }
@@ -93,5 +100,5 @@ fn help_says_each_option(rt: HostRuntime) {
     for said in EACH_OPTION {
         assert!(rt; text.contains(said), "{said}");
     }
-    assert!(rt; cut_help(&mut Cut { left: 3 }) == Err(Failure::Unwritten));
+    assert!(rt; cut_help(&mut Cut { left: 3 }) == Err(Failure::Program(ProgramFailure::Unwritten)));
 }

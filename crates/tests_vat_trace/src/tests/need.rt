@@ -1,6 +1,7 @@
 //! Out of memory: to be run with each allocation refused, by `rt try --test --fail-alloc`.
 use crate::tests::drawing::draw;
 use crate::tests::traces::PROMISE;
+use program_files::ProgramFailure;
 use rpc_check::Verdict;
 use std::alloc::Global;
 use trace_chart_lib::Options;
@@ -41,7 +42,8 @@ fn is_written_at_last(alloc: Global, word: &str, wanted: &[u8]) -> bool {
     let mut out = Vec::new(alloc);
     match write(alloc, word, &mut out) {
         None => {}
-        Some(Failure::Memory | Failure::Unwritten) if out.is_empty() => {
+        Some(Failure::Program(ProgramFailure::Memory | ProgramFailure::Unwritten))
+            if out.is_empty() => {
             if write(alloc, word, &mut out).is_some() {
                 return false;
             }
@@ -63,7 +65,7 @@ fn is_drawn_at_last(alloc: Global) -> bool {
     let mut out = Vec::new(alloc);
     match draw(alloc, Options::new(), PROMISE.as_bytes(), &mut out) {
         Ok(()) => {}
-        Err(trace_chart_lib::Failure::Memory | trace_chart_lib::Failure::Unwritten)
+        Err(trace_chart_lib::Failure::Program(ProgramFailure::Memory | ProgramFailure::Unwritten))
             if out.is_empty() => {
             if draw(alloc, Options::new(), PROMISE.as_bytes(), &mut out).is_err() {
                 return false;

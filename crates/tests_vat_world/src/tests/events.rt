@@ -189,3 +189,20 @@ fn a_run_is_its_steps(rt: HostRuntime) -> Result<(), Memory> {
     assert!(rt; are_told(entries(&world), FIRST_ENTRIES));
     Ok(())
 }
+
+fn is_idle(world: &World) -> bool {
+    world.idle(Vat::A, RefId(0))
+}
+
+/// The call, which is event 2, is pending until event 4 delivers it.
+#[test]
+fn a_call_is_pending_until_it_is_delivered(rt: HostRuntime) -> Result<(), Memory> {
+    let mut world = world(rt.alloc())?;
+    for number in 0..EVENTS {
+        let event = event(rt.alloc(), number)?;
+        let _answer = take(&mut world, event);
+        let is_pending = number == 2 || number == 3;
+        assert!(rt; is_idle(&world) != is_pending);
+    }
+    Ok(())
+}

@@ -1,5 +1,6 @@
 //! Out of memory: to be run with each allocation refused, by `rt try --test --fail-alloc`.
 use crate::program::play_pair;
+use program_files::ProgramFailure;
 use std::alloc::Global;
 use std::sync::Wait;
 use std::thread::Threads;
@@ -24,7 +25,12 @@ fn play<R: Threads + Wait + Clock + Sync>(
 fn a_refused_growth_is_told(rt: HostRuntime) {
     let mut out = Vec::new(rt.alloc());
     if let Some(failure) = play(&rt, rt.alloc(), &mut out) {
-        assert!(rt; matches!(failure, Failure::Memory | Failure::Unwritten));
+        assert!(rt;
+            matches!(
+                failure,
+                Failure::Program(ProgramFailure::Memory | ProgramFailure::Unwritten)
+            )
+        );
         assert!(rt; out.is_empty());
         assert!(rt; play(&rt, rt.alloc(), &mut out).is_none());
     }

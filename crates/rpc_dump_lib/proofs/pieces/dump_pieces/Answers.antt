@@ -1,5 +1,6 @@
 use Rattle.std.proofs.Common.{◌≡◌, ℕ, [], take, Ok, ap, arith}
 use Rattle.std.proofs.lemmas.Result.{err_from_is_err_and}
+use Rattle.program_files.specs.declared.fault.ProgramFailure.TheVariants as program
 use Rattle.rpc_dump_lib.specs.declared.failure.Failure.TheVariants as failure
 use Rattle.rpc_dump_lib.specs.Reading.{held_of}
 use Rattle.rpc_dump_lib.proofs.Inputs.{stream_lost, begun_none, open_none, begun_stops, begun_more, begun_ends, begun_done}
@@ -45,4 +46,4 @@ reads-preserved g c =
 pub returns : goal.returns
 returns g c =
     begun_stops c.args.payloads (g.R.Read.remaining c.args.reader.now) (g.R.Read.remaining c.reads.reader) (held_of c.reads.frames) c.reads.number (g.W.Write.contents c.args.out.now) (g.W.Write.contents c.reads.out) c.reads.invariant.begun
-    failure.Unreadable (λ rest. tt)
+    (failure.Program program.Unreadable) (λ rest. tt)

@@ -4,4 +4,4 @@ use Rattle.link_workers.proofs.worker.Worker.play_line.Goals as goal
 
 pub returns-in-Err-Name-clause-ending : goal.returns-in-Err-Name-clause-ending
 returns-in-Err-Name-clause-ending g c =
-    let unbound : act_for c.args.self.now.names c.args.line.now ≡ Err c.in-Err-Name.fault = search rules in (refl, (c.args.self.now.names, unbound))
+    let unbound : act_for c.args.self.now.names c.args.line.now ≡ Err c.in-Err-Name.fault = search rules in (refl, unbound, refl)

@@ -1,0 +1,10 @@
+mod Streams
+mod Viewing
+mod Honest
+mod Aside
+mod Tied
+mod Said
+mod Heard
+mod Flowing
+mod Acting
+mod Joining

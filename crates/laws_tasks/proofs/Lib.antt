@@ -1,0 +1,4 @@
+pub mod Holding
+pub mod Owing
+pub mod Coming
+pub mod Keeping

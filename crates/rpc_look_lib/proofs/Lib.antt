@@ -1,0 +1,4 @@
+pub mod Frames
+pub mod Pieces
+pub mod Lines
+pub mod Logs

@@ -1,0 +1,27 @@
+//! A look into a conversation of any two vats, as a program: what its words ask for, what it reads, and what it says
+//! (docs/looking.md).
+//!
+//! - `options.rt`: the words. `failure.rt`: why it stops, and its status.
+//! - `watch.rt`: frames are judged one by one. `talk.rt`: a conversation so far. `stream.rt`: the bytes of one end.
+//! - `capture.rt`: a conversation of which pieces come. `reading.rt`: a log that comes in parts. `weaving.rt`: two files,
+//!   without an order between them.
+//! - `page.rt`: the text that is written. `naming.rt`: by what names. `telling.rt`: what is said of a frame.
+#![tactic(auto)]
+
+mod capture;
+mod failure;
+mod naming;
+mod options;
+mod page;
+mod reading;
+mod stream;
+mod talk;
+mod telling;
+mod watch;
+mod weaving;
+
+pub use failure::{Failure, status, tell, unreadable};
+pub use naming::read_schema;
+pub use options::{Options, Source};
+pub use reading::look_log;
+pub use weaving::look_two;

@@ -1,0 +1,188 @@
+//! What is said of a conversation, as text that is written.
+use crate::failure::Failure;
+use crate::naming::Naming;
+use crate::options::Options;
+use crate::telling::{Wording, write_told};
+use crate::watch::Told;
+use capn_trees::PayloadFault;
+use look_books::{Books, Moment};
+use look_lines::{Ends, Totals, View, totals_of, write_open, write_totals, write_totals_head};
+use look_names::Schema;
+use look_pieces::Side;
+use std::alloc::{AllocError, Global};
+use std::io::Write;
+
+/// The text is written when it has so many bytes.
+const FULL: usize = 65_536;
+
+/// What is said so far.
+#[derive(Drop)]
+pub(crate) struct Page<W: Write + Drop> {
+    pub(crate) alloc: Global,
+    out: W,
+    /// What is said and not written yet.
+    text: String,
+    wording: Wording,
+    /// How many rows the table has, if one is asked for.
+    rows: Option<u64>,
+    totals: Vec<Totals>,
+}
+
+impl<W: Write + Drop> Page<W> {
+    /// Nothing is said so far.
+    pub(crate) fn new(alloc: Global, options: Options, schema: Option<Schema>, out: W) -> Page<W> {
+        let Options {
+            only,
+            payloads,
+            schema: _,
+            at: _,
+            totals: rows,
+            client,
+            server,
+            source: _,
+        } = options;
+        Page {
+            alloc,
+            out,
+            text: String::new(alloc),
+            wording: Wording {
+                ends: Ends { client, server },
+                naming: Naming {
+                    alloc,
+                    schema,
+                    payloads,
+                },
+                only,
+            },
+            rows,
+            totals: Vec::new(alloc),
+        }
+    }
+
+    /// Writes what is said so far.
+    pub(crate) fn flush(&mut self) -> Result<(), Failure> {
+        let written = self.out.write_all(self.text.as_bytes());
+        self.text.clear();
+        match written {
+            Ok(()) => Ok(()),
+            Err(_) => Err(Failure::Unwritten),
+        }
+    }
+
+    fn flush_if_full(&mut self) -> Result<(), Failure> {
+        if self.text.len() < FULL {
+            return Ok(());
+        }
+        self.flush()
+    }
+
+    /// Says what a frame is, by the books before it.
+    pub(crate) fn say_told(
+        &mut self,
+        books: &Books,
+        side: Side,
+        moment: Moment,
+        told: &Told,
+    ) -> Result<(), Failure> {
+        write_told(
+            self.alloc,
+            &mut self.text,
+            &self.wording,
+            books,
+            side,
+            moment,
+            told,
+        )?;
+        self.flush_if_full()
+    }
+
+    /// Notes how much is open behind a message, if a table is asked for.
+    pub(crate) fn note_totals(&mut self, books: &Books, moment: Moment) -> Result<(), Failure> {
+        if self.rows.is_some() {
+            let totals = totals_of(books, moment);
+            self.totals.push(totals).map_err(AllocError::from)?;
+        }
+        Ok(())
+    }
+
+    /// Says that no order of two files makes sense.
+    pub(crate) fn say_stuck(&mut self) -> Result<(), Failure> {
+        self.text
+            .push_str("no order of the two makes sense behind here:\n")?;
+        Ok(())
+    }
+
+    /// Says why nothing of an end is read any more, where that message of the conversation would come.
+    pub(crate) fn say_end_of(
+        &mut self,
+        side: Side,
+        number: u64,
+        fault: PayloadFault,
+    ) -> Result<(), Failure> {
+        let name = self.wording.ends.name(side);
+        writeln!(
+            self.text,
+            "message {number} by the {name}: {fault}; nothing of the {name} is read any more"
+        )?;
+        Ok(())
+    }
+
+    /// Says why the bytes of an end are cut no further, behind so many frames.
+    pub(crate) fn say_cut(
+        &mut self,
+        side: Side,
+        count: usize,
+        fault: PayloadFault,
+    ) -> Result<(), Failure> {
+        let name = self.wording.ends.name(side);
+        writeln!(self.text, "the {name}, behind its message {count}: {fault}")?;
+        Ok(())
+    }
+
+    /// Says of a direction that it ends inside a message, if so many bytes of one came.
+    pub(crate) fn say_rest(&mut self, side: Side, count: usize) -> Result<(), Failure> {
+        if count == 0 {
+            return Ok(());
+        }
+        let name = self.wording.ends.name(side);
+        writeln!(
+            self.text,
+            "the {name} ends inside a message, of which {count} bytes came"
+        )?;
+        Ok(())
+    }
+
+    /// Says what is open, and the table if one is asked for.
+    pub(crate) fn say_end(&mut self, books: &Books, last: Moment) -> Result<(), Failure> {
+        if !self.wording.only {
+            let view = View {
+                books,
+                ends: &self.wording.ends,
+                names: &self.wording.naming,
+            };
+            write_open(&mut self.text, &view, last)?;
+        }
+        if let Some(rows) = self.rows {
+            self.say_totals(rows)?;
+        }
+        self.flush()
+    }
+
+    /// A table of at most so many rows, each the last of as many messages, and the last message.
+    fn say_totals(&mut self, rows: u64) -> Result<(), Failure> {
+        if self.totals.is_empty() || rows == 0 {
+            return Ok(());
+        }
+        write_totals_head(&mut self.text, &self.wording.ends)?;
+        let count = self.totals.len() as u64;
+        let step = (count - 1) / rows + 1;
+        let mut number: u64 = 0;
+        for totals in &self.totals {
+            number = number.saturating_add(1);
+            if number % step == 0 || number == count {
+                write_totals(&mut self.text, totals)?;
+            }
+        }
+        Ok(())
+    }
+}
