@@ -95,7 +95,7 @@ impl Thought {
             return Ok(());
         };
         self.last = None;
-    // A copy: what is passed by value can't be used again, though its type is `Copy`.
+        // A copy: what is passed by value can't be used again, though its type is `Copy`.
         let again = node;
         self.gone.push(again)?;
         self.marks.add(node)
