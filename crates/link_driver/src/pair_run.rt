@@ -51,17 +51,10 @@ pub fn run_pair<R: Threads + Wait + Sync, G: Gate, C: Clock + Sync>(
         max_turns,
     };
     let of_b = Job {
-        alloc,
         vat: Vat::B,
-        lines,
-        gate,
-        clock,
-        signals: &signals,
-        max_turns,
+        ..of_a
     };
-    let a = Worked { end: a };
-    let b = Worked { end: b };
-    match work_both(rt, &of_a, &of_b, a, b) {
+    match work_both(rt, &of_a, &of_b, Worked { end: a }, Worked { end: b }) {
         Ok(((a, why_a), (b, why_b))) => {
             let Worked { end: a } = a;
             let Worked { end: b } = b;

@@ -10,7 +10,7 @@ ghost use Rattle.link_sides.specs.Rooms.{held_of, IsReady};
 ghost use Rattle.link_sides.specs.Sides.{down_by, AnswersSo, HasBack, IsOwn, IsQuiet, IsShutBy, IsSpare, IsTold};
 
 use crate::answers::{ask, no_effects};
-use crate::entries::{make_room, tell_fall, tell_whole};
+use crate::entries::{make_room, note_fall, tell_fall, tell_whole};
 use crate::kept::Kept;
 use core_telling::{
     Answer, Core, Note as Own, back_of, index_of_call, note_of, write_note, write_refused,
@@ -56,17 +56,9 @@ pub(crate) fn shut(kept: &mut Kept, number: u16, waiting: &mut Waiting<Message>)
 {
     let start = kept.journal.len();
     let vat = kept.core.vat();
-    let mut effects = kept.core.shut(number);
+    let effects = kept.core.shut(number);
     let told = Told::Shut(Snapshot::of(&effects));
-    let sent = effects.sends.len();
-    tell_fall(kept, vat, number, &mut effects, waiting);
-    kept.core.recycle(effects);
-    let entries = kept.journal.len() - start;
-    Note {
-        told,
-        sent,
-        entries,
-    }
+    note_fall(kept, vat, start, told, number, effects, waiting)
 }
 
 // The command has not run: there is no room for what it would say.
@@ -361,17 +353,9 @@ fn tell_shut(
     let vat = kept.core.vat();
     kept.core.recycle(effects);
     let number = Fault::WantOfRoom.code();
-    let mut fallen = kept.core.shut(number);
+    let fallen = kept.core.shut(number);
     let told = Told::Shut(Snapshot::of(&fallen));
-    let sent = fallen.sends.len();
-    tell_fall(kept, vat, number, &mut fallen, waiting);
-    kept.core.recycle(fallen);
-    let entries = kept.journal.len() - start;
-    Note {
-        told,
-        sent,
-        entries,
-    }
+    note_fall(kept, vat, start, told, number, fallen, waiting)
 }
 
 // A copy of a command that asks for a field: its note has not all of it.

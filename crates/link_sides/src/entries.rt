@@ -1,11 +1,13 @@
-ghost use Rattle.std.specs.Prelude.{◌≡◌, ◌++◌, ◌+◌, ◌≤◌, ◌<◌, [], true, length, OnOk, OnErr};
+ghost use Rattle.std.specs.Prelude.{◌≡◌, ◌++◌, ◌+◌, ◌-◌, ◌≤◌, ◌<◌, [], true, length, OnOk, OnErr};
 ghost use Rattle.rpc_machine.specs.Journal.{effect_entries};
 ghost use Rattle.core_telling.specs.Told.{without_sends, IsFall};
+ghost use Rattle.link_logs.specs.Notes.{sends_by};
 ghost use Rattle.link_sides.specs.Rooms.{Queues};
 
 use crate::kept::Kept;
 use crate::sends::send;
 use core_telling::{count, put_effects, write_fall};
+use link_logs::{Note, Told};
 use link_rings::Waiting;
 use rpc_machine::Effects;
 use rpc_msg::{Memory, Message, Vat};
@@ -31,6 +33,42 @@ pub(crate) fn tell_fall(
 {
     write_fall(vat, &mut kept.spare, &mut kept.journal, number, effects);
     send(kept.alloc, effects, waiting);
+}
+
+/// Tells a step that took the vat down, as `tell_fall`, and gives the memory of its effects back to the core. The entries of the step
+/// begin at `start` in the journal.
+pub(crate) fn note_fall(
+    kept: &mut Kept,
+    vat: Vat,
+    start: usize,
+    told: Told,
+    number: u16,
+    effects: Effects,
+    waiting: &mut Waiting<Message>,
+) -> Note
+    requires abort { kept.old.spare.can_abort ≡ true }
+    requires entries { 2 ≤ kept.old.journal.1 }
+    requires free { 0 < waiting.old.room }
+    requires fall { IsFall effects number }
+    requires start { start ≤ length kept.old.journal.0 }
+    requires sends { sends_by told ≡ effects.sends }
+    ensures core { kept.new.core ≡ kept.old.core }
+    ensures copies { kept.new.copies.0 ≡ kept.old.copies.0 }
+    ensures journal { kept.new.journal.0 ≡ kept.old.journal.0 ++ effect_entries vat effects }
+    ensures queued { Queues waiting.old effects.sends waiting.new }
+    ensures told { result.told ≡ told }
+    ensures counted { result.entries ≡ length kept.new.journal.0 - start }
+{
+    let sent = effects.sends.len();
+    let mut effects = effects;
+    tell_fall(kept, vat, number, &mut effects, waiting);
+    kept.core.recycle(effects);
+    let entries = kept.journal.len() - start;
+    Note {
+        told,
+        sent,
+        entries,
+    }
 }
 
 /// Tells a step for which room was made: its entries go from their list to the end of the journal, and its messages behind

@@ -4,7 +4,7 @@ ghost use Rattle.link_logs.specs.Steps.{StepsSo, input_of, sends_of};
 ghost use Rattle.link_sides.specs.Rooms.{held_of, IsReady};
 ghost use Rattle.link_sides.specs.Sides.{down_by, TellsSo};
 
-use crate::entries::{make_room, tell_fall, tell_whole};
+use crate::entries::{make_room, note_fall, tell_whole};
 use crate::kept::Kept;
 use link_logs::{Note, Told};
 use link_rings::Waiting;
@@ -37,18 +37,8 @@ pub(crate) fn receive(
     kept.journal.push(JournalEntry::Got(vat));
     if let Some(number) = kept.core.down() {
         let told = Told::Received(heard, Snapshot::of(&effects), true);
-        let sent = effects.sends.len();
-        tell_fall(kept, vat, number, &mut effects, waiting);
-        kept.core.recycle(effects);
-        let entries = kept.journal.len() - start;
-        return (
-            Note {
-                told,
-                sent,
-                entries,
-            },
-            Err(number),
-        );
+        let note = note_fall(kept, vat, start, told, number, effects, waiting);
+        return (note, Err(number));
     }
     match make_room(kept, vat, room, &effects, waiting) {
         Ok(()) => {
@@ -69,18 +59,8 @@ pub(crate) fn receive(
     }
     kept.core.recycle(effects);
     let number = Fault::WantOfRoom.code();
-    let mut fallen = kept.core.shut(number);
+    let fallen = kept.core.shut(number);
     let told = Told::Received(heard, Snapshot::of(&fallen), false);
-    let sent = fallen.sends.len();
-    tell_fall(kept, vat, number, &mut fallen, waiting);
-    kept.core.recycle(fallen);
-    let entries = kept.journal.len() - start;
-    (
-        Note {
-            told,
-            sent,
-            entries,
-        },
-        Err(number),
-    )
+    let note = note_fall(kept, vat, start, told, number, fallen, waiting);
+    (note, Err(number))
 }

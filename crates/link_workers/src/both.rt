@@ -23,6 +23,20 @@ struct Given<'s, A> {
     lines: Snapshot<&'s [Line]>,
 }
 
+impl<'s, A: PairEnd> Given<'s, A> {
+    fn of<G, C>(end: &A, job: &Job<'s, G, C>) -> Given<'s, A>
+        ensures end { result.end.value ≡ end.now }
+        ensures vat { result.vat ≡ job.now.vat }
+        ensures lines { result.lines.value.now ≡ job.now.lines.now }
+    {
+        Given {
+            end: Snapshot::of(end),
+            vat: job.vat,
+            lines: Snapshot::of(&job.lines),
+        }
+    }
+}
+
 impl<'s, A: PairEnd> Promise<(A, Option<WorkerEnd>)> for Given<'s, A> {
     ghost use Rattle.link_workers.specs.Ending.{IsBack};
 
@@ -46,11 +60,7 @@ pub fn work_both<R: Threads + Wait + Sync, A: PairEnd + Send, B: PairEnd, G: Gat
     let go = AtomicBool::new(true);
     let told = &go;
     let start = Snapshot::of(&a);
-    let promise = Given {
-        end: Snapshot::of(&a),
-        vat: job_a.vat,
-        lines: Snapshot::of(&job_a.lines),
-    };
+    let promise = Given::of(&a, job_a);
     thread::scope(
         thread::scope_env(),
         rt,
@@ -71,8 +81,7 @@ pub fn work_both<R: Threads + Wait + Sync, A: PairEnd + Send, B: PairEnd, G: Gat
                 Ok(handle) => {
                     let worked_b = work(rt, job_b, b);
                     let (a, why) = handle.join(rt);
-                    let worked_a = work_late(rt, job_a, start, a, why);
-                    return Ok((worked_a, worked_b));
+                    return Ok((work_late(rt, job_a, start, a, why), worked_b));
                 }
                 Err(refused) => {
                     told.store(false, Ordering::SeqCst);

@@ -1,7 +1,7 @@
 //! What breaks the protocol, in words.
 use crate::names::Ends;
 use crate::parts::write_kind;
-use look_books::{Breach, GivenBack, Lost, Over, Unresolved, Use};
+use look_books::{Breach, GivenBack, Kind, Lost, Over, Unresolved, Use};
 use look_pieces::Side;
 use rpc_msg::{ExportId, QuestionId};
 use std::alloc::AllocError;
@@ -119,6 +119,33 @@ fn write_resolves_none(
     }
 }
 
+fn write_again(
+    out: &mut String,
+    verb: &str,
+    question: QuestionId,
+    number: u64,
+) -> Result<(), AllocError> {
+    write!(
+        out,
+        "it {verb} question {} again, after {number}",
+        question.0
+    )
+}
+
+fn write_takes_none(out: &mut String, question: QuestionId) -> Result<(), AllocError> {
+    write!(
+        out,
+        "it takes the results of question {}, which is no open tail call",
+        question.0
+    )
+}
+
+fn write_never_sent(out: &mut String, other: &str, kind: Kind) -> Result<(), AllocError> {
+    out.push_str("it sends back a ")?;
+    write_kind(out, kind)?;
+    write!(out, " that the {other} never sent")
+}
+
 /// Writes what breaks the protocol, in words.
 pub fn write_breach_words(
     out: &mut String,
@@ -137,26 +164,14 @@ pub fn write_breach_words(
             write_too_many(out, other, by, count, export, there)
         }
         Breach::AnswersNone(question, over) => write_answers_none(out, other, question, over),
-        Breach::AnswersAgain(question, number) => write!(
-            out,
-            "it answers question {} again, after {number}",
-            question.0
-        ),
+        Breach::AnswersAgain(question, number) => write_again(out, "answers", question, number),
         Breach::NoTailCall(number) => write!(
             out,
             "resultsSentElsewhere answers {number}, which is no tail call"
         ),
-        Breach::TakesNone(question) => write!(
-            out,
-            "it takes the results of question {}, which is no open tail call",
-            question.0
-        ),
+        Breach::TakesNone(question) => write_takes_none(out, question),
         Breach::FinishesNone(question, over) => write_finishes_none(out, question, over),
-        Breach::FinishesAgain(question, number) => write!(
-            out,
-            "it finishes question {} again, after {number}",
-            question.0
-        ),
+        Breach::FinishesAgain(question, number) => write_again(out, "finishes", question, number),
         Breach::ResolvesNone(promise, why) => write_resolves_none(out, promise, why),
         Breach::EmbargoInUse(embargo, number) => {
             write!(out, "embargo {} is in use since {number}", embargo.0)
@@ -167,11 +182,7 @@ pub fn write_breach_words(
         Breach::NoEmbargo(embargo) => {
             write!(out, "embargo {} of the {other} is not under way", embargo.0)
         }
-        Breach::NeverSent(kind) => {
-            out.push_str("it sends back a ")?;
-            write_kind(out, kind)?;
-            write!(out, " that the {other} never sent")
-        }
+        Breach::NeverSent(kind) => write_never_sent(out, other, kind),
     }
 }
 

@@ -7,20 +7,20 @@ use Rattle.link_sides.proofs.commands.tell_shut.Goals as goal
 
 pub returns-clause-obeys : goal.returns-clause-obeys
 returns-clause-obeys c =
-    overflowed_at (record { core = c.args.before.value; journal = c.args.kept.now.journal.0 }) c.vat-vat.result c.tell_fall.new.kept.journal.0 c.len.result c.len-start.result _ c.of.result c.shut-fallen.result _ _
+    overflowed_at (record { core = c.args.before.value; journal = c.args.kept.now.journal.0 }) c.vat-vat.result c.note_fall.new.kept.journal.0 _ c.len.result _ c.of.result c.shut-fallen.result _ _
     (record {
       value = c.of.ensures;
       vat_is = c.vat-vat.ensures ∙ (c.names_stay.ensures.commands _ _ _ _ _ c.requires.step).vat;
-      entries = refl;
-      len = c.len.ensures;
-      start = c.len-start.ensures;
-      queued = c.tell_fall.ensures.queued;
+      entries = c.note_fall.ensures.counted;
+      len = refl;
+      start = c.len.ensures;
+      queued = c.note_fall.ensures.queued;
     })
-    c.overflow_is_shut.ensures c.args.kept.now.core c.recycle.new.self c.shut-fallen.new.self c.recycle-2.new.self c.args.asked.now.value _ (Ok c.args.granted) c.args.effects refl c.requires.up c.requires.step
+    c.overflow_is_shut.ensures c.args.kept.now.core c.recycle.new.self c.shut-fallen.new.self c.note_fall.new.kept.core c.args.asked.now.value _ (Ok c.args.granted) c.args.effects c.note_fall.ensures.told c.requires.up c.requires.step
     c.requires.still_up c.recycle.ensures
     (subst (λ (n : ℕ). ShutsFrom c.recycle.new.self n c.recycle.new.self.down c.shut-fallen.result c.shut-fallen.new.self) c.code-number.ensures c.shut-fallen.ensures)
-    (c.recycle-2.ensures ∙ c.tell_fall.ensures.core)
-    c.tell_fall.ensures.journal
+    c.note_fall.ensures.core
+    c.note_fall.ensures.journal
 
 pub returns-clause-shut : goal.returns-clause-shut
 returns-clause-shut c =
