@@ -44,59 +44,63 @@ fn resolve() -> PlainMessage {
     })
 }
 
-fn disembargo(target: Target, context: DisembargoContext) -> PlainMessage {
-    PlainMessage::Disembargo(Disembargo { target, context })
+fn disembargo() -> PlainMessage {
+    PlainMessage::Disembargo(Disembargo {
+        target: Target::PromisedAnswer(QUESTION, Path::root()),
+        context: DisembargoContext::SenderLoopback(EMBARGO),
+    })
 }
 
-/// A conversation: who says what, and what breaks the protocol of it.
-fn steps(alloc: Global) -> Result<Vec<(Side, PlainMessage, Option<Breach>)>, Fail> {
-    let answer = Target::PromisedAnswer(QUESTION, Path::root());
-    let import = Target::ImportedCap(EXPORT);
+fn disembargo_back() -> PlainMessage {
+    PlainMessage::Disembargo(Disembargo {
+        target: Target::ImportedCap(EXPORT),
+        context: DisembargoContext::ReceiverLoopback(EMBARGO),
+    })
+}
+
+/// Who says what, and what breaks the protocol of it.
+type Step = (Side, PlainMessage, Option<Breach>);
+
+fn right(side: Side, message: PlainMessage) -> Step {
+    (side, message, None)
+}
+
+fn wrong(side: Side, message: PlainMessage, breach: Breach) -> Step {
+    (side, message, Some(breach))
+}
+
+fn conversation(alloc: Global) -> Result<Vec<Step>, Fail> {
+    let (client, server) = (Side::Client, Side::Server);
+    let none_there = Breach::TooMany(GivenBack::Itself, 1, EXPORT, 0);
     Ok(vec![in alloc;
-        (Side::Client, PlainMessage::Bootstrap(QUESTION), None),
-        (
-            Side::Client,
+        right(client, PlainMessage::Bootstrap(QUESTION)),
+        wrong(
+            client,
             PlainMessage::Bootstrap(QUESTION),
-            Some(Breach::InUse(QUESTION, 1, None))
+            Breach::InUse(QUESTION, 1, None)
         ),
-        (Side::Server, canceled(), None),
-        (
-            Side::Server,
-            canceled(),
-            Some(Breach::AnswersAgain(QUESTION, 3))
-        ),
-        (Side::Client, finish(), None),
-        (
-            Side::Client,
+        right(server, canceled()),
+        wrong(server, canceled(), Breach::AnswersAgain(QUESTION, 3)),
+        right(client, finish()),
+        wrong(
+            client,
             finish(),
-            Some(Breach::FinishesNone(QUESTION, Over::Since(5)))
+            Breach::FinishesNone(QUESTION, Over::Since(5))
         ),
-        (
-            Side::Client,
-            disembargo(answer, DisembargoContext::SenderLoopback(EMBARGO)),
-            Some(Breach::NotAsked(Use::Target, QUESTION, Lost::Finished(5)))
+        wrong(
+            client,
+            disembargo(),
+            Breach::NotAsked(Use::Target, QUESTION, Lost::Finished(5))
         ),
-        (
-            Side::Server,
-            disembargo(import, DisembargoContext::ReceiverLoopback(EMBARGO)),
-            None
-        ),
-        (
-            Side::Client,
-            release(1),
-            Some(Breach::TooMany(GivenBack::Itself, 1, EXPORT, 0))
-        ),
-        (
-            Side::Server,
+        right(server, disembargo_back()),
+        wrong(client, release(1), none_there),
+        wrong(
+            server,
             resolve(),
-            Some(Breach::ResolvesNone(ExportId(4), Unresolved::NeverPromised))
+            Breach::ResolvesNone(ExportId(4), Unresolved::NeverPromised)
         ),
-        (Side::Client, release(1), None),
-        (
-            Side::Client,
-            release(1),
-            Some(Breach::TooMany(GivenBack::Itself, 1, EXPORT, 0))
-        ),
+        right(client, release(1)),
+        wrong(client, release(1), none_there),
     ]?)
 }
 
@@ -104,7 +108,7 @@ fn steps(alloc: Global) -> Result<Vec<(Side, PlainMessage, Option<Breach>)>, Fai
 fn breaches_are_found(rt: HostRuntime) -> Result<(), Fail> {
     let mut books = Books::new(rt.alloc());
     let mut number: u64 = 0;
-    for (side, message, breach) in steps(rt.alloc())? {
+    for (side, message, breach) in conversation(rt.alloc())? {
         number = number.saturating_add(1);
         let moment = Moment {
             number,

@@ -2,9 +2,7 @@
 
 use link_driver::{PairRun, VatSide};
 use link_workers::WorkerEnd;
-
-/// The end of a vat that lacks memory or meets a limit within a step.
-const NO_ROOM: WorkerEnd = WorkerEnd::Down(33);
+use rpc_machine::Fault;
 
 /// Whether a vat went down since a growth was refused. Its number is that of a limit too, and it knows which it was.
 pub(crate) fn lacked_memory(run: &PairRun) -> bool {
@@ -13,5 +11,5 @@ pub(crate) fn lacked_memory(run: &PairRun) -> bool {
 }
 
 fn fell_without_limit(why: WorkerEnd, side: &VatSide) -> bool {
-    why == NO_ROOM && !side.met_limit()
+    why == WorkerEnd::Down(Fault::WantOfRoom.code()) && !side.met_limit()
 }

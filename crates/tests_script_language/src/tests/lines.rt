@@ -2,7 +2,7 @@
 
 use rpc_msg::{Items, Op, Vat};
 use script_language::{
-    Line, LineCommand, LineFault, Name, Program, ReadFault, ScriptFault, read_script,
+    CallLine, Line, LineCommand, LineFault, Name, Program, ReadFault, ScriptFault, read_script,
 };
 use std::alloc::Global;
 
@@ -202,6 +202,16 @@ fn steps(path: &Items<Op>) -> [u64; 2] {
     [path.len() as u64, sum]
 }
 
+fn outline_call(at: Option<Vat>, line: &CallLine) -> Told {
+    let method = u64::from(line.method).wrapping_mul(100);
+    brief(
+        "call",
+        at,
+        [Some(line.call), Some(line.reference)],
+        [line.interface, method.wrapping_add(line.caps.len() as u64)],
+    )
+}
+
 fn outline_command(vat: Vat, said: &LineCommand) -> Told {
     let at = Some(vat);
     let none = [None, None];
@@ -216,17 +226,7 @@ fn outline_command(vat: Vat, said: &LineCommand) -> Told {
                 steps(&line.path),
             )
         }
-        LineCommand::Call(line) => brief(
-            "call",
-            at,
-            [Some(line.call), Some(line.reference)],
-            [
-                line.interface,
-                u64::from(line.method)
-                    .wrapping_mul(100)
-                    .wrapping_add(line.caps.len() as u64),
-            ],
-        ),
+        LineCommand::Call(line) => outline_call(at, line),
         LineCommand::Answer(task, caps) => brief("answer", at, none, [task.0, caps.len() as u64]),
         LineCommand::Fail(task) => brief("fail", at, none, [task.0, 0]),
         LineCommand::Promise(promise, name) => {
