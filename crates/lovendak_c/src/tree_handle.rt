@@ -12,7 +12,7 @@ use std::mem;
 /// What stands in a handle that has trees, and not by chance in memory that nobody wrote.
 const MAGIC: u32 = 0x4c6f_7472;
 
-/// Trees; or none, where the magic number does not stand in it: only where it does is the address followed. C keeps it, and neither
+/// Trees; or none, if the magic number is not in it: only if it is, the address is followed. C keeps it, and neither
 /// changes nor copies it.
 #[repr(C)]
 #[derive(Drop)]

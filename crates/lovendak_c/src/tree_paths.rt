@@ -8,7 +8,7 @@ use crate::tree_codes::{told, told_with};
 use crate::tree_handle::TreeHandle;
 use std::alloc::Global;
 
-/// Reads a payload that goes with so many capabilities: says its number. 102 where the bytes are none.
+/// Reads a payload that goes with so many capabilities: says its number. 102 if the bytes are none.
 #[unsafe(no_mangle)]
 pub extern "C" fn lovendak_tree_read(
     alloc: Global,
@@ -27,8 +27,8 @@ pub extern "C" fn lovendak_tree_read(
     told_with(answer, made)
 }
 
-/// Says what stands at a path of a payload: 0 null, 1 a struct, 2 a list, 3 a capability; and how many elements the list has, or the
-/// index of the capability. 104 where there is no such payload or path.
+/// Says what stands at a path of a payload: 0 null, 1 a struct, 2 a list, 3 a capability. The number is how many elements the list has,
+/// or the index of the capability. 104 if there is no such payload or path.
 #[unsafe(no_mangle)]
 pub extern "C" fn lovendak_tree_kind(
     alloc: Global,
@@ -55,8 +55,8 @@ pub extern "C" fn lovendak_tree_kind(
     }
 }
 
-/// Says the number of so many bits at so many times its width: in the data of a struct at a path of a payload (0 past its end and behind
-/// null), or in a list of such numbers. 105 where that is no width, 104 where something else stands there, or nothing.
+/// Says the number of so many bits at so many times its width, in the data of a struct at a path of a payload, or in a list of such
+/// numbers. It is 0 past the end of the data and behind null. 105 if that is no width, 104 if something else stands there, or nothing.
 #[unsafe(no_mangle)]
 pub extern "C" fn lovendak_tree_number(
     alloc: Global,
@@ -77,8 +77,8 @@ pub extern "C" fn lovendak_tree_number(
     told_with(answer, number)
 }
 
-/// Hands out the text at a path of a payload: none behind null. Where there is too little room (103) nothing is handed out but the length.
-/// 104 where something else stands there, or nothing.
+/// Hands out the text at a path of a payload: none behind null. If there is too little room (103), nothing is handed out but the length.
+/// 104 if something else stands there, or nothing.
 #[unsafe(no_mangle)]
 pub extern "C" fn lovendak_tree_text(
     alloc: Global,
@@ -98,8 +98,8 @@ pub extern "C" fn lovendak_tree_text(
     told(answer)
 }
 
-/// Hands out the bytes of the list of bytes at a path of a payload: none behind null. Where there is too little room (103) nothing is handed out but the length.
-/// 104 where something else stands there, or nothing.
+/// Hands out the bytes of the list of bytes at a path of a payload: none behind null. If there is too little room (103), nothing is handed out but the length.
+/// 104 if something else stands there, or nothing.
 #[unsafe(no_mangle)]
 pub extern "C" fn lovendak_tree_data(
     alloc: Global,
@@ -119,7 +119,7 @@ pub extern "C" fn lovendak_tree_data(
     told(answer)
 }
 
-/// Says the index of the capability at a path of a payload. 104 where something else stands there, or nothing.
+/// Says the index of the capability at a path of a payload. 104 if something else stands there, or nothing.
 #[unsafe(no_mangle)]
 pub extern "C" fn lovendak_tree_cap(
     alloc: Global,

@@ -61,7 +61,7 @@ pub extern "C" fn lovendak_tree_struct(
     told_with(answer, made)
 }
 
-/// Begins a list of so many pointers, which are null: says its number. 2 where there are more than 65,535.
+/// Begins a list of so many pointers, which are null: says its number. 2 if there are more than 65,535.
 #[unsafe(no_mangle)]
 pub extern "C" fn lovendak_tree_list(
     alloc: Global,
@@ -98,8 +98,8 @@ pub extern "C" fn lovendak_tree_structs(
     told_with(answer, made)
 }
 
-/// Puts a number of so many bits into the data of a struct, at so many times its width. 105 where that is no width or the number has
-/// more bits, 104 past the end of the data and where no struct is being built.
+/// Puts a number of so many bits into the data of a struct, at so many times its width. 105 if that is no width, or the number has more
+/// bits. 104 past the end of the data, or if no struct is being built.
 #[unsafe(no_mangle)]
 pub extern "C" fn lovendak_tree_set_number(
     alloc: Global,
@@ -119,7 +119,7 @@ pub extern "C" fn lovendak_tree_set_number(
     told(answer)
 }
 
-/// Has a pointer lead to a text. 102 where the bytes are no UTF-8, 104 where there is no such pointer.
+/// Has a pointer lead to a text. 102 if the bytes are no UTF-8, 104 if there is no such pointer.
 #[unsafe(no_mangle)]
 pub extern "C" fn lovendak_tree_set_text(
     alloc: Global,
@@ -138,7 +138,7 @@ pub extern "C" fn lovendak_tree_set_text(
     told(answer)
 }
 
-/// Has a pointer lead to a list of these bytes. 104 where there is no such pointer.
+/// Has a pointer lead to a list of these bytes. 104 if there is no such pointer.
 #[unsafe(no_mangle)]
 pub extern "C" fn lovendak_tree_set_data(
     alloc: Global,
@@ -157,7 +157,7 @@ pub extern "C" fn lovendak_tree_set_data(
     told(answer)
 }
 
-/// Has a pointer lead to a list of numbers of so many bits. 105 where that is no width or one of them has more bits, 104 where there is
+/// Has a pointer lead to a list of numbers of so many bits. 105 if that is no width or one of them has more bits, 104 if there is
 /// no such pointer.
 #[unsafe(no_mangle)]
 pub extern "C" fn lovendak_tree_set_numbers(
@@ -178,7 +178,7 @@ pub extern "C" fn lovendak_tree_set_numbers(
     told(answer)
 }
 
-/// Has a pointer lead to the capability of that index. 104 where there is no such pointer.
+/// Has a pointer lead to the capability of that index. 104 if there is no such pointer.
 #[unsafe(no_mangle)]
 pub extern "C" fn lovendak_tree_set_cap(
     alloc: Global,
@@ -197,8 +197,8 @@ pub extern "C" fn lovendak_tree_set_cap(
     told(answer)
 }
 
-/// Has a pointer lead to the tree under another number, which then stands for nothing. 104 where there is no such pointer or no such
-/// tree, 2 where it nests too deep.
+/// Has a pointer lead to the tree under another number, which then stands for nothing. 104 if there is no such pointer or no such
+/// tree, 2 if it nests too deep.
 #[unsafe(no_mangle)]
 pub extern "C" fn lovendak_tree_put(
     alloc: Global,
@@ -217,7 +217,7 @@ pub extern "C" fn lovendak_tree_put(
     told(answer)
 }
 
-/// Puts the struct under a number at the end of a list of structs; the number then stands for nothing. 104 where there is no such list,
+/// Puts the struct under a number at the end of a list of structs; the number then stands for nothing. 104 if there is no such list,
 /// or no struct of its lengths.
 #[unsafe(no_mangle)]
 pub extern "C" fn lovendak_tree_push(
@@ -236,8 +236,8 @@ pub extern "C" fn lovendak_tree_push(
     told(answer)
 }
 
-/// Hands out the bytes of the tree under a number, which go with so many capabilities. Where there is too little room (103) nothing is
-/// handed out but the length. 104 where there is no tree, 9 where a capability of it is not below their number, 2 where a limit of
+/// Hands out the bytes of the tree under a number, which go with so many capabilities. If there is too little room (103), nothing is
+/// handed out but the length. 104 if there is no tree, 9 if a capability of it is not below their number, 2 if a limit of
 /// payloads is passed.
 #[unsafe(no_mangle)]
 pub extern "C" fn lovendak_tree_write(

@@ -28,8 +28,8 @@ enum Seen {
     Four(u32, Option<u32>),
 }
 
-/// A struct of the words 7 and 256, and of five pointers: the text `ab`, the numbers 1, 2 and 3 of two bytes, capability 0, two
-/// structs of one word and one pointer (10 and capability 1, 20 and the text `z`), and the pointers capability 1 and null.
+/// A struct of the words 7 and 256, and of five pointers. These are the text `ab`, the numbers 1, 2 and 3 of two bytes, capability 0,
+/// two structs of one word and one pointer (10 and capability 1, 20 and the text `z`), and the pointers capability 1 and null.
 const SAMPLE: &str =
     "0000000012000000 | 0000000002000500 0700000000000000 0001000000000000 110000001a000000 110000001b000000 0300000000000000 0d00000027000000 2100000016000000 6162000000000000 0100020003000000 0800000001000100 0a00000000000000 0300000001000000 1400000000000000 0100000012000000 7a00000000000000 0300000001000000 0000000000000000";
 

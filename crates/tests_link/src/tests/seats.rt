@@ -14,9 +14,9 @@ enum Act {
     Take(u64, u64, u64, Option<u16>),
 }
 
-/// What is done, and then: the number with which the seat was shut; the sum; number, acknowledgement and message of each frame that
-/// was made; of each entry, number and acknowledgement of what it took, how many frames were made before it, and how many had come
-/// after it.
+/// What is done, the number with which the seat was shut then, and the sum. Of each frame that was made its number, acknowledgement
+/// and message. Of each entry the number and the acknowledgement of what it took, how many frames were made before it, and how many
+/// had come after it.
 struct Case {
     acts: &'static [Act],
     shut: Option<u16>,

@@ -187,8 +187,8 @@ pub(super) fn see(
     look(alloc, done, &gathered, frames)
 }
 
-/// What is seen of the end of A alone: whether all was done, how many entries its log and its journal have, how many its log says
-/// that it wrote, and how many calls were delivered at it, if they are the first of those.
+/// What is seen of the end of A alone: whether all was done, how many entries its log and its journal have, and how many its log says
+/// that it wrote. And how many calls were delivered at it, if they are the first of those.
 #[derive(Clone, Copy, Drop)]
 pub(super) struct Alone {
     pub is_done: bool,

@@ -54,9 +54,9 @@ const FINISHES: Step = (
 
 const NOTHING_TO_TAKE: Step = (Act::Comes(Frame(TAKES, 5)), Outcome::Fault(66));
 
-/// The results are taken before they are there, after it, and after the Finish of the tail call; they are not taken; the call is
-/// canceled; there is no tail call; the results can't be taken any more; none are kept; a Release is not understood; a capability is
-/// named by its path, goes as null if it is not there, and can't be named in a list.
+/// Results that are taken: before they are there, after it, and after the Finish of the tail call. Results that are not taken. Calls
+/// that are canceled. No tail call; results that can't be taken any more; none that are kept. A Release that is not understood. A
+/// capability that is named by its path, that goes as null if it is not there, and that can't be named in a list.
 const SCENES: [&[Step]; 15] = [
     &[ASKS, WAITS, GIVES, FINISHES],
     &[

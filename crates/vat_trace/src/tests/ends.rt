@@ -43,8 +43,8 @@ fn too_many_exports(alloc: Global) -> Result<String, AllocError> {
     Ok(script)
 }
 
-/// Each vat resolves a promise to one of the other's, and calls through it: the calls go round until tables are full, in one
-/// circle sooner than in the other, and which vat goes down is for the threads to say.
+/// Each vat resolves a promise to one of the other's, and calls through it. The calls go round until tables are full, in one
+/// circle sooner than in the other. Which vat goes down depends on the threads.
 fn round_two_circles(alloc: Global) -> Result<String, AllocError> {
     let mut script = String::new(alloc);
     write!(
