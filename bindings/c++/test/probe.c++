@@ -2,6 +2,7 @@
 //   probe server ADDRESS              serves a probe
 //   probe proxy ADDRESS OTHER         serves the probe of another address as its own
 //   probe client ADDRESS WHAT NUMBER  does it, and prints what came of it, and if the connection lives
+// A server also exports, by the name `probe 1`, another probe.
 #include <signal.h>
 #include <unistd.h>
 #include <functional>
@@ -67,6 +68,18 @@ public:
 
 private:
   Counted counted{things};
+};
+
+class Named final: public Probe::Server {
+  // What is exported by a name. It says that it is no other.
+
+public:
+  kj::Promise<void> alive(AliveContext context) override {
+    context.getResults().setThings(NAMED);
+    return kj::READY_NOW;
+  }
+
+  static constexpr unsigned int NAMED = 77;
 };
 
 static std::string said(const kj::Exception& exception) {
@@ -231,13 +244,21 @@ static std::string failsLong(Client& client, unsigned int number) {
   return failed;
 }
 
+// The number is a part of the name.
+static std::string imports(Client& client, unsigned int number) {
+  auto named = client.client.importCap<Probe>(kj::str("probe ", number));
+  return "things " + std::to_string(client.await(named.aliveRequest().send()).getThings());
+}
+
 static const std::map<std::string, std::function<std::string(Client&, unsigned int)>> DEEDS = {
   {"calls", calls}, {"flood", floods}, {"open", opens}, {"gone", gone}, {"echo", echoes}, {"hold", holds}, {"chain", chains},
   {"nest", nests}, {"give", gives}, {"take", takes}, {"fail", fails}, {"fail-long", failsLong},
+  {"import", imports},
 };
 
 static void serve(Probe::Client probe, const char* address) {
   EzRpcServer server(kj::mv(probe), address);
+  server.exportCap("probe 1", kj::heap<Named>());
   std::cout << server.getPort().wait(server.getWaitScope()) << std::endl;
   kj::NEVER_DONE.wait(server.getWaitScope());
 }

@@ -42,6 +42,16 @@ class Scene:
         self.speak()
         return self.refs_told(self.client)
 
+    def echoed(self):
+        """An object of the client goes with a call, and comes back with its results: the call, and the reference that came."""
+        own = self.client.host(OBJECT)
+        call, task, [given] = self.called(own)
+        self.client.drop_ref(own)
+        [came] = self.answered(task, given)
+        self.server.drop_ref(given)
+        self.speak()
+        return call, came
+
     def given(self, ref):
         """A reference of the client is its peer's now, and no call is open: the peer's."""
         call, task, [given] = self.called(ref)
@@ -105,22 +115,14 @@ def kept_outcome(scene):
 
 
 def own_outcome(scene):
-    own = scene.client.host(OBJECT)
-    call, task, [given] = scene.called(own)
-    scene.client.drop_ref(own)
-    scene.client.drop_ref(*scene.answered(task, given))
-    scene.server.drop_ref(given)
-    scene.speak()
+    call, came = scene.echoed()
+    scene.client.drop_ref(came)
     yield scene.client
     scene.client.finish(call)
 
 
 def capability_of_a_return(scene):
-    own = scene.client.host(OBJECT)
-    call, task, [given] = scene.called(own)
-    scene.client.drop_ref(own)
-    [came] = scene.answered(task, given)
-    scene.server.drop_ref(given)
+    call, came = scene.echoed()
     scene.client.finish(call)
     scene.speak()
     yield scene.client
