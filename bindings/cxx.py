@@ -6,6 +6,7 @@
 - `calculator`: its client and server over libcapnp, over the drop-in by `LD_PRELOAD`, and straight on the stream, each with each.
 - `interop CLIENT SERVER`: the peers of `interop/`, which know nothing of the vat, by `LD_PRELOAD`: each scenario, and drawn conversations.
 - `probe ..`: what applications do at the limits of a vat; a server that dies; calls through a proxy.
+- `import CLIENT SERVER`: what a server exports by a name, and a name by which it exports nothing.
 - `limits`: with limits, a call behind messages that waited is heard.
 - `refusing`: each allocation of the library is refused in turn, in a conversation within one process."""
 import contextlib
@@ -196,6 +197,16 @@ def server_dies(client, server):
             return "" if done.stdout.startswith(says) else f"status {done.returncode}\n{done.stdout}{done.stderr}"
 
 
+def imported(client, server):
+    """A client on a stream asks for a name by a call, which a server of libcapnp doesn't know."""
+    if (client, server) == ("stream", "libcapnp"):
+        unknown = ("unimplemented: remote exception: Requested interface not implemented.; actualInterfaceName = probe.capnp:Probe; "
+                   "requestedTypeId = 12809266385639121031 | alive")
+        return probed([("import", 1, unknown)], client, server)
+    why = "Server exports no such capability.; name = probe 2" if server == "libcapnp" else "broken promise"
+    return probed([("import", 1, "things 77 | alive"), ("import", 2, f"failed: remote exception: {why} | alive")], client, server)
+
+
 def checks():
     yield "c++ beside", lambda: ran([PROGRAMS / "beside"])
     for name in FAILS:
@@ -210,6 +221,7 @@ def checks():
             deeds = AT_THE_LIMITS + (BEYOND if overs[0] != "libcapnp" else [])
             yield f"c++ probe {' '.join(overs)}", lambda overs=overs, deeds=deeds: probed(deeds, *overs)
             yield f"c++ dies {' '.join(overs)}", lambda overs=overs: server_dies(*overs)
+            yield f"c++ import {' '.join(overs)}", lambda overs=overs: imported(*overs)
     for overs in itertools.product(("libcapnp", "stream"), OVER, ("libcapnp", "stream")):
         if set(overs) != {"libcapnp"}:
             yield f"c++ proxy {' '.join(overs)}", lambda overs=overs: probed(PROXIED, *overs)

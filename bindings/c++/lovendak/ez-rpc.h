@@ -64,7 +64,7 @@ public:
   ~EzRpcServer() noexcept(false);
 
   void exportCap(kj::StringPtr name, capnp::Capability::Client cap);
-  // Exports it by that name to clients of Lovendak; clients of libcapnp ask in another way.
+  // Exports it by that name, to clients of Lovendak and of libcapnp.
 
   kj::Promise<unsigned int> getPort();
   // The port at which it listens, once it does; 0 if the address has none.
