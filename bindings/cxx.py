@@ -7,6 +7,7 @@
 - `interop CLIENT SERVER`: the peers of `interop/`, which know nothing of the vat, by `LD_PRELOAD`: each scenario, and drawn conversations.
 - `probe ..`: what applications do at the limits of a vat; a server that dies; calls through a proxy.
 - `import CLIENT SERVER`: what a server exports by a name, and a name by which it exports nothing.
+- `flow OVER`: with a flow limit, a server reads no further while too much of its client's has no answer.
 - `limits`: with limits, a call behind messages that waited is heard.
 - `refusing`: each allocation of the library is refused in turn, in a conversation within one process."""
 import contextlib
@@ -207,6 +208,12 @@ def imported(client, server):
     return probed([("import", 1, "things 77 | alive"), ("import", 2, f"failed: remote exception: {why} | alive")], client, server)
 
 
+def flowed(over):
+    """Of calls that are somewhat larger than a thousand words, with a limit of 2,500, three are open at a time, and all are answered."""
+    path, env = program("flow", over)
+    return ran([path], "3 3 3 3 3 3 2 1 0\n", env=env)
+
+
 def checks():
     yield "c++ beside", lambda: ran([PROGRAMS / "beside"])
     for name in FAILS:
@@ -225,5 +232,7 @@ def checks():
     for overs in itertools.product(("libcapnp", "stream"), OVER, ("libcapnp", "stream")):
         if set(overs) != {"libcapnp"}:
             yield f"c++ proxy {' '.join(overs)}", lambda overs=overs: probed(PROXIED, *overs)
+    for over in ("drop-in", "stream"):
+        yield f"c++ flow {over}", lambda over=over: flowed(over)
     yield "c++ limits", lambda: ran([*VALGRIND, PROGRAMS / "limits"])
     yield "c++ refusing", lambda: ran([*VALGRIND, PROGRAMS / "refusing"])
