@@ -200,9 +200,14 @@ fn write(shared: &Arc<Shared>, mut stream: impl Stream) {
     loop {
         shared.tell();
         match shared.next() {
-            Next::Send(bytes) if stream.write_all(&bytes).and_then(|()| stream.flush()).is_ok() => {}
+            Next::Send(bytes) => {
+                if stream.write_all(&bytes).and_then(|()| stream.flush()).is_err() {
+                    shared.unheard();
+                    let _ = stream.shutdown(); // so that the thread that reads comes to an end
+                }
+            }
             Next::Wait => thread::park(),
-            Next::Send(_) | Next::End => break,
+            Next::End => break,
         }
     }
     shared.lost();

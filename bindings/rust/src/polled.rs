@@ -61,32 +61,43 @@ pub struct Polled<S> {
     room: Vec<u8>,
     out: Vec<u8>,
     sent: usize,
+    has_failed: bool,
 }
 
 impl<S: AsyncRead + AsyncWrite + Unpin> Polled<S> {
     fn begin(stream: S, root: Option<Arc<dyn Object>>, holds_back: bool) -> io::Result<(Connection, Polled<S>)> {
         let shared = shared(root)?;
         let connection = Connection(shared.clone());
-        Ok((connection, Polled { shared, stream, holds_back, room: vec![0; 65_536], out: Vec::new(), sent: 0 }))
+        let (room, out) = (vec![0; 65_536], Vec::new());
+        Ok((connection, Polled { shared, stream, holds_back, room, out, sent: 0, has_failed: false }))
     }
 
     /// Writes what there is to be sent. `Ready` is true once nothing more will be.
-    fn write(&mut self, context: &mut Context<'_>) -> Poll<io::Result<bool>> {
+    fn write(&mut self, context: &mut Context<'_>) -> Poll<bool> {
         loop {
             while self.sent < self.out.len() {
                 match Pin::new(&mut self.stream).poll_write(context, &self.out[self.sent..]) {
-                    Poll::Ready(Ok(0)) => return Poll::Ready(Err(io::ErrorKind::WriteZero.into())),
-                    Poll::Ready(Ok(count)) => self.sent += count,
-                    Poll::Ready(Err(error)) => return Poll::Ready(Err(error)),
+                    Poll::Ready(Ok(count)) if count > 0 => self.sent += count,
+                    Poll::Ready(_) => self.fail(),
                     Poll::Pending => return Poll::Pending,
                 }
             }
             match self.shared.next() {
                 Next::Send(bytes) => (self.out, self.sent) = (bytes, 0),
-                Next::Wait => return Pin::new(&mut self.stream).poll_flush(context).map_ok(|()| false),
-                Next::End => return Pin::new(&mut self.stream).poll_close(context).map_ok(|()| true),
+                Next::Wait if self.has_failed => return Poll::Ready(false),
+                Next::Wait => match Pin::new(&mut self.stream).poll_flush(context) {
+                    Poll::Ready(Err(_)) => self.fail(),
+                    flushed => return flushed.map(|_| false),
+                },
+                Next::End => return Pin::new(&mut self.stream).poll_close(context).map(|_| true),
             }
         }
+    }
+
+    /// Nothing can be written any more; the stream is read to its end.
+    fn fail(&mut self) {
+        (self.out, self.sent, self.has_failed) = (Vec::new(), 0, true);
+        self.shared.unheard();
     }
 
     /// Reads a piece: false where the stream has ended.
@@ -109,8 +120,7 @@ impl<S: AsyncRead + AsyncWrite + Unpin> Future for Polled<S> {
         it.shared.set_driver(Some(context.waker().clone()));
         for _ in 0..TURNS {
             it.shared.tell();
-            let written = it.write(context);
-            if matches!(written, Poll::Ready(Ok(true) | Err(_))) {
+            if it.write(context) == Poll::Ready(true) {
                 it.shared.lost();
                 return Poll::Ready(());
             }

@@ -64,6 +64,8 @@ struct State {
     /// The thread that tells of events. There is one at a time, so that calls come in their order.
     telling: Option<ThreadId>,
     is_closing: bool,
+    /// Nothing can be written any more.
+    is_unheard: bool,
     has_ended: bool,
 }
 
@@ -93,7 +95,7 @@ impl State {
 
     /// Whether no more of the peer is read: it does not read itself, or the vat holds as much of it as its limits say.
     fn is_held(&mut self, holds_back: bool) -> bool {
-        !self.has_ended && (holds_back && self.waiting() > MOST_HELD || !self.vat.wants_bytes())
+        !self.has_ended && !self.is_unheard && (holds_back && self.waiting() > MOST_HELD || !self.vat.wants_bytes())
     }
 
     /// Whether there is more to be told or sent, or messages that waited are heard when the vat is asked again.
@@ -154,6 +156,7 @@ impl Shared {
             taken: 0,
             telling: None,
             is_closing: false,
+            is_unheard: false,
             has_ended: false,
         };
         let shared = Shared {

@@ -2,10 +2,10 @@
 
 use lovendak::{
     Answer, Call, CallId, Capability, Connection, Contents, Event, ExceptionKind, Finishes, Incoming, Level, Object,
-    Outcome, Promise, Remote, Resolver, Struct, Vat,
+    Outcome, Promise, Remote, Resolver, Stream, Struct, Vat,
 };
-use std::collections::BTreeMap;
-use std::io::{Read, Write};
+use std::collections::{BTreeMap, VecDeque};
+use std::io::{self, Read, Write};
 use std::net::{TcpListener, TcpStream};
 use std::os::unix::net::UnixStream;
 use std::sync::atomic::{AtomicBool, Ordering};
@@ -371,6 +371,62 @@ fn what_was_said_before_the_end_arrives() {
     connection.close();
     server.wait_ended();
     assert_eq!(root.echoed(), (0..100).collect::<Vec<_>>());
+}
+
+/// The stream of a peer that has gone. Nothing can be written to it. Of what the peer said, the second piece comes once that was tried.
+#[derive(Clone, Default)]
+struct Gone {
+    said: Arc<Mutex<VecDeque<Vec<u8>>>>,
+    is_refused: Arc<AtomicBool>,
+}
+
+impl Read for Gone {
+    fn read(&mut self, room: &mut [u8]) -> io::Result<usize> {
+        let (piece, is_second) = {
+            let mut said = self.said.lock().unwrap();
+            (said.pop_front().unwrap_or_default(), said.is_empty())
+        };
+        until(|| !is_second || self.is_refused.load(Ordering::SeqCst));
+        room[..piece.len()].copy_from_slice(&piece);
+        Ok(piece.len())
+    }
+}
+
+impl Write for Gone {
+    fn write(&mut self, _: &[u8]) -> io::Result<usize> {
+        self.is_refused.store(true, Ordering::SeqCst);
+        Err(io::ErrorKind::BrokenPipe.into())
+    }
+
+    fn flush(&mut self) -> io::Result<()> {
+        Ok(())
+    }
+}
+
+impl Stream for Gone {
+    fn try_clone(&self) -> io::Result<Gone> {
+        Ok(self.clone())
+    }
+
+    fn shutdown(&self) -> io::Result<()> {
+        Ok(())
+    }
+}
+
+#[test]
+fn what_a_peer_said_before_it_went_is_heard() {
+    let mut peer = Vat::new(Level::One, None).unwrap();
+    let asked = peer.bootstrap().unwrap();
+    let desk = peer.result_of(asked).unwrap();
+    let gone = Gone::default();
+    for number in 0..2 {
+        peer.call(desk, DESK, ECHO, &Contents::new(&[number], None, &[]).unwrap()).unwrap();
+        gone.said.lock().unwrap().push_back(peer.outgoing());
+    }
+    let root = Arc::new(Desk::default());
+    let server = Connection::accepted(gone, root.clone()).unwrap();
+    server.wait_ended();
+    assert_eq!(root.echoed(), [0, 1]);
 }
 
 #[test]

@@ -1,7 +1,7 @@
 //! A connection over a stream of the crate `futures-io`, on one thread.
 
 use futures_io::{AsyncRead, AsyncWrite};
-use lovendak::{Answer, Capability, Connection, Contents, ExceptionKind, Incoming, Object, Struct};
+use lovendak::{Answer, Capability, Connection, Contents, ExceptionKind, Incoming, Level, Object, Struct, Vat};
 use std::collections::VecDeque;
 use std::future::Future;
 use std::io;
@@ -187,4 +187,33 @@ fn a_peer_that_ends() {
     drop(there);
     run(vec![Box::pin(client)]);
     assert_eq!(call.wait().unwrap_err().kind, ExceptionKind::Disconnected);
+}
+
+/// It counts its calls.
+#[derive(Default)]
+struct Counted(Mutex<usize>);
+
+impl Object for Counted {
+    fn call(&self, call: Incoming, answer: Answer) {
+        *self.0.lock().unwrap() += 1;
+        answer.send(Ok(call.params));
+    }
+}
+
+/// The peer has gone, so nothing can be written. What it said before is more than is read at once.
+#[test]
+fn what_a_peer_said_before_it_went_is_heard() {
+    let mut peer = Vat::new(Level::One, None).unwrap();
+    let asked = peer.bootstrap().unwrap();
+    let root = peer.result_of(asked).unwrap();
+    for _ in 0..3 {
+        peer.call(root, DESK, 0, &Contents::new(&[0; 5000], None, &[]).unwrap()).unwrap();
+    }
+    let (here, there) = pipe();
+    here.to.lock().unwrap().bytes.extend(peer.outgoing());
+    drop(here);
+    let counted = Arc::new(Counted::default());
+    let (_connection, work) = Connection::accepted_async(there, counted.clone()).unwrap();
+    run(vec![Box::pin(work)]);
+    assert_eq!(*counted.0.lock().unwrap(), 3);
 }

@@ -69,10 +69,19 @@ impl Shared {
         self.tell();
     }
 
+    /// Nothing can be written any more. What the peer said before is heard all the same, up to the end of its stream.
+    pub fn unheard(&self) {
+        self.quietly(|state| state.is_unheard = true);
+        self.changed.notify_all();
+    }
+
     /// What is to be done next; what was to be sent before is written.
     pub fn next(&self) -> Next {
         let next = self.quietly(|state| {
             state.taken = 0;
+            if state.is_unheard {
+                state.unsent.clear();
+            }
             if state.unsent.is_empty() {
                 return if state.is_closing || state.vat.down().is_some() { Next::End } else { Next::Wait };
             }
