@@ -49,8 +49,8 @@ class Groups:
         return group.about, [(it, False) for it in names]
 
     def draw(self):
-        rows = {}
-        for i, level in crates.levels(self.edges).items():
+        rows, levels = {}, crates.levels(self.edges)
+        for i, level in levels.items():
             rows.setdefault(level, []).append(i)
         texts = {i: self.text(group) for i, group in enumerate(self.groups)}
         high = {i: 24 + self.STEP * len(lines) for i, (_, lines) in texts.items()}
@@ -61,11 +61,20 @@ class Groups:
             for k, i in enumerate(sorted(rows[level])):
                 places[i] = (left + k * (self.WIDE + self.GAP), top)
             top += max(high[i] for i in rows[level]) + self.BETWEEN
-        middle = self.WIDE / 2
+        foot = lambda i: (places[i][0] + self.WIDE / 2, places[i][1] + high[i])
+        head = lambda i: (places[i][0] + self.WIDE / 2, places[i][1])
+        side = lambda i: (places[i][0] + self.WIDE, places[i][1] + high[i] / 2)
         near = crates.direct(self.edges, crates.below(self.edges))
-        lines = [line((places[i][0] + middle, places[i][1] + high[i]), (places[it][0] + middle, places[it][1])) for i in sorted(near) for it in sorted(near[i])]
+        edges = [(i, it) for i in sorted(near) for it in sorted(near[i])]
+        lines = [line(foot(i), head(it)) if levels[i] - levels[it] == 1 else self.aside(side(i), head(it)) for i, it in edges]
         boxes = [it for i in sorted(places) for it in self.box(places[i], high[i], self.groups[i].words, *texts[i])]
         return svg(width, top - self.BETWEEN + self.EDGE, 11, lines, boxes)
+
+    def aside(self, side, head):
+        """From the side of one box down the gap beside it, so past boxes between, to the head of another."""
+        (x, y), (u, v) = side, head
+        gap, turn = x + self.GAP / 2, v - self.BETWEEN / 2
+        return f'<path d="M{x:.0f} {y:.0f} H{gap:.0f} V{turn:.0f} H{u:.0f} V{v:.0f}"/>'
 
     def box(self, place, high, words, about, lines):
         x, y = place
