@@ -1,4 +1,4 @@
-//! Measures of the two ends of a link. What it prints differs from run to run; `docs/benchmarks.md` says how it is measured.
+//! Measures the two ends of a link. What it prints differs from run to run; `docs/benchmarks.md` says how it is measured.
 //!
 //! `bench_ends ROUNDS [LINKS]` takes calls over two ends that one thread drives, ROUNDS times, over LINKS links in turn.
 //! `bench_ends threads ROUNDS [LINKS [CALLS]]` has a thread for each end, which never sleeps, and CALLS calls in flight, 64 by

@@ -1,4 +1,4 @@
-//! Measures of the vat's parts. What it prints differs from run to run; `docs/benchmarks.md` has figures.
+//! Measures the parts of a vat. What it prints differs from run to run; `docs/benchmarks.md` has figures.
 //!
 //! `bench_parts pool N` pushes N calls to three waiting lists in turn and takes them out again, over and over.
 //! `bench_parts payload FILE CAPS ROUNDS` reads a file's bytes as a payload that goes with CAPS capabilities, ROUNDS times.

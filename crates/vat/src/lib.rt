@@ -1,4 +1,4 @@
-//! A vat in an application: all that it names, given out by this one crate (`docs/embedding.md` has the whole of it).
+//! What an application names of its vat, re-exported by one crate (`docs/embedding.md`).
 //!
 //! A [`Host`] is a vat that keeps what its steps leave to do; a [`Core`] is the vat alone, whose calls answer with their
 //! [`Effects`]. Neither has a clock, a thread or a connection: the application commands its vat, hands it the messages that
