@@ -6,6 +6,11 @@
 //! happened in one thread (docs/threads.md). A [`Seat`] is a side with its log and no rings.
 //!
 //! What a step is, this crate doesn't know: all of it is proved of any side.
+//!
+//! - `party.rt`: what a side is. `logged_side.rt`: a side with its log (`entry.rt`) and the frames that wait (`queue.rt`, `frame.rt`).
+//! - `links.rt`: both ends are made. `end.rt`: an end with its rings. `seat.rt`: a side with no rings. `turn.rt`: what comes of a turn.
+//! - `gathered.rt`: two ends side by side. `merge.rt`: the entries of their logs are read in one order.
+//! - `fault.rt`: what goes wrong with a link.
 #![tactic(auto)]
 
 mod end;

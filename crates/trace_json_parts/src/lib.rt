@@ -1,5 +1,8 @@
 //! How the values in a journal's lines are read: objects, whose keys come in rising order and of which none is unknown; the
 //! parts that entries are made of; and messages.
+//!
+//! - `fields.rt`: the members of an object. `parts.rt`: payloads, outcomes and other parts. `messages.rt`: messages. `fault.rt`: why a
+//!   value has not the shape of an entry.
 #![tactic(auto)]
 
 mod fault;
