@@ -14,7 +14,7 @@ use crate::tree_handle::TreeHandle;
 use lovendak_c_trees::Trees;
 use std::alloc::Global;
 
-/// Has an empty handle have trees, of which there are none. Where it has trees (101) or memory is refused (1), it stays as it is.
+/// Has an empty handle have trees, of which there are none. If it has trees (101), or memory is refused (1), it stays as it is.
 #[unsafe(no_mangle)]
 pub extern "C" fn lovendak_tree_new(alloc: Global, tree: &mut TreeHandle) -> u32
     ensures { MakesTrees tree.old.raw.trees tree.new.raw.trees result }
