@@ -7,6 +7,7 @@
 - `interop CLIENT SERVER`: the peers of `interop/`, which know nothing of the vat, by `LD_PRELOAD`: each scenario, and drawn conversations.
 - `probe ..`: what applications do at the limits of a vat; a server that dies; calls through a proxy.
 - `import CLIENT SERVER`: what a server exports by a name, and a name by which it exports nothing.
+- `aborted OVER`: calls fail with the reason of an Abort that came.
 - `flow OVER`: with a flow limit, a server reads no further while too much of its client's has no answer.
 - `limits`: with limits, a call behind messages that waited is heard.
 - `refusing`: each allocation of the library is refused in turn, in a conversation within one process."""
@@ -208,6 +209,11 @@ def imported(client, server):
     return probed([("import", 1, "things 77 | alive"), ("import", 2, f"failed: remote exception: {why} | alive")], client, server)
 
 
+def aborted(over):
+    path, env = program("aborted", over)
+    return ran([path], "disconnected: remote exception: on purpose: \u00e4\n", env=env)
+
+
 def flowed(over):
     """Of calls that are somewhat larger than a thousand words, with a limit of 2,500, three are open at a time, and all are answered."""
     path, env = program("flow", over)
@@ -232,6 +238,8 @@ def checks():
     for overs in itertools.product(("libcapnp", "stream"), OVER, ("libcapnp", "stream")):
         if set(overs) != {"libcapnp"}:
             yield f"c++ proxy {' '.join(overs)}", lambda overs=overs: probed(PROXIED, *overs)
+    for over in OVER:
+        yield f"c++ aborted {over}", lambda over=over: aborted(over)
     for over in ("drop-in", "stream"):
         yield f"c++ flow {over}", lambda over=over: flowed(over)
     yield "c++ limits", lambda: ran([*VALGRIND, PROGRAMS / "limits"])

@@ -12,7 +12,6 @@
 namespace lovendak {
 using namespace capnp;
 
-static const uint8_t NO_BYTES[8] = {0};
 static const uint32_t PEER_ABORT = 34;
 
 Vat::Vat(Transport& transport, kj::Maybe<kj::Own<ClientHook>> root)
@@ -324,12 +323,14 @@ void Vat::endCall(const lovendak_event& event) {
     }
     return;
   }
-  bool isDown = lovendak_down(&handle, &lastNumber) == LOVENDAK_OK;
-  auto exception = isDown && event.exception == LOVENDAK_DISCONNECTED
-      ? whyDown()
-      : kj::Exception(static_cast<kj::Exception::Type>(event.exception), "(remote)", 0, kj::str("remote exception: ", eventText(event)));
   KJ_IF_MAYBE(question, known) {
-    (*question)->failed(kj::mv(exception));
+    // Why the vat went down is told behind the calls that were open.
+    if (event.exception == LOVENDAK_DISCONNECTED && lovendak_down(&handle, &lastNumber) == LOVENDAK_OK) {
+      cutOff.add(kj::mv(*question));
+      return;
+    }
+    auto kind = static_cast<kj::Exception::Type>(event.exception);
+    (*question)->failed(kj::Exception(kind, "(remote)", 0, kj::str("remote exception: ", eventText(event))));
   }
 }
 
@@ -338,6 +339,8 @@ void Vat::wentDown(const lovendak_event& event) {
   abortReason = eventText(event);
   announce();
   down = true;
+  for (auto& question: cutOff) question->failed(whyDown());
+  cutOff.clear();
   failWaiting();
   for (auto& client: directory.all()) {
     if (client->isPromise()) client->becomes(newBrokenCap(whyDown()));

@@ -90,6 +90,8 @@ private:
   Exports exports;
   Directory directory;
   std::unordered_map<uint64_t, Question*> questions;
+  kj::Vector<kj::Own<Question>> cutOff;
+  // Those that ended as the vat went down, until it tells why.
   std::unordered_map<uint64_t, VatCallContext*> running;
   std::deque<WaitingCall> waitingCalls;
   kj::Vector<kj::Own<capnp::ClientHook>> lettingGo;

@@ -322,9 +322,9 @@ fn refusals() {
     assert_eq!(cut_off.outcome.unwrap_err().kind, ExceptionKind::Disconnected);
     assert_eq!(a.next_event(), Some(Event::Down(7, String::new())));
     assert_eq!(a.next_event(), None);
-    while let Some(event) = b.next_event() {
-        assert!(matches!(event, Event::Served(_) | Event::Down(34, _)), "{event:?}");
-    }
+    assert!(matches!(b.next_event(), Some(Event::Served(_))));
+    assert_eq!(b.next_event(), Some(Event::Down(34, "fault 7".into())));
+    assert_eq!(b.next_event(), None);
     assert_eq!(b.down(), Some(34));
 }
 
