@@ -1,0 +1,5 @@
+pub mod Numbers
+pub mod Held
+pub mod Grown
+pub mod Runs
+pub mod Refusing
