@@ -8,8 +8,9 @@
  * bytes coming: a call through a reference to an object of the vat itself is delivered at once.
  *
  * A message has at most 65,536 words (512 KiB), payload and envelope together. Contents or a reason that may be too large for a message
- * that carries them are refused with FULL (docs/messages.md, "What fits"). A larger message that comes takes the vat down with 4, and
- * the peer gets an Abort with the reason `fault 4`.
+ * that carries them are refused with FULL (docs/messages.md, "What fits"). If a larger call or answer comes, of up to 64 MiB, that call
+ * fails with an exception that says so. Any other larger message takes the vat down with 4, and the peer gets an Abort with the reason
+ * `fault 4`.
  *
  * Each function except `lovendak_version` returns a code. Results are written if the code is LOVENDAK_OK, and otherwise only if the
  * function says so. A command that is refused changes nothing, with one exception: the reference of a refused `lovendak_call` may have

@@ -11,19 +11,18 @@ use Rattle.rpc_machine.specs.State.{State}
 use Rattle.rpc_machine.specs.Steps.{Receives}
 use Rattle.rpc_machine.specs.Steps.Receives.{WasDown, FaultsBy, LacksRoom, IsHandled}
 use Rattle.vat_host.specs.Hosting.{Hosted}
-use Rattle.rpc_codec.specs.Envelopes.{What}
-use Rattle.rpc_codec.specs.Decoding.{Came, envelope_at}
+use Rattle.rpc_codec.specs.Decoding as codec
 use Rattle.peer_adapter.specs.declared.errors.PeerFault.{PeerFault}
-use Rattle.peer_adapter.specs.Peering.{Coming, comes}
+use Rattle.peer_large.specs.Opening.{Came}
+use Rattle.peer_large.specs.Sparing.{Coming, comes}
 use Rattle.capn_reading.specs.Framing.{segment_count, sizes}
-use Rattle.capn_stream.specs.declared.front.Front.{Front}
 use Rattle.capn_stream.specs.declared.front.Front.TheVariants as front
-use Rattle.capn_stream.specs.Fronts.{front_at, front_of, IsFrame}
+use Rattle.capn_fronts.specs.Parts.{IsWhole, Part, front_at, front_of, keeps_at, keeps_of, nothing}
 use Rattle.vat_connection.specs.declared.load.Limits.{Limits}
 use Rattle.vat_connection.specs.Load.{Intake, question_in, weighed, without_call}
-use Rattle.vat_connection.specs.Speaking.{Speaking, Breaks, Falls, Fails, HearsCame, HearsAll, HearsComing, HearsUp, Says, SaysTo, saying, stamp_of, tables_of, without, words_in}
+use Rattle.vat_connection.specs.Speaking.{Speaking, Breaks, Falls, Fails, HearsCame, HearsAll, HearsComing, HearsUp, Says, SaysTo, saying, came_of, stamp_of, tables_of, without, words_in}
 use Rattle.vat_connection.specs.Speaking.SaysTo.{Nothing, Oldest, Broken}
-use Rattle.vat_connection.specs.Hearing.{Ends, EndsBy, FollowsBy, HearsInTurn, Inflow, IsOver, Leaves, Proceeds, Rests, may_hear}
+use Rattle.vat_connection.specs.Hearing.{Ends, EndsUp, FollowsBy, HearsInTurn, Inflow, IsOver, Leaves, Proceeds, Rests, may_hear}
 use Rattle.vat_connection.specs.Hearing.HearsInTurn.{All, Saying, Above, Down, Lacking, Oldest as OldestHeard}
 use Rattle.vat_connection.specs.Connecting.{Connected, WorksOn, down}
 use Rattle.vat_connection.specs.Laws.{LoadIsBounded, most_frame_words}
@@ -107,22 +106,29 @@ coming_less : (s mid : Speaking) (n : ℕ) (c : Result Coming PeerFault) → Hea
 coming_less s mid n (Ok c) (out, aside, (host, hears, is)) up = let e = ap words is in let less = less_weighed (question_in c.heard) n s.heard in omega (arith, e, less)
 coming_less s mid n (Err f) fails up = none_up mid.host.core.down up (failed s mid _ fails)
 
-came_less : (s mid : Speaking) (n : ℕ) (c : Came What) → HearsCame s n c mid → mid.host.core.down ≡ None → words mid ≤ words s + n
+came_less : (s mid : Speaking) (n : ℕ) (c : codec.Came Came) → HearsCame s n c mid → mid.host.core.down ≡ None → words mid ≤ words s + n
 came_less s mid n (Ok w) hears up = coming_less s mid n (comes (tables_of s.host.core) s.adapter w) hears up
 came_less s mid n (Err f) falls up = none_up mid.host.core.down up (fell s mid _ falls)
 
-hears_less : (s mid : Speaking) (frame : List ℕ) → HearsUp s frame mid → mid.host.core.down ≡ None → words mid ≤ words s + words_in frame
-hears_less s mid frame (inl came) up = came_less s mid (words_in frame) (envelope_at (stamp_of s) frame) came up
+hears_less : (s mid : Speaking) (frame : Part) → HearsUp s frame mid → mid.host.core.down ≡ None → words mid ≤ words s + words_in frame
+hears_less s mid frame (inl came) up = came_less s mid (words_in frame) (came_of (stamp_of s) frame) came up
 hears_less s mid frame (inr lacks) up = none_up mid.host.core.down up (failed s mid _ lacks)
 
 -- ---- a frame
 
-frame_by : (len n words : ℕ) → front_at len n words ≡ front.Complete len → len ≤ 8 * 65545
-frame_by len n words is = grind (arith, nat_tests, is)
+few_segments : (len n words : ℕ) → front_at len n words ≡ front.Complete len → n ≤ 16
+few_segments len n words is = grind (arith, nat_tests)
 
-frame_less : (frame : List ℕ) → IsFrame frame → words_in frame ≤ most_frame_words
-unfolding front_of
-frame_less frame whole = let most = frame_by (length frame) (segment_count frame) (sum (sizes frame)) whole in omega (arith, most)
+frame_by : (kept len n words : ℕ) → n ≤ 16 → kept ≤ keeps_at len n words → kept ≤ 8 * 65545
+frame_by kept len n words few within = grind (arith, nat_tests)
+
+frame_less : (frame : Part) → IsWhole frame → words_in frame ≤ most_frame_words
+unfolding front_of keeps_of
+frame_less frame whole =
+    let len = length frame.kept + frame.dropped in
+    let few = few_segments len (segment_count frame.kept) (sum (sizes frame.kept)) whole.whole in
+    let most = frame_by (length frame.kept) len (segment_count frame.kept) (sum (sizes frame.kept)) few whole.few in
+    omega (arith, most)
 
 -- ---- in turn
 
@@ -130,7 +136,7 @@ within : (l : Limits) (s : Speaking) → may_hear l s ≡ true → words s ≤ l
 within l s may = grind (arith, nat_tests, may)
 
 module _ (l : Limits) (bound : ℕ) (fits : l.words + most_frame_words ≤ bound) where
-  turn_less : (new : Speaking) (left : List (List ℕ)) (s : Speaking) (frames : List (List ℕ)) → HearsInTurn l new left s frames → words s ≤ bound → new.host.core.down ≡ None → words new ≤ bound
+  turn_less : (new : Speaking) (left : List Part) (s : Speaking) (frames : List Part) → HearsInTurn l new left s frames → words s ≤ bound → new.host.core.down ≡ None → words new ≤ bound
   turn_less new left s [] (All same none) here up = let e = ap words same in omega (arith, e, here)
   turn_less new left s (f ∷ fs) (Saying {said = said} frame frames is_up says more) here up =
       turn_less new left said (frame ∷ frames) more (said_less said says (still_up said more)) up
@@ -150,7 +156,7 @@ module _ (l : Limits) (bound : ℕ) (fits : l.words + most_frame_words ≤ bound
       let low = within l s may in
       turn_less new left mid frames more (omega (arith, one, most, low, fits)) up
     where
-      mid_up : (fs : List (List ℕ)) (mid : Speaking) → HearsInTurn l new left mid fs → mid.host.core.down ≡ None
+      mid_up : (fs : List Part) (mid : Speaking) → HearsInTurn l new left mid fs → mid.host.core.down ≡ None
       mid_up [] mid (All same none) = ap (λ (x : Speaking). x.host.core.down) (sym same) ∙ up
       mid_up (g ∷ gs) mid (Saying f fs is_up says more) = is_up
       mid_up (g ∷ gs) mid (OldestHeard f fs is_up silent may whole hears more) = is_up
@@ -161,15 +167,15 @@ module _ (l : Limits) (bound : ℕ) (fits : l.words + most_frame_words ≤ bound
   turn_less new left s (f ∷ fs) (Down frame frames is_down same none) here up = let e = ap words same in omega (arith, e, here)
   turn_less new left s (f ∷ fs) (Lacking frame frames is_up falls none) here up = none_up new.host.core.down up (fell s new _ falls)
 
-  over_less : (mid new : Speaking) (left : List (List ℕ)) (waiting : List ℕ) (n : ℕ) (later : Inflow) → IsOver mid left waiting n new later → new.host.core.down ≡ None → new ≡ mid
+  over_less : (mid new : Speaking) (left : List Part) (waiting : Part) (n : ℕ) (later : Inflow) → IsOver mid left waiting n new later → new.host.core.down ≡ None → new ≡ mid
   over_less mid new [] waiting n later over up = none_up new.host.core.down up (fell mid new n over.0)
   over_less mid new (frame ∷ frames) waiting n later over up = over.0
 
-  rests_less : (mid new : Speaking) (left : List (List ℕ)) (waiting : List ℕ) (over : Option ℕ) (later : Inflow) → Rests mid left waiting over new later → new.host.core.down ≡ None → new ≡ mid
+  rests_less : (mid new : Speaking) (left : List Part) (waiting : Part) (over : Option ℕ) (later : Inflow) → Rests mid left waiting over new later → new.host.core.down ≡ None → new ≡ mid
   rests_less mid new left waiting None later rests up = rests.0
   rests_less mid new left waiting (Some n) later rests up = over_less mid new left waiting n later rests up
 
-  leaves_less : (d : Option ℕ) (mid new : Speaking) (left : List (List ℕ)) (waiting : List ℕ) (over : Option ℕ) (later : Inflow) → Leaves d mid left waiting over new later → new.host.core.down ≡ None → new ≡ mid
+  leaves_less : (d : Option ℕ) (mid new : Speaking) (left : List Part) (waiting : Part) (over : Option ℕ) (later : Inflow) → Leaves d mid left waiting over new later → new.host.core.down ≡ None → new ≡ mid
   leaves_less (Some n) mid new left waiting over later leaves up = leaves.0
   leaves_less None mid new left waiting over later leaves up = rests_less mid new left waiting over later leaves up
 
@@ -179,22 +185,22 @@ module _ (l : Limits) (bound : ℕ) (fits : l.words + most_frame_words ≤ bound
       let less = turn_less mid left s i.unheard turn here (ap (λ (x : Speaking). x.host.core.down) (sym same) ∙ up) in
       subst (λ (x : Speaking). words x ≤ bound) (sym same) less
 
-  ends_by : (f : Front) (mid new : Speaking) (left : List (List ℕ)) (rest : List ℕ) (later : Inflow) → EndsBy f mid left rest new later → new.host.core.down ≡ None → new ≡ mid
-  ends_by (front.Complete n) mid new left rest later ends up = absurd ends
-  ends_by (front.Need n) mid new left rest later ends up = ends.0
-  ends_by (front.Fault f) mid new left rest later ends up = over_less mid new left [] _ later ends up
+  ends_by : (mid new : Speaking) (left : List Part) (rest : List ℕ) (later : Inflow) → EndsUp mid left rest new later → new.host.core.down ≡ None → new ≡ mid
+  ends_by mid new left rest later (inl (waiting, begun, rests)) up = rests.0
+  ends_by mid new left rest later (inr (f, none, over)) up = over_less mid new left nothing _ later over up
 
-  ends_less : (d : Option ℕ) (mid new : Speaking) (left : List (List ℕ)) (rest : List ℕ) (later : Inflow) → Ends d mid left rest new later → new.host.core.down ≡ None → new ≡ mid
+  ends_less : (d : Option ℕ) (mid new : Speaking) (left : List Part) (rest : List ℕ) (later : Inflow) → Ends d mid left rest new later → new.host.core.down ≡ None → new ≡ mid
   ends_less (Some n) mid new left rest later ends up = ends.0
-  ends_less None mid new left rest later (inl ends) up = ends_by (front_of rest) mid new left rest later ends up
+  ends_less None mid new left rest later (inl ends) up = ends_by mid new left rest later ends up
   ends_less None mid new left rest later (inr falls) up = none_up new.host.core.down up (fell mid new _ falls.0)
 
   follows_less : (d o : Option ℕ) (s new : Speaking) (i later : Inflow) (bytes : List ℕ) → FollowsBy d o l s i bytes new later → words s ≤ bound → new.host.core.down ≡ None → words new ≤ bound
   follows_less (Some n) o s new i later bytes follows here up = let e = ap words follows.0 in omega (arith, e, here)
   follows_less None (Some n) s new i later bytes follows here up = let e = ap words follows.0 in omega (arith, e, here)
-  follows_less None None s new i later bytes (frames, rest, split, (mid, left, turn, ends)) here up =
+  follows_less None None s new i later bytes ((came, begun), behind) here up =
+      let (frames, kept, rest, split, (mid, left, turn, ends)) = behind came begun in
       let same = ends_less mid.host.core.down mid new left rest later ends up in
-      let less = turn_less mid left s (i.unheard ++ frames) turn here (ap (λ (x : Speaking). x.host.core.down) (sym same) ∙ up) in
+      let less = turn_less mid left s (i.unheard ++ kept) turn here (ap (λ (x : Speaking). x.host.core.down) (sym same) ∙ up) in
       subst (λ (x : Speaking). words x ≤ bound) (sym same) less
 
 works_less : (bound : ℕ) (old new : Connected) → old.limits.words + most_frame_words ≤ bound → words old.speaker ≤ bound → WorksOn old new → down new ≡ None → words new.speaker ≤ bound

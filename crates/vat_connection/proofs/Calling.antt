@@ -13,7 +13,7 @@ use Rattle.rpc_machine.specs.declared.command.Refusal.TheVariants as refusal
 use Rattle.rpc_machine.specs.Steps.{Shuts}
 use Rattle.vat_host.specs.Hosting.{Hosted, Does, Refuses, hosted_by, stepped}
 use Rattle.vat_host.specs.Objects.{with_object}
-use Rattle.peer_adapter.specs.Peering.{Peering}
+use Rattle.peer_large.specs.Sparing.{Sparing}
 use Rattle.rpc_codec_fits.specs.Carrying.{Carries}
 use Rattle.rpc_outgoing.specs.Outflows.{Outflow}
 use Rattle.vat_connection.specs.Calling.{Calls, Fits, IsTooLarge, Obeys, ObeysToFit, answered}
@@ -53,7 +53,7 @@ shuts old new c n is falls = (
 
 -- ---- of a connection
 
-abbrev pub connected : Hosted → Outflow → Peering → Intake → Inflow → Limits → List CallId → Connected
+abbrev pub connected : Hosted → Outflow → Sparing → Intake → Inflow → Limits → List CallId → Connected
 connected host out adapter heard inflow limits calls = record {
   speaker = record { host = host; out = out; adapter = adapter; heard = heard };
   inflow = inflow;
@@ -70,7 +70,7 @@ same_calls : {A E : Type 0} (result : Result A E) (gives : A → Granted) (why :
 same_calls (Ok x) gives why calls c same = same x
 same_calls (Err e) gives why calls c same = refl
 
-module _ (before after : Hosted) (out : Outflow) (adapter : Peering) (heard : Intake) (inflow : Inflow) (limits : Limits) (calls : List CallId) (old : Connected) (c : Command) (is : connected before out adapter heard inflow limits calls ≡ old) where
+module _ (before after : Hosted) (out : Outflow) (adapter : Sparing) (heard : Intake) (inflow : Inflow) (limits : Limits) (calls : List CallId) (old : Connected) (c : Command) (is : connected before out adapter heard inflow limits calls ≡ old) where
   -- What comes of the vat is what comes of the connection.
   pub asks_as : (answer : Result Granted Refusal) (left : List CallId) → left ≡ asked calls c answer → Obeys before c answer after → Asks old c answer (connected after out adapter heard inflow limits left)
   asks_as answer left follows obeys =

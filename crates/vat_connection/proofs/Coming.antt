@@ -1,52 +1,57 @@
 -- Bytes come: what is parted of them is heard in turn.
 use Rattle.std.proofs.Common.{◌≡◌, ℕ, List, [], ◌∷◌, ◌++◌, Option, Some, None, inl, inr, refl, sym, ap, subst}
-use Rattle.capn_stream.specs.declared.front.Front.{Front}
-use Rattle.capn_stream.specs.declared.front.Front.TheVariants as front
-use Rattle.capn_stream.specs.Fronts.{front_of}
+use Rattle.capn_fronts.specs.Parts.{IsHeld, IsShort, Part, front_of}
 use Rattle.vat_connection.specs.declared.load.Limits.{Limits}
 use Rattle.vat_connection.specs.Speaking.{Speaking, Falls, want_of_room}
-use Rattle.vat_connection.specs.Hearing.{Comes, Ends, EndsBy, HearsInTurn, Inflow, IsParted, Leaves, PartedBy, Proceeds, nothing_in}
+use Rattle.vat_connection.specs.Hearing.{Comes, ComesBehind, Ends, HearsInTurn, Inflow, IsParted, Leaves, PartedUp, Proceeds, Rests, nothing_in}
 use Rattle.vat_connection.specs.Hearing.HearsInTurn.{All, Lacking}
 use Rattle.vat_connection.proofs.Falling.{falls_down}
+use Rattle.vat_connection.proofs.Pushing.{some_begun}
 
 -- Memory is wanting for the bytes, and the vat goes down.
-lacks_by : (l : Limits) (s new : Speaking) (unheard : List (List ℕ)) (bytes : List ℕ) (later : Inflow) → s.host.core.down ≡ None → Falls s want_of_room new → later ≡ nothing_in → Comes l s unheard bytes new later
+lacks_by : (l : Limits) (s new : Speaking) (unheard : List Part) (bytes : List ℕ) (later : Inflow) → s.host.core.down ≡ None → Falls s want_of_room new → later ≡ nothing_in → Comes l s unheard bytes new later
 lacks_by l s new [] bytes later up falls none =
-    ([], bytes, record { whole = tt; joined = refl }, (s, [], All refl refl, subst (λ (d : Option ℕ). Ends d s [] bytes new later) (sym up) (inr (falls, none))))
+    ([], [], bytes, record { joined = refl; are_kept = tt }, (s, [], All refl refl, subst (λ (d : Option ℕ). Ends d s [] bytes new later) (sym up) (inr (falls, none))))
 lacks_by l s new (frame ∷ frames) bytes later up falls none = (
   [],
+  [],
   bytes,
-  record { whole = tt; joined = refl },
+  record { joined = refl; are_kept = tt },
   (new, [], Lacking frame (frames ++ []) up falls refl, subst (λ (d : Option ℕ). Ends d new [] bytes new later) (sym (falls_down s new want_of_room up falls)) (refl, none)),
 )
 
-pub lacks : (l : Limits) (s new : Speaking) (unheard : List (List ℕ)) (bytes : List ℕ) → s.host.core.down ≡ None → Falls s want_of_room new → Comes l s unheard bytes new nothing_in
-lacks l s new unheard bytes up falls = lacks_by l s new unheard bytes nothing_in up falls refl
+pub lacks : (l : Limits) (s new : Speaking) (i : Inflow) (bytes : List ℕ) → IsHeld i.waiting → IsShort (front_of i.waiting) → s.host.core.down ≡ None → Falls s want_of_room new
+    → ComesBehind l s i bytes new nothing_in
+lacks l s new i bytes held short up falls = (some_begun i.waiting held short, λ came begun. lacks_by l s new i.unheard (came ++ bytes) nothing_in up falls refl)
 
 -- What was parted is heard, and the rest is kept.
-ends_by : (f : Front) (old parted later : Inflow) (frames left : List (List ℕ)) (rest : List ℕ) (d : Option ℕ) (mid new : Speaking) → front_of rest ≡ f → PartedBy f old frames rest parted
+ends_by : (old parted later : Inflow) (kept left : List Part) (rest : List ℕ) (d : Option ℕ) (mid new : Speaking) → PartedUp old kept rest parted
     → Leaves d mid left parted.waiting parted.over new later → Ends d mid left rest new later
-ends_by f old parted later frames left rest (Some n) mid new is by leaves = leaves
-ends_by (front.Complete n) old parted later frames left rest None mid new is by leaves = absurd by
-ends_by (front.Need n) old parted later frames left rest None mid new is by leaves =
-    inl (subst (λ (x : Front). EndsBy x mid left rest new later) (sym is) (subst (λ (i : Inflow). Leaves None mid left i.waiting i.over new later) by leaves))
-ends_by (front.Fault f) old parted later frames left rest None mid new is by leaves =
-    inl (subst (λ (x : Front). EndsBy x mid left rest new later) (sym is) (subst (λ (i : Inflow). Leaves None mid left i.waiting i.over new later) by leaves))
+ends_by old parted later kept left rest (Some n) mid new by leaves = leaves
+ends_by old parted later kept left rest None mid new (inl (waiting, begun, is)) leaves =
+    inl (inl (waiting, begun, subst (λ (i : Inflow). Rests mid left i.waiting i.over new later) is leaves))
+ends_by old parted later kept left rest None mid new (inr (f, none, is)) leaves =
+    inl (inr (f, none, subst (λ (i : Inflow). Rests mid left i.waiting i.over new later) is leaves))
 
-unheard_by : (f : Front) (old parted : Inflow) (frames : List (List ℕ)) (rest : List ℕ) → PartedBy f old frames rest parted → parted.unheard ≡ old.unheard ++ frames
-unheard_by (front.Complete n) old parted frames rest by = absurd by
-unheard_by (front.Need n) old parted frames rest by = ap (λ (i : Inflow). i.unheard) by
-unheard_by (front.Fault f) old parted frames rest by = ap (λ (i : Inflow). i.unheard) by
+unheard_by : (old parted : Inflow) (kept : List Part) (rest : List ℕ) → PartedUp old kept rest parted → parted.unheard ≡ old.unheard ++ kept
+unheard_by old parted kept rest (inl (waiting, begun, is)) = ap (λ (i : Inflow). i.unheard) is
+unheard_by old parted kept rest (inr (f, none, is)) = ap (λ (i : Inflow). i.unheard) is
 
-pub comes : (l : Limits) (s new : Speaking) (old parted later : Inflow) (bytes : List ℕ) → IsParted old bytes parted → Proceeds l s parted new later → Comes l s old.unheard (old.waiting ++ bytes) new later
-comes l s new old parted later bytes (frames, rest, split, by) (mid, left, turn, leaves) = (
-  frames,
-  rest,
-  split,
-  (
-    mid,
-    left,
-    subst (λ (fs : List (List ℕ)). HearsInTurn l mid left s fs) (unheard_by (front_of rest) old parted frames rest by) turn,
-    ends_by (front_of rest) old parted later frames left rest mid.host.core.down mid new refl by leaves,
-  ),
+pub comes : (l : Limits) (s new : Speaking) (old parted later : Inflow) (bytes : List ℕ) → IsHeld old.waiting → IsShort (front_of old.waiting) → IsParted old bytes parted → Proceeds l s parted new later
+    → ComesBehind l s old bytes new later
+comes l s new old parted later bytes held short is (mid, left, turn, leaves) = (
+  some_begun old.waiting held short,
+  λ came begun.
+      let (frames, kept, rest, split, by) = is came begun in (
+        frames,
+        kept,
+        rest,
+        split,
+        (
+          mid,
+          left,
+          subst (λ (us : List Part). HearsInTurn l mid left s us) (unheard_by old parted kept rest by) turn,
+          ends_by old parted later kept left rest mid.host.core.down mid new by leaves,
+        ),
+      ),
 )

@@ -5,13 +5,13 @@ use Rattle.rpc_msg.specs.declared.message.Message.{Message}
 use Rattle.vat_host.specs.Hosting.{Hosted, is_abort}
 use Rattle.peer_tail_calls.specs.Adapting.{messages_in}
 use Rattle.peer_adapter.specs.declared.told.Outbound.{Outbound}
-use Rattle.peer_adapter.specs.Peering.{Peering, Going, goes, seen_outbound}
+use Rattle.peer_large.specs.Sparing.{Sparing, Going, goes, seen_outbound}
 use Rattle.rpc_outgoing.specs.Outflows.{Outflow}
 use Rattle.vat_connection.specs.Load.{Intake, without_call}
 use Rattle.vat_connection.specs.Speaking.{Speaking, Breaks, Goes, HearsAll, IsTold, Passes, PassesAll, PassesOne, Says, SaysTo, Shuts, Turns, want_of_room, without}
 use Rattle.vat_connection.specs.Speaking.SaysTo.{Nothing, Oldest, Broken}
 
-abbrev pub speaking : Hosted → Outflow → Peering → Intake → Speaking
+abbrev pub speaking : Hosted → Outflow → Sparing → Intake → Speaking
 speaking host out adapter heard = record { host = host; out = out; adapter = adapter; heard = heard }
 
 -- ---- an Abort alone
@@ -24,12 +24,12 @@ abort_tried m old new goes is put = subst (λ (b : Bool). PassesOne b old m new)
 pub not_tried : (m : Message) (out : Outflow) → is_abort m ≡ false → PassesOne (is_abort m) out m out
 not_tried m out is = subst (λ (b : Bool). PassesOne b out m out) (sym is) refl
 
-pub one_passes : (host next : Hosted) (out out_next : Outflow) (adapter : Peering) (heard : Intake) (m : Message) (new : Speaking) → host ≡ record next { messages = m ∷ next.messages }
+pub one_passes : (host next : Hosted) (out out_next : Outflow) (adapter : Sparing) (heard : Intake) (m : Message) (new : Speaking) → host ≡ record next { messages = m ∷ next.messages }
     → PassesOne (is_abort m) out m out_next → Passes (speaking next out_next adapter heard) new → Passes (speaking host out adapter heard) new
 one_passes host next out out_next adapter heard m new is one more =
     subst (λ (h : Hosted). Passes (speaking h out adapter heard) new) (sym is) ((out_next, one, more.0), more.1)
 
-pub none_passes : (host next : Hosted) (out : Outflow) (adapter : Peering) (heard : Intake) → host.messages ≡ [] → next ≡ host → Passes (speaking host out adapter heard) (speaking next out adapter heard)
+pub none_passes : (host next : Hosted) (out : Outflow) (adapter : Sparing) (heard : Intake) → host.messages ≡ [] → next ≡ host → Passes (speaking host out adapter heard) (speaking next out adapter heard)
 none_passes host next out adapter heard none same = (
   subst (λ (ms : List Message). PassesAll out ms out) (sym none) refl,
   ap (λ (h : Hosted). speaking h out adapter heard) same ∙ ap (λ (ms : List Message). speaking (without host ms) out adapter heard) none,
@@ -45,7 +45,7 @@ none_there (m ∷ ms) b is none = absurd (let k : ◌≡◌ {A = Bool} true fals
 
 -- ---- all
 
-module _ (host next : Hosted) (out : Outflow) (adapter : Peering) (heard : Intake) where
+module _ (host next : Hosted) (out : Outflow) (adapter : Sparing) (heard : Intake) where
   pub broken_off : (new : Speaking) → Shuts host want_of_room next → Passes (speaking next out adapter heard) new → Breaks (speaking host out adapter heard) new
   broken_off new shuts passes = (speaking next out adapter heard, (adapter, heard, (shuts, refl)), passes)
 
@@ -57,7 +57,7 @@ module _ (host next : Hosted) (out : Outflow) (adapter : Peering) (heard : Intak
     one_said mid turns more = subst (λ (h : Hosted). SaysTo new (speaking h out adapter heard)) (sym is) (Oldest m next.messages refl turns more)
 
     -- whatever the adapter took
-    pub breaks : (a : Peering) → Breaks (speaking next out a (without_call m heard)) new → Says (speaking host out adapter heard) new
+    pub breaks : (a : Sparing) → Breaks (speaking next out a (without_call m heard)) new → Says (speaking host out adapter heard) new
     breaks a (mid, (b, h, falls), passes) = subst (λ (h : Hosted). SaysTo new (speaking h out adapter heard)) (sym is) (Broken m next.messages refl (mid, (b, h, falls), passes))
 
 -- All went out that a vat had to say.
@@ -67,7 +67,7 @@ says_all new old (Oldest {s} {mid} m ms is turns more) = says_all new mid more
 says_all new old (Broken m ms is (mid, lacks, passes)) = ap (λ (s : Speaking). s.host.messages) passes.1
 
 -- What the adapter says of a message is done.
-pub turns : (host next : Hosted) (out sent : Outflow) (adapter after : Peering) (heard : Intake) (m : Message) (o : Outbound) → goes adapter m ≡ seen_outbound after o → IsTold out o.told sent → HearsAll host (messages_in o.heard) next
+pub turns : (host next : Hosted) (out sent : Outflow) (adapter after : Sparing) (heard : Intake) (m : Message) (o : Outbound) → goes adapter m ≡ seen_outbound after o → IsTold out o.told sent → HearsAll host (messages_in o.heard) next
     → Turns (speaking host out adapter heard) (goes adapter m) (speaking next sent after heard)
 turns host next out sent adapter after heard m o is told all =
     subst (λ (g : Going). Turns (speaking host out adapter heard) g (speaking next sent after heard)) (sym is) (sent, told, (next, all, refl))

@@ -9,11 +9,12 @@ use Rattle.rpc_machine.specs.declared.command.Command.{Command}
 use Rattle.rpc_machine.specs.declared.command.Granted.{Granted}
 use Rattle.rpc_machine.specs.declared.command.Level.{Level}
 use Rattle.rpc_machine.specs.declared.command.Refusal.{Refusal}
+use Rattle.capn_fronts.specs.Parts.{nothing}
 use Rattle.rpc_machine.specs.State.{start}
 use Rattle.vat_host.specs.declared.event.Event.{Event}
 use Rattle.vat_host.specs.declared.event.Event.TheVariants as event
 use Rattle.vat_host.specs.Hosting.{Hosted, TellsDown as HostTellsDown, TellsNothing, TellsOldest as HostTellsOldest, TellsFreed as HostTellsFreed, has_only_down, idle}
-use Rattle.peer_adapter.specs.Peering.{fresh as fresh_adapter}
+use Rattle.peer_large.specs.Sparing.{fresh as fresh_adapter}
 use Rattle.rpc_outgoing.specs.Outflows.{nothing_out}
 use Rattle.vat_connection.specs.Calling.{Obeys, ObeysToFit}
 use Rattle.vat_connection.specs.Speaking.{Speaking, Falls, Says, given, speaking_code}
@@ -73,7 +74,7 @@ abbrev pub EndsStream : Option ℕ → Option ℕ → Connected → Connected �
 EndsStream (Some n) over old new = new ≡ old
 EndsStream None (Some n) old new = new ≡ old
 EndsStream None None old new =
-    IsOver old.speaker old.inflow.unheard [] (ends_with old.inflow.waiting) new.speaker new.inflow
+    IsOver old.speaker old.inflow.unheard nothing (ends_with old.inflow.waiting) new.speaker new.inflow
     × (new ≡ record old { speaker = new.speaker; inflow = new.inflow })
 
 abbrev pub Finishes : Connected → Connected → Type 0

@@ -1,14 +1,15 @@
 -- A vat with the bytes that it says: it hears frames, and what it says goes out as frames. Between its messages and what goes over
 -- the wire stands an adapter (docs/messages.md, "Peers of other make").
-use Rattle.std.specs.Prelude.{◌≡◌, ℕ, ◌/◌, Bool, true, false, List, [], ◌∷◌, length, Option, Some, None, Result, Ok, Err, ◌⊎◌, refl}
+use Rattle.std.specs.Prelude.{◌≡◌, ℕ, zero, suc, ◌/◌, Bool, true, false, List, [], ◌∷◌, length, Option, Some, None, Result, Ok, Err, ◌⊎◌, refl}
 use Rattle.std.specs.Coded.{Coded, code_by, coded×}
 use Rattle.std.specs.FinMap as map
 use Rattle.rpc_msg.specs.Vats.{other_vat}
 use Rattle.rpc_msg.specs.declared.ids.Stamp.{Stamp}
 use Rattle.rpc_msg.specs.declared.message.Message.{Message}
 use Rattle.rpc_codec_parts.specs.Numbers.{number_of}
-use Rattle.rpc_codec.specs.Envelopes.{What}
-use Rattle.rpc_codec.specs.Decoding.{Came, envelope_at}
+use Rattle.rpc_codec.specs.Decoding as codec
+use Rattle.capn_fronts.specs.Parts.{Part}
+use Rattle.peer_large.specs.Opening.{Came, came_at, came_in}
 use Rattle.rpc_msg.specs.declared.ids.ExportId.{ExportId}
 use Rattle.peer_finishes.specs.declared.held.Finishes.{Finishes}
 use Rattle.peer_kinds.specs.Standings.{standings_in}
@@ -17,8 +18,9 @@ use Rattle.peer_tail_calls.specs.declared.heard.Said.TheVariants as said
 use Rattle.peer_adapter.specs.declared.errors.PeerFault.{PeerFault}
 use Rattle.peer_adapter.specs.declared.told.Told.{Told}
 use Rattle.peer_adapter.specs.Numbers.{number_of as number_of_peer}
-use Rattle.peer_adapter.specs.Peering.{Peering, Tables, Coming, Going, Besides, peering_code, release_of, comes, goes}
+use Rattle.peer_adapter.specs.Peering.{Tables, Besides, release_of}
 use Rattle.peer_adapter.specs.Peering.Besides.{Tells, Keeps}
+use Rattle.peer_large.specs.Sparing.{Sparing, Coming, Going, sparing_code, comes, goes}
 use Rattle.rpc_machine.specs.declared.command.Effects.{Effects}
 use Rattle.rpc_machine.specs.Down.{ShutsFrom}
 use Rattle.rpc_machine.specs.Fullness.{has_no_room}
@@ -33,20 +35,20 @@ use Rattle.rpc_outgoing.specs.Outflows.{Outflow, Kept, Put, PutElsewhere}
 pub record Speaking : Type 0 where
   pub host : Hosted
   pub out : Outflow
-  pub adapter : Peering
+  pub adapter : Sparing
   pub heard : Intake
 
 abbrev pub speaking_code : Coded Speaking
 speaking_code =
-    code_by (Hosted × (Outflow × (Peering × Intake)))
-    (coded× hosted_code (coded× outgoing_row.the_row.coded (coded× peering_code intake_code)))
+    code_by (Hosted × (Outflow × (Sparing × Intake)))
+    (coded× hosted_code (coded× outgoing_row.the_row.coded (coded× sparing_code intake_code)))
     (λ s. (s.host, (s.out, (s.adapter, s.heard))))
     (λ p. record { host = p.0; out = p.1.0; adapter = p.1.1.0; heard = p.1.1.1 })
     (λ _. refl)
 
 -- From now on the Finish of a question that it asks goes then.
 abbrev pub finishing : Speaking → Finishes → Speaking
-finishing s f = record s { adapter = record (s.adapter) { finishes = record (s.adapter.finishes) { finishes = f } } }
+finishing s f = record s { adapter = record (s.adapter) { peering = record (s.adapter.peering) { finishes = record (s.adapter.peering.finishes) { finishes = f } } } }
 
 -- the number with which a vat goes down that finds no room, or no memory
 abbrev pub want_of_room : ℕ
@@ -61,7 +63,7 @@ Falls old n new = Shuts old.host n new.host × (new ≡ record old { host = new.
 
 -- The vat goes down with that number, whatever its adapter took and whatever was counted. Neither is asked any more.
 abbrev pub Fails : Speaking → ℕ → Speaking → Type 0
-Fails old n new = (adapter : Peering) × (heard : Intake) × Falls (record old { adapter = adapter; heard = heard }) n new
+Fails old n new = (adapter : Sparing) × (heard : Intake) × Falls (record old { adapter = adapter; heard = heard }) n new
 
 -- Memory is wanting, or room.
 abbrev pub Lacks : Speaking → Speaking → Type 0
@@ -158,7 +160,7 @@ abbrev pub IsAside : Outflow → Besides → Outflow → Type 0
 IsAside old (Tells told) new = IsTold old told new
 IsAside old (Keeps original) new = Kept old (Some original) new
 
--- The adapter says what an envelope in a frame of so many words comes to: the peer is told that, or it is kept to go back, and the
+-- The adapter says what a frame comes to of which so many words are kept: the peer is told that, or it is kept to go back, and the
 -- vat hears what it is to hear; a fault takes the vat down with its number.
 abbrev pub HearsComing : Speaking → ℕ → Result Coming PeerFault → Speaking → Type 0
 HearsComing old words (Ok c) new =
@@ -166,14 +168,23 @@ HearsComing old words (Ok c) new =
     × ((host : Hosted) × HearsAll old.host c.heard host × (new ≡ record { host = host; out = out; adapter = c.state; heard = with_frame c.heard words old.heard }))
 HearsComing old words (Err f) new = Fails old (number_of_peer f) new
 
--- A frame of so many words has an envelope; a fault takes the vat down with its number.
-abbrev pub HearsCame : Speaking → ℕ → Came What → Speaking → Type 0
+-- So many words of a frame are kept, and this is what it says; a fault takes the vat down with its number.
+abbrev pub HearsCame : Speaking → ℕ → codec.Came Came → Speaking → Type 0
 HearsCame old words (Ok w) new = HearsComing old words (comes (tables_of old.host.core) old.adapter w) new
 HearsCame old words (Err f) new = Falls old (number_of f) new
 
-abbrev pub words_in : List ℕ → ℕ
-words_in frame = length frame / 8
+-- the words that are kept of a frame
+abbrev pub words_in : Part → ℕ
+words_in frame = length frame.kept / 8
+
+abbrev pub came_by : ℕ → Stamp → List ℕ → codec.Came Came
+came_by zero stamp bytes = came_at stamp bytes
+came_by (suc n) stamp bytes = came_in bytes
+
+-- what a frame says of which this is kept
+abbrev pub came_of : Stamp → Part → codec.Came Came
+came_of stamp frame = came_by frame.dropped stamp frame.kept
 
 -- A frame is heard; or memory is wanting for it, and the vat goes down.
-abbrev pub HearsUp : Speaking → List ℕ → Speaking → Type 0
-HearsUp old frame new = HearsCame old (words_in frame) (envelope_at (stamp_of old) frame) new ⊎ Lacks old new
+abbrev pub HearsUp : Speaking → Part → Speaking → Type 0
+HearsUp old frame new = HearsCame old (words_in frame) (came_of (stamp_of old) frame) new ⊎ Lacks old new

@@ -1,8 +1,8 @@
 //! The bytes that come become frames, and a vat hears each in its turn.
-ghost use Rattle.std.specs.Prelude.{◌≡◌, ◌++◌, None};
-ghost use Rattle.vat_connection.specs.Hearing.{Comes, HearsInTurn, Proceeds, Rests, left_by};
+ghost use Rattle.std.specs.Prelude.{◌≡◌, None};
+ghost use Rattle.vat_connection.specs.Hearing.{ComesBehind, HearsInTurn, Proceeds, Rests, left_by};
 
-use crate::inflow::Inflow;
+use crate::inflow::{Inflow, frames_are_whole};
 use crate::load::Limits;
 use crate::speaker::Speaker;
 use rpc_machine::Fault;
@@ -19,8 +19,9 @@ pub(crate) fn receive(
 )
     requires up { speaker.old.host.core.down ≡ None }
     requires open { inflow.old.over ≡ None }
-    ensures { Comes limits speaker.old inflow.old.unheard (inflow.old.waiting ++ bytes.now) speaker.new inflow.new }
+    ensures { ComesBehind limits speaker.old inflow.old bytes.now speaker.new inflow.new }
 {
+    inflow.waits();
     let Ok(()) = inflow.take(bytes) else {
         *inflow = Inflow::new(alloc);
         return speaker.fall(Fault::WantOfRoom.code());
@@ -52,7 +53,8 @@ fn hear_all(speaker: &mut Speaker, inflow: &mut Inflow, limits: Limits)
         let Some(frame) = inflow.pop() else {
             unreachable!()
         };
-        speaker.hear_frame(frame.bytes());
+        frames_are_whole(&frame);
+        speaker.hear_frame(&frame);
     }
 }
 

@@ -70,8 +70,9 @@ impl Connection {
     }
 
     /// Takes bytes of the peer, in any pieces: the vat hears each frame that is whole now, in order, and the rest waits. While its load
-    /// is above the limits, frames wait too. What is no frame, or a frame that is at fault, takes the vat down with the fault's number,
-    /// and running out of memory with 33. A vat that is down drops what comes.
+    /// is above the limits, frames wait too. A Call or a Return that breaks a limit of messages by itself costs its call alone
+    /// (docs/messages.md, "Messages that are too large"). What is no frame, or a frame that is at fault, takes the vat down with the
+    /// fault's number, and running out of memory with 33. A vat that is down drops what comes.
     pub fn received(&mut self, bytes: &[u8])
         ensures { Receives self.old bytes.now self.new }
     {

@@ -3,7 +3,8 @@ ghost use Rattle.std.specs.Prelude.{◌≡◌, true, false, IsTrue, MatchBool};
 ghost use Rattle.vat_host.specs.Hosting.{is_abort};
 ghost use Rattle.peer_tail_calls.specs.Adapting.{messages_in};
 ghost use Rattle.rpc_outgoing.specs.Outflows.{Outflow};
-ghost use Rattle.peer_adapter.specs.Peering.{goes, release_of, seen_aside};
+ghost use Rattle.peer_adapter.specs.Peering.{release_of, seen_aside};
+ghost use Rattle.peer_large.specs.Sparing.{goes};
 ghost use Rattle.vat_connection.specs.Speaking.{Breaks, GivesBack, Goes, HearsAll, IsAside, IsTold, Passes, PassesOne, Says, Sends, Turns};
 ghost use Rattle.vat_connection.specs.Telling.{IsLonger};
 

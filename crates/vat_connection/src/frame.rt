@@ -1,17 +1,19 @@
 //! What a frame has a vat hear.
 ghost use Rattle.std.specs.Prelude.{◌≡◌};
-ghost use Rattle.rpc_codec.specs.Envelopes.{seen_envelope};
-ghost use Rattle.rpc_codec.specs.Decoding.{envelope_at};
-ghost use Rattle.peer_adapter.specs.Peering.{comes};
+ghost use Rattle.rpc_codec.specs.Decoding.{Decodes};
+ghost use Rattle.peer_large.specs.Opening.{seen};
+ghost use Rattle.peer_large.specs.Sparing.{comes};
 ghost use Rattle.peer_kinds.specs.Standings.{standings_in};
-ghost use Rattle.vat_connection.specs.Speaking.{HearsUp, stamp_of, tables_of};
-ghost use Rattle.vat_connection.specs.Framing.{HearsEnvelope, HearsInbound, Opens, Turned};
+ghost use Rattle.vat_connection.specs.Speaking.{HearsUp, came_of, stamp_of, tables_of};
+ghost use Rattle.vat_connection.specs.Framing.{HearsOpened, HearsInbound, Opens, Turned};
 
 use crate::departures::{hear_each, put_aside};
 use crate::load::question_in;
 use crate::speaker::{Speaker, lack_room};
-use peer_adapter::{Inbound, PeerAdapter, PeerError, Standing};
-use rpc_codec::{DecodeError, Envelope, decode};
+use capn_fronts::KeptFrame;
+use peer_adapter::{Inbound, PeerError, Standing};
+use peer_large::{Opened, SparingAdapter, open, open_front};
+use rpc_codec::DecodeError;
 use rpc_machine::Fault;
 use rpc_msg::{ExportId, QuestionId, RefId, Stamp};
 use std::alloc::Global;
@@ -20,22 +22,22 @@ use vat_host::Core;
 const BYTES_OF_A_WORD: u64 = 8;
 
 impl Speaker {
-    /// Hears what a frame says. The frame of what is not understood is kept to go back. A fault takes the vat down with its number, and
-    /// running out of memory with 33.
-    pub(crate) fn hear_frame(&mut self, frame: &[u8])
+    /// Hears what a frame says. The frame of what is not understood is kept to go back. A Call or a Return that breaks a limit by itself
+    /// costs its call alone. A fault takes the vat down with its number, and running out of memory with 33.
+    pub(crate) fn hear_frame(&mut self, frame: &KeptFrame)
         ensures { HearsUp self.old frame.now self.new }
     {
         let stamp = self.next_stamp();
-        let came = match open(self.alloc, frame, stamp) {
+        let came = match open_frame(self.alloc, frame, stamp) {
             Ok(came) => came,
             Err(number) => return self.host.shut(number),
         };
-        self.hear_envelope(came, frame.len() as u64 / BYTES_OF_A_WORD);
+        self.hear_opened(came, frame.bytes().len() as u64 / BYTES_OF_A_WORD);
     }
 
-    // Hears the envelope of a frame of so many words.
-    fn hear_envelope(&mut self, came: Envelope, words: u64)
-        ensures { HearsEnvelope self.old words came self.new }
+    // Hears what a frame says of which so many words are kept.
+    fn hear_opened(&mut self, came: Opened, words: u64)
+        ensures { HearsOpened self.old words came self.new }
     {
         let inbound = match turn(&mut self.adapter, self.host.core(), came) {
             Ok(inbound) => inbound,
@@ -70,20 +72,30 @@ impl Speaker {
     }
 }
 
-// The envelope in a frame, or the number with which the vat goes down.
-fn open(alloc: Global, frame: &[u8], stamp: Stamp) -> Result<Envelope, u16>
-    ensures { Opens (envelope_at stamp frame.now) result }
+// What a frame says, or the number with which the vat goes down.
+fn open_frame(alloc: Global, frame: &KeptFrame, stamp: Stamp) -> Result<Opened, u16>
+    ensures { Opens (came_of stamp frame.now) result }
 {
-    match decode(alloc, frame, stamp) {
+    match opened_in(alloc, frame, stamp) {
         Ok(came) => Ok(came),
         Err(DecodeError::Memory) => Err(Fault::WantOfRoom.code()),
         Err(DecodeError::Fault(fault)) => Err(fault.code()),
     }
 }
 
-// What the vat is to hear of an envelope, or the number with which it goes down.
-fn turn(adapter: &mut PeerAdapter, core: &Core, came: Envelope) -> Result<Inbound, u16>
-    ensures { Turned (comes (tables_of core.now) adapter.old (seen_envelope came)) result adapter.new }
+fn opened_in(alloc: Global, frame: &KeptFrame, stamp: Stamp) -> Result<Opened, DecodeError>
+    ensures { Decodes seen result (came_of stamp frame.now) }
+{
+    let bytes = frame.bytes();
+    if frame.is_large() {
+        return open_front(bytes);
+    }
+    open(alloc, bytes, stamp)
+}
+
+// What the vat is to hear of it, or the number with which it goes down.
+fn turn(adapter: &mut SparingAdapter, core: &Core, came: Opened) -> Result<Inbound, u16>
+    ensures { Turned (comes (tables_of core.now) adapter.old (seen came)) result adapter.new }
 {
     let is_broken = |export: ExportId| core.is_broken(export);
     let is_finished = |question: QuestionId| core.is_finished(question);

@@ -1,9 +1,10 @@
 //! What came of the peer's stream and was not heard.
 ghost use Rattle.std.specs.Prelude.{◌≡◌, ◌<◌, ◌≤◌, ◌∷◌, ◌==◌, None, Some, [], drop, is_some, length, IfOk, OnOk, IfSome, IfNone};
-ghost use Rattle.capn_stream.specs.Fronts.{IsFrame, front_of};
-ghost use Rattle.vat_connection.specs.Hearing.{Inflow as In, IsBegun, IsParted, PartsOn, ends_with, nothing_in};
+ghost use Rattle.capn_fronts.specs.Parts.{IsHeld, IsShort, IsWhole, front_of, nothing};
+ghost use Rattle.vat_connection.specs.Hearing.{Inflow as In, IsParted, PartsOn, ends_with, nothing_in};
 
-use capn_stream::{Frame, FrameReader, StreamError, fronts_stay};
+use capn_fronts::{FrontReader, KeptFrame, pieces_stand};
+use capn_stream::StreamError;
 use rpc_msg::Memory;
 use std::alloc::Global;
 use std::collections::VecDeque;
@@ -13,26 +14,27 @@ use std::marker::Model;
 const ENDED: u16 = 0;
 
 /// The bytes that came, parted into frames: the whole ones that wait, the reader with the beginning of the next one, and the number
-/// with which the vat goes down behind them, once the stream is over.
+/// with which the vat goes down behind them, once the stream is over. Of a frame that is larger than a message may be its front is kept
+/// alone.
 #[derive(Drop)]
 pub(crate) struct Inflow {
-    unheard: VecDeque<Frame>,
-    reader: FrameReader,
+    unheard: VecDeque<KeptFrame>,
+    reader: FrontReader,
     over: Option<u16>,
     alloc: Global,
 }
 
 impl Model for Inflow {
-    ghost use Rattle.capn_stream.specs.Fronts.{IsFrame, front_of};
-    ghost use Rattle.vat_connection.specs.Hearing.{Inflow as In, Waits, held_of, inflow_code};
+    ghost use Rattle.capn_fronts.specs.Parts.{IsShort, front_of};
+    ghost use Rattle.vat_connection.specs.Hearing.{Inflow as In, inflow_code};
 
     ghost Value = { In };
 
     ghost coded = { inflow_code };
 
-    ghost view = { λ a. record { unheard = a.unheard.items; waiting = held_of a.reader; over = a.over } };
+    ghost view = { λ a. record { unheard = a.unheard.items; waiting = a.reader; over = a.over } };
 
-    ghost invariant = { λ a. Waits a.reader };
+    ghost invariant = { λ a. IsShort (front_of a.reader) };
 }
 
 impl Inflow {
@@ -42,7 +44,7 @@ impl Inflow {
     {
         Inflow {
             unheard: VecDeque::new(alloc),
-            reader: FrameReader::new(alloc),
+            reader: FrontReader::new(alloc),
             over: None,
             alloc,
         }
@@ -70,7 +72,7 @@ impl Inflow {
     }
 
     /// Takes the oldest frame out, if one waits.
-    pub(crate) fn pop(&mut self) -> Option<Frame>
+    pub(crate) fn pop(&mut self) -> Option<KeptFrame>
         ensures oldest { IfSome result (λ frame. self.old ≡ record self.new { unheard = frame ∷ self.new.unheard }) }
         ensures none { IfNone result (self.old.unheard ≡ []) }
     {
@@ -79,9 +81,9 @@ impl Inflow {
 
     /// The stream is over: what waits of a frame is dropped, and the vat goes down with that number behind the frames.
     pub(crate) fn end(&mut self, number: u16)
-        ensures { self.new ≡ record self.old { waiting = []; over = Some number } }
+        ensures { self.new ≡ record self.old { waiting = nothing; over = Some number } }
     {
-        self.reader = FrameReader::new(self.alloc);
+        self.reader = FrontReader::new(self.alloc);
         self.over = Some(number);
     }
 
@@ -108,13 +110,13 @@ impl Inflow {
             }
             at += self.take_next(&bytes[at..])?;
         }
-        self.waits();
         Ok(())
     }
 
-    // What waits is the beginning of a frame, and not all of it.
-    fn waits(&self)
-        ensures { IsBegun (front_of self.now.waiting) }
+    /// What waits is the beginning of a frame, and not all of it.
+    pub(crate) fn waits(&self)
+        ensures held { IsHeld self.now.waiting }
+        ensures short { IsShort (front_of self.now.waiting) }
     {
         let _held = self.reader.waiting();
     }
@@ -128,12 +130,11 @@ impl Inflow {
         ensures some { IfOk result (λ taken. 0 < taken) }
         ensures within { IfOk result (λ taken. taken ≤ length piece.now) }
     {
-        fronts_stay();
+        pieces_stand();
         let taken = match self.reader.push(piece) {
             Ok(taken) => taken,
             Err(StreamError::Memory) => return Err(Memory),
             Err(StreamError::Fault(fault)) => {
-                self.reader = FrameReader::new(self.alloc);
                 self.over = Some(fault.code());
                 return Ok(piece.len());
             }
@@ -146,9 +147,9 @@ impl Inflow {
     }
 }
 
-// What a frame's bytes say of it: it is one whole frame.
-fn frames_are_whole(frame: &Frame)
-    ensures { IsFrame frame.now }
+/// What is kept of a frame is of a whole one.
+pub(crate) fn frames_are_whole(frame: &KeptFrame)
+    ensures { IsWhole frame.now }
 {
     let _bytes = frame.bytes();
 }

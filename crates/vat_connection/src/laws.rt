@@ -1,14 +1,14 @@
 //! What is proved of connections. The functions run no code: what they ensure is the theorem.
 ghost use Rattle.vat_connection.specs.Laws.{LoadIsBounded, PiecesAreOne};
 
-use capn_stream::fronts_stay;
+use capn_fronts::pieces_stand;
 
 /// Whatever comes of bytes in two pieces may come of the same bytes in one, so what a vat hears says nothing of how they were
 /// cut.
 pub fn pieces_are_one()
     ensures { PiecesAreOne }
 {
-    fronts_stay();
+    pieces_stand();
 }
 
 /// What a connection holds of its peer is at most its limit and one frame more: in words of frames, of Calls for which no Return was

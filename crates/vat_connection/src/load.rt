@@ -13,7 +13,7 @@ use std::marker::Model;
 /// What a connection holds of its peer.
 #[derive(Clone, Copy, Debug, PartialEq, Eq, Drop)]
 pub struct Load {
-    /// The words of the frames of each Call for which no Return was said, and of other frames until all events were told.
+    /// The words that are kept of the frames of each Call for which no Return was said, and of other frames until all events were told.
     pub words: u64,
     /// The bytes that wait to be sent.
     pub bytes: u64,

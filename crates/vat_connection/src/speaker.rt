@@ -6,14 +6,15 @@ ghost use Rattle.rpc_machine.specs.State.{start};
 ghost use Rattle.vat_host.specs.Hosting.{Does, Refuses, idle};
 ghost use Rattle.rpc_codec_fits.specs.Carrying.{fits};
 ghost use Rattle.rpc_outgoing.specs.Outflows.{nothing_out};
-ghost use Rattle.peer_adapter.specs.Peering.{fresh as fresh_adapter};
+ghost use Rattle.peer_large.specs.Sparing.{fresh as fresh_adapter};
 ghost use Rattle.vat_connection.specs.Calling.{Calls, Fits, IsTooLarge, call_of};
 ghost use Rattle.vat_connection.specs.Load.{nothing_heard};
 ghost use Rattle.vat_connection.specs.Hearing.{IsReady, may_hear};
 ghost use Rattle.vat_connection.specs.Speaking.{Falls, Shuts, finishing, given, want_of_room};
 
 use crate::load::{Intake, Limits};
-use peer_adapter::{Finishes, PeerAdapter};
+use peer_adapter::Finishes;
+use peer_large::SparingAdapter;
 use rpc_codec_fits::fits_envelope;
 use rpc_machine::{CallCommand, Command, Fault, Granted, Level, Refusal};
 use rpc_msg::{CallId, Memory, ObjectId, Vat};
@@ -27,7 +28,7 @@ use vat_host::{Host, Refused};
 pub(crate) struct Speaker {
     pub(crate) host: Host,
     pub(crate) out: Outgoing,
-    pub(crate) adapter: PeerAdapter,
+    pub(crate) adapter: SparingAdapter,
     pub(crate) heard: Intake,
     pub(crate) alloc: Global,
 }
@@ -56,7 +57,7 @@ impl Speaker {
         Ok(Speaker {
             host,
             out: Outgoing::new(alloc),
-            adapter: PeerAdapter::new(alloc),
+            adapter: SparingAdapter::new(alloc),
             heard: Intake::new(alloc),
             alloc,
         })

@@ -6,24 +6,22 @@ use Rattle.rpc_machine.specs.declared.command.Command.{Command}
 use Rattle.rpc_machine.specs.declared.command.Command.TheVariants as command
 use Rattle.rpc_machine.specs.declared.command.Granted.TheVariants as granted
 use Rattle.rpc_machine.specs.Steps.Obeys.{Shuts}
-use Rattle.rpc_codec.specs.Envelopes.{What}
-use Rattle.rpc_codec.specs.Decoding.{Came, envelope_at}
+use Rattle.rpc_codec.specs.Decoding as codec
 use Rattle.rpc_codec_parts.specs.Numbers.{number_of}
-use Rattle.capn_stream.specs.declared.front.Front.{Front}
-use Rattle.capn_stream.specs.declared.front.Front.TheVariants as front
-use Rattle.capn_stream.specs.Fronts.{front_of}
+use Rattle.capn_fronts.specs.Parts.{Part, nothing as no_part}
 use Rattle.capn_trees.specs.Numbers.{number_of as number_of_stream}
 use Rattle.peer_adapter.specs.declared.errors.PeerFault.{PeerFault}
 use Rattle.peer_adapter.specs.Numbers.{number_of as number_of_peer}
-use Rattle.peer_adapter.specs.Peering.{Coming, Going, comes, goes}
+use Rattle.peer_large.specs.Opening.{Came}
+use Rattle.peer_large.specs.Sparing.{Coming, Going, comes, goes}
 use Rattle.vat_host.specs.declared.event.Event.{Event}
 use Rattle.vat_host.specs.Hosting.{Hosted, Hears}
 use Rattle.vat_hosts.specs.OneHost.{Act, ActsAll, Happening, happened_by, told_by}
 use Rattle.vat_hosts.specs.OneHost.Act.{Commands, Takes, Receives}
 use Rattle.vat_connection.specs.declared.load.Limits.{Limits}
-use Rattle.vat_connection.specs.Speaking.{Speaking, Breaks, Falls, Fails, HearsAll, HearsCame, HearsComing, HearsUp, Passes, SaysTo, Turns, saying, stamp_of, tables_of, want_of_room, without, words_in}
+use Rattle.vat_connection.specs.Speaking.{Speaking, Breaks, Falls, Fails, HearsAll, HearsCame, HearsComing, HearsUp, Passes, SaysTo, Turns, saying, came_of, stamp_of, tables_of, want_of_room, without, words_in}
 use Rattle.vat_connection.specs.Speaking.SaysTo.{Nothing, Oldest, Broken}
-use Rattle.vat_connection.specs.Hearing.{Comes, Ends, EndsBy, FollowsBy, HearsInTurn, Inflow, IsOver, Leaves, Proceeds, Rests}
+use Rattle.vat_connection.specs.Hearing.{Comes, Ends, EndsUp, FollowsBy, HearsInTurn, Inflow, IsOver, Leaves, Proceeds, Rests}
 use Rattle.vat_connection.specs.Hearing.HearsInTurn.{All, Saying, Above, Down, Lacking, Oldest as OldestHeard}
 use Rattle.vat_connection.specs.Connecting.{Connected, EndsStream, WorksOn}
 use Rattle.vat_connections.specs.OneConnection.{command_of}
@@ -102,15 +100,15 @@ comes_one : (s t : Speaking) (words : ℕ) (r : Result Coming PeerFault) → Hea
 comes_one s t words (Ok c) (out, aside, (host, heard, is)) = subst (λ (u : Speaking). Works s.host u.host) (sym is) (hears_all c.heard s.host host heard)
 comes_one s t words (Err f) failed = fails s t (number_of_peer f) failed
 
-came_one : (s t : Speaking) (words : ℕ) (r : Came What) → HearsCame s words r t → Works s.host t.host
+came_one : (s t : Speaking) (words : ℕ) (r : codec.Came Came) → HearsCame s words r t → Works s.host t.host
 came_one s t words (Ok w) heard = comes_one s t words (comes (tables_of s.host.core) s.adapter w) heard
 came_one s t words (Err f) fell = falls s t (number_of f) fell
 
-hears_up : (s t : Speaking) (frame : List ℕ) → HearsUp s frame t → Works s.host t.host
-hears_up s t frame (inl heard) = came_one s t (words_in frame) (envelope_at (stamp_of s) frame) heard
+hears_up : (s t : Speaking) (frame : Part) → HearsUp s frame t → Works s.host t.host
+hears_up s t frame (inl heard) = came_one s t (words_in frame) (came_of (stamp_of s) frame) heard
 hears_up s t frame (inr lacks) = fails s t want_of_room lacks
 
-in_turn : (l : Limits) (t : Speaking) (left : List (List ℕ)) (s : Speaking) (frames : List (List ℕ)) → HearsInTurn l t left s frames → Works s.host t.host
+in_turn : (l : Limits) (t : Speaking) (left : List Part) (s : Speaking) (frames : List Part) → HearsInTurn l t left s frames → Works s.host t.host
 in_turn l t left _ _ (All {s = s} is none) = stays s t is
 in_turn l t left _ _ (Saying {s = s} {said = said} frame frames up said_so more) = then s.host said.host t.host (says said s said_so) (in_turn l t left said (frame ∷ frames) more)
 in_turn l t left _ _ (OldestHeard {s = s} {mid = mid} frame frames up none may is_frame heard more) = then s.host mid.host t.host (hears_up s mid frame heard) (in_turn l t left mid frames more)
@@ -118,15 +116,15 @@ in_turn l t left _ _ (Above {s = s} frame frames up none above is rest) = stays 
 in_turn l t left _ _ (Down {s = s} frame frames down is none) = stays s t is
 in_turn l t left _ _ (Lacking {s = s} frame frames up fell none) = falls s t want_of_room fell
 
-over : (mid t : Speaking) (left : List (List ℕ)) (waiting : List ℕ) (n : ℕ) (later : Inflow) → IsOver mid left waiting n t later → Works mid.host t.host
+over : (mid t : Speaking) (left : List Part) (waiting : Part) (n : ℕ) (later : Inflow) → IsOver mid left waiting n t later → Works mid.host t.host
 over mid t [] waiting n later (fell, nothing) = falls mid t n fell
 over mid t (frame ∷ frames) waiting n later (is, rest) = stays mid t is
 
-rests_by : (mid t : Speaking) (left : List (List ℕ)) (waiting : List ℕ) (end : Option ℕ) (later : Inflow) → Rests mid left waiting end t later → Works mid.host t.host
+rests_by : (mid t : Speaking) (left : List Part) (waiting : Part) (end : Option ℕ) (later : Inflow) → Rests mid left waiting end t later → Works mid.host t.host
 rests_by mid t left waiting None later (is, rest) = stays mid t is
 rests_by mid t left waiting (Some n) later ended = over mid t left waiting n later ended
 
-leaves : (d : Option ℕ) (mid t : Speaking) (left : List (List ℕ)) (waiting : List ℕ) (end : Option ℕ) (later : Inflow) → Leaves d mid left waiting end t later → Works mid.host t.host
+leaves : (d : Option ℕ) (mid t : Speaking) (left : List Part) (waiting : Part) (end : Option ℕ) (later : Inflow) → Leaves d mid left waiting end t later → Works mid.host t.host
 leaves (Some n) mid t left waiting end later (is, nothing) = stays mid t is
 leaves None mid t left waiting end later rested = rests_by mid t left waiting end later rested
 
@@ -134,31 +132,30 @@ proceeds : (l : Limits) (s t : Speaking) (inflow later : Inflow) → Proceeds l 
 proceeds l s t inflow later (mid, left, turn, left_so) =
     then s.host mid.host t.host (in_turn l mid left s inflow.unheard turn) (leaves mid.host.core.down mid t left inflow.waiting inflow.over later left_so)
 
-ends_by : (f : Front) (mid t : Speaking) (left : List (List ℕ)) (rest : List ℕ) (later : Inflow) → EndsBy f mid left rest t later → Works mid.host t.host
-ends_by (front.Complete n) mid t left rest later ended = absurd ended
-ends_by (front.Need n) mid t left rest later ended = rests_by mid t left rest None later ended
-ends_by (front.Fault f) mid t left rest later ended = over mid t left [] (number_of_stream f) later ended
+ends_by : (mid t : Speaking) (left : List Part) (rest : List ℕ) (later : Inflow) → EndsUp mid left rest t later → Works mid.host t.host
+ends_by mid t left rest later (inl (waiting, begun, rested)) = rests_by mid t left waiting None later rested
+ends_by mid t left rest later (inr (f, none, ended)) = over mid t left no_part (number_of_stream f) later ended
 
-ends : (d : Option ℕ) (mid t : Speaking) (left : List (List ℕ)) (rest : List ℕ) (later : Inflow) → Ends d mid left rest t later → Works mid.host t.host
+ends : (d : Option ℕ) (mid t : Speaking) (left : List Part) (rest : List ℕ) (later : Inflow) → Ends d mid left rest t later → Works mid.host t.host
 ends (Some n) mid t left rest later (is, nothing) = stays mid t is
-ends None mid t left rest later (inl ended) = ends_by (front_of rest) mid t left rest later ended
+ends None mid t left rest later (inl ended) = ends_by mid t left rest later ended
 ends None mid t left rest later (inr (fell, nothing)) = falls mid t want_of_room fell
 
-comes_behind : (l : Limits) (s t : Speaking) (unheard : List (List ℕ)) (bytes : List ℕ) (later : Inflow) → Comes l s unheard bytes t later → Works s.host t.host
-comes_behind l s t unheard bytes later (frames, rest, split, (mid, left, turn, ended)) =
-    then s.host mid.host t.host (in_turn l mid left s (unheard ++ frames) turn) (ends mid.host.core.down mid t left rest later ended)
+comes_behind : (l : Limits) (s t : Speaking) (unheard : List Part) (bytes : List ℕ) (later : Inflow) → Comes l s unheard bytes t later → Works s.host t.host
+comes_behind l s t unheard bytes later (frames, kept, rest, split, (mid, left, turn, ended)) =
+    then s.host mid.host t.host (in_turn l mid left s (unheard ++ kept) turn) (ends mid.host.core.down mid t left rest later ended)
 
 pub follows : (d over : Option ℕ) (l : Limits) (s t : Speaking) (inflow later : Inflow) (bytes : List ℕ) → FollowsBy d over l s inflow bytes t later → Works s.host t.host
 follows (Some n) over l s t inflow later bytes (is, same) = stays s t is
 follows None (Some n) l s t inflow later bytes (is, same) = stays s t is
-follows None None l s t inflow later bytes came = comes_behind l s t inflow.unheard (inflow.waiting ++ bytes) later came
+follows None None l s t inflow later bytes ((came, begun), behind) = comes_behind l s t inflow.unheard (came ++ bytes) later (behind came begun)
 
 -- ---- a connection
 
 pub ends_stream : (d end : Option ℕ) (c k : Connected) → EndsStream d end c k → Works c.speaker.host k.speaker.host
 ends_stream (Some n) end c k is = stays c.speaker k.speaker (ap (λ (x : Connected). x.speaker) is)
 ends_stream None (Some n) c k is = stays c.speaker k.speaker (ap (λ (x : Connected). x.speaker) is)
-ends_stream None None c k (ended, is) = over c.speaker k.speaker c.inflow.unheard [] _ k.inflow ended
+ends_stream None None c k (ended, is) = over c.speaker k.speaker c.inflow.unheard no_part _ k.inflow ended
 
 pub works_on : (c k : Connected) → WorksOn c k → Works c.speaker.host k.speaker.host
 works_on c k (speaker, inflow, proceeded, (said, said_so, is)) =

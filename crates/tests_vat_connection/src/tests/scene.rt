@@ -19,11 +19,15 @@ pub(crate) enum Step<'a> {
     Calls(Named, Result<Granted, Refusal>),
     Tells(Told),
     Hears(&'a [u8]),
+    /// The same, so many times.
+    HearsOften(&'a [u8], usize),
     /// Its stream ends.
     Ends,
     Shuts(u16),
     /// It has these bytes to send, and no more.
     Says(&'a [u8]),
+    /// It has a Return of question 7 to send, an exception (`failed`) with that reason and a true flag.
+    Fails(&'a str),
     HasOutgoing(bool),
     /// It hears more only while its load has at most so many words and bytes.
     Limits(u64, u64),
@@ -46,12 +50,18 @@ fn holds(alloc: Global, vat: &mut Connection, step: &Step<'_>) -> bool {
         Step::Calls(named, wanted) => calls(alloc, vat, *named) == Some(*wanted),
         Step::Tells(wanted) => next(vat) == *wanted,
         Step::Says(bytes) => says(vat, bytes),
+        Step::Fails(reason) => fails(&vat.outgoing(), reason.as_bytes()),
         Step::HasOutgoing(wanted) => vat.has_outgoing() == *wanted,
         Step::Loads(words) => vat.load().words == *words,
         Step::WantsBytes(wanted) => vat.wants_bytes() == *wanted,
         Step::IsUp => vat.core().down().is_none(),
         Step::SharesNothing => vat.core().shares_nothing(),
-        Step::Hears(_) | Step::Ends | Step::Shuts(_) | Step::Limits(..) | Step::Carries => {
+        Step::Hears(_)
+        | Step::HearsOften(..)
+        | Step::Ends
+        | Step::Shuts(_)
+        | Step::Limits(..)
+        | Step::Carries => {
             happens(vat, step);
             true
         }
@@ -61,6 +71,7 @@ fn holds(alloc: Global, vat: &mut Connection, step: &Step<'_>) -> bool {
 fn happens(vat: &mut Connection, step: &Step<'_>) {
     match step {
         Step::Hears(bytes) => vat.received(bytes),
+        Step::HearsOften(bytes, times) => hears_often(vat, bytes, *times),
         Step::Ends => vat.ended(),
         Step::Shuts(number) => vat.shut(*number),
         Step::Limits(words, bytes) => vat.set_limits(Limits {
@@ -69,6 +80,29 @@ fn happens(vat: &mut Connection, step: &Step<'_>) {
         }),
         _ => {}
     }
+}
+
+fn hears_often(vat: &mut Connection, bytes: &[u8], times: usize) {
+    for _ in 0..times {
+        vat.received(bytes);
+    }
+}
+
+/// A Return of question 7 with an exception (`failed`) and a true flag (`rpc.capnp`): from the root's pointer to where the reason
+/// begins.
+const FAILED: [u8; 60] = [
+    0, 0, 0, 0, 1, 0, 1, 0, 3, 0, 0, 0, 0, 0, 0, 0, 0, 0, 0, 0, 2, 0, 1, 0, 7, 0, 0, 0, 0, 0, 1, 0,
+    0, 0, 0, 0, 0, 0, 0, 0, 0, 0, 0, 0, 1, 0, 2, 0, 0, 0, 0, 0, 0, 0, 0, 0, 5, 0, 0, 0,
+];
+
+/// Behind its table and that come the size of the reason in four bytes, a null pointer, and the reason.
+fn fails(said: &[u8], reason: &[u8]) -> bool {
+    if said.len() < 80 {
+        return false;
+    }
+    let (front, text) = said.split_at(80);
+    let (_, front) = front.split_at(8);
+    front.starts_with(&FAILED) && text.starts_with(reason)
 }
 
 fn says(vat: &mut Connection, wanted: &[u8]) -> bool {

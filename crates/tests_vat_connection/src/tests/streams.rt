@@ -32,11 +32,11 @@ fn what_is_not_understood_goes_back_whole(rt: HostRuntime) {
 /// One segment of one word, a null root: an Unimplemented of nothing.
 const EMPTY: [u8; 16] = [0, 0, 0, 0, 1, 0, 0, 0, 0, 0, 0, 0, 0, 0, 0, 0];
 
-/// What a stream begins with that takes a vat down, and the fault's number: 17 segments, one of 65,537 words, an Unimplemented of
+/// What a stream begins with that takes a vat down, and the fault's number: 17 segments, one of 8,388,609 words, an Unimplemented of
 /// nothing, and what is none of a frame that came before.
 const AT_FAULT: [(&[u8], u16); 4] = [
     (&[16, 0, 0, 0], 3),
-    (&[0, 0, 0, 0, 1, 0, 1, 0], 4),
+    (&[0, 0, 0, 0, 1, 0, 128, 0], 4),
     (&EMPTY, 63),
     (&[255, 255, 255, 255, 1], 3),
 ];

@@ -6,8 +6,8 @@ use Rattle.vat_connection.proofs.arrivals.hear_all.Goals as goal
 pub loop-limits-preserved : goal.loop-limits-preserved
 loop-limits-preserved c = (
   λ new left more. c.loop-limits.invariant.0 new left
-      (oldest_heard c.args.limits c.loop-limits.speaker c.is_ready.new.self c.hear_frame.new.self new left c.in-Some.frame c.bytes.result.now c.loop-limits.inflow c.pop.new.self c.if-not-is_ready.ensures c.in-Some.ensures.oldest c.bytes.ensures.bytes
-      c.bytes.ensures.whole c.hear_frame.ensures more),
+      (oldest_heard c.args.limits c.loop-limits.speaker c.is_ready.new.self c.hear_frame.new.self new left c.in-Some.frame c.loop-limits.inflow c.pop.new.self c.if-not-is_ready.ensures c.in-Some.ensures.oldest
+      c.frames_are_whole.ensures c.hear_frame.ensures more),
   popped c.args.inflow.now c.loop-limits.inflow c.pop.new.self c.in-Some.frame c.loop-limits.invariant.1 c.in-Some.ensures.oldest,
 )
 

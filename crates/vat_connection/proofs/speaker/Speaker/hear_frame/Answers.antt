@@ -1,8 +1,7 @@
-use Rattle.std.proofs.Common.{◌≡◌, Ok, Err, sym, ap, subst, ◌∙◌}
+use Rattle.std.proofs.Common.{◌≡◌, ◌/◌, ℕ, List, length, Ok, Err, sym, ap, subst, ◌∙◌}
 use Rattle.rpc_msg.specs.declared.ids.Stamp.{Stamp}
-use Rattle.rpc_codec.specs.Decoding.{envelope_at}
-use Rattle.vat_connection.specs.Speaking.{Speaking, HearsUp, stamp_of}
-use Rattle.vat_connection.specs.Framing.{Opens}
+use Rattle.vat_connection.specs.Speaking.{Speaking, HearsUp, came_of, stamp_of}
+use Rattle.vat_connection.specs.Framing.{HearsOpened, Opens}
 use Rattle.vat_connection.proofs.Saying.{speaking}
 use Rattle.vat_connection.proofs.Framed.{not_opened, opened}
 use Rattle.vat_connection.proofs.speaker.Speaker.hear_frame.Goals as goal
@@ -12,9 +11,10 @@ returns-in-Err c =
     let start : Speaking = speaking c.self.inside.host c.self.inside.out c.self.inside.adapter c.self.inside.heard in
     let stamped : c.next_stamp-stamp.result ≡ stamp_of start = c.next_stamp-stamp.ensures ∙ ap stamp_of (sym c.self.view_is) in
     subst (λ (s : Speaking). HearsUp s c.args.frame.now (speaking c.shut.new.self c.self.inside.out c.self.inside.adapter c.self.inside.heard)) c.self.view_is
-    (not_opened c.self.inside.host c.self.inside.out c.self.inside.adapter c.self.inside.heard c.args.frame.now c.in-Err.number c.shut.new.self (subst (λ (st : Stamp). Opens (envelope_at st c.args.frame.now) (Err c.in-Err.number)) stamped c.in-Err.ensures) c.shut.ensures)
+    (not_opened c.self.inside.host c.self.inside.out c.self.inside.adapter c.self.inside.heard c.args.frame.now c.in-Err.number c.shut.new.self (subst (λ (st : Stamp). Opens (came_of st c.args.frame.now) (Err c.in-Err.number)) stamped c.in-Err.ensures) c.shut.ensures)
 
 pub returns : goal.returns
 returns c =
-    opened c.args.self.now.host c.args.self.now.out c.args.self.now.adapter c.args.self.now.heard c.args.frame.now c.in-Ok.came c.hear_envelope.new.self
-    (subst (λ (st : Stamp). Opens (envelope_at st c.args.frame.now) (Ok c.in-Ok.came)) c.next_stamp-stamp.ensures c.in-Ok.ensures) c.hear_envelope.ensures
+    opened c.args.self.now.host c.args.self.now.out c.args.self.now.adapter c.args.self.now.heard c.args.frame.now c.in-Ok.came c.hear_opened.new.self
+    (subst (λ (st : Stamp). Opens (came_of st c.args.frame.now) (Ok c.in-Ok.came)) c.next_stamp-stamp.ensures c.in-Ok.ensures)
+    (subst (λ (b : List ℕ). HearsOpened c.args.self.now (length b / 8) c.in-Ok.came c.hear_opened.new.self) c.bytes.ensures.bytes c.hear_opened.ensures)

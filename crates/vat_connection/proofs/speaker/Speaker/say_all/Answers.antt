@@ -1,5 +1,5 @@
 use Rattle.std.proofs.Common.{subst}
-use Rattle.peer_adapter.specs.Peering.{goes}
+use Rattle.peer_large.specs.Sparing.{goes}
 use Rattle.vat_connection.specs.Load.{Intake}
 use Rattle.vat_connection.specs.Speaking.{Speaking, Breaks, Says, Turns}
 use Rattle.vat_connection.proofs.Saying.{breaks, none_said, one_said, speaking}

@@ -1,6 +1,6 @@
 use Rattle.std.proofs.Common.{subst}
 use Rattle.vat_connection.specs.Speaking.{Speaking, Turns}
-use Rattle.peer_adapter.specs.Peering.{goes}
+use Rattle.peer_large.specs.Sparing.{goes}
 use Rattle.vat_connection.proofs.Saying.{speaking, turns}
 use Rattle.vat_connection.proofs.speaker.Speaker.say_one.Goals as goal
 
