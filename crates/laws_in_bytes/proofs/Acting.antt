@@ -18,7 +18,6 @@ use Rattle.rpc_machine.proofs.StaysDown.{command_down}
 use Rattle.rpc_outgoing.specs.Outflows.{Outflow}
 use Rattle.peer_finishes.specs.declared.held.Finishes.{Finishes}
 use Rattle.peer_finishes.specs.declared.held.Finishes.TheVariants.{AtOnce}
-use Rattle.peer_adapter.specs.Laws.{StandsAside}
 use Rattle.laws_ends.specs.Names.{KeepsNames}
 use Rattle.laws_peers.specs.Alike.{FittingNamesAreAlike}
 use Rattle.laws_scenes.specs.Refused.{RunsRefuseNothing}
@@ -43,7 +42,8 @@ use Rattle.laws_in_bytes.specs.Conditions.{IsKnown}
 use Rattle.laws_in_bytes.specs.Wired.{TellsCutOff, but_shut, done_by_act, done_of}
 use Rattle.laws_in_bytes.proofs.Viewing.{Reached, View, commanded, commands, commands_down, stepped_view, world_of}
 use Rattle.laws_in_bytes.proofs.Tied.{AllAborts, IsPlainly, Link, Tied, falls, not_down, some_down, step_ties, told_elsewhere, told_here}
-use Rattle.laws_in_bytes.proofs.Flowing.{Flows, Waits, coming, ends_stream, follows, works}
+use Rattle.laws_in_bytes.proofs.Aside.{StandAside}
+use Rattle.laws_in_bytes.proofs.Flowing.{Flows, Unheard, Waits, coming, ends_stream, follows, works}
 
 -- ---- what is told
 
@@ -63,7 +63,7 @@ pub record CutsOne (old new : Hosted) (told run : List Event) : Type 0 where
   pub over : IsSome new.core.down
 
 pub record Acted (root_a root_b : Option ObjectId) (v : Vat) (w : View) (x : Act) (old new : Connected) (peer : Speaking) (r to_them : List ℕ) : Type 0 where
-  pub gone : List ℕ
+  pub gone : Unheard
   pub waits : Waits new.inflow gone
   pub happened : List Happening
   pub view : View
@@ -72,7 +72,7 @@ pub record Acted (root_a root_b : Option ObjectId) (v : Vat) (w : View) (x : Act
   pub elsewhere : flat_map (told_in (other_vat v)) happened ≡ []
   pub tells : TellsInTurn old.speaker.host new.speaker.host (told_by_act x) (flat_map (told_in v) happened) ⊎ CutsOne old.speaker.host new.speaker.host (told_by_act x) (flat_map (told_in v) happened)
   pub stays : IsSome old.speaker.host.core.down → IsSome new.speaker.host.core.down
-  pub holds : Tied new.speaker peer (coming new.inflow gone r) to_them view
+  pub holds : Tied new.speaker peer (coming gone r) to_them view
 
 module _ (h k : Hosted) (worked : Works h k) where
   still_down : IsSome h.core.down → IsSome k.core.down
@@ -131,7 +131,7 @@ only_down h e = let k = both_so (length h.events == 0) (is_some h.core.down) (no
 module _ (root_a root_b : Option ObjectId) (v : Vat) (w : View) (peer : Speaking) (r to_them : List ℕ) where
   -- ---- commands
 
-  module _ (old new : Connected) (gone : List ℕ) (waits : Waits old.inflow gone) (t : Tied old.speaker peer (coming old.inflow gone r) to_them w) where
+  module _ (old new : Connected) (gone : Unheard) (waits : Waits old.inflow gone) (t : Tied old.speaker peer (coming gone r) to_them w) where
     module _ (names : OfEachStep KeepsNames) (c : Command) (g : Granted) (done : Does old.speaker.host c g new.speaker.host) (same : new.inflow ≡ old.inflow) (speaker_is : new.speaker ≡ record (old.speaker) { host = new.speaker.host }) where
       abbrev effects : Effects
       effects = done.0
@@ -145,7 +145,7 @@ module _ (root_a root_b : Option ObjectId) (v : Vat) (w : View) (peer : Speaking
       told_so : flat_map (told_in v) (commanded v c (Ok g) effects ∷ []) ≡ calls_told effects
       told_so = append-nil (told_in v (commanded v c (Ok g) effects)) ∙ told_here v (calls_told effects)
 
-      acted : (view : View) → WiredRun (world_of v w) (commanded v c (Ok g) effects ∷ []) (world_of v view) → Tied new.speaker peer (coming old.inflow gone r) to_them view
+      acted : (view : View) → WiredRun (world_of v w) (commanded v c (Ok g) effects ∷ []) (world_of v view) → Tied new.speaker peer (coming gone r) to_them view
           → Acted root_a root_b v w (Commands c (Ok g)) old new peer r to_them
       acted view ran holds = record {
         gone = gone;
@@ -160,7 +160,7 @@ module _ (root_a root_b : Option ObjectId) (v : Vat) (w : View) (peer : Speaking
           silent = λ d none. (refl, (silent_behind old.speaker.host new.speaker.host (HostCommands c (Ok g) ∷ []) (new.speaker.host, done, refl) d none).0);
         });
         stays = λ d. is_down_behind old.speaker.host new.speaker.host (HostCommands c (Ok g) ∷ []) (new.speaker.host, done, refl) d;
-        holds = subst (λ (i : Inflow). Tied new.speaker peer (coming i gone r) to_them view) (sym same) holds;
+        holds = holds;
       }
 
       does_by : (o : Option ℕ) → old.speaker.host.core.down ≡ o → Acted root_a root_b v w (Commands c (Ok g)) old new peer r to_them
@@ -168,7 +168,7 @@ module _ (root_a root_b : Option ObjectId) (v : Vat) (w : View) (peer : Speaking
           let s = new.speaker.host.core in
           acted (stepped_view w effects s)
           (world_of v (stepped_view w effects s), commands v w c (Ok g) effects s (ap (λ (x : State). x.down) t.mine ∙ up) (subst (λ (x : State). Obeys x c (Ok g) effects s) (sym t.mine) done.1), refl)
-          (step_ties old.speaker peer new.speaker (coming old.inflow gone r) to_them (coming old.inflow gone r) w effects w.to_me t up messages (ap (λ (x : Speaking). x.out) speaker_is) (plainly_then t.own.plainly)
+          (step_ties old.speaker peer new.speaker (coming gone r) to_them (coming gone r) w effects w.to_me t up messages (ap (λ (x : Speaking). x.out) speaker_is) (plainly_then t.own.plainly)
           ((names.commands old.speaker.host.core c (Ok g) effects s done.1).level ∙ t.own.level) (λ u. t.link up))
         where
           plainly_then : IsPlainly old.speaker → IsPlainly new.speaker
@@ -182,7 +182,7 @@ module _ (root_a root_b : Option ObjectId) (v : Vat) (w : View) (peer : Speaking
                 (subst (λ (x : State). Obeys x c (Ok g) effects x) (sym t.mine) (subst (λ (x : State). Obeys old.speaker.host.core c (Ok g) effects x) u.new_is done.1)),
             refl,
           )
-          (same_tied old.speaker new.speaker peer (coming old.inflow gone r) to_them w
+          (same_tied old.speaker new.speaker peer (coming gone r) to_them w
           (with_new_host old.speaker new.speaker new.speaker.host speaker_is u.new_is (messages ∙ ap (λ (e : Effects). old.speaker.host.messages ++ e.sends) u.effects_are ∙ append-nil old.speaker.host.messages)) t)
 
     -- Nothing happened to its vat, and this is told.
@@ -198,7 +198,7 @@ module _ (root_a root_b : Option ObjectId) (v : Vat) (w : View) (peer : Speaking
       elsewhere = refl;
       tells = inl tells;
       stays = λ d. subst (λ (c : State). IsSome c.down) (sym s.core) d;
-      holds = subst (λ (i : Inflow). Tied new.speaker peer (coming i gone r) to_them w) (sym same) (same_tied old.speaker new.speaker peer (coming old.inflow gone r) to_them w s t);
+      holds = same_tied old.speaker new.speaker peer (coming gone r) to_them w s t;
     }
 
     same_host : (told : List Event) → told ≡ [] → new.speaker.host ≡ old.speaker.host → TellsInTurn old.speaker.host new.speaker.host told []
@@ -249,8 +249,8 @@ module _ (root_a root_b : Option ObjectId) (v : Vat) (w : View) (peer : Speaking
   -- ---- what is told
 
   -- Something is told once the vat went on.
-  module _ (old mid new : Connected) (gone : List ℕ) (t : Tied old.speaker peer (coming old.inflow gone r) to_them w) (worked : Works old.speaker.host mid.speaker.host)
-      (f : Flows root_a root_b v peer r to_them old.speaker mid.speaker (coming old.inflow gone r) mid.inflow) (reached : Reached root_a root_b (world_of v w)) where
+  module _ (old mid new : Connected) (gone : Unheard) (t : Tied old.speaker peer (coming gone r) to_them w) (worked : Works old.speaker.host mid.speaker.host)
+      (f : Flows root_a root_b v peer r to_them old.speaker mid.speaker (coming gone r) mid.inflow) (reached : Reached root_a root_b (world_of v w)) where
     tells_with : (x : Act) → done_by_act v x ≡ [] → IsSame mid.speaker new.speaker → new.inflow ≡ mid.inflow
         → ((run : List Event) → flat_map of_calls mid.speaker.host.events ≡ flat_map of_calls old.speaker.host.events ++ run
         → TellsInTurn old.speaker.host new.speaker.host (told_by_act x) run ⊎ CutsOne old.speaker.host new.speaker.host (told_by_act x) run)
@@ -267,7 +267,7 @@ module _ (root_a root_b : Option ObjectId) (v : Vat) (w : View) (peer : Speaking
           elsewhere = k.elsewhere;
           tells = tells (flat_map (told_in v) k.happened) k.calls;
           stays = λ d. subst (λ (c : State). IsSome c.down) (sym s.core) (still_down old.speaker.host mid.speaker.host worked d);
-          holds = subst (λ (i : Inflow). Tied new.speaker peer (coming i f.gone r) to_them k.view) (sym same) (same_tied mid.speaker new.speaker peer (coming mid.inflow f.gone r) to_them k.view s k.holds);
+          holds = same_tied mid.speaker new.speaker peer (coming f.gone r) to_them k.view s k.holds;
         }
 
     mid_down : IsSome old.speaker.host.core.down → IsSome mid.speaker.host.core.down
@@ -390,7 +390,7 @@ gives root_a root_b v w peer r to_them bytes old mid new bytes_are is k =
       elsewhere = k.elsewhere;
       tells = k.tells;
       stays = k.stays;
-      holds = subst (λ (x : List ℕ). Tied (given mid.speaker) peer (coming mid.inflow k.gone r) (to_them ++ x) k.view) (sym bytes_are) (given_tied mid.speaker peer (coming mid.inflow k.gone r) to_them k.view k.holds);
+      holds = subst (λ (x : List ℕ). Tied (given mid.speaker) peer (coming k.gone r) (to_them ++ x) k.view) (sym bytes_are) (given_tied mid.speaker peer (coming k.gone r) to_them k.view k.holds);
     })
 
 -- ---- all acts
@@ -399,58 +399,58 @@ finishing_same : (s : Speaking) (f : Finishes) → f ≡ AtOnce → IsSame s (fi
 finishing_same s f is = record { core = refl; messages = refl; out = refl; adapter = by }
   where
     by : IsPlainly s → IsPlainly (finishing s f)
-    by (inl e) = inl (λ i. record (e i) { finishes = record ((e i).finishes) { finishes = is i } })
+    by (inl e) = inl (λ i. record (e i) { peering = record ((e i).peering) { finishes = record ((e i).peering.finishes) { finishes = is i } } })
     by (inr a) = inr a
 
-module _ (aside : StandsAside) (alike : FittingNamesAreAlike) (runs : WiredRunsAreRuns) (refuse : RunsRefuseNothing) (understood : EveryRunIsUnderstood) (names : OfEachStep KeepsNames) (root_a root_b : Option ObjectId) (v : Vat) (w : View) (reached : Reached root_a root_b (world_of v w)) (peer : Speaking) where
-  module _ (r to_them : List ℕ) (old new : Connected) (gone : List ℕ) (waits : Waits old.inflow gone) where
+module _ (aside : StandAside) (alike : FittingNamesAreAlike) (runs : WiredRunsAreRuns) (refuse : RunsRefuseNothing) (understood : EveryRunIsUnderstood) (names : OfEachStep KeepsNames) (root_a root_b : Option ObjectId) (v : Vat) (w : View) (reached : Reached root_a root_b (world_of v w)) (peer : Speaking) where
+  module _ (r to_them : List ℕ) (old new : Connected) (gone : Unheard) (waits : Waits old.inflow gone) where
     -- Bytes come: the oldest of those on their way.
-    pub receives : (bytes : List ℕ) (h : Acts old (Receives bytes) new) → IsKnown old (Receives bytes) new h → Tied old.speaker peer (coming old.inflow gone (bytes ++ r)) to_them w
+    pub receives : (bytes : List ℕ) (h : Acts old (Receives bytes) new) → IsKnown old (Receives bytes) new h → Tied old.speaker peer (coming gone (bytes ++ r)) to_them w
         → Acted root_a root_b v w (Receives bytes) old new peer r to_them
     receives bytes (followed, is) known t =
-        by_itself root_a root_b v w peer r to_them (Receives bytes) old new (coming old.inflow gone (bytes ++ r)) refl refl
+        by_itself root_a root_b v w peer r to_them (Receives bytes) old new (coming gone (bytes ++ r)) refl refl
         (works_follows (down old) old.inflow.over old.limits old.speaker new.speaker old.inflow new.inflow bytes followed) t
         (follows root_a root_b v peer r to_them aside alike runs refuse understood names (down old) old.inflow.over old.limits old.speaker new.speaker old.inflow new.inflow bytes gone refl refl waits followed known)
         reached
 
     -- Bytes are handed out, behind those on their way to the other.
-    pub gives_out : (bytes : List ℕ) (h : Acts old (Gives bytes) new) → IsKnown old (Gives bytes) new h → Tied old.speaker peer (coming old.inflow gone r) to_them w
+    pub gives_out : (bytes : List ℕ) (h : Acts old (Gives bytes) new) → IsKnown old (Gives bytes) new h → Tied old.speaker peer (coming gone r) to_them w
         → Acted root_a root_b v w (Gives bytes) old new peer r (to_them ++ bytes)
     gives_out bytes (mid, worked, bytes_are, is) known t =
         gives root_a root_b v w peer r to_them bytes old mid new bytes_are is
-        (by_itself root_a root_b v w peer r to_them (Gives bytes) old mid (coming old.inflow gone r) refl refl (works_on old mid worked) t
+        (by_itself root_a root_b v w peer r to_them (Gives bytes) old mid (coming gone r) refl refl (works_on old mid worked) t
         (works root_a root_b v peer r to_them aside alike runs refuse understood names old mid gone waits worked known) reached)
 
-    pub commands_it : (c : Command) (answer : Result Granted Refusal) → Acts old (Commands c answer) new → Tied old.speaker peer (coming old.inflow gone r) to_them w → Acted root_a root_b v w (Commands c answer) old new peer r to_them
+    pub commands_it : (c : Command) (answer : Result Granted Refusal) → Acts old (Commands c answer) new → Tied old.speaker peer (coming gone r) to_them w → Acted root_a root_b v w (Commands c answer) old new peer r to_them
     commands_it c answer h t = commands_by root_a root_b v w peer r to_them old new gone waits t names c answer h
 
-    pub ends_it : Acts old Ends new → Tied old.speaker peer (coming old.inflow gone r) to_them w → Acted root_a root_b v w Ends old new peer r to_them
+    pub ends_it : Acts old Ends new → Tied old.speaker peer (coming gone r) to_them w → Acted root_a root_b v w Ends old new peer r to_them
     ends_it h t =
-        by_itself root_a root_b v w peer r to_them Ends old new (coming old.inflow gone r) refl refl (works_ends (down old) old.inflow.over old new h) t
+        by_itself root_a root_b v w peer r to_them Ends old new (coming gone r) refl refl (works_ends (down old) old.inflow.over old new h) t
         (ends_stream root_a root_b v peer r to_them (down old) old.inflow.over old new gone waits h) reached
 
-    pub shuts_it : (n : ℕ) → Acts old (Shuts n) new → Tied old.speaker peer (coming old.inflow gone r) to_them w → Acted root_a root_b v w (Shuts n) old new peer r to_them
+    pub shuts_it : (n : ℕ) → Acts old (Shuts n) new → Tied old.speaker peer (coming gone r) to_them w → Acted root_a root_b v w (Shuts n) old new peer r to_them
     shuts_it n (fell, is) t =
-        by_itself root_a root_b v w peer r to_them (Shuts n) old new (coming old.inflow gone r) refl refl (works_falls old.speaker new.speaker n fell) t
+        by_itself root_a root_b v w peer r to_them (Shuts n) old new (coming gone r) refl refl (works_falls old.speaker new.speaker n fell) t
         (record {
           gone = gone;
           waits = subst (λ (c : Connected). Waits c.inflow gone) (sym is) waits;
-          goes = λ u reached t. falls v old.speaker peer new.speaker n (coming old.inflow gone r) to_them (coming new.inflow gone r) u t fell;
+          goes = λ u reached t. falls v old.speaker peer new.speaker n (coming gone r) to_them (coming gone r) u t fell;
         })
         reached
 
-    pub asks_it : (event : Option Event) (h : Acts old (Asks event) new) → IsKnown old (Asks event) new h → Tied old.speaker peer (coming old.inflow gone r) to_them w → Acted root_a root_b v w (Asks event) old new peer r to_them
+    pub asks_it : (event : Option Event) (h : Acts old (Asks event) new) → IsKnown old (Asks event) new h → Tied old.speaker peer (coming gone r) to_them w → Acted root_a root_b v w (Asks event) old new peer r to_them
     asks_it event (mid, worked, tells) known t =
         tells_next root_a root_b v w peer r to_them old mid new gone t (works_on old mid worked)
         (works root_a root_b v peer r to_them aside alike runs refuse understood names old mid gone waits worked known) reached event tells
 
-    pub limits_it : (limits : Limits) → Acts old (SetsLimits limits) new → Tied old.speaker peer (coming old.inflow gone r) to_them w → Acted root_a root_b v w (SetsLimits limits) old new peer r to_them
+    pub limits_it : (limits : Limits) → Acts old (SetsLimits limits) new → Tied old.speaker peer (coming gone r) to_them w → Acted root_a root_b v w (SetsLimits limits) old new peer r to_them
     limits_it limits is t =
         beside root_a root_b v w peer r to_them old new gone waits t (SetsLimits limits) refl
         (with_new_host old.speaker new.speaker old.speaker.host (ap (λ (c : Connected). c.speaker) is) refl refl) (ap (λ (c : Connected). c.inflow) is)
         (same_host root_a root_b v w peer r to_them old new gone waits t [] refl (ap (λ (c : Connected). c.speaker.host) is))
 
-    pub finishes_it : (f : Finishes) (h : Acts old (SetsFinishes f) new) → IsKnown old (SetsFinishes f) new h → Tied old.speaker peer (coming old.inflow gone r) to_them w → Acted root_a root_b v w (SetsFinishes f) old new peer r to_them
+    pub finishes_it : (f : Finishes) (h : Acts old (SetsFinishes f) new) → IsKnown old (SetsFinishes f) new h → Tied old.speaker peer (coming gone r) to_them w → Acted root_a root_b v w (SetsFinishes f) old new peer r to_them
     finishes_it f is known t =
         beside root_a root_b v w peer r to_them old new gone waits t (SetsFinishes f) refl
         (subst (λ (s : Speaking). IsSame old.speaker s) (sym (ap (λ (c : Connected). c.speaker) is)) (finishing_same old.speaker f known)) (ap (λ (c : Connected). c.inflow) is)

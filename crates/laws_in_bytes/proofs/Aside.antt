@@ -1,5 +1,6 @@
 -- The adapter stands aside between two vats.
 use Rattle.std.proofs.Common.{◌≡◌, Bool, true, false, [], ◌∷◌, None, Result, Ok, Err, refl, ap, ◌∙◌}
+use Rattle.std.specs.FinMap as finite
 use Rattle.rpc_msg.specs.declared.message.PlainMessage.{PlainMessage}
 use Rattle.rpc_msg.specs.declared.message.PlainMessage.TheVariants as plain
 use Rattle.rpc_msg.specs.declared.message.Message.{Message}
@@ -16,16 +17,26 @@ use Rattle.peer_finishes.specs.Finishing as finishes
 use Rattle.peer_tail_calls.specs.Laws.{told_of}
 use Rattle.peer_adapter.specs.declared.errors.PeerFault.{PeerFault}
 use Rattle.peer_adapter.specs.Laws.{StandsAside}
-use Rattle.peer_adapter.specs.Peering.{Coming, Going, Peering, Tables, admits, admits_by, comes, finished_by, fresh, goes, hears, kinds_by}
+use Rattle.peer_adapter.specs.Peering.{Coming, Peering, Tables, admits, admits_by, comes, finished_by, hears, kinds_by}
+use Rattle.peer_adapter.specs.Peering as peer
 use Rattle.peer_adapter.specs.Peering.Besides.{Tells}
+use Rattle.peer_large.specs.Laws.{StandsAside as SparesNothing}
+use Rattle.peer_large.specs.Opening.{envelope}
+use Rattle.peer_large.specs.Sparing as large
+use Rattle.peer_large.specs.Sparing.{Going, Sparing, fresh, goes, passed_by, with_going}
 use Rattle.vat_host.specs.Hosting.{is_abort}
 use Rattle.vat_connection.specs.Speaking.{tables_of}
 use Rattle.laws_in_bytes.specs.Conditions.{HasRoom}
 
+-- The laws of the adapters.
+pub record StandAside : Type 0 where
+  pub adapter : StandsAside
+  pub sparing : SparesNothing
+
 -- ---- what comes
 
 -- It is heard as it came.
-abbrev pub as_it_came : Message → Result Coming PeerFault
+abbrev pub as_it_came : Message → Result large.Coming PeerFault
 as_it_came m = Ok (record { state = fresh; besides = Tells (record { given_back = []; said = None }); heard = m ∷ [] })
 
 -- the tables of a vat that has room
@@ -67,18 +78,23 @@ room_same s o (plain.Release r) room = refl
 room_same s o (plain.Disembargo d) room = refl
 room_same s o (plain.Other n) room = refl
 
-pub heard_aside : StandsAside → (s : State) (p : PlainMessage) → HasRoom s p → NamesAlike (tables_of s).standing (profile (message.Plain p)) → names_of (tables_of s).broken (profile (message.Plain p)) ≡ []
-    → comes (tables_of s) fresh (profile (message.Plain p)) ≡ as_it_came (message.Plain p)
+pub heard_aside : StandAside → (s : State) (p : PlainMessage) → HasRoom s p → NamesAlike (tables_of s).standing (profile (message.Plain p)) → names_of (tables_of s).broken (profile (message.Plain p)) ≡ []
+    → large.comes (tables_of s) fresh (envelope (profile (message.Plain p))) ≡ as_it_came (message.Plain p)
 heard_aside aside s p room alike names =
-    comes_same (tables_of s) fresh (profile (message.Plain p)) (room_same s fresh.overload p room) ∙ aside.heard (free (tables_of s)) (message.Plain p) refl alike names
+    aside.sparing.comes (tables_of s) fresh (profile (message.Plain p))
+    ∙ ap (passed_by fresh)
+    (comes_same (tables_of s) peer.fresh (profile (message.Plain p)) (room_same s peer.fresh.overload p room) ∙ aside.adapter.heard (free (tables_of s)) (message.Plain p) refl alike names)
 
 -- ---- what goes
 
-abbrev pub aside_of : Peering → Message → Going
+abbrev pub aside_of : Sparing → Message → Going
 aside_of s m = record { state = s; told = record { given_back = []; said = told_of m }; heard = [] }
 
+pub said_aside : StandAside → (m : Message) → goes fresh m ≡ aside_of fresh m
+said_aside aside m = aside.sparing.goes peer.fresh m ∙ ap (λ (g : peer.Going). with_going finite.empty g) (aside.adapter.said m)
+
 -- So an Abort does, whatever the adapter keeps.
-pub abort_aside : (s : Peering) (m : Message) → is_abort m ≡ true → goes s m ≡ aside_of s m
+pub abort_aside : (s : Sparing) (m : Message) → is_abort m ≡ true → goes s m ≡ aside_of s m
 abort_aside s (message.Plain (plain.Abort e)) h = refl
 abort_aside s (message.Plain (plain.Bootstrap q)) h = cc
 abort_aside s (message.Plain (plain.Call c)) h = cc

@@ -19,13 +19,16 @@ use Rattle.rpc_machine.specs.State.{State}
 use Rattle.rpc_machine.specs.Steps.{Receives}
 use Rattle.rpc_machine.specs.Steps.Receives.{WasDown, FaultsBy, LacksRoom, IsHandled}
 use Rattle.rpc_machine.specs.World.{core, inbox}
+use Rattle.rpc_msg.specs.declared.ids.Stamp.{Stamp}
 use Rattle.rpc_codec.specs.Envelopes.{What, profile}
-use Rattle.rpc_codec.specs.Decoding.{Came, envelope_at}
+use Rattle.rpc_codec.specs.Decoding as codec
 use Rattle.rpc_outgoing.specs.Outflows.{Outflow}
-use Rattle.capn_stream.specs.Fronts.{IsFrame}
+use Rattle.capn_fronts.specs.Laws.{AreKept, IsKept}
+use Rattle.capn_fronts.specs.Parts.{Part}
 use Rattle.peer_adapter.specs.declared.errors.PeerFault.{PeerFault}
-use Rattle.peer_adapter.specs.Laws.{StandsAside}
-use Rattle.peer_adapter.specs.Peering.{Coming, Peering, comes, fresh}
+use Rattle.peer_large.specs.Fronts.{large_in}
+use Rattle.peer_large.specs.Opening.{Came, came_at, envelope, opened_by}
+use Rattle.peer_large.specs.Sparing.{Coming, Sparing, comes, fresh}
 use Rattle.laws_ends.specs.Names.{KeepsNames}
 use Rattle.laws_peers.specs.Alike.{FittingNamesAreAlike}
 use Rattle.laws_scenes.specs.Refused.{RunsRefuseNothing}
@@ -37,13 +40,13 @@ use Rattle.vat_host.specs.Watching.{known_by}
 use Rattle.vat_hosts.specs.Calls.{calls_told, of_calls}
 use Rattle.vat_hosts.proofs.Calls.{known_no_call, more_calls}
 use Rattle.vat_connection.specs.declared.load.Limits.{Limits}
-use Rattle.vat_connection.specs.Speaking.{Speaking, HearsCame, HearsComing, HearsUp, Lacks, stamp_of, tables_of, want_of_room, words_in}
+use Rattle.vat_connection.specs.Speaking.{Speaking, HearsCame, HearsComing, HearsUp, Lacks, came_by, came_of, stamp_of, tables_of, want_of_room, words_in}
 use Rattle.vat_connection.specs.Hearing.{HearsInTurn}
 use Rattle.vat_connection.specs.Hearing.HearsInTurn.{All, Saying, Above, Down, Lacking, Oldest as OldestHeard}
 use Rattle.laws_in_bytes.specs.Conditions.{FindsRoom, HasRoom, TurnIsKnown}
-use Rattle.laws_in_bytes.proofs.Aside.{as_it_came, heard_aside}
+use Rattle.laws_in_bytes.proofs.Aside.{StandAside, as_it_came, heard_aside}
 use Rattle.laws_in_bytes.proofs.Honest.{Plainly, heard_well, names_none, oldest_well}
-use Rattle.laws_in_bytes.proofs.Streams.{not_empty, same_frame}
+use Rattle.laws_in_bytes.proofs.Streams.{not_empty, same_kept}
 use Rattle.laws_in_bytes.proofs.Viewing.{Reached, View, delivered, hears, stepped_view, world_of}
 use Rattle.laws_in_bytes.proofs.Tied.{not_down, AllAborts, Clean, Happens2, IsPlainly, Link, Lost, Tied, fallen_down, falls, nothing2, one2, retie, shut2, step_ties, then2, told_elsewhere, told_here}
 use Rattle.laws_in_bytes.proofs.Said.{says}
@@ -111,8 +114,29 @@ heard_abort m x a (AsSaid is) = let k = the_abort m a in (k.0, is ∙ k.1)
 heard_abort m x a (OfCall c stamp p h said is) = absurd (let b : false ≡ true = sym (ap is_abort said) ∙ a in cc)
 heard_abort m x a (OfResults q flag ds p r h said is) = absurd (let b : false ≡ true = sym (ap is_abort said) ∙ a in cc)
 
-abbrev came_as : What → Came What
-came_as w = Ok w
+abbrev said_as : What → codec.Came What
+said_as w = Ok w
+
+abbrev came_as : What → codec.Came Came
+came_as w = Ok (envelope w)
+
+-- What is kept of a frame is all of it, and says what the frame says.
+all_kept : (stamp : Stamp) (part : Part) (frame : List ℕ) → part.kept ≡ frame → part.dropped ≡ 0 → came_of stamp part ≡ came_at stamp frame
+all_kept stamp part frame kept none = (λ i. came_by (none i) stamp (kept i))
+
+-- A message of the profile breaks no limit.
+profile_came : (stamp : Stamp) (frame : List ℕ) (x : Message) → codec.envelope_at stamp frame ≡ Ok (profile x) → came_at stamp frame ≡ Ok (envelope (profile x))
+profile_came stamp frame x e = ap (opened_by (large_in frame)) e
+
+-- The frames that are left, of those of which this is kept.
+pub left_of : {l : Limits} {new : Speaking} {left : List Part} {s : Speaking} {parts : List Part} → HearsInTurn l new left s parts → (frames : List (List ℕ)) → AreKept frames parts → (fs : List (List ℕ)) × AreKept fs left
+left_of (All is none) frames kept = ([], subst (λ (ps : List Part). AreKept [] ps) (sym none) tt)
+left_of (Saying part parts up says more) frames kept = left_of more frames kept
+left_of (OldestHeard part parts up none may whole heard more) [] kept = absurd kept
+left_of (OldestHeard part parts up none may whole heard more) (f ∷ fs) kept = left_of more fs kept.1
+left_of (Above part parts up none above is rest) frames kept = (frames, subst (λ (ps : List Part). AreKept frames ps) (sym rest) kept)
+left_of (Down part parts down is none) frames kept = ([], subst (λ (ps : List Part). AreKept [] ps) (sym none) tt)
+left_of (Lacking part parts up fell none) frames kept = ([], subst (λ (ps : List Part). AreKept [] ps) (sym none) tt)
 
 mine_core : (v : Vat) (w : View) → core (world_of v w) v ≡ w.mine
 mine_core A w = refl
@@ -122,32 +146,33 @@ mine_inbox : (v : Vat) (w : View) → inbox (world_of v w) v ≡ w.to_me
 mine_inbox A w = refl
 mine_inbox B w = refl
 
-module _ (aside : StandsAside) (alike : FittingNamesAreAlike) (runs : WiredRunsAreRuns) (refuse : RunsRefuseNothing) (understood : EveryRunIsUnderstood) (names : OfEachStep KeepsNames) (root_a root_b : Option ObjectId) where
+module _ (aside : StandAside) (alike : FittingNamesAreAlike) (runs : WiredRunsAreRuns) (refuse : RunsRefuseNothing) (understood : EveryRunIsUnderstood) (names : OfEachStep KeepsNames) (root_a root_b : Option ObjectId) where
   -- A frame says a message that names well, and for which there is room.
-  took : (me new : Speaking) (words : ℕ) (came : Came What) (x : Message) → me.adapter ≡ fresh → came ≡ Ok (profile x) → (pl : Plainly me.host.core x) → HasRoom me.host.core pl.0 → HearsCame me words came new → Took me new x
+  took : (me new : Speaking) (words : ℕ) (came : codec.Came Came) (x : Message) → me.adapter ≡ fresh → came ≡ Ok (envelope (profile x)) → (pl : Plainly me.host.core x) → HasRoom me.host.core pl.0 → HearsCame me words came new → Took me new x
   took me new words came x f e (p, is, w) room h =
       let c = heard_aside aside me.host.core p room (alike me.host.core p w.first w.none) (names_none me.host.core p w) in
-      let a : HearsComing me words (comes (tables_of me.host.core) me.adapter (profile x)) new = subst (λ (c : Came What). HearsCame me words c new) e h in
-      let b : HearsComing me words (comes (tables_of me.host.core) fresh (profile (message.Plain p))) new =
-      subst (λ (m : Message). HearsComing me words (comes (tables_of me.host.core) fresh (profile m)) new) is
-      (subst (λ (s : Peering). HearsComing me words (comes (tables_of me.host.core) s (profile x)) new) f a) in
+      let a : HearsComing me words (comes (tables_of me.host.core) me.adapter (envelope (profile x))) new = subst (λ (c : codec.Came Came). HearsCame me words c new) e h in
+      let b : HearsComing me words (comes (tables_of me.host.core) fresh (envelope (profile (message.Plain p)))) new =
+      subst (λ (m : Message). HearsComing me words (comes (tables_of me.host.core) fresh (envelope (profile m))) new) is
+      (subst (λ (s : Sparing). HearsComing me words (comes (tables_of me.host.core) s (envelope (profile x))) new) f a) in
       subst (Took me new) (sym is) (took_so me new words (message.Plain p) (subst (λ (r : Result Coming PeerFault). HearsComing me words r new) c b))
 
-  room_of : (me : Speaking) (frame : List ℕ) (x : Message) → FindsRoom me frame → envelope_at (stamp_of me) frame ≡ Ok (profile x) → (pl : Plainly me.host.core x) → HasRoom me.host.core pl.0
+  room_of : (me : Speaking) (frame : Part) (x : Message) → FindsRoom me frame → came_of (stamp_of me) frame ≡ Ok (envelope (profile x)) → (pl : Plainly me.host.core x) → HasRoom me.host.core pl.0
   room_of me frame x finds e (p, is, w) = finds p (e ∙ ap (λ (m : Message). came_as (profile m)) is)
 
   module _ (v : Vat) (peer new : Speaking) (more to_them : List ℕ) where
     -- The oldest message is heard, of which this is a frame.
-    delivers : (me : Speaking) (frame to_me : List ℕ) (w : View) (m : Message) (ms : List Message) → me.host.core.down ≡ None → FindsRoom me frame → ReadsBack m frame → w.to_me ≡ m ∷ ms
-        → HearsCame me (words_in frame) (envelope_at (stamp_of me) frame) new → Reached root_a root_b (world_of v w) → Tied me peer to_me to_them w
+    delivers : (me : Speaking) (part : Part) (frame to_me : List ℕ) (w : View) (m : Message) (ms : List Message) → me.host.core.down ≡ None → FindsRoom me part → ReadsBack m frame → part.kept ≡ frame → part.dropped ≡ 0
+        → w.to_me ≡ m ∷ ms → HearsCame me (words_in part) (came_of (stamp_of me) part) new → Reached root_a root_b (world_of v w) → Tied me peer to_me to_them w
         → Link ms peer.host.messages peer.host.core.down (more ++ peer.out.bytes) → Happens2 v w me.host new.host (Tied new peer more to_them)
-    delivers me frame to_me w m ms up finds r there h reached t l =
+    delivers me part frame to_me w m ms up finds r kept none there h reached t l =
         let x = r.says (stamp_of me) in
+        let came : came_of (stamp_of me) part ≡ Ok (envelope (profile x.0)) = all_kept (stamp_of me) part frame kept none ∙ profile_came (stamp_of me) frame x.0 x.2 in
         let c : core (world_of v w) v ≡ me.host.core = mine_core v w ∙ t.mine in
         let well = subst (λ (s : State). Plainly s m) c
         (oldest_well runs refuse understood root_a root_b (world_of v w) v m ms reached (ap (λ (s : State). s.down) c ∙ up) (ap (λ (s : State). s.level) c ∙ t.own.level) (mine_inbox v w ∙ there)) in
         let pl = heard_well me.host.core m x.0 x.1 well in
-        let k = took me new (words_in frame) (envelope_at (stamp_of me) frame) x.0 (adapter_up me up t.own.plainly) x.2 pl (room_of me frame x.0 finds x.2 pl) h in
+        let k = took me new (words_in part) (came_of (stamp_of me) part) x.0 (adapter_up me up t.own.plainly) came pl (room_of me part x.0 finds came pl) h in
         let step : Receives w.mine x.0 k.effects new.host.core = subst (λ (s : State). Receives s x.0 k.effects new.host.core) (sym t.mine) k.step in
         one2 v w (record (stepped_view w k.effects new.host.core) { to_me = ms }) me.host new.host (delivered v k.effects) k.effects (Tied new peer more to_them)
         (world_of v (record (stepped_view w k.effects new.host.core) { to_me = ms }), hears v w m x.0 ms k.effects new.host.core (ap (λ (s : State). s.down) t.mine ∙ up) there x.1 step, refl)
@@ -155,12 +180,13 @@ module _ (aside : StandsAside) (alike : FittingNamesAreAlike) (runs : WiredRunsA
         (step_ties me peer new to_me to_them more w k.effects ms t up k.messages k.out (inl k.adapter) ((names.messages me.host.core x.0 k.effects new.host.core k.step).level ∙ t.own.level) (λ u. l))
 
     -- An Abort is heard behind which others were lost: the vat is shut with 34.
-    aborts : (me : Speaking) (frame to_me : List ℕ) (w : View) (m : Message) → me.host.core.down ≡ None → ReadsBack m frame → is_abort m ≡ true → IsSome peer.host.core.down
-        → HearsCame me (words_in frame) (envelope_at (stamp_of me) frame) new → Tied me peer to_me to_them w → Happens2 v w me.host new.host (Tied new peer more to_them)
-    aborts me frame to_me w m up r is d h t =
+    aborts : (me : Speaking) (part : Part) (frame to_me : List ℕ) (w : View) (m : Message) → me.host.core.down ≡ None → ReadsBack m frame → part.kept ≡ frame → part.dropped ≡ 0 → is_abort m ≡ true
+        → IsSome peer.host.core.down → HearsCame me (words_in part) (came_of (stamp_of me) part) new → Tied me peer to_me to_them w → Happens2 v w me.host new.host (Tied new peer more to_them)
+    aborts me part frame to_me w m up r kept none is d h t =
         let x = r.says (stamp_of me) in
+        let came : came_of (stamp_of me) part ≡ Ok (envelope (profile x.0)) = all_kept (stamp_of me) part frame kept none ∙ profile_came (stamp_of me) frame x.0 x.2 in
         let a = heard_abort m x.0 is x.1 in
-        let k = took me new (words_in frame) (envelope_at (stamp_of me) frame) x.0 (adapter_up me up t.own.plainly) x.2 (plain.Abort a.0, a.1, record { first = tt; none = tt }) tt h in
+        let k = took me new (words_in part) (came_of (stamp_of me) part) x.0 (adapter_up me up t.own.plainly) came (plain.Abort a.0, a.1, record { first = tt; none = tt }) tt h in
         let got = abort_received me.host.core a.0 k.effects new.host.core up (subst (λ (y : Message). Receives me.host.core y k.effects new.host.core) a.1 k.step) in
         shut2 v w me.host new.host 34 (falling 34) new.host.core (Tied new peer more to_them) t.mine up
         (subst (λ (o : Option ℕ). ShutsFrom me.host.core 34 o (falling 34) new.host.core) (sym up) (record { effects_are = refl; new_is = got.1 }))
@@ -178,27 +204,27 @@ module _ (aside : StandsAside) (alike : FittingNamesAreAlike) (runs : WiredRunsA
           link_theirs = λ u. absurd (not_down peer.host.core.down u d);
         })
 
-    -- A frame is heard.
-    comes_by : (me : Speaking) (frame : List ℕ) (w : View) → me.host.core.down ≡ None → FindsRoom me frame → IsFrame frame → HearsCame me (words_in frame) (envelope_at (stamp_of me) frame) new
+    -- A frame is heard of which this is kept.
+    comes_by : (me : Speaking) (part : Part) (frame : List ℕ) (w : View) → me.host.core.down ≡ None → FindsRoom me part → IsKept frame part → HearsCame me (words_in part) (came_of (stamp_of me) part) new
         → Reached root_a root_b (world_of v w) → Tied me peer (frame ++ more) to_them w → Link w.to_me peer.host.messages peer.host.core.down ((frame ++ more) ++ peer.out.bytes)
         → Happens2 v w me.host new.host (Tied new peer more to_them)
-    comes_by me frame w up finds whole h reached t (Clean [] [] f i b) = absurd (not_empty frame (more ++ peer.out.bytes) whole (sym (append_assoc frame more peer.out.bytes) ∙ b))
-    comes_by me frame w up finds whole h reached t (Clean (m ∷ ms) [] f i b) = absurd f
-    comes_by me frame w up finds whole h reached t (Clean [] (g ∷ gs) f i b) = absurd f
-    comes_by me frame w up finds whole h reached t (Clean (m ∷ ms) (g ∷ gs) f i b) =
-        let s = same_frame frame g (more ++ peer.out.bytes) (concat gs) whole f.0.whole (sym (append_assoc frame more peer.out.bytes) ∙ b) in
-        delivers me frame (frame ++ more) w m (ms ++ peer.host.messages) up finds (subst (ReadsBack m) (sym s.0) f.0) i h reached t (Clean ms gs f.1 refl s.1)
-    comes_by me frame w up finds whole h reached t (Lost [] lost [] [] [] f g a i b n d) = absurd (not_empty frame (more ++ peer.out.bytes) whole (sym (append_assoc frame more peer.out.bytes) ∙ b))
-    comes_by me frame w up finds whole h reached t (Lost [] lost (x ∷ xs) [] [] f g a i b n d) = absurd g
-    comes_by me frame w up finds whole h reached t (Lost [] lost [] [] (y ∷ ys) f g a i b n d) = absurd g
-    comes_by me frame w up finds whole h reached t (Lost [] lost (x ∷ xs) [] (y ∷ ys) f g a i b n d) =
-        let s = same_frame frame y (more ++ peer.out.bytes) (concat ys) whole g.0.whole (sym (append_assoc frame more peer.out.bytes) ∙ b) in
-        aborts me frame (frame ++ more) w x up (subst (ReadsBack x) (sym s.0) g.0) a.0 d h t
-    comes_by me frame w up finds whole h reached t (Lost (m ∷ ms) lost xs [] gs f g a i b n d) = absurd f
-    comes_by me frame w up finds whole h reached t (Lost [] lost xs (z ∷ zs) gs f g a i b n d) = absurd f
-    comes_by me frame w up finds whole h reached t (Lost (m ∷ ms) lost xs (z ∷ zs) gs f g a i b n d) =
-        let s = same_frame frame z (more ++ peer.out.bytes) (concat zs ++ concat gs) whole f.0.whole (sym (append_assoc frame more peer.out.bytes) ∙ b ∙ append_assoc z (concat zs) (concat gs)) in
-        delivers me frame (frame ++ more) w m (ms ++ lost) up finds (subst (ReadsBack m) (sym s.0) f.0) i h reached t (Lost ms lost xs zs gs f.1 g a refl s.1 n d)
+    comes_by me part frame w up finds kept h reached t (Clean [] [] f i b) = absurd (not_empty frame (more ++ peer.out.bytes) part kept (sym (append_assoc frame more peer.out.bytes) ∙ b))
+    comes_by me part frame w up finds kept h reached t (Clean (m ∷ ms) [] f i b) = absurd f
+    comes_by me part frame w up finds kept h reached t (Clean [] (g ∷ gs) f i b) = absurd f
+    comes_by me part frame w up finds kept h reached t (Clean (m ∷ ms) (g ∷ gs) f i b) =
+        let s = same_kept frame g (more ++ peer.out.bytes) (concat gs) part kept f.0.whole (sym (append_assoc frame more peer.out.bytes) ∙ b) in
+        delivers me part g (frame ++ more) w m (ms ++ peer.host.messages) up finds f.0 s.kept s.whole i h reached t (Clean ms gs f.1 refl s.behind)
+    comes_by me part frame w up finds kept h reached t (Lost [] lost [] [] [] f g a i b n d) = absurd (not_empty frame (more ++ peer.out.bytes) part kept (sym (append_assoc frame more peer.out.bytes) ∙ b))
+    comes_by me part frame w up finds kept h reached t (Lost [] lost (x ∷ xs) [] [] f g a i b n d) = absurd g
+    comes_by me part frame w up finds kept h reached t (Lost [] lost [] [] (y ∷ ys) f g a i b n d) = absurd g
+    comes_by me part frame w up finds kept h reached t (Lost [] lost (x ∷ xs) [] (y ∷ ys) f g a i b n d) =
+        let s = same_kept frame y (more ++ peer.out.bytes) (concat ys) part kept g.0.whole (sym (append_assoc frame more peer.out.bytes) ∙ b) in
+        aborts me part y (frame ++ more) w x up g.0 s.kept s.whole a.0 d h t
+    comes_by me part frame w up finds kept h reached t (Lost (m ∷ ms) lost xs [] gs f g a i b n d) = absurd f
+    comes_by me part frame w up finds kept h reached t (Lost [] lost xs (z ∷ zs) gs f g a i b n d) = absurd f
+    comes_by me part frame w up finds kept h reached t (Lost (m ∷ ms) lost xs (z ∷ zs) gs f g a i b n d) =
+        let s = same_kept frame z (more ++ peer.out.bytes) (concat zs ++ concat gs) part kept f.0.whole (sym (append_assoc frame more peer.out.bytes) ∙ b ∙ append_assoc z (concat zs) (concat gs)) in
+        delivers me part z (frame ++ more) w m (ms ++ lost) up finds f.0 s.kept s.whole i h reached t (Lost ms lost xs zs gs f.1 g a refl s.behind n d)
 
     -- Memory is wanting for it.
     lacks : (me : Speaking) (to_me : List ℕ) (w : View) → Lacks me new → Tied me peer to_me to_them w → me.host.core.down ≡ None → me.host.messages ≡ [] → Happens2 v w me.host new.host (Tied new peer more to_them)
@@ -210,31 +236,32 @@ module _ (aside : StandsAside) (alike : FittingNamesAreAlike) (runs : WiredRunsA
         (step_ties me peer new to_me to_them more w effects w.to_me t up (ap (λ (x : Hosted). x.messages) host_is) (ap (λ (x : Speaking). x.out) is)
         (inr (gone, subst AllAborts (sym said) (refl, tt))) (ap (λ (x : State). x.level) s.new_is ∙ t.own.level) (λ u. absurd (not_down new.host.core.down u gone)))
 
-    hears_up : (me : Speaking) (frame : List ℕ) (w : View) → me.host.core.down ≡ None → me.host.messages ≡ [] → IsFrame frame → HearsUp me frame new → FindsRoom me frame
+    hears_up : (me : Speaking) (part : Part) (frame : List ℕ) (w : View) → me.host.core.down ≡ None → me.host.messages ≡ [] → IsKept frame part → HearsUp me part new → FindsRoom me part
         → Reached root_a root_b (world_of v w) → Tied me peer (frame ++ more) to_them w → Happens2 v w me.host new.host (Tied new peer more to_them)
-    hears_up me frame w up none whole (inl h) finds reached t = comes_by me frame w up finds whole h reached t (t.link up)
-    hears_up me frame w up none whole (inr h) finds reached t = lacks me (frame ++ more) w h t up none
+    hears_up me part frame w up none kept (inl h) finds reached t = comes_by me part frame w up finds kept h reached t (t.link up)
+    hears_up me part frame w up none kept (inr h) finds reached t = lacks me (frame ++ more) w h t up none
 
   -- ---- frames are heard in turn
 
-  pub in_turn : (v : Vat) (l : Limits) (peer new : Speaking) (left : List (List ℕ)) (r to_them : List ℕ) (s : Speaking) (frames : List (List ℕ)) (w : View) (h : HearsInTurn l new left s frames) → TurnIsKnown h
-      → Reached root_a root_b (world_of v w) → Tied s peer (concat frames ++ r) to_them w → Happens2 v w s.host new.host (Tied new peer (concat left ++ r) to_them)
-  in_turn v l peer new left r to_them _ _ w (All {s = s} is none) known reached t =
-      nothing2 v w s.host new.host (Tied new peer (concat left ++ r) to_them) (ap (λ (x : Speaking). x.host.events) is)
-      (subst (λ (x : Speaking). Tied x peer (concat left ++ r) to_them w) (sym is) (subst (λ (fs : List (List ℕ)). Tied s peer (concat fs ++ r) to_them w) (sym none) t))
-  in_turn v l peer new left r to_them _ _ w (Saying {s = s} {said = said} frame frames up said_so more) known reached t =
-      then2 root_a root_b v w s.host said.host new.host (Tied said peer (concat (frame ∷ frames) ++ r) to_them) (Tied new peer (concat left ++ r) to_them) reached
-      (says aside runs refuse understood root_a root_b v said peer (concat (frame ∷ frames) ++ r) to_them w s said_so known.0 reached t)
-      (λ u reached_u k. in_turn v l peer new left r to_them said (frame ∷ frames) u more known.1 reached_u k)
-  in_turn v l peer new left r to_them _ _ w (OldestHeard {s = s} {mid = mid} frame frames up none may whole heard more) known reached t =
-      then2 root_a root_b v w s.host mid.host new.host (Tied mid peer (concat frames ++ r) to_them) (Tied new peer (concat left ++ r) to_them) reached
-      (hears_up v peer mid (concat frames ++ r) to_them s frame w up none whole heard known.0 reached (subst (λ (x : List ℕ). Tied s peer x to_them w) (append_assoc frame (concat frames) r) t))
-      (λ u reached_u k. in_turn v l peer new left r to_them mid frames u more known.1 reached_u k)
-  in_turn v l peer new left r to_them _ _ w (Above {s = s} frame frames up none above is rest) known reached t =
-      nothing2 v w s.host new.host (Tied new peer (concat left ++ r) to_them) (ap (λ (x : Speaking). x.host.events) is)
-      (subst (λ (x : Speaking). Tied x peer (concat left ++ r) to_them w) (sym is) (subst (λ (fs : List (List ℕ)). Tied s peer (concat fs ++ r) to_them w) (sym rest) t))
-  in_turn v l peer new left r to_them _ _ w (Down {s = s} frame frames down is none) known reached t =
-      nothing2 v w s.host new.host (Tied new peer (concat left ++ r) to_them) (ap (λ (x : Speaking). x.host.events) is)
-      (subst (λ (x : Speaking). Tied x peer (concat left ++ r) to_them w) (sym is) (retie s peer (concat (frame ∷ frames) ++ r) to_them (concat left ++ r) w down t))
-  in_turn v l peer new left r to_them _ _ w (Lacking {s = s} frame frames up fell none) known reached t =
-      falls v s peer new want_of_room (concat (frame ∷ frames) ++ r) to_them (concat left ++ r) w t fell
+  pub in_turn : (v : Vat) (l : Limits) (peer new : Speaking) (left : List Part) (r to_them : List ℕ) (s : Speaking) (parts : List Part) (w : View) (h : HearsInTurn l new left s parts)
+      (frames : List (List ℕ)) (kept : AreKept frames parts) → TurnIsKnown h → Reached root_a root_b (world_of v w) → Tied s peer (concat frames ++ r) to_them w
+      → Happens2 v w s.host new.host (Tied new peer (concat (left_of h frames kept).0 ++ r) to_them)
+  in_turn v l peer new left r to_them _ _ w (All {s = s} is none) [] kept known reached t =
+      nothing2 v w s.host new.host (Tied new peer ([] ++ r) to_them) (ap (λ (x : Speaking). x.host.events) is) (subst (λ (x : Speaking). Tied x peer ([] ++ r) to_them w) (sym is) t)
+  in_turn v l peer new left r to_them _ _ w (All {s = s} is none) (f ∷ fs) kept known reached t = absurd kept
+  in_turn v l peer new left r to_them _ _ w (Saying {s = s} {said = said} part parts up said_so more) frames kept known reached t =
+      then2 root_a root_b v w s.host said.host new.host (Tied said peer (concat frames ++ r) to_them) (Tied new peer (concat (left_of more frames kept).0 ++ r) to_them) reached
+      (says aside runs refuse understood root_a root_b v said peer (concat frames ++ r) to_them w s said_so known.0 reached t)
+      (λ u reached_u k. in_turn v l peer new left r to_them said (part ∷ parts) u more frames kept known.1 reached_u k)
+  in_turn v l peer new left r to_them _ _ w (OldestHeard {s = s} {mid = mid} part parts up none may whole heard more) [] kept known reached t = absurd kept
+  in_turn v l peer new left r to_them _ _ w (OldestHeard {s = s} {mid = mid} part parts up none may whole heard more) (f ∷ fs) kept known reached t =
+      then2 root_a root_b v w s.host mid.host new.host (Tied mid peer (concat fs ++ r) to_them) (Tied new peer (concat (left_of more fs kept.1).0 ++ r) to_them) reached
+      (hears_up v peer mid (concat fs ++ r) to_them s part f w up none kept.0 heard known.0 reached (subst (λ (x : List ℕ). Tied s peer x to_them w) (append_assoc f (concat fs) r) t))
+      (λ u reached_u k. in_turn v l peer new left r to_them mid parts u more fs kept.1 known.1 reached_u k)
+  in_turn v l peer new left r to_them _ _ w (Above {s = s} part parts up none above is rest) frames kept known reached t =
+      nothing2 v w s.host new.host (Tied new peer (concat frames ++ r) to_them) (ap (λ (x : Speaking). x.host.events) is) (subst (λ (x : Speaking). Tied x peer (concat frames ++ r) to_them w) (sym is) t)
+  in_turn v l peer new left r to_them _ _ w (Down {s = s} part parts down is none) frames kept known reached t =
+      nothing2 v w s.host new.host (Tied new peer ([] ++ r) to_them) (ap (λ (x : Speaking). x.host.events) is)
+      (subst (λ (x : Speaking). Tied x peer ([] ++ r) to_them w) (sym is) (retie s peer (concat frames ++ r) to_them ([] ++ r) w down t))
+  in_turn v l peer new left r to_them _ _ w (Lacking {s = s} part parts up fell none) frames kept known reached t =
+      falls v s peer new want_of_room (concat frames ++ r) to_them ([] ++ r) w t fell

@@ -8,7 +8,6 @@ use Rattle.rpc_msg.specs.declared.ids.Vat.{Vat}
 use Rattle.rpc_msg.specs.declared.ids.Vat.TheVariants.{A, B}
 use Rattle.rpc_machine.specs.Laws.{OfEachStep}
 use Rattle.rpc_machine.specs.World.{Happening, core, new_world}
-use Rattle.peer_adapter.specs.Laws.{StandsAside}
 use Rattle.laws_ends.specs.Names.{KeepsNames}
 use Rattle.laws_peers.specs.Alike.{FittingNamesAreAlike}
 use Rattle.laws_scenes.specs.Refused.{RunsRefuseNothing}
@@ -27,7 +26,8 @@ use Rattle.laws_in_bytes.specs.Joined.{Does, Doing, Joined, JoinedRun, RunIsKnow
 use Rattle.laws_in_bytes.specs.Wired.{JoinedRunsAreWired, AreCutOff, TellsCutOff, done_by, done_of, told_by}
 use Rattle.laws_in_bytes.proofs.Viewing.{Reached, View, runs_on, world_of}
 use Rattle.laws_in_bytes.proofs.Tied.{Clean, Tied, told_elsewhere, told_here}
-use Rattle.laws_in_bytes.proofs.Flowing.{Waits, coming}
+use Rattle.laws_in_bytes.proofs.Aside.{StandAside}
+use Rattle.laws_in_bytes.proofs.Flowing.{Unheard, Waits, coming, no_bytes, none_waits}
 use Rattle.laws_in_bytes.proofs.Acting.{Acted, CutsOne, TellsInTurn, asks_it, commands_it, ends_it, finishes_it, gives_out, limits_it, receives, shuts_it}
 
 -- ---- seen from the other side
@@ -125,11 +125,11 @@ record So (root_a root_b : Option ObjectId) (xs : List Doing) (j : Joined) : Typ
   ran : WiredRun (new_world root_a root_b) happened (world_of A view)
   done : flat_map done_of happened ≡ flat_map done_by xs
   told : (v : Vat) → Telling (flat_map (told_by v) xs) (end j v).speaker.host (flat_map (told_in v) happened)
-  gone_a : List ℕ
-  gone_b : List ℕ
+  gone_a : Unheard
+  gone_b : Unheard
   waits_a : Waits j.a.inflow gone_a
   waits_b : Waits j.b.inflow gone_b
-  holds : Tied j.a.speaker j.b.speaker (coming j.a.inflow gone_a j.to_a) (coming j.b.inflow gone_b j.to_b) view
+  holds : Tied j.a.speaker j.b.speaker (coming gone_a j.to_a) (coming gone_b j.to_b) view
 
 module _ (root_a root_b : Option ObjectId) (xs : List Doing) (j : Joined) (so : So root_a root_b xs j) where
   -- ---- one act more, at a vat
@@ -165,7 +165,7 @@ module _ (root_a root_b : Option ObjectId) (xs : List Doing) (j : Joined) (so : 
   both P a b A = a
   both P a b B = b
 
-  of_a : (act : Act) (new : Joined) (r : List ℕ) → new.to_a ≡ r → new.b ≡ j.b → Acted root_a root_b A so.view act j.a new.a j.b.speaker r (coming j.b.inflow so.gone_b new.to_b)
+  of_a : (act : Act) (new : Joined) (r : List ℕ) → new.to_a ≡ r → new.b ≡ j.b → Acted root_a root_b A so.view act j.a new.a j.b.speaker r (coming so.gone_b new.to_b)
       → So root_a root_b (xs ++ record { vat = A; act = act } ∷ []) new
   of_a act new r stream other k = record {
     happened = so.happened ++ k.happened;
@@ -178,11 +178,11 @@ module _ (root_a root_b : Option ObjectId) (xs : List Doing) (j : Joined) (so : 
     gone_b = so.gone_b;
     waits_a = k.waits;
     waits_b = subst (λ (c : Connected). Waits c.inflow so.gone_b) (sym other) so.waits_b;
-    holds = subst (λ (c : Connected). Tied new.a.speaker c.speaker (coming new.a.inflow k.gone new.to_a) (coming c.inflow so.gone_b new.to_b) k.view) (sym other)
-        (subst (λ (x : List ℕ). Tied new.a.speaker j.b.speaker (coming new.a.inflow k.gone x) (coming j.b.inflow so.gone_b new.to_b) k.view) (sym stream) k.holds);
+    holds = subst (λ (c : Connected). Tied new.a.speaker c.speaker (coming k.gone new.to_a) (coming so.gone_b new.to_b) k.view) (sym other)
+        (subst (λ (x : List ℕ). Tied new.a.speaker j.b.speaker (coming k.gone x) (coming so.gone_b new.to_b) k.view) (sym stream) k.holds);
   }
 
-  of_b : (act : Act) (new : Joined) (r : List ℕ) → new.to_b ≡ r → new.a ≡ j.a → Acted root_a root_b B (swap so.view) act j.b new.b j.a.speaker r (coming j.a.inflow so.gone_a new.to_a)
+  of_b : (act : Act) (new : Joined) (r : List ℕ) → new.to_b ≡ r → new.a ≡ j.a → Acted root_a root_b B (swap so.view) act j.b new.b j.a.speaker r (coming so.gone_a new.to_a)
       → So root_a root_b (xs ++ record { vat = B; act = act } ∷ []) new
   of_b act new r stream other k = record {
     happened = so.happened ++ k.happened;
@@ -195,9 +195,9 @@ module _ (root_a root_b : Option ObjectId) (xs : List Doing) (j : Joined) (so : 
     gone_b = k.gone;
     waits_a = subst (λ (c : Connected). Waits c.inflow so.gone_a) (sym other) so.waits_a;
     waits_b = k.waits;
-    holds = subst (λ (c : Connected). Tied c.speaker new.b.speaker (coming c.inflow so.gone_a new.to_a) (coming new.b.inflow k.gone new.to_b) (swap k.view)) (sym other)
-        (subst (λ (x : List ℕ). Tied j.a.speaker new.b.speaker (coming j.a.inflow so.gone_a new.to_a) (coming new.b.inflow k.gone x) (swap k.view)) (sym stream)
-        (swapped new.b.speaker j.a.speaker (coming new.b.inflow k.gone r) (coming j.a.inflow so.gone_a new.to_a) k.view k.holds));
+    holds = subst (λ (c : Connected). Tied c.speaker new.b.speaker (coming so.gone_a new.to_a) (coming k.gone new.to_b) (swap k.view)) (sym other)
+        (subst (λ (x : List ℕ). Tied j.a.speaker new.b.speaker (coming so.gone_a new.to_a) (coming k.gone x) (swap k.view)) (sym stream)
+        (swapped new.b.speaker j.a.speaker (coming k.gone r) (coming so.gone_a new.to_a) k.view k.holds));
   }
 
 -- ---- all acts
@@ -205,7 +205,7 @@ module _ (root_a root_b : Option ObjectId) (xs : List Doing) (j : Joined) (so : 
 abbrev start : Option ObjectId → Option ObjectId → View
 start root_a root_b = record { mine = (new_joined root_a root_b).a.speaker.host.core; theirs = (new_joined root_a root_b).b.speaker.host.core; to_me = []; to_them = [] }
 
-module _ (aside : StandsAside) (alike : FittingNamesAreAlike) (runs : WiredRunsAreRuns) (refuse : RunsRefuseNothing) (understood : EveryRunIsUnderstood) (names : OfEachStep KeepsNames) (root_a root_b : Option ObjectId) where
+module _ (aside : StandAside) (alike : FittingNamesAreAlike) (runs : WiredRunsAreRuns) (refuse : RunsRefuseNothing) (understood : EveryRunIsUnderstood) (names : OfEachStep KeepsNames) (root_a root_b : Option ObjectId) where
   module _ (xs : List Doing) (j new : Joined) (so : So root_a root_b xs j) where
     reached_a : Reached root_a root_b (world_of A so.view)
     reached_a = (so.happened, so.ran)
@@ -213,19 +213,19 @@ module _ (aside : StandsAside) (alike : FittingNamesAreAlike) (runs : WiredRunsA
     reached_b : Reached root_a root_b (world_of B (swap so.view))
     reached_b = (so.happened, so.ran)
 
-    held_b : Tied j.b.speaker j.a.speaker (coming j.b.inflow so.gone_b j.to_b) (coming j.a.inflow so.gone_a j.to_a) (swap so.view)
-    held_b = swapped j.a.speaker j.b.speaker (coming j.a.inflow so.gone_a j.to_a) (coming j.b.inflow so.gone_b j.to_b) so.view so.holds
+    held_b : Tied j.b.speaker j.a.speaker (coming so.gone_b j.to_b) (coming so.gone_a j.to_a) (swap so.view)
+    held_b = swapped j.a.speaker j.b.speaker (coming so.gone_a j.to_a) (coming so.gone_b j.to_b) so.view so.holds
 
     -- more bytes on the way to a vat
-    behind : (c : Connected) (gone s bytes : List ℕ) → coming c.inflow gone s ++ bytes ≡ coming c.inflow gone (s ++ bytes)
-    behind c gone s bytes = append_assoc (concat c.inflow.unheard) (gone ++ s) bytes ∙ ap (λ (x : List ℕ). concat c.inflow.unheard ++ x) (append_assoc gone s bytes)
+    behind : (gone : Unheard) (s bytes : List ℕ) → coming gone s ++ bytes ≡ coming gone (s ++ bytes)
+    behind gone s bytes = append_assoc (concat gone.frames) (gone.rest ++ s) bytes ∙ ap (λ (x : List ℕ). concat gone.frames ++ x) (append_assoc gone.rest s bytes)
 
     -- An act of which no byte goes or comes.
-    plain_a : (act : Act) (c : Connected) → new ≡ record j { a = c } → Acted root_a root_b A so.view act j.a c j.b.speaker j.to_a (coming j.b.inflow so.gone_b j.to_b)
+    plain_a : (act : Act) (c : Connected) → new ≡ record j { a = c } → Acted root_a root_b A so.view act j.a c j.b.speaker j.to_a (coming so.gone_b j.to_b)
         → So root_a root_b (xs ++ record { vat = A; act = act } ∷ []) new
     plain_a act c is k = subst (λ (n : Joined). So root_a root_b (xs ++ record { vat = A; act = act } ∷ []) n) (sym is) (of_a root_a root_b xs j so act (record j { a = c }) j.to_a refl refl k)
 
-    plain_b : (act : Act) (c : Connected) → new ≡ record j { b = c } → Acted root_a root_b B (swap so.view) act j.b c j.a.speaker j.to_b (coming j.a.inflow so.gone_a j.to_a)
+    plain_b : (act : Act) (c : Connected) → new ≡ record j { b = c } → Acted root_a root_b B (swap so.view) act j.b c j.a.speaker j.to_b (coming so.gone_a j.to_a)
         → So root_a root_b (xs ++ record { vat = B; act = act } ∷ []) new
     plain_b act c is k = subst (λ (n : Joined). So root_a root_b (xs ++ record { vat = B; act = act } ∷ []) n) (sym is) (of_b root_a root_b xs j so act (record j { b = c }) j.to_b refl refl k)
 
@@ -235,32 +235,32 @@ module _ (aside : StandsAside) (alike : FittingNamesAreAlike) (runs : WiredRunsA
         let m = does.moves in
         subst (λ (n : Joined). So root_a root_b (xs ++ record { vat = A; act = Receives bytes } ∷ []) n) (sym m.2)
         (of_a root_a root_b xs j so (Receives bytes) (record j { a = c; to_a = m.0 }) m.0 refl refl
-        (receives aside alike runs refuse understood names root_a root_b A so.view reached_a j.b.speaker m.0 (coming j.b.inflow so.gone_b j.to_b) j.a c so.gone_a so.waits_a bytes does.acts known
-        (subst (λ (s : List ℕ). Tied j.a.speaker j.b.speaker (coming j.a.inflow so.gone_a s) (coming j.b.inflow so.gone_b j.to_b) so.view) m.1 so.holds)))
+        (receives aside alike runs refuse understood names root_a root_b A so.view reached_a j.b.speaker m.0 (coming so.gone_b j.to_b) j.a c so.gone_a so.waits_a bytes does.acts known
+        (subst (λ (s : List ℕ). Tied j.a.speaker j.b.speaker (coming so.gone_a s) (coming so.gone_b j.to_b) so.view) m.1 so.holds)))
     at_a (Gives bytes) does known =
         let c = does.left in
         subst (λ (n : Joined). So root_a root_b (xs ++ record { vat = A; act = Gives bytes } ∷ []) n) (sym does.moves)
         (of_a root_a root_b xs j so (Gives bytes) (record j { a = c; to_b = j.to_b ++ bytes }) j.to_a refl refl
-        (subst (λ (s : List ℕ). Acted root_a root_b A so.view (Gives bytes) j.a c j.b.speaker j.to_a s) (behind j.b so.gone_b j.to_b bytes)
-        (gives_out aside alike runs refuse understood names root_a root_b A so.view reached_a j.b.speaker j.to_a (coming j.b.inflow so.gone_b j.to_b) j.a c so.gone_a so.waits_a bytes does.acts known so.holds)))
+        (subst (λ (s : List ℕ). Acted root_a root_b A so.view (Gives bytes) j.a c j.b.speaker j.to_a s) (behind so.gone_b j.to_b bytes)
+        (gives_out aside alike runs refuse understood names root_a root_b A so.view reached_a j.b.speaker j.to_a (coming so.gone_b j.to_b) j.a c so.gone_a so.waits_a bytes does.acts known so.holds)))
     at_a (Commands command answer) does known =
         plain_a (Commands command answer) does.left does.moves
-        (commands_it aside alike runs refuse understood names root_a root_b A so.view reached_a j.b.speaker j.to_a (coming j.b.inflow so.gone_b j.to_b) j.a does.left so.gone_a so.waits_a command answer does.acts so.holds)
+        (commands_it aside alike runs refuse understood names root_a root_b A so.view reached_a j.b.speaker j.to_a (coming so.gone_b j.to_b) j.a does.left so.gone_a so.waits_a command answer does.acts so.holds)
     at_a Ends does known =
         plain_a Ends does.left does.moves
-        (ends_it aside alike runs refuse understood names root_a root_b A so.view reached_a j.b.speaker j.to_a (coming j.b.inflow so.gone_b j.to_b) j.a does.left so.gone_a so.waits_a does.acts so.holds)
+        (ends_it aside alike runs refuse understood names root_a root_b A so.view reached_a j.b.speaker j.to_a (coming so.gone_b j.to_b) j.a does.left so.gone_a so.waits_a does.acts so.holds)
     at_a (Shuts n) does known =
         plain_a (Shuts n) does.left does.moves
-        (shuts_it aside alike runs refuse understood names root_a root_b A so.view reached_a j.b.speaker j.to_a (coming j.b.inflow so.gone_b j.to_b) j.a does.left so.gone_a so.waits_a n does.acts so.holds)
+        (shuts_it aside alike runs refuse understood names root_a root_b A so.view reached_a j.b.speaker j.to_a (coming so.gone_b j.to_b) j.a does.left so.gone_a so.waits_a n does.acts so.holds)
     at_a (Asks event) does known =
         plain_a (Asks event) does.left does.moves
-        (asks_it aside alike runs refuse understood names root_a root_b A so.view reached_a j.b.speaker j.to_a (coming j.b.inflow so.gone_b j.to_b) j.a does.left so.gone_a so.waits_a event does.acts known so.holds)
+        (asks_it aside alike runs refuse understood names root_a root_b A so.view reached_a j.b.speaker j.to_a (coming so.gone_b j.to_b) j.a does.left so.gone_a so.waits_a event does.acts known so.holds)
     at_a (SetsLimits limits) does known =
         plain_a (SetsLimits limits) does.left does.moves
-        (limits_it aside alike runs refuse understood names root_a root_b A so.view reached_a j.b.speaker j.to_a (coming j.b.inflow so.gone_b j.to_b) j.a does.left so.gone_a so.waits_a limits does.acts so.holds)
+        (limits_it aside alike runs refuse understood names root_a root_b A so.view reached_a j.b.speaker j.to_a (coming so.gone_b j.to_b) j.a does.left so.gone_a so.waits_a limits does.acts so.holds)
     at_a (SetsFinishes finishes) does known =
         plain_a (SetsFinishes finishes) does.left does.moves
-        (finishes_it aside alike runs refuse understood names root_a root_b A so.view reached_a j.b.speaker j.to_a (coming j.b.inflow so.gone_b j.to_b) j.a does.left so.gone_a so.waits_a finishes does.acts known so.holds)
+        (finishes_it aside alike runs refuse understood names root_a root_b A so.view reached_a j.b.speaker j.to_a (coming so.gone_b j.to_b) j.a does.left so.gone_a so.waits_a finishes does.acts known so.holds)
 
     at_b : (act : Act) (does : Does j (record { vat = B; act = act }) new) → IsKnown j.b act does.left does.acts → So root_a root_b (xs ++ record { vat = B; act = act } ∷ []) new
     at_b (Receives bytes) does known =
@@ -268,32 +268,32 @@ module _ (aside : StandsAside) (alike : FittingNamesAreAlike) (runs : WiredRunsA
         let m = does.moves in
         subst (λ (n : Joined). So root_a root_b (xs ++ record { vat = B; act = Receives bytes } ∷ []) n) (sym m.2)
         (of_b root_a root_b xs j so (Receives bytes) (record j { b = c; to_b = m.0 }) m.0 refl refl
-        (receives aside alike runs refuse understood names root_a root_b B (swap so.view) reached_b j.a.speaker m.0 (coming j.a.inflow so.gone_a j.to_a) j.b c so.gone_b so.waits_b bytes does.acts known
-        (subst (λ (s : List ℕ). Tied j.b.speaker j.a.speaker (coming j.b.inflow so.gone_b s) (coming j.a.inflow so.gone_a j.to_a) (swap so.view)) m.1 held_b)))
+        (receives aside alike runs refuse understood names root_a root_b B (swap so.view) reached_b j.a.speaker m.0 (coming so.gone_a j.to_a) j.b c so.gone_b so.waits_b bytes does.acts known
+        (subst (λ (s : List ℕ). Tied j.b.speaker j.a.speaker (coming so.gone_b s) (coming so.gone_a j.to_a) (swap so.view)) m.1 held_b)))
     at_b (Gives bytes) does known =
         let c = does.left in
         subst (λ (n : Joined). So root_a root_b (xs ++ record { vat = B; act = Gives bytes } ∷ []) n) (sym does.moves)
         (of_b root_a root_b xs j so (Gives bytes) (record j { b = c; to_a = j.to_a ++ bytes }) j.to_b refl refl
-        (subst (λ (s : List ℕ). Acted root_a root_b B (swap so.view) (Gives bytes) j.b c j.a.speaker j.to_b s) (behind j.a so.gone_a j.to_a bytes)
-        (gives_out aside alike runs refuse understood names root_a root_b B (swap so.view) reached_b j.a.speaker j.to_b (coming j.a.inflow so.gone_a j.to_a) j.b c so.gone_b so.waits_b bytes does.acts known held_b)))
+        (subst (λ (s : List ℕ). Acted root_a root_b B (swap so.view) (Gives bytes) j.b c j.a.speaker j.to_b s) (behind so.gone_a j.to_a bytes)
+        (gives_out aside alike runs refuse understood names root_a root_b B (swap so.view) reached_b j.a.speaker j.to_b (coming so.gone_a j.to_a) j.b c so.gone_b so.waits_b bytes does.acts known held_b)))
     at_b (Commands command answer) does known =
         plain_b (Commands command answer) does.left does.moves
-        (commands_it aside alike runs refuse understood names root_a root_b B (swap so.view) reached_b j.a.speaker j.to_b (coming j.a.inflow so.gone_a j.to_a) j.b does.left so.gone_b so.waits_b command answer does.acts held_b)
+        (commands_it aside alike runs refuse understood names root_a root_b B (swap so.view) reached_b j.a.speaker j.to_b (coming so.gone_a j.to_a) j.b does.left so.gone_b so.waits_b command answer does.acts held_b)
     at_b Ends does known =
         plain_b Ends does.left does.moves
-        (ends_it aside alike runs refuse understood names root_a root_b B (swap so.view) reached_b j.a.speaker j.to_b (coming j.a.inflow so.gone_a j.to_a) j.b does.left so.gone_b so.waits_b does.acts held_b)
+        (ends_it aside alike runs refuse understood names root_a root_b B (swap so.view) reached_b j.a.speaker j.to_b (coming so.gone_a j.to_a) j.b does.left so.gone_b so.waits_b does.acts held_b)
     at_b (Shuts n) does known =
         plain_b (Shuts n) does.left does.moves
-        (shuts_it aside alike runs refuse understood names root_a root_b B (swap so.view) reached_b j.a.speaker j.to_b (coming j.a.inflow so.gone_a j.to_a) j.b does.left so.gone_b so.waits_b n does.acts held_b)
+        (shuts_it aside alike runs refuse understood names root_a root_b B (swap so.view) reached_b j.a.speaker j.to_b (coming so.gone_a j.to_a) j.b does.left so.gone_b so.waits_b n does.acts held_b)
     at_b (Asks event) does known =
         plain_b (Asks event) does.left does.moves
-        (asks_it aside alike runs refuse understood names root_a root_b B (swap so.view) reached_b j.a.speaker j.to_b (coming j.a.inflow so.gone_a j.to_a) j.b does.left so.gone_b so.waits_b event does.acts known held_b)
+        (asks_it aside alike runs refuse understood names root_a root_b B (swap so.view) reached_b j.a.speaker j.to_b (coming so.gone_a j.to_a) j.b does.left so.gone_b so.waits_b event does.acts known held_b)
     at_b (SetsLimits limits) does known =
         plain_b (SetsLimits limits) does.left does.moves
-        (limits_it aside alike runs refuse understood names root_a root_b B (swap so.view) reached_b j.a.speaker j.to_b (coming j.a.inflow so.gone_a j.to_a) j.b does.left so.gone_b so.waits_b limits does.acts held_b)
+        (limits_it aside alike runs refuse understood names root_a root_b B (swap so.view) reached_b j.a.speaker j.to_b (coming so.gone_a j.to_a) j.b does.left so.gone_b so.waits_b limits does.acts held_b)
     at_b (SetsFinishes finishes) does known =
         plain_b (SetsFinishes finishes) does.left does.moves
-        (finishes_it aside alike runs refuse understood names root_a root_b B (swap so.view) reached_b j.a.speaker j.to_b (coming j.a.inflow so.gone_a j.to_a) j.b does.left so.gone_b so.waits_b finishes does.acts known held_b)
+        (finishes_it aside alike runs refuse understood names root_a root_b B (swap so.view) reached_b j.a.speaker j.to_b (coming so.gone_a j.to_a) j.b does.left so.gone_b so.waits_b finishes does.acts known held_b)
 
     one : (v : Vat) (act : Act) (does : Does j (record { vat = v; act = act }) new) → IsKnown (end j v) act does.left does.acts → So root_a root_b (xs ++ record { vat = v; act = act } ∷ []) new
     one A act does known = at_a act does known
@@ -312,10 +312,10 @@ module _ (aside : StandsAside) (alike : FittingNamesAreAlike) (runs : WiredRunsA
     ran = refl;
     done = refl;
     told = both_new;
-    gone_a = [];
-    gone_b = [];
-    waits_a = λ up. refl;
-    waits_b = λ up. refl;
+    gone_a = no_bytes;
+    gone_b = no_bytes;
+    waits_a = none_waits;
+    waits_b = none_waits;
     holds = record {
       mine = refl;
       theirs = refl;
@@ -330,7 +330,7 @@ module _ (aside : StandsAside) (alike : FittingNamesAreAlike) (runs : WiredRunsA
       both_new A = record { cut = []; cut_off = tt; is = refl; over = inl refl }
       both_new B = record { cut = []; cut_off = tt; is = refl; over = inl refl }
 
-pub joined_runs_are_wired : StandsAside → FittingNamesAreAlike → WiredRunsAreRuns → RunsRefuseNothing → EveryRunIsUnderstood → OfEachStep KeepsNames → JoinedRunsAreWired
+pub joined_runs_are_wired : StandAside → FittingNamesAreAlike → WiredRunsAreRuns → RunsRefuseNothing → EveryRunIsUnderstood → OfEachStep KeepsNames → JoinedRunsAreWired
 joined_runs_are_wired aside alike runs refuse understood names root_a root_b xs j ran known =
     let so = so_all aside alike runs refuse understood names root_a root_b [] xs (new_joined root_a root_b) j (so_new aside alike runs refuse understood names root_a root_b) ran known in
     record {

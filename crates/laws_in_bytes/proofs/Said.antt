@@ -17,8 +17,7 @@ use Rattle.rpc_outgoing.specs.Outflows.{Outflow, Framing, framed, frame_by, is_a
 use Rattle.peer_tail_calls.specs.declared.heard.Said.{Said}
 use Rattle.peer_tail_calls.specs.declared.heard.Said.TheVariants as said
 use Rattle.peer_tail_calls.specs.Laws.{told_of, told_plain}
-use Rattle.peer_adapter.specs.Laws.{StandsAside}
-use Rattle.peer_adapter.specs.Peering.{Going, Peering, goes}
+use Rattle.peer_large.specs.Sparing.{Going, Sparing, goes}
 use Rattle.vat_host.specs.declared.event.Event.{Event}
 use Rattle.vat_host.specs.Hosting.{Hosted, is_abort}
 use Rattle.vat_host.specs.Queues.{told}
@@ -32,7 +31,7 @@ use Rattle.laws_understood.specs.Understood.{IsUnderstood, EveryRunIsUnderstood}
 use Rattle.laws_wired.specs.Wires.{WiredRunsAreRuns}
 use Rattle.laws_read_back.specs.ReadBack.{ReadsBack}
 use Rattle.laws_in_bytes.specs.Conditions.{AbortsAreRead, IsRead, IsReadIf, SaysReadably}
-use Rattle.laws_in_bytes.proofs.Aside.{abort_aside, aside_of}
+use Rattle.laws_in_bytes.proofs.Aside.{StandAside, abort_aside, aside_of, said_aside}
 use Rattle.laws_in_bytes.proofs.Honest.{AreUnderstood, on_way}
 use Rattle.laws_in_bytes.proofs.Streams.{concat_append}
 use Rattle.laws_in_bytes.proofs.Viewing.{Reached, View, world_of}
@@ -224,9 +223,9 @@ tied_said me peer mid to_me to_them w m ms e u read k t =
     owns (inl f) = inl (k.adapter ∙ f)
     owns (inr a) = inr (subst (λ (x : State). IsSome x.down) (sym k.core) a.0, subst AllAborts (sym k.messages) (let b : AllAborts (m ∷ ms) = subst AllAborts e a.1 in b.1))
 
-module _ (aside : StandsAside) (runs : WiredRunsAreRuns) (refuse : RunsRefuseNothing) (understood : EveryRunIsUnderstood) (root_a root_b : Option ObjectId) where
+module _ (aside : StandAside) (runs : WiredRunsAreRuns) (refuse : RunsRefuseNothing) (understood : EveryRunIsUnderstood) (root_a root_b : Option ObjectId) where
   stands : (s : Speaking) (m : Message) (ms : List Message) → s.host.messages ≡ m ∷ ms → IsPlainly s → goes s.adapter m ≡ aside_of s.adapter m
-  stands s m ms e (inl f) = subst (λ (x : Peering). goes x m ≡ aside_of x m) (sym f) (aside.said m)
+  stands s m ms e (inl f) = subst (λ (x : Sparing). goes x m ≡ aside_of x m) (sym f) (said_aside aside m)
   stands s m ms e (inr a) = abort_aside s.adapter m (let b : AllAborts (m ∷ ms) = subst AllAborts e a.1 in b.0)
 
   turned : (me mid : Speaking) (m : Message) (ms : List Message) → me.host.messages ≡ m ∷ ms → Own me → Turns (saying me m ms) (goes me.adapter m) mid → Turned me mid m ms

@@ -15,7 +15,7 @@ use Rattle.rpc_machine.specs.State.{State}
 use Rattle.rpc_machine.specs.Progress.{quiet}
 use Rattle.rpc_machine.specs.Down.{fallen, ShutsFrom}
 use Rattle.rpc_machine.specs.World.{Happening}
-use Rattle.peer_adapter.specs.Peering.{fresh}
+use Rattle.peer_large.specs.Sparing.{fresh}
 use Rattle.rpc_outgoing.specs.Outflows.{Outflow}
 use Rattle.laws_wired.specs.Wires.{WiredRun}
 use Rattle.vat_host.specs.declared.event.Event.{Event}

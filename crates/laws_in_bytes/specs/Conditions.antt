@@ -8,17 +8,18 @@ use Rattle.rpc_msg.specs.declared.message.Message.{Message}
 use Rattle.rpc_msg.specs.declared.message.Message.TheVariants as message
 use Rattle.rpc_machine.specs.Fullness.{has_no_room}
 use Rattle.rpc_machine.specs.State.{State}
-use Rattle.rpc_codec.specs.Decoding.{envelope_at}
+use Rattle.capn_fronts.specs.Parts.{Part}
 use Rattle.rpc_codec.specs.Envelopes.{profile}
 use Rattle.rpc_codec.specs.Frames.{message_frame}
 use Rattle.peer_finishes.specs.declared.held.Finishes.TheVariants.{AtOnce}
 use Rattle.peer_tail_calls.specs.declared.heard.Said.TheVariants as said
 use Rattle.peer_tail_calls.specs.Laws.{told_of}
+use Rattle.peer_large.specs.Opening.{envelope}
 use Rattle.vat_host.specs.Hosting.{is_abort}
 use Rattle.vat_connection.specs.declared.load.Limits.{Limits}
-use Rattle.vat_connection.specs.Speaking.{Speaking, SaysTo, stamp_of}
+use Rattle.vat_connection.specs.Speaking.{Speaking, SaysTo, came_of, stamp_of}
 use Rattle.vat_connection.specs.Speaking.SaysTo.{Nothing, Oldest, Broken}
-use Rattle.vat_connection.specs.Hearing.{FollowsBy, HearsInTurn, Inflow, Proceeds}
+use Rattle.vat_connection.specs.Hearing.{ComesBehind, FollowsBy, HearsInTurn, Inflow, IsBegun, Proceeds}
 use Rattle.vat_connection.specs.Hearing.HearsInTurn.{All, Saying, Above, Down, Lacking, Oldest as OldestHeard}
 use Rattle.vat_connection.specs.Connecting.{Connected, WorksOn, down}
 use Rattle.vat_connections.specs.OneConnection.{Act, Acts}
@@ -54,14 +55,14 @@ HasRoom s (plain.Bootstrap q) = has_no_room s.answers ≡ false
 HasRoom s (plain.Call c) = has_no_room s.answers ≡ false
 HasRoom s m = Unit {0}
 
--- So does what a frame says.
-abbrev pub FindsRoom : Speaking → List ℕ → Type 0
-FindsRoom s frame = (p : PlainMessage) → envelope_at (stamp_of s) frame ≡ Ok (profile (message.Plain p)) → HasRoom s.host.core p
+-- So does what a frame says, of which this is kept.
+abbrev pub FindsRoom : Speaking → Part → Type 0
+FindsRoom s frame = (p : PlainMessage) → came_of (stamp_of s) frame ≡ Ok (envelope (profile (message.Plain p))) → HasRoom s.host.core p
 
 -- ---- both, of what a connection does
 
 -- Along the frames that are heard in turn.
-abbrev pub TurnIsKnown : {l : Limits} {new : Speaking} {left : List (List ℕ)} {s : Speaking} {frames : List (List ℕ)} → HearsInTurn l new left s frames → Type 0
+abbrev pub TurnIsKnown : {l : Limits} {new : Speaking} {left : List Part} {s : Speaking} {frames : List Part} → HearsInTurn l new left s frames → Type 0
 TurnIsKnown (All is none) = Unit {0}
 TurnIsKnown (Saying frame frames up says more) = SaysReadably says × TurnIsKnown more
 TurnIsKnown (OldestHeard {s = s} frame frames up none may whole heard more) = FindsRoom s frame × TurnIsKnown more
@@ -69,12 +70,16 @@ TurnIsKnown (Above frame frames up none above is rest) = Unit {0}
 TurnIsKnown (Down frame frames down is none) = Unit {0}
 TurnIsKnown (Lacking frame frames up falls none) = Unit {0}
 
+-- Bytes come behind those of which this is kept, whatever they were.
+abbrev pub BehindKnown : (l : Limits) (old : Speaking) (inflow : Inflow) (bytes : List ℕ) (new : Speaking) (later : Inflow) → ComesBehind l old inflow bytes new later → Type 0
+BehindKnown l old inflow bytes new later h = (came : List ℕ) (begun : IsBegun came inflow.waiting) → TurnIsKnown ((h.1 came begun).4.2)
+
 -- Bytes come.
 abbrev pub FollowsKnown : (d over : Option ℕ) (l : Limits) (old : Speaking) (inflow : Inflow) (bytes : List ℕ) (new : Speaking) (later : Inflow)
     → FollowsBy d over l old inflow bytes new later → Type 0
 FollowsKnown (Some n) over l old inflow bytes new later h = Unit {0}
 FollowsKnown None (Some n) l old inflow bytes new later h = Unit {0}
-FollowsKnown None None l old inflow bytes new later h = TurnIsKnown h.3.2
+FollowsKnown None None l old inflow bytes new later h = BehindKnown l old inflow bytes new later h
 
 -- The frames that wait are heard.
 abbrev pub ProceedsKnown : (l : Limits) (old : Speaking) (inflow : Inflow) (new : Speaking) (later : Inflow) → Proceeds l old inflow new later → Type 0
