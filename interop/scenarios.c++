@@ -370,6 +370,90 @@ void overload(Peer& peer) {
   echoed(peer, 8);
 }
 
+constexpr auto WORDS = "the message has more than 65536 words";
+constexpr auto DEPTH = "the message nests more than 64 levels deep";
+constexpr auto CAPABILITIES = "the message has more than 4096 capabilities";
+constexpr auto STEPS = "the target has a path of more than 16 steps";
+
+constexpr uint64_t REGISTRY = 0xa5e1c0ffee000004ull;
+constexpr uint16_t MAKE_COUNTER = 0;
+constexpr uint16_t MAKE_REGISTRY = 3;
+constexpr uint16_t ECHO = 4;
+
+// Bytes, structs in one another, or one capability many times over.
+void fillBytes(capnp::AnyPointer::Builder place, size_t size) { place.initAs<capnp::Data>(size); }
+
+void fillNested(capnp::AnyPointer::Builder place, uint levels) {
+  for (uint i = 0; i < levels; i++) place = place.initAsAnyStruct(0, 1).getPointerSection()[0];
+}
+
+void fillPrinters(capnp::AnyPointer::Builder place, uint count, Printer::Client printer) {
+  auto printers = place.initAs<capnp::List<Printer>>(count);
+  for (uint i = 0; i < count; i++) printers.set(i, printer);
+}
+
+// Each kind of content of which a message may not have so much, and what the caller is told.
+struct Breach {
+  kj::Function<void(capnp::AnyPointer::Builder)> fill;
+  kj::StringPtr reason;
+};
+
+kj::Array<Breach> breaches(Printer::Client printer) {
+  auto made = kj::heapArrayBuilder<Breach>(4);
+  made.add(Breach{[](auto place) { fillBytes(place.initAsAnyStruct(0, 1).getPointerSection()[0], 530000); }, WORDS});
+  made.add(Breach{[](auto place) { fillBytes(place.initAsAnyStruct(0, 1).getPointerSection()[0], 60000000); }, WORDS});
+  made.add(Breach{[](auto place) { fillNested(place, 70); }, DEPTH});
+  made.add(Breach{[printer](auto place) mutable { fillPrinters(place.initAsAnyStruct(0, 1).getPointerSection()[0], 4200, printer); }, CAPABILITIES});
+  return made.finish();
+}
+
+// A call that breaks a limit of the other vat fails, and the conversation goes on.
+void largeCalls(Peer& peer) {
+  Own own;
+  for (auto& breach : breaches(own.printer)) {
+    auto request = peer.registry.typelessRequest(REGISTRY, ECHO, nullptr);
+    breach.fill(request);
+    auto call = request.send();
+    // what was to come of it fails too
+    auto pipelined = added(capnp::Capability::Client(call.getPointerField(0).asCap()).castAs<Counter>(), 1);
+    fails(peer, call.ignoreResult(), kj::Exception::Type::FAILED, breach.reason);
+    failure(peer, pipelined.ignoreResult());
+    echoed(peer, 8);
+  }
+  auto call = peer.registry.typelessRequest(REGISTRY, MAKE_REGISTRY, nullptr).send();
+  auto place = call.getPointerField(0);
+  for (uint i = 1; i < 17; i++) place = place.getPointerField(0);
+  fails(peer, added(capnp::Capability::Client(place.asCap()).castAs<Counter>(), 1).ignoreResult(), kj::Exception::Type::FAILED, STEPS);
+  echoed(peer, 8);
+}
+
+// A registry that answers with what it is told to answer with.
+class AnsweringRegistry final : public capnp::Capability::Server {
+public:
+  explicit AnsweringRegistry(Breach& breach) : breach(breach) {}
+
+  DispatchCallResult dispatchCall(
+      uint64_t, uint16_t method, capnp::CallContext<capnp::AnyPointer, capnp::AnyPointer> context) override {
+    CHECK(method == MAKE_COUNTER, method);
+    breach.fill(context.getResults());
+    return {kj::READY_NOW, false};
+  }
+
+private:
+  Breach& breach;
+};
+
+// So does a call of the other vat whose answer breaks one.
+void largeAnswers(Peer& peer) {
+  Own own;
+  for (auto& breach : breaches(own.printer)) {
+    auto request = peer.registry.fetchRequest();
+    request.setRegistry(capnp::Capability::Client(kj::heap<AnsweringRegistry>(breach)).castAs<Registry>());
+    fails(peer, request.send().ignoreResult(), kj::Exception::Type::FAILED, breach.reason);
+    echoed(peer, 8);
+  }
+}
+
 }  // namespace
 
 const std::map<std::string, Scenario> SCENARIOS = {
@@ -397,6 +481,8 @@ const std::map<std::string, Scenario> SCENARIOS = {
     {"tail-results", tailResults},
     {"broken-again", brokenAgain},
     {"overload", overload},
+    {"large-calls", largeCalls},
+    {"large-answers", largeAnswers},
 };
 
 }  // namespace interop
