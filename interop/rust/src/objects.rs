@@ -95,6 +95,18 @@ impl Serves for Counter {
     }
 }
 
+/// A registry whose answers are so many bytes.
+pub struct Bytes(pub usize);
+
+impl Serves for Bytes {
+    const INTERFACE: u64 = REGISTRY;
+
+    fn serve(&mut self, _method: u16, _params: Params<Owned>, mut results: Results<Owned>) -> Answered {
+        fields::<0, 1>(&mut results).set_bytes(0, &vec![7; self.0]);
+        done()
+    }
+}
+
 /// What a printer has printed, for whoever looks at it from outside.
 pub type Sheet = Rc<RefCell<Vec<u64>>>;
 

@@ -1,5 +1,5 @@
 //! What a client does with a registry, one thing after another.
-use crate::objects::{Gate, Printer, Registry, Sheet, print, promised};
+use crate::objects::{Bytes, Gate, Printer, Registry, Sheet, print, promised};
 use crate::schema::{COUNTER, Call, Object, PRINTER, REGISTRY, SINK, counter, printer, registry, sink};
 use crate::tasks::sleep;
 use capnp::{Error, ErrorKind};
@@ -135,6 +135,31 @@ async fn data(registry: Object) -> Done {
 
 async fn large(registry: Object) -> Done {
     echoed(&registry, 400_000).await
+}
+
+/// What the other vat has no room for in one message, and what a caller is told.
+const TOO_LARGE: [usize; 2] = [530_000, 60_000_000];
+const WORDS: &str = "the message has more than 65536 words";
+
+/// A call that breaks a limit of the other vat fails, and the conversation goes on.
+async fn large_calls(registry: Object) -> Done {
+    for size in TOO_LARGE {
+        let bytes = vec![7; size];
+        let call = registry.call::<0, 1>(REGISTRY, registry::ECHO, |params| params.set_bytes(0, &bytes));
+        fails(call, ErrorKind::Failed, WORDS).await?;
+        echoed(&registry, 8).await?;
+    }
+    Ok(())
+}
+
+/// So does a call of the other vat whose answer breaks one.
+async fn large_answers(registry: Object) -> Done {
+    for size in TOO_LARGE {
+        let call = give(&registry, registry::FETCH, &Object::of(Bytes(size)));
+        fails(call, ErrorKind::Failed, WORDS).await?;
+        echoed(&registry, 8).await?;
+    }
+    Ok(())
 }
 
 async fn pipelining(mut registry: Object) -> Done {
@@ -436,6 +461,8 @@ pub const SCENARIOS: &[(&str, Scenario)] = scenarios![
     "embargo-by-return" embargo_by_return,
     "exceptions" exceptions,
     "large" large,
+    "large-answers" large_answers,
+    "large-calls" large_calls,
     "leaves" leaves,
     "many" many,
     "own-promise" own_promise,
