@@ -1,10 +1,7 @@
 -- What the adapter below says, and what comes of it.
-use Rattle.std.proofs.Common.{◌≡◌, Bool, true, false, List, [], Option, Some, None, Result, Ok, Err, refl, sym, ap, subst, ◌∙◌}
-use Rattle.std.specs.FinMap as finite
+use Rattle.std.proofs.Common.{◌≡◌, Bool, true, [], Ok, Err, sym, ap, ◌∙◌}
 use Rattle.finite_maps.specs.Tally.{Map}
-use Rattle.rpc_msg.specs.Memory.{Memory}
 use Rattle.rpc_msg.specs.declared.ids.QuestionId.{QuestionId}
-use Rattle.rpc_msg.specs.declared.message.Finish.{Finish}
 use Rattle.rpc_msg.specs.declared.message.Message.{Message}
 use Rattle.rpc_msg.specs.declared.message.Message.TheVariants as message
 use Rattle.rpc_msg.specs.declared.message.PlainMessage.TheVariants as plain
@@ -12,18 +9,15 @@ use Rattle.rpc_codec.specs.Envelopes.{What, profile}
 use Rattle.peer_tail_calls.specs.Adapting.{messages_in}
 use Rattle.peer_tail_calls.specs.declared.heard.Heard.{Heard}
 use Rattle.peer_tail_calls.specs.declared.heard.Heard.TheVariants as hearing
-use Rattle.peer_tail_calls.specs.declared.heard.Said.TheVariants as said
-use Rattle.peer_adapter.specs.declared.errors.PeerFault.{PeerFault}
 use Rattle.peer_adapter.specs.declared.errors.PeerError.{PeerError}
 use Rattle.peer_adapter.specs.declared.errors.PeerError.TheVariants as error
 use Rattle.peer_adapter.specs.declared.told.Inbound.{Inbound}
-use Rattle.peer_adapter.specs.declared.told.Outbound.{Outbound}
 use Rattle.peer_adapter.specs.Peering.{Besides, Peering, Tables, seen_aside}
 use Rattle.peer_adapter.specs.Peering.Besides.{Tells}
 use Rattle.peer_adapter.specs.Peering as peer
 use Rattle.peer_large.specs.declared.limit.Limit.{Limit}
 use Rattle.peer_large.specs.Opening.{envelope}
-use Rattle.peer_large.specs.Sparing.{Coming, Comes, Going, Goes, Sparing, comes, ending, ends, ends_by, failed, fails, fails_by, finishes, giving_besides, giving_plain, goes_plain, passed_by, passes, returned_by, seen_inbound, seen_outbound, told_alone, with_going}
+use Rattle.peer_large.specs.Sparing.{Comes, Sparing, comes, ending, ends, ends_by, failed, fails, fails_by, giving_besides, passed_by, returned_by, seen_inbound, told_alone}
 
 -- ---- what comes
 

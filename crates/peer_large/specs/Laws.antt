@@ -1,17 +1,15 @@
 -- Without frames that break a limit nothing changes; what a frame that does comes to is what its call is told, and no more.
-use Rattle.std.specs.Prelude.{◌≡◌, Bool, true, false, List, [], ◌∷◌, Option, Some, None, IfOk, Result, Ok}
+use Rattle.std.specs.Prelude.{◌≡◌, [], IfOk}
 use Rattle.std.specs.FinMap as finite
 use Rattle.rpc_msg.specs.declared.ids.QuestionId.{QuestionId}
 use Rattle.rpc_msg.specs.declared.message.Message.{Message}
-use Rattle.rpc_msg.specs.declared.message.Message.TheVariants as message
-use Rattle.rpc_msg.specs.declared.message.PlainMessage.TheVariants as plain
 use Rattle.rpc_codec.specs.Envelopes.{What}
 use Rattle.peer_adapter.specs.Peering.{Peering, Tables}
 use Rattle.peer_adapter.specs.Peering as peer
 use Rattle.peer_large.specs.declared.front.Large.TheVariants as large
 use Rattle.peer_large.specs.declared.limit.Limit.{Limit}
 use Rattle.peer_large.specs.Opening.{envelope, spared}
-use Rattle.peer_large.specs.Sparing.{Coming, Sparing, comes, failed, goes, passed_by, passes, told_alone}
+use Rattle.peer_large.specs.Sparing.{Sparing, comes, failed, goes, passed_by, passes, told_alone}
 
 pub record StandsAside : Type 0 where
   -- what breaks no limit is heard as the adapter says

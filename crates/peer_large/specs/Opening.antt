@@ -1,5 +1,5 @@
 -- What a frame says. One that breaks a limit says no more than the question that its front asks or answers, if that is read there.
-use Rattle.std.specs.Prelude.{◌≡◌, ℕ, ◌==◌, Bool, true, false, if◌then◌else◌, nat_lt, List, Option, Some, None, Result, Ok, Err}
+use Rattle.std.specs.Prelude.{ℕ, ◌==◌, Bool, false, if◌then◌else◌, nat_lt, List, Option, Some, None, Ok, Err}
 use Rattle.capn_trees.specs.Trees.{Tree, structs_count}
 use Rattle.capn_trees.specs.declared.faults.PayloadFault.TheVariants.{TooLarge}
 use Rattle.capn_reading.specs.Reading.{element}

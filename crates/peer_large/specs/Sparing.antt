@@ -1,6 +1,6 @@
 -- What a frame that breaks a limit comes to: it costs its call, and the connection goes on (docs/messages.md, "Messages that are too
 -- large").
-use Rattle.std.specs.Prelude.{◌≡◌, Bool, true, false, cond, List, [], Option, Some, None, Result, Ok, Err, refl}
+use Rattle.std.specs.Prelude.{◌≡◌, Bool, true, false, List, [], Option, Some, None, Result, Ok, Err, refl}
 use Rattle.std.specs.Coded.{Coded, code_by, coded×}
 use Rattle.std.specs.FinMap as finite
 use Rattle.finite_maps.specs.Tally.{Map}
@@ -12,7 +12,7 @@ use Rattle.rpc_msg.specs.declared.message.Message.TheVariants as message
 use Rattle.rpc_msg.specs.declared.message.PlainMessage.{PlainMessage}
 use Rattle.rpc_msg.specs.declared.message.PlainMessage.TheVariants as plain
 use Rattle.rpc_msg.specs.declared.message.ReturnBody.TheVariants as body
-use Rattle.rpc_codec.specs.Envelopes.{What, profile}
+use Rattle.rpc_codec.specs.Envelopes.{profile}
 use Rattle.peer_tail_calls.specs.Adapting.{messages_in}
 use Rattle.peer_tail_calls.specs.declared.heard.Said.{Said}
 use Rattle.peer_tail_calls.specs.declared.heard.Said.TheVariants as said

@@ -7,7 +7,7 @@ ghost use Rattle.peer_broken.specs.Naming.{Tells};
 ghost use Rattle.peer_adapter.specs.Peering.{Tables, seen_aside};
 ghost use Rattle.peer_tail_calls.specs.declared.heard.Heard.TheVariants as hearing;
 ghost use Rattle.peer_large.specs.Opening.{envelope, seen};
-ghost use Rattle.peer_large.specs.Sparing.{Comes, Goes, comes, ending, ends, failed, fails, fresh, giving, giving_besides, giving_plain, goes, goes_plain, passes, told_alone};
+ghost use Rattle.peer_large.specs.Sparing.{Comes, Goes, comes, ending, ends, failed, fails, fresh, giving, giving_besides, giving_plain, goes, goes_plain, passes, spares, told_alone};
 
 use crate::front::Large;
 use crate::limit::Limit;
@@ -90,12 +90,44 @@ impl SparingAdapter {
     {
         match came {
             Opened::Envelope(came) => self.pass_in(came, is_full, standing, is_broken, is_finished),
-            Opened::Spared(Large::Call(question), limit) => {
-                self.fail(question, limit, standing, is_broken, is_finished)
+            Opened::Spared(large, limit) => {
+                let spared = (large, limit);
+                self.spare(spared, is_full, standing, is_broken, is_finished)
             }
-            Opened::Spared(Large::Return(answer, flag), limit) => {
+        }
+    }
+
+    // A Call or a Return that breaks a limit.
+    fn spare<
+        K: Fn(ExportId) -> Option<Standing>,
+        B: Fn(ExportId) -> bool,
+        F: Fn(QuestionId) -> bool,
+    >(
+        &mut self,
+        spared: (Large, Limit),
+        is_full: bool,
+        standing: K,
+        is_broken: B,
+        is_finished: F,
+    ) -> Result<Inbound, PeerError>
+    where
+        K: Drop,
+        B: Drop,
+        F: Drop,
+        requires standing { K.IsAlwaysCallable standing }
+        requires broken { B.IsAlwaysCallable is_broken }
+        requires finished { F.IsAlwaysCallable is_finished }
+        ensures { (t : Tables) → is_full ≡ t.is_full → Stands (K.post standing) t.standing → Tells (B.post is_broken) t.broken → Tells (F.post is_finished) t.finished
+            → Comes (spares t self.old spared.0 spared.1) result self.new }
+    {
+        let (large, limit) = spared;
+        match large {
+            Large::Call(question) => {
+                return self.fail(question, limit, standing, is_broken, is_finished);
+            }
+            Large::Return(answer, flag) => {
                 let ending = (answer, flag, limit);
-                self.end(ending, is_full, standing, is_broken, is_finished)
+                return self.end(ending, is_full, standing, is_broken, is_finished);
             }
         }
     }
@@ -127,8 +159,8 @@ impl SparingAdapter {
             .adapter
             .inbound(came, is_full, standing, is_broken, is_finished)
         {
-            Ok(inbound) => Ok(inbound),
-            Err(refused) => Err(refused),
+            Ok(inbound) => return Ok(inbound),
+            Err(refused) => return Err(refused),
         }
     }
 
@@ -161,8 +193,8 @@ impl SparingAdapter {
             .adapter
             .inbound(asked, true, standing, is_broken, is_finished)
         {
-            Ok(_) => Ok(tells(self.alloc, said)),
-            Err(refused) => Err(refused),
+            Ok(_taken) => return Ok(tells(self.alloc, said)),
+            Err(refused) => return Err(refused),
         }
     }
 
@@ -194,12 +226,10 @@ impl SparingAdapter {
             .inbound(came, is_full, standing, is_broken, is_finished)
         {
             Ok(inbound) => {
-                if !went {
-                    self.returned.put(answer, limit)?;
-                }
-                Ok(giving_back(inbound))
+                self.returned.note(went, answer, limit)?;
+                return Ok(giving_back(inbound));
             }
-            Err(refused) => Err(refused),
+            Err(refused) => return Err(refused),
         }
     }
 

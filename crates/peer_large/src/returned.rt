@@ -1,6 +1,7 @@
 //! The questions of a vat whose Return broke a limit.
 ghost use Rattle.std.specs.Prelude.{◌≡◌, OnOk, OnErr, option_copied};
 ghost use Rattle.std.specs.FinMap as map;
+ghost use Rattle.peer_large.specs.Sparing.{returned_by};
 
 use crate::limit::Limit;
 use rpc_msg::{Memory, QuestionId};
@@ -58,6 +59,16 @@ impl Returned {
     {
         self.by_id.insert(id.0, limit)?;
         Ok(())
+    }
+
+    /// The Return of a question broke a limit: unless its Finish went, it is one of them. `Memory` leaves all as it was.
+    pub(crate) fn note(&mut self, went: bool, id: QuestionId, limit: Limit) -> Result<(), Memory>
+        ensures { OnOk result (self.new ≡ returned_by went self.old id limit) }
+    {
+        if went {
+            return Ok(());
+        }
+        self.put(id, limit)
     }
 
     /// Takes the one of that question out. Takes no memory.

@@ -1,4 +1,4 @@
-use Rattle.std.proofs.Common.{◌≡◌, [], Some, Result, Ok, Err, refl}
+use Rattle.std.proofs.Common.{◌≡◌, [], Result, Ok, Err, refl}
 use Rattle.std.specs.Prelude.{IfOk}
 use Rattle.rpc_msg.specs.declared.ids.QuestionId.{QuestionId}
 use Rattle.peer_adapter.specs.declared.errors.PeerFault.{PeerFault}
