@@ -114,9 +114,6 @@ heard_abort m x a (AsSaid is) = let k = the_abort m a in (k.0, is ∙ k.1)
 heard_abort m x a (OfCall c stamp p h said is) = absurd (let b : false ≡ true = sym (ap is_abort said) ∙ a in cc)
 heard_abort m x a (OfResults q flag ds p r h said is) = absurd (let b : false ≡ true = sym (ap is_abort said) ∙ a in cc)
 
-abbrev said_as : What → codec.Came What
-said_as w = Ok w
-
 abbrev came_as : What → codec.Came Came
 came_as w = Ok (envelope w)
 
@@ -129,7 +126,7 @@ profile_came : (stamp : Stamp) (frame : List ℕ) (x : Message) → codec.envelo
 profile_came stamp frame x e = ap (opened_by (large_in frame)) e
 
 -- The frames that are left, of those of which this is kept.
-pub left_of : {l : Limits} {new : Speaking} {left : List Part} {s : Speaking} {parts : List Part} → HearsInTurn l new left s parts → (frames : List (List ℕ)) → AreKept frames parts → (fs : List (List ℕ)) × AreKept fs left
+abbrev pub left_of : {l : Limits} {new : Speaking} {left : List Part} {s : Speaking} {parts : List Part} → HearsInTurn l new left s parts → (frames : List (List ℕ)) → AreKept frames parts → (fs : List (List ℕ)) × AreKept fs left
 left_of (All is none) frames kept = ([], subst (λ (ps : List Part). AreKept [] ps) (sym none) tt)
 left_of (Saying part parts up says more) frames kept = left_of more frames kept
 left_of (OldestHeard part parts up none may whole heard more) [] kept = absurd kept

@@ -9,8 +9,8 @@ loop-at-preserved c = (
   λ new on. c.loop-at.invariant.0 new
       (one_part c.loop-at.self c.take_next.new.self new c.args.bytes.now c.loop-at.at c.in_ok-at.field-0 (sym c.is_over.ensures ∙ c.if-is_over.false) c.in_ok-at.ensures.parts on),
   let within = c.in_ok-at.ensures.within in
-  let size = rest_length c.loop-at.at c.args.bytes.now in
-  omega (arith, within, size, c.loop-at-test.true),
+      let size = rest_length c.loop-at.at c.args.bytes.now in
+      omega (arith, within, size, c.loop-at-test.true),
 )
 
 pub returns : goal.returns
