@@ -1,4 +1,4 @@
-use Rattle.std.proofs.Common.{◌≡◌, ℕ, List, length}
+use Rattle.std.proofs.Common.{◌≡◌, List, length}
 use Rattle.capn_fronts.specs.Parts.{Part}
 use Rattle.vat_connection.specs.Speaking.{Speaking}
 use Rattle.vat_connection.specs.Hearing.{HearsInTurn}

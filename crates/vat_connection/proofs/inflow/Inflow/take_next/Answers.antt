@@ -1,4 +1,4 @@
-use Rattle.std.proofs.Common.{◌≡◌, ℕ, List, Option, Some, None, Ok, Err, drop, refl, sym, ap, subst, ◌∙◌}
+use Rattle.std.proofs.Common.{◌≡◌, ℕ, Option, Some, None, Ok, Err, drop, refl, sym, ap, subst, ◌∙◌}
 use Rattle.capn_stream.specs.declared.error.StreamError.{StreamError}
 use Rattle.capn_stream.specs.declared.error.StreamError.TheVariants as error
 use Rattle.capn_fronts.specs.Parts.{Part, nothing}
