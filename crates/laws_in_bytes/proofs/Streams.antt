@@ -1,8 +1,8 @@
 -- The frames of a stream are found one after the other, however it is cut.
 use Rattle.std.proofs.Common.{◌≡◌, ◌⊎◌, inl, inr, ℕ, ◌+◌, ◌*◌, ◌≤◌, List, [], ◌∷◌, ◌++◌, append-nil, append_assoc, length, length-append, sum, refl, sym, ap, subst, ◌∙◌, arith}
 use Rattle.std.specs.List.{concat}
-use Rattle.capn_reading.specs.Framing.{segment_count, sizes, table_words}
-use Rattle.capn_stream.specs.declared.front.Front.TheVariants.{Complete, Need}
+use Rattle.capn_reading.specs.Framing.{segment_count, sizes}
+use Rattle.capn_stream.specs.declared.front.Front.TheVariants.{Complete}
 use Rattle.capn_stream.specs.Fronts.{front_of, IsFrame}
 use Rattle.capn_stream.proofs.Numbers as numbers
 use Rattle.capn_stream.proofs.Stable.{complete_stays}
