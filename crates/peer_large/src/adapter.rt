@@ -155,6 +155,7 @@ impl SparingAdapter {
         ensures { (t : Tables) → is_full ≡ t.is_full → Stands (K.post standing) t.standing → Tells (B.post is_broken) t.broken → Tells (F.post is_finished) t.finished
             → Comes (comes t self.old (envelope (seen_envelope came))) result self.new }
     {
+        // Each arm by itself: a result that is handed on whole leaves its clauses to be proved by cases.
         match self
             .adapter
             .inbound(came, is_full, standing, is_broken, is_finished)
@@ -221,6 +222,7 @@ impl SparingAdapter {
         let heard = ended(self.alloc, answer, flag, limit)?;
         let went = is_finished(answer);
         let came = Envelope::Message(Message::Plain(heard));
+        // Each arm by itself: a result that is handed on whole leaves its clauses to be proved by cases.
         match self
             .adapter
             .inbound(came, is_full, standing, is_broken, is_finished)
@@ -247,6 +249,7 @@ impl SparingAdapter {
     fn pass(&mut self, message: Message) -> Result<Outbound, Memory>
         ensures { Goes self.old (passes self.old message) result self.new }
     {
+        // Each arm by itself: a result that is handed on whole leaves its clauses to be proved by cases.
         match self.adapter.outbound(message) {
             Ok(outbound) => Ok(outbound),
             Err(refused) => Err(refused),
