@@ -1,0 +1,15 @@
+mod Looks
+mod Found
+mod Counts
+mod Resolving
+mod Owed
+mod Turning
+mod Told
+mod Passing
+mod Leading
+mod Judged
+mod OneVat
+mod Sessions
+mod Between
+mod Places
+mod Seen
