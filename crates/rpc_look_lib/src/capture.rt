@@ -12,7 +12,6 @@ use capn_stream::{Frame, StreamError};
 use capn_trees::PayloadFault;
 use look_pieces::{Piece, Side};
 use std::alloc::Global;
-use std::io::Write;
 
 /// What was said, and what came of both ends.
 #[derive(Drop)]
@@ -23,9 +22,9 @@ pub(crate) struct Capture {
 }
 
 /// No frame comes next of an end.
-fn end_stream<W: Write + Drop>(
+fn end_stream<P: Page>(
     talk: &mut Talk,
-    page: &mut Page<W>,
+    page: &mut P,
     side: Side,
     fault: PayloadFault,
 ) -> Result<(), Failure>
@@ -36,9 +35,9 @@ fn end_stream<W: Write + Drop>(
 }
 
 /// A frame comes, if one does.
-fn tell_given<W: Write + Drop>(
+fn tell_given<P: Page>(
     talk: &mut Talk,
-    page: &mut Page<W>,
+    page: &mut P,
     side: Side,
     time: Option<u64>,
     frame: Option<Frame>,
@@ -53,10 +52,10 @@ fn tell_given<W: Write + Drop>(
 
 /// A part of a piece comes, of which bytes up to the end of a frame are taken, and gives how many; none where nothing of the
 /// end is read any more.
-fn tell_part<W: Write + Drop>(
+fn tell_part<P: Page>(
     talk: &mut Talk,
     stream: &mut Stream,
-    page: &mut Page<W>,
+    page: &mut P,
     side: Side,
     time: Option<u64>,
     part: &[u8],
@@ -80,10 +79,10 @@ fn tell_part<W: Write + Drop>(
 }
 
 /// A piece comes of an end.
-fn tell_stream<W: Write + Drop>(
+fn tell_stream<P: Page>(
     talk: &mut Talk,
     stream: &mut Stream,
-    page: &mut Page<W>,
+    page: &mut P,
     at: Option<u64>,
     side: Side,
     time: Option<u64>,
@@ -121,9 +120,9 @@ impl Capture {
     }
 
     /// A piece comes, up to the last message that is asked for.
-    pub(crate) fn tell_piece<W: Write + Drop>(
+    pub(crate) fn tell_piece<P: Page>(
         &mut self,
-        page: &mut Page<W>,
+        page: &mut P,
         at: Option<u64>,
         piece: &Piece,
     ) -> Result<(), Failure>
@@ -143,7 +142,7 @@ impl Capture {
     }
 
     /// Says of each end that ends inside a message how many bytes of it came.
-    pub(crate) fn say_rests<W: Write + Drop>(&self, page: &mut Page<W>) -> Result<(), Failure> {
+    pub(crate) fn say_rests<P: Page>(&self, page: &mut P) -> Result<(), Failure> {
         page.say_rest(Side::Client, self.client.waiting())?;
         page.say_rest(Side::Server, self.server.waiting())
     }

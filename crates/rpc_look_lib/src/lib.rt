@@ -5,7 +5,8 @@
 //! - `watch.rt`: frames are judged one by one. `talk.rt`: a conversation so far. `stream.rt`: the bytes of one end.
 //! - `capture.rt`: a conversation of which pieces come. `reading.rt`: a log that comes in parts. `weaving.rt`: two files,
 //!   without an order between them.
-//! - `page.rt`: the text that is written. `naming.rt`: by what names. `telling.rt`: what is said of a frame.
+//! - `page.rt`: what is made of a conversation, and the text that is written. `naming.rt`: by what names. `telling.rt`: what is
+//!   said of a frame.
 #![tactic(auto)]
 
 mod capture;
@@ -21,7 +22,9 @@ mod watch;
 mod weaving;
 
 pub use failure::{Failure, status, tell, unreadable};
-pub use naming::read_schema;
+pub use naming::{Naming, read_schema};
 pub use options::{Options, Source};
-pub use reading::look_log;
-pub use weaving::look_two;
+pub use page::Page;
+pub use reading::{look_log, read_log};
+pub use watch::{Judged, Told};
+pub use weaving::{look_two, read_two};

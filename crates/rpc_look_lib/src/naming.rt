@@ -10,10 +10,13 @@ use std::io::Read;
 
 /// The names of a schema, if there is one; and contents, if they are asked for.
 #[derive(Drop)]
-pub(crate) struct Naming {
-    pub(crate) alloc: Global,
-    pub(crate) schema: Option<Schema>,
-    pub(crate) payloads: bool,
+pub struct Naming {
+    /// By what it takes memory.
+    pub alloc: Global,
+    /// The schema.
+    pub schema: Option<Schema>,
+    /// Whether contents are told.
+    pub payloads: bool,
 }
 
 /// Reads a schema, as `capnp compile -o-` writes it. `NoSchema` if the bytes are none, `Unreadable` if the reader fails, `Memory`

@@ -1,4 +1,4 @@
-//! What is said of a conversation, as text that is written.
+//! What is said of a conversation: on any page, and as text that is written.
 use crate::failure::Failure;
 use crate::naming::Naming;
 use crate::options::Options;
@@ -15,10 +15,45 @@ use std::io::Write;
 /// The text is written when it has so many bytes.
 const FULL: usize = 65_536;
 
-/// What is said so far.
+/// What is made of a conversation, message by message: text, or a picture.
+///
+/// Each call is refused by `Memory` where a growth was refused, and by `Unwritten` where an output fails.
+pub trait Page {
+    /// Says what a frame is, by the books before it.
+    fn say_told(
+        &mut self,
+        books: &Books,
+        side: Side,
+        moment: Moment,
+        told: &Told,
+    ) -> Result<(), Failure>;
+
+    /// Notes how much is open behind a message, by the books behind it.
+    fn note_totals(&mut self, books: &Books, moment: Moment) -> Result<(), Failure>;
+
+    /// Says that no order of two files makes sense behind here.
+    fn say_stuck(&mut self) -> Result<(), Failure>;
+
+    /// Says why nothing of an end is read any more, where that message of the conversation would come.
+    fn say_end_of(&mut self, side: Side, number: u64, fault: PayloadFault) -> Result<(), Failure>;
+
+    /// Says why the bytes of an end are cut no further, behind so many frames of it.
+    fn say_cut(&mut self, side: Side, count: usize, fault: PayloadFault) -> Result<(), Failure>;
+
+    /// Says of an end that it stops inside a message, if so many bytes of one came.
+    fn say_rest(&mut self, side: Side, count: usize) -> Result<(), Failure>;
+
+    /// Says what is open behind the last message.
+    fn say_end(&mut self, books: &Books, last: Moment) -> Result<(), Failure>;
+
+    /// Writes what is said so far, if it is written as it comes.
+    fn flush(&mut self) -> Result<(), Failure>;
+}
+
+/// The text that is said so far.
 #[derive(Drop)]
-pub(crate) struct Page<W: Write + Drop> {
-    pub(crate) alloc: Global,
+pub(crate) struct TextPage<W: Write + Drop> {
+    alloc: Global,
     out: W,
     /// What is said and not written yet.
     text: String,
@@ -28,9 +63,14 @@ pub(crate) struct Page<W: Write + Drop> {
     totals: Vec<Totals>,
 }
 
-impl<W: Write + Drop> Page<W> {
+impl<W: Write + Drop> TextPage<W> {
     /// Nothing is said so far.
-    pub(crate) fn new(alloc: Global, options: Options, schema: Option<Schema>, out: W) -> Page<W> {
+    pub(crate) fn new(
+        alloc: Global,
+        options: Options,
+        schema: Option<Schema>,
+        out: W,
+    ) -> TextPage<W> {
         let Options {
             only,
             payloads,
@@ -41,7 +81,7 @@ impl<W: Write + Drop> Page<W> {
             server,
             source: _,
         } = options;
-        Page {
+        TextPage {
             alloc,
             out,
             text: String::new(alloc),
@@ -59,111 +99,9 @@ impl<W: Write + Drop> Page<W> {
         }
     }
 
-    /// Writes what is said so far.
-    pub(crate) fn flush(&mut self) -> Result<(), Failure> {
-        let written = self.out.write_all(self.text.as_bytes());
-        self.text.clear();
-        match written {
-            Ok(()) => Ok(()),
-            Err(_) => Err(Failure::Unwritten),
-        }
-    }
-
     fn flush_if_full(&mut self) -> Result<(), Failure> {
         if self.text.len() < FULL {
             return Ok(());
-        }
-        self.flush()
-    }
-
-    /// Says what a frame is, by the books before it.
-    pub(crate) fn say_told(
-        &mut self,
-        books: &Books,
-        side: Side,
-        moment: Moment,
-        told: &Told,
-    ) -> Result<(), Failure> {
-        write_told(
-            self.alloc,
-            &mut self.text,
-            &self.wording,
-            books,
-            side,
-            moment,
-            told,
-        )?;
-        self.flush_if_full()
-    }
-
-    /// Notes how much is open behind a message, if a table is asked for.
-    pub(crate) fn note_totals(&mut self, books: &Books, moment: Moment) -> Result<(), Failure> {
-        if self.rows.is_some() {
-            let totals = totals_of(books, moment);
-            self.totals.push(totals).map_err(AllocError::from)?;
-        }
-        Ok(())
-    }
-
-    /// Says that no order of two files makes sense.
-    pub(crate) fn say_stuck(&mut self) -> Result<(), Failure> {
-        self.text
-            .push_str("no order of the two makes sense behind here:\n")?;
-        Ok(())
-    }
-
-    /// Says why nothing of an end is read any more, where that message of the conversation would come.
-    pub(crate) fn say_end_of(
-        &mut self,
-        side: Side,
-        number: u64,
-        fault: PayloadFault,
-    ) -> Result<(), Failure> {
-        let name = self.wording.ends.name(side);
-        writeln!(
-            self.text,
-            "message {number} by the {name}: {fault}; nothing of the {name} is read any more"
-        )?;
-        Ok(())
-    }
-
-    /// Says why the bytes of an end are cut no further, behind so many frames.
-    pub(crate) fn say_cut(
-        &mut self,
-        side: Side,
-        count: usize,
-        fault: PayloadFault,
-    ) -> Result<(), Failure> {
-        let name = self.wording.ends.name(side);
-        writeln!(self.text, "the {name}, behind its message {count}: {fault}")?;
-        Ok(())
-    }
-
-    /// Says of a direction that it ends inside a message, if so many bytes of one came.
-    pub(crate) fn say_rest(&mut self, side: Side, count: usize) -> Result<(), Failure> {
-        if count == 0 {
-            return Ok(());
-        }
-        let name = self.wording.ends.name(side);
-        writeln!(
-            self.text,
-            "the {name} ends inside a message, of which {count} bytes came"
-        )?;
-        Ok(())
-    }
-
-    /// Says what is open, and the table if one is asked for.
-    pub(crate) fn say_end(&mut self, books: &Books, last: Moment) -> Result<(), Failure> {
-        if !self.wording.only {
-            let view = View {
-                books,
-                ends: &self.wording.ends,
-                names: &self.wording.naming,
-            };
-            write_open(&mut self.text, &view, last)?;
-        }
-        if let Some(rows) = self.rows {
-            self.say_totals(rows)?;
         }
         self.flush()
     }
@@ -184,5 +122,91 @@ impl<W: Write + Drop> Page<W> {
             }
         }
         Ok(())
+    }
+}
+
+impl<W: Write + Drop> Page for TextPage<W> {
+    fn say_told(
+        &mut self,
+        books: &Books,
+        side: Side,
+        moment: Moment,
+        told: &Told,
+    ) -> Result<(), Failure> {
+        write_told(
+            self.alloc,
+            &mut self.text,
+            &self.wording,
+            books,
+            side,
+            moment,
+            told,
+        )?;
+        self.flush_if_full()
+    }
+
+    fn note_totals(&mut self, books: &Books, moment: Moment) -> Result<(), Failure> {
+        if self.rows.is_some() {
+            let totals = totals_of(books, moment);
+            self.totals.push(totals).map_err(AllocError::from)?;
+        }
+        Ok(())
+    }
+
+    fn say_stuck(&mut self) -> Result<(), Failure> {
+        self.text
+            .push_str("no order of the two makes sense behind here:\n")?;
+        Ok(())
+    }
+
+    fn say_end_of(&mut self, side: Side, number: u64, fault: PayloadFault) -> Result<(), Failure> {
+        let name = self.wording.ends.name(side);
+        writeln!(
+            self.text,
+            "message {number} by the {name}: {fault}; nothing of the {name} is read any more"
+        )?;
+        Ok(())
+    }
+
+    fn say_cut(&mut self, side: Side, count: usize, fault: PayloadFault) -> Result<(), Failure> {
+        let name = self.wording.ends.name(side);
+        writeln!(self.text, "the {name}, behind its message {count}: {fault}")?;
+        Ok(())
+    }
+
+    fn say_rest(&mut self, side: Side, count: usize) -> Result<(), Failure> {
+        if count == 0 {
+            return Ok(());
+        }
+        let name = self.wording.ends.name(side);
+        writeln!(
+            self.text,
+            "the {name} ends inside a message, of which {count} bytes came"
+        )?;
+        Ok(())
+    }
+
+    fn say_end(&mut self, books: &Books, last: Moment) -> Result<(), Failure> {
+        if !self.wording.only {
+            let view = View {
+                books,
+                ends: &self.wording.ends,
+                names: &self.wording.naming,
+            };
+            write_open(&mut self.text, &view, last)?;
+        }
+        if let Some(rows) = self.rows {
+            self.say_totals(rows)?;
+        }
+        self.flush()
+    }
+
+    fn flush(&mut self) -> Result<(), Failure> {
+        let written = self.out.write_all(self.text.as_bytes());
+        self.text.clear();
+        match written {
+            Ok(()) => Ok(()),
+            Err(_) => Err(Failure::Unwritten),
+        }
     }
 }

@@ -8,7 +8,7 @@ ghost use Rattle.rpc_look_lib.specs.Reading.{bare_line, is_newline, LineComes, R
 use crate::capture::Capture;
 use crate::failure::{Failure, unreadable};
 use crate::options::Options;
-use crate::page::Page;
+use crate::page::{Page, TextPage};
 use look_names::Schema;
 use look_pieces::Log;
 use std::alloc::{AllocError, Global};
@@ -75,10 +75,10 @@ fn newline_in(text: &[u8]) -> Option<usize>
 }
 
 /// A line of the log comes.
-fn take_line<W: Write + Drop>(
+fn take_line<P: Page>(
     log: &mut Log,
     capture: &mut Capture,
-    page: &mut Page<W>,
+    page: &mut P,
     at: Option<u64>,
     line: &[u8],
 ) -> Result<(), Failure>
@@ -97,10 +97,10 @@ impl Lines {
     ghost use Rattle.rpc_look_lib.specs.Reading.{LineComes, LastComes, PartComes, IsLine};
 
     /// A line ends, of which this part came last.
-    fn take_last<W: Write + Drop>(
+    fn take_last<P: Page>(
         &mut self,
         capture: &mut Capture,
-        page: &mut Page<W>,
+        page: &mut P,
         at: Option<u64>,
         part: &[u8],
     ) -> Result<(), Failure>
@@ -117,10 +117,10 @@ impl Lines {
     }
 
     /// A part of the log comes.
-    fn take_part<W: Write + Drop>(
+    fn take_part<P: Page>(
         &mut self,
         capture: &mut Capture,
-        page: &mut Page<W>,
+        page: &mut P,
         at: Option<u64>,
         part: &[u8],
     ) -> Result<(), Failure>
@@ -148,10 +148,10 @@ impl Lines {
     }
 
     /// The log ends with a line that has no newline, if one has begun.
-    fn take_begun<W: Write + Drop>(
+    fn take_begun<P: Page>(
         &mut self,
         capture: &mut Capture,
-        page: &mut Page<W>,
+        page: &mut P,
         at: Option<u64>,
     ) -> Result<(), Failure>
         ensures { OnOk result (LastComes at self.old.begun.items (self.old.log, scene_of capture.old) (self.new.log, scene_of capture.new)) }
@@ -163,10 +163,10 @@ impl Lines {
     }
 
     /// The log ends.
-    fn end<W: Write + Drop>(
+    fn end<P: Page>(
         &mut self,
         capture: &mut Capture,
-        page: &mut Page<W>,
+        page: &mut P,
         at: Option<u64>,
     ) -> Result<(), Failure>
         ensures last { OnOk result (LastComes at self.old.begun.items (self.old.log, scene_of capture.old) (self.new.log, scene_of capture.new)) }
@@ -181,9 +181,9 @@ impl Lines {
 }
 
 /// Reads a log, up to the last message that is asked for.
-fn read_lines<R: Read, W: Write + Drop>(
+fn read_lines<R: Read, P: Page>(
     capture: &mut Capture,
-    page: &mut Page<W>,
+    page: &mut P,
     at: Option<u64>,
     reader: &mut R,
     room: &mut [u8],
@@ -191,9 +191,10 @@ fn read_lines<R: Read, W: Write + Drop>(
     requires { 0 < length room.old }
     ensures { OnOk result (Reads at (R.remaining reader.old) (scene_of capture.old) (scene_of capture.new)) }
 {
+    let alloc = capture.talk.watch.alloc;
     let mut lines = Lines {
-        log: Log::new(page.alloc),
-        begun: Vec::new(page.alloc),
+        log: Log::new(alloc),
+        begun: Vec::new(alloc),
     };
     'reads: for _ in 0..u64::MAX {
         if capture.talk.is_done(at) {
@@ -207,6 +208,33 @@ fn read_lines<R: Read, W: Write + Drop>(
         page.flush()?;
     }
     Err(Failure::Unreadable)
+}
+
+/// Reads the conversation of a log, as it comes, up to the last message that is asked for, and says it on a page. Gives whether
+/// something breaks the protocol.
+///
+/// `NoLog` where the lines are none of a log; what was said before stands. `Unreadable` where the reader fails, `Memory` where
+/// a growth was refused, and what the page fails by.
+pub fn read_log<R: Read, P: Page>(
+    alloc: Global,
+    at: Option<u64>,
+    reader: &mut R,
+    page: &mut P,
+) -> Result<bool, Failure>
+    ensures { IfOk result (Looks at (R.remaining reader.old)) }
+{
+    let mut room = make_room(alloc)?;
+    let mut capture = Capture::new(alloc);
+    let read = read_lines(&mut capture, page, at, reader, room.as_mut_slice());
+    match read {
+        Err(Failure::Memory) => return Err(Failure::Memory),
+        Err(Failure::Unwritten) => return Err(Failure::Unwritten),
+        _ => {}
+    }
+    capture.say_rests(page)?;
+    page.say_end(&capture.talk.watch.books, capture.talk.last)?;
+    read?;
+    Ok(capture.talk.watch.is_broken)
 }
 
 /// Tells the conversation of a log, as it comes, by the names of a schema if there is one. Gives whether something breaks the protocol.
@@ -223,17 +251,6 @@ pub fn look_log<R: Read, W: Write + Drop>(
     ensures { IfOk result (Looks options.at (R.remaining reader.old)) }
 {
     let at = options.at;
-    let mut room = make_room(alloc)?;
-    let mut page = Page::new(alloc, options, schema, out);
-    let mut capture = Capture::new(alloc);
-    let read = read_lines(&mut capture, &mut page, at, reader, room.as_mut_slice());
-    match read {
-        Err(Failure::Memory) => return Err(Failure::Memory),
-        Err(Failure::Unwritten) => return Err(Failure::Unwritten),
-        _ => {}
-    }
-    capture.say_rests(&mut page)?;
-    page.say_end(&capture.talk.watch.books, capture.talk.last)?;
-    read?;
-    Ok(capture.talk.watch.is_broken)
+    let mut page = TextPage::new(alloc, options, schema, out);
+    read_log(alloc, at, reader, &mut page)
 }

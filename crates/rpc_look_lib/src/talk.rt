@@ -9,7 +9,6 @@ use crate::watch::{Told, Watch};
 use look_books::Moment;
 use look_pieces::Side;
 use std::alloc::Global;
-use std::io::Write;
 
 /// What its messages were found to be, and which one came last.
 #[derive(Drop)]
@@ -55,9 +54,9 @@ impl Talk {
     }
 
     /// The next message comes: a frame of that size, and what it was found to be.
-    pub(crate) fn tell<W: Write + Drop>(
+    pub(crate) fn tell<P: Page>(
         &mut self,
-        page: &mut Page<W>,
+        page: &mut P,
         side: Side,
         time: Option<u64>,
         size: usize,
@@ -73,9 +72,9 @@ impl Talk {
     }
 
     /// The next message comes: a frame of an end.
-    pub(crate) fn tell_frame<W: Write + Drop>(
+    pub(crate) fn tell_frame<P: Page>(
         &mut self,
-        page: &mut Page<W>,
+        page: &mut P,
         side: Side,
         time: Option<u64>,
         frame: &[u8],

@@ -23,15 +23,19 @@ const NO_STAMP: Stamp = Stamp {
 
 /// A message, and what is to be said of it.
 #[derive(Drop)]
-pub(crate) struct Judged {
-    pub(crate) envelope: Envelope,
-    pub(crate) heading: Heading,
-    pub(crate) found: Found,
+pub struct Judged {
+    /// What it says.
+    pub envelope: Envelope,
+    /// What it says of questions.
+    pub heading: Heading,
+    /// What breaks the protocol, and what is odd.
+    pub found: Found,
 }
 
 /// What a frame is.
 #[derive(Drop)]
-pub(crate) enum Told {
+pub enum Told {
+    /// A message.
     Message(Judged),
     /// It is no message.
     None(EnvelopeFault),
@@ -79,7 +83,7 @@ impl Told {
     ghost use Rattle.rpc_look_lib.specs.Watching.{breaks};
 
     /// Whether it breaks the protocol: if something was found that does, or if it is no message.
-    pub(crate) fn breaks(&self) -> bool
+    pub fn breaks(&self) -> bool
         ensures { result ≡ breaks self.now }
     {
         match self {

@@ -7,7 +7,7 @@ ghost use Rattle.std.specs.Prelude.{◌<◌, ◌≤◌, length};
 
 use crate::failure::{Failure, unreadable};
 use crate::options::Options;
-use crate::page::Page;
+use crate::page::{Page, TextPage};
 use crate::talk::Talk;
 use crate::watch::Told;
 use capn_stream::{Frame, FrameReader, StreamError};
@@ -32,14 +32,14 @@ struct Next {
 }
 
 /// Cuts the bytes of an end into frames.
-fn cut_frames<W: Write + Drop>(
+fn cut_frames<P: Page>(
     talk: &mut Talk,
-    page: &mut Page<W>,
+    page: &mut P,
     side: Side,
     bytes: &[u8],
 ) -> Result<Heap, Failure> {
-    let mut frames = Vec::new(page.alloc);
-    let mut reader = FrameReader::new(page.alloc);
+    let mut frames = Vec::new(talk.watch.alloc);
+    let mut reader = FrameReader::new(talk.watch.alloc);
     let mut rest = bytes;
     'bytes: for _ in 0..bytes.len() {
         if rest.is_empty() {
@@ -131,11 +131,7 @@ impl Heaps {
     }
 
     /// Says once that no message may be said next.
-    fn say_stuck<W: Write + Drop>(
-        &mut self,
-        page: &mut Page<W>,
-        is_fine: bool,
-    ) -> Result<(), Failure> {
+    fn say_stuck<P: Page>(&mut self, page: &mut P, is_fine: bool) -> Result<(), Failure> {
         if is_fine || self.is_stuck {
             return Ok(());
         }
@@ -143,10 +139,10 @@ impl Heaps {
         page.say_stuck()
     }
 
-    fn tell_next<W: Write + Drop>(
+    fn tell_next<P: Page>(
         &mut self,
         talk: &mut Talk,
-        page: &mut Page<W>,
+        page: &mut P,
         next: Next,
     ) -> Result<(), Failure> {
         let Next { side, told, size } = next;
@@ -156,10 +152,10 @@ impl Heaps {
     }
 
     /// Tells all messages, of one end as long as they may be said.
-    fn weave<W: Write + Drop>(
+    fn weave<P: Page>(
         &mut self,
         talk: &mut Talk,
-        page: &mut Page<W>,
+        page: &mut P,
         at: Option<u64>,
     ) -> Result<(), Failure> {
         let mut side = Side::Client;
@@ -177,6 +173,30 @@ impl Heaps {
     }
 }
 
+/// Reads a conversation of which each end's bytes are given, up to the last message that is asked for, and says it on a page in
+/// a possible order. Gives whether something breaks the protocol: if so, no order of the two makes sense.
+///
+/// `Unreadable` where a reader fails, `Memory` where a growth was refused, and what the page fails by.
+pub fn read_two<R: Read, P: Page>(
+    alloc: Global,
+    at: Option<u64>,
+    to: &mut R,
+    from: &mut R,
+    page: &mut P,
+) -> Result<bool, Failure> {
+    let mut talk = Talk::new(alloc);
+    let client = read_all(alloc, to)?;
+    let server = read_all(alloc, from)?;
+    let mut heaps = Heaps {
+        client: cut_frames(&mut talk, page, Side::Client, client.as_slice())?,
+        server: cut_frames(&mut talk, page, Side::Server, server.as_slice())?,
+        is_stuck: false,
+    };
+    heaps.weave(&mut talk, page, at)?;
+    page.say_end(&talk.watch.books, talk.last)?;
+    Ok(talk.watch.is_broken)
+}
+
 /// Tells, by the names of a schema if there is one, a conversation of which each end's bytes are given, in a possible order. Gives whether something breaks the
 /// protocol: if so, no order of the two makes sense.
 ///
@@ -190,16 +210,6 @@ pub fn look_two<R: Read, W: Write + Drop>(
     out: W,
 ) -> Result<bool, Failure> {
     let at = options.at;
-    let mut page = Page::new(alloc, options, schema, out);
-    let mut talk = Talk::new(alloc);
-    let client = read_all(alloc, to)?;
-    let server = read_all(alloc, from)?;
-    let mut heaps = Heaps {
-        client: cut_frames(&mut talk, &mut page, Side::Client, client.as_slice())?,
-        server: cut_frames(&mut talk, &mut page, Side::Server, server.as_slice())?,
-        is_stuck: false,
-    };
-    heaps.weave(&mut talk, &mut page, at)?;
-    page.say_end(&talk.watch.books, talk.last)?;
-    Ok(talk.watch.is_broken)
+    let mut page = TextPage::new(alloc, options, schema, out);
+    read_two(alloc, at, to, from, &mut page)
 }

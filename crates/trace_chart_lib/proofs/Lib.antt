@@ -1,3 +1,1 @@
-mod Numbers
 pub mod Choosing
-mod Shown

@@ -1,8 +1,8 @@
 -- What the options of the program say (docs/trace.md, "A picture of a trace").
-use Rattle.std.specs.Prelude.{ℕ, ◌==◌, ◌^◌, ◌+◌, ◌-◌, ◌&&◌, ◌||◌, nat_lt, nat_le, nat_eq, min, Bool, false, if◌then◌else◌, List, [], ◌∷◌, length, Option, Some, None, option_map, option_and_then, codes}
+use Rattle.std.specs.Prelude.{ℕ, ◌==◌, ◌^◌, ◌+◌, ◌-◌, ◌&&◌, ◌||◌, nat_lt, nat_le, nat_eq, min, Bool, false, if◌then◌else◌, List, [], ◌∷◌, Option, Some, None, option_map, option_and_then, codes}
 use Rattle.std.specs.List.{before_first, after_first, list_any}
-use Rattle.std.specs.Str.{all_ascii_digits, bytes_eq}
-use Rattle.std.specs.Str.Parse.{digits_value}
+use Rattle.std.specs.Str.{bytes_eq}
+use Rattle.chart_parts.specs.Decimals.{number_of}
 use Rattle.rpc_msg.specs.declared.ids.Vat.{Vat}
 use Rattle.rpc_msg.specs.declared.ids.Vat.TheVariants as vat
 use Rattle.rpc_msg.specs.declared.ids.RefId.{RefId}
@@ -25,11 +25,6 @@ is_text text word = bytes_eq word text
 -- `a` or `b`.
 abbrev pub vat_of : List ℕ → Option Vat
 vat_of word = if is_text (codes "a") word then Some vat.A else (if is_text (codes "b") word then Some vat.B else None)
-
--- A decimal number, one digit or more and nothing else, that fits in 64 bits.
-abbrev pub number_of : List ℕ → Option ℕ
-number_of word =
-    if all_ascii_digits word && (nat_lt 0 (length word) && nat_lt (digits_value 10 word) (2 ^ 64)) then Some (digits_value 10 word) else None
 
 abbrev pub named : Option Vat → Option ℕ → Option (Vat × RefId)
 named None number = None

@@ -5,8 +5,8 @@
 //!   embargoes and the calls that wait, `durations.rt` which of them last and by what they end, and `over.rt` says what an entry
 //!   ends. `followed.rt` keeps the names of the calls through the reference that stands out, and `questions.rt` what each
 //!   question is of. `entries.rt` says what of an entry the others want to know.
-//! - `labels.rt` says an entry in words and `messages.rt` a message (`reasons.rt` refusals and faults), `text.rt` writes a
-//!   text as SVG has it, cut if it is too wide, `picture.rt` draws, and `foot.rt` the labels that were cut.
+//! - `labels.rt` says an entry in words and `messages.rt` a message (`reasons.rt` refusals and faults), and `picture.rt` draws,
+//!   by the parts of `chart_parts`.
 //! - `options.rt`: the program's options; `fault.rt`: why it fails; `program.rt`: the program without its handles:
 //!   `trace_chart` gives it arguments, files and streams.
 #![tactic(auto)]
@@ -17,7 +17,6 @@ mod durations;
 mod entries;
 mod fault;
 mod followed;
-mod foot;
 mod labels;
 mod messages;
 mod options;
@@ -26,9 +25,7 @@ mod picture;
 mod program;
 mod questions;
 mod reasons;
-mod text;
 
 pub use fault::Failure;
 pub use options::Options;
 pub use program::{draw_trace, status, write_help};
-pub use text::write_label;

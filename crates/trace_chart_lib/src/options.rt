@@ -1,7 +1,8 @@
 ghost use Rattle.std.specs.Prelude.{◌≡◌, nat_eq, nat_lt, map, string_bytes};
 ghost use Rattle.std.specs.List.{list_any};
-ghost use Rattle.trace_chart_lib.specs.Choices.{with_choice, with_choices, choices, vat_of, number_of, reference_of, unchosen, last_drawn, is_drawn, is_marked, is_named_by, entry_names, is_call_of};
+ghost use Rattle.trace_chart_lib.specs.Choices.{with_choice, with_choices, choices, vat_of, reference_of, unchosen, last_drawn, is_drawn, is_marked, is_named_by, entry_names, is_call_of};
 
+use chart_parts::read_number;
 use rpc_journal::{JournalEntry, Origin};
 use rpc_msg::{Items, Message, PlainMessage, RefId, Stamp, Vat};
 
@@ -168,16 +169,6 @@ fn is_through(stamp: &Stamp, vat: Vat, reference: RefId) -> bool
     ensures { result ≡ is_call_of vat reference stamp.now }
 {
     stamp.vat == vat && stamp.reference == reference
-}
-
-/// A decimal number. A sign is none of its digits.
-fn read_number(word: &str) -> Option<u64>
-    ensures { result ≡ number_of word.now }
-{
-    if word.starts_with('+') {
-        return None;
-    }
-    word.parse::<u64>().ok()
 }
 
 /// A reference, as `a/0`.

@@ -1,8 +1,9 @@
 //! What the options say, and how labels stand in a picture.
+use chart_parts::write_label;
 use rpc_msg::{RefId, Vat};
 use std::alloc::{AllocError, Global};
 use std::process::Abort;
-use trace_chart_lib::{Options, write_label};
+use trace_chart_lib::Options;
 
 /// What options say of an entry or of a reference; or one more of them.
 #[derive(Clone, Copy)]
@@ -145,7 +146,7 @@ const LABELS: [(&str, &str); 5] = [
 
 fn label(alloc: Global, text: &str) -> Result<String, AllocError> {
     let mut svg = String::new(alloc);
-    write_label(&mut svg, text)?;
+    write_label(&mut svg, text, 4800)?;
     Ok(svg)
 }
 

@@ -1,0 +1,7 @@
+use Rattle.std.proofs.Common.{◌≡◌, ◌≤◌, ◌++◌, string_bytes}
+use Rattle.chart_parts.specs.Escapes.{escaped}
+use Rattle.chart_parts.specs.Labels.{widths}
+use Rattle.chart_parts.proofs.text.write_label.Given as goal
+
+abbrev pub invariant-loop-letter : goal.invariant-loop-letter
+invariant-loop-letter l = (l.width ≡ widths l.yielded) × (l.width ≤ l.fn.place) × (string_bytes l.svg ≡ string_bytes l.fn.svg ++ escaped l.yielded)

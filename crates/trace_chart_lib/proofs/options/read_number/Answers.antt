@@ -1,9 +1,0 @@
-use Rattle.std.proofs.Common.{arith}
-use Rattle.std.proofs.lemmas.Str.Pattern.{starts_char}
-use Rattle.trace_chart_lib.proofs.Numbers.{parsed, unsigned}
-use Rattle.trace_chart_lib.proofs.options.read_number.Goals as goal
-
-pub returns : goal.returns
-returns c =
-    parsed c.args.word.now c.parse.result _ c.parse.ensures.value.0
-    (unsigned c.args.word.now _ (starts_char 43 c.args.word.now _ c.starts_with.ensures.cases (omega arith) (omega arith)) c.if-starts_with.false) c.ok.ensures.value
