@@ -3,7 +3,6 @@
 #include <deque>
 #include <iostream>
 #include <kj/async-io.h>
-#include <kj/debug.h>
 #include <capnp/rpc-twoparty.h>
 #include "probe.capnp.h"
 #ifndef OVER_LIBCAPNP
