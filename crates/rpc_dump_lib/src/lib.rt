@@ -12,6 +12,7 @@ mod payloads;
 mod pieces;
 mod trees;
 
+pub use envelopes::write_envelope;
 pub use failure::{Failure, status, tell};
 pub use line::line_of;
 pub use options::Options;

@@ -12,8 +12,8 @@ use std::fs::File;
 use std::process::ExitCode;
 use std::{env, io};
 
-/// `rpc_look [--schema FILE] [--payloads] [--only] [--at N] [--totals K] [--names A,B] [LOG | --two TO FROM]`; without a file
-/// the log is read from standard input.
+/// `rpc_look [--schema FILE] [--payloads] [--only] [--json] [--at N] [--totals K] [--names A,B] [LOG | --two TO FROM]`; without a
+/// file the log is read from standard input.
 fn main(rt: HostRuntime) -> ExitCode {
     let mut words = match env::args(&rt) {
         Ok(words) => words,

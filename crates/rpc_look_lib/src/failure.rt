@@ -12,7 +12,7 @@ use std::io::Write;
 
 /// How the program is called.
 const USAGE: &str =
-    "usage: rpc_look [--schema FILE] [--payloads] [--only] [--at N] [--totals K] [--names A,B] [LOG | --two TO FROM]";
+    "usage: rpc_look [--schema FILE] [--payloads] [--only] [--json] [--at N] [--totals K] [--names A,B] [LOG | --two TO FROM]";
 
 /// Why the program stops.
 #[derive(Clone, Copy, Debug, PartialEq, Eq, Drop)]

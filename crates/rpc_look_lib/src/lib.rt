@@ -5,16 +5,18 @@
 //! - `watch.rt`: frames are judged one by one. `talk.rt`: a conversation so far. `stream.rt`: the bytes of one end.
 //! - `capture.rt`: a conversation of which pieces come. `reading.rt`: a log that comes in parts. `weaving.rt`: two files,
 //!   without an order between them.
-//! - `page.rt`: what is made of a conversation, and the text that is written. `naming.rt`: by what names. `telling.rt`: what is
-//!   said of a frame.
+//! - `page.rt`: what is made of a conversation, and the text that is written of one. `naming.rt`: by what names. `telling.rt`:
+//!   what is said of a frame. `json.rt`: lines of JSON. `sheet.rt`: what is said and not written yet.
 #![tactic(auto)]
 
 mod capture;
 mod failure;
+mod json;
 mod naming;
 mod options;
 mod page;
 mod reading;
+mod sheet;
 mod stream;
 mod talk;
 mod telling;

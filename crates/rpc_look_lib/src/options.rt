@@ -17,6 +17,8 @@ pub enum Source {
 pub struct Options {
     /// Only what breaks the protocol.
     pub only: bool,
+    /// As lines of JSON.
+    pub json: bool,
     /// The contents of Calls and Returns too.
     pub payloads: bool,
     /// By the names of the schema in a file of that name.
@@ -44,6 +46,7 @@ impl Options {
     fn new(alloc: Global) -> Result<Options, AllocError> {
         Ok(Options {
             only: false,
+            json: false,
             payloads: false,
             schema: None,
             at: None,
@@ -65,6 +68,22 @@ impl Options {
         self.client = String::from_str(alloc, client)?;
         self.server = String::from_str(alloc, server)?;
         Ok(true)
+    }
+
+    /// A word with no value behind it. `false` for another word.
+    fn with_flag(&mut self, word: &str) -> bool {
+        match word {
+            "--only" => self.only = true,
+            "--json" => self.json = true,
+            "--payloads" => self.payloads = true,
+            _ => return false,
+        }
+        true
+    }
+
+    /// Whether the words go together: a table is no lines of JSON.
+    fn is_asked(&self) -> bool {
+        !(self.json && self.totals.is_some())
     }
 
     /// A word with a value behind it. `false` for another word, or for no value.
@@ -115,12 +134,7 @@ impl Options {
         let Some((word, behind)) = words.split_first() else {
             return Ok(None);
         };
-        if word.as_str() == "--only" {
-            self.only = true;
-            return Ok(Some(behind));
-        }
-        if word.as_str() == "--payloads" {
-            self.payloads = true;
+        if self.with_flag(word.as_str()) {
             return Ok(Some(behind));
         }
         let Some((value, behind)) = behind.split_first() else {
@@ -142,7 +156,7 @@ impl Options {
                 None => break,
             }
         }
-        if options.with_source(alloc, rest)? {
+        if options.with_source(alloc, rest)? && options.is_asked() {
             return Ok(Some(options));
         }
         Ok(None)

@@ -1,7 +1,8 @@
-//! What is said of a conversation: on any page, and as text that is written.
+//! What is made of a conversation, and the text that is written of one.
 use crate::failure::Failure;
 use crate::naming::Naming;
 use crate::options::Options;
+use crate::sheet::Sheet;
 use crate::telling::{Wording, write_told};
 use crate::watch::Told;
 use capn_trees::PayloadFault;
@@ -11,9 +12,6 @@ use look_names::Schema;
 use look_pieces::Side;
 use std::alloc::{AllocError, Global};
 use std::io::Write;
-
-/// The text is written when it has so many bytes.
-const FULL: usize = 65_536;
 
 /// What is made of a conversation, message by message: text, or a picture.
 ///
@@ -54,9 +52,7 @@ pub trait Page {
 #[derive(Drop)]
 pub(crate) struct TextPage<W: Write + Drop> {
     alloc: Global,
-    out: W,
-    /// What is said and not written yet.
-    text: String,
+    sheet: Sheet<W>,
     wording: Wording,
     /// How many rows the table has, if one is asked for.
     rows: Option<u64>,
@@ -73,6 +69,7 @@ impl<W: Write + Drop> TextPage<W> {
     ) -> TextPage<W> {
         let Options {
             only,
+            json: _,
             payloads,
             schema: _,
             at: _,
@@ -83,8 +80,7 @@ impl<W: Write + Drop> TextPage<W> {
         } = options;
         TextPage {
             alloc,
-            out,
-            text: String::new(alloc),
+            sheet: Sheet::new(alloc, out),
             wording: Wording {
                 ends: Ends { client, server },
                 naming: Naming {
@@ -99,26 +95,19 @@ impl<W: Write + Drop> TextPage<W> {
         }
     }
 
-    fn flush_if_full(&mut self) -> Result<(), Failure> {
-        if self.text.len() < FULL {
-            return Ok(());
-        }
-        self.flush()
-    }
-
     /// A table of at most so many rows, each the last of as many messages, and the last message.
     fn say_totals(&mut self, rows: u64) -> Result<(), Failure> {
         if self.totals.is_empty() || rows == 0 {
             return Ok(());
         }
-        write_totals_head(&mut self.text, &self.wording.ends)?;
+        write_totals_head(&mut self.sheet.text, &self.wording.ends)?;
         let count = self.totals.len() as u64;
         let step = (count - 1) / rows + 1;
         let mut number: u64 = 0;
         for totals in &self.totals {
             number = number.saturating_add(1);
             if number % step == 0 || number == count {
-                write_totals(&mut self.text, totals)?;
+                write_totals(&mut self.sheet.text, totals)?;
             }
         }
         Ok(())
@@ -135,14 +124,14 @@ impl<W: Write + Drop> Page for TextPage<W> {
     ) -> Result<(), Failure> {
         write_told(
             self.alloc,
-            &mut self.text,
+            &mut self.sheet.text,
             &self.wording,
             books,
             side,
             moment,
             told,
         )?;
-        self.flush_if_full()
+        self.sheet.flush_if_full()
     }
 
     fn note_totals(&mut self, books: &Books, moment: Moment) -> Result<(), Failure> {
@@ -154,7 +143,8 @@ impl<W: Write + Drop> Page for TextPage<W> {
     }
 
     fn say_stuck(&mut self) -> Result<(), Failure> {
-        self.text
+        self.sheet
+            .text
             .push_str("no order of the two makes sense behind here:\n")?;
         Ok(())
     }
@@ -162,7 +152,7 @@ impl<W: Write + Drop> Page for TextPage<W> {
     fn say_end_of(&mut self, side: Side, number: u64, fault: PayloadFault) -> Result<(), Failure> {
         let name = self.wording.ends.name(side);
         writeln!(
-            self.text,
+            self.sheet.text,
             "message {number} by the {name}: {fault}; nothing of the {name} is read any more"
         )?;
         Ok(())
@@ -170,7 +160,10 @@ impl<W: Write + Drop> Page for TextPage<W> {
 
     fn say_cut(&mut self, side: Side, count: usize, fault: PayloadFault) -> Result<(), Failure> {
         let name = self.wording.ends.name(side);
-        writeln!(self.text, "the {name}, behind its message {count}: {fault}")?;
+        writeln!(
+            self.sheet.text,
+            "the {name}, behind its message {count}: {fault}"
+        )?;
         Ok(())
     }
 
@@ -180,7 +173,7 @@ impl<W: Write + Drop> Page for TextPage<W> {
         }
         let name = self.wording.ends.name(side);
         writeln!(
-            self.text,
+            self.sheet.text,
             "the {name} ends inside a message, of which {count} bytes came"
         )?;
         Ok(())
@@ -193,20 +186,15 @@ impl<W: Write + Drop> Page for TextPage<W> {
                 ends: &self.wording.ends,
                 names: &self.wording.naming,
             };
-            write_open(&mut self.text, &view, last)?;
+            write_open(&mut self.sheet.text, &view, last)?;
         }
         if let Some(rows) = self.rows {
             self.say_totals(rows)?;
         }
-        self.flush()
+        self.sheet.flush()
     }
 
     fn flush(&mut self) -> Result<(), Failure> {
-        let written = self.out.write_all(self.text.as_bytes());
-        self.text.clear();
-        match written {
-            Ok(()) => Ok(()),
-            Err(_) => Err(Failure::Unwritten),
-        }
+        self.sheet.flush()
     }
 }

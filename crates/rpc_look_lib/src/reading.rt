@@ -7,6 +7,7 @@ ghost use Rattle.rpc_look_lib.specs.Reading.{bare_line, is_newline, LineComes, R
 
 use crate::capture::Capture;
 use crate::failure::{Failure, unreadable};
+use crate::json::JsonPage;
 use crate::options::Options;
 use crate::page::{Page, TextPage};
 use look_names::Schema;
@@ -251,6 +252,10 @@ pub fn look_log<R: Read, W: Write + Drop>(
     ensures { IfOk result (Looks options.at (R.remaining reader.old)) }
 {
     let at = options.at;
+    if options.json {
+        let mut page = JsonPage::new(alloc, options, out);
+        return read_log(alloc, at, reader, &mut page);
+    }
     let mut page = TextPage::new(alloc, options, schema, out);
     read_log(alloc, at, reader, &mut page)
 }

@@ -6,6 +6,7 @@
 ghost use Rattle.std.specs.Prelude.{◌<◌, ◌≤◌, length};
 
 use crate::failure::{Failure, unreadable};
+use crate::json::JsonPage;
 use crate::options::Options;
 use crate::page::{Page, TextPage};
 use crate::talk::Talk;
@@ -210,6 +211,10 @@ pub fn look_two<R: Read, W: Write + Drop>(
     out: W,
 ) -> Result<bool, Failure> {
     let at = options.at;
+    if options.json {
+        let mut page = JsonPage::new(alloc, options, out);
+        return read_two(alloc, at, to, from, &mut page);
+    }
     let mut page = TextPage::new(alloc, options, schema, out);
     read_two(alloc, at, to, from, &mut page)
 }
