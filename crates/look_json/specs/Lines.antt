@@ -10,7 +10,8 @@ use Rattle.rpc_codec.specs.Envelopes.{seen_envelope}
 use Rattle.rpc_codec.specs.declared.envelope.Envelope.{Envelope}
 use Rattle.rpc_codec.specs.declared.headings.Heading.{Heading}
 use Rattle.trace_write.specs.Parts.{nat, list}
-use Rattle.rpc_dump_lib.specs.Lines.{what_as}
+use Rattle.rpc_dump_lib.specs.declared.form.Form.{Form}
+use Rattle.rpc_dump_lib.specs.Named.{members_in, line_data}
 use Rattle.look_books.specs.declared.books.Moment.{Moment}
 use Rattle.look_books.specs.declared.breach.Breach.{Breach}
 use Rattle.look_books.specs.declared.breach.Breach.TheVariants as breach
@@ -25,14 +26,6 @@ use Rattle.look_json.specs.Links.{about, target_of, descriptors_of, of_descripto
 abbrev pub link_data : Option ℕ → Data
 link_data None = null
 link_data (Some n) = nat n
-
-abbrev pub members_in : Data → Members
-members_in null = no_members
-members_in (boolean b) = no_members
-members_in (number n) = no_members
-members_in (string s) = no_members
-members_in (array ds) = no_members
-members_in (object ms) = ms
 
 abbrev pub IsTextOf : List ℕ → Data → Type 0
 IsTextOf text d = IsInOrder text d × (has_float d ≡ false → text ≡ compact_text d)
@@ -113,9 +106,9 @@ IsFound found old new =
     × (new ≡ put (codes "odd") odd (put (codes "breaks") broken old))
 
 -- The line of a message of an end: beside what `rpc_dump` says of it.
-abbrev pub IsMessage : Moment → Kept → Kept → Envelope → Heading → Found → Bool → Data → Type 0
-IsMessage m own heard e h found trees d =
-    (name : List ℕ) × (ms : Members) × IsFound found (with_links own heard m.number e h (with_front m name (members_in (what_as trees (seen_envelope e))))) ms × (d ≡ object ms)
+abbrev pub IsMessage : Moment → Kept → Kept → Envelope → Heading → Found → Form → Data → Type 0
+IsMessage m own heard e h found form d =
+    (name : List ℕ) × (ms : Members) × IsFound found (with_links own heard m.number e h (with_front m name (members_in (line_data form (seen_envelope e))))) ms × (d ≡ object ms)
 
 -- The line of a frame that is no message, with the number of its fault and some words.
 abbrev pub IsNone : Moment → EnvelopeFault → Data → Type 0

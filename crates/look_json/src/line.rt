@@ -4,16 +4,17 @@ ghost use Rattle.serde_json.specs.Data.{Data};
 ghost use Rattle.serde_json.specs.View.{view, members_view};
 ghost use Rattle.look_pieces.specs.Pieces.{other_side};
 ghost use Rattle.look_books.specs.Ends.{kept_of, end_of};
+ghost use Rattle.rpc_dump_lib.specs.Named.{IsNamed};
 ghost use Rattle.look_json.specs.Lines.{given_data, with_front, with_links, IsFound, IsMessage, IsNone, Writes};
 
 use crate::found::{NO_MESSAGE, write_breaches, write_check, write_oddities};
 use crate::links::{about, descriptors_of, of_descriptor, target_of};
-use crate::members::{link, members_of, put_link, put_text, write_line};
+use crate::members::{link, put_link, put_text, write_line};
 use look_books::{Books, End, Found, Moment};
 use look_lines::Ends;
 use look_pieces::Side;
 use rpc_codec::{Envelope, EnvelopeFault, Heading};
-use rpc_dump_lib::write_envelope;
+use rpc_dump_lib::{Form, members_of, write_line as write_said};
 use rpc_msg::Descriptor;
 use serde_json::{Map, Value, put};
 use std::alloc::{AllocError, Global};
@@ -98,8 +99,8 @@ fn put_found(
     put(members, alloc, "odd", odd)
 }
 
-/// Writes the line of a message, by what was found of it; with `trees` each payload has its tree, too. It fails only if memory
-/// is refused.
+/// Writes the line of a message, by what was found of it: what `rpc_dump` says of it in that form, and the rest beside it. It
+/// fails only if memory is refused.
 pub fn write_message(
     alloc: Global,
     out: &mut String,
@@ -107,11 +108,11 @@ pub fn write_message(
     envelope: &Envelope,
     heading: Heading,
     found: &Found,
-    trees: bool,
+    form: Form<'_>,
 ) -> Result<(), AllocError>
-    ensures { OnOk result ((d : Data) × IsMessage place.now.moment (kept_of (end_of place.now.books.now place.now.side)) (kept_of (end_of place.now.books.now (other_side place.now.side))) envelope.now heading found.now trees d × Writes d (string_bytes out.old) (string_bytes out.new)) }
+    ensures { IsNamed form → OnOk result ((d : Data) × IsMessage place.now.moment (kept_of (end_of place.now.books.now place.now.side)) (kept_of (end_of place.now.books.now (other_side place.now.side))) envelope.now heading found.now form d × Writes d (string_bytes out.old) (string_bytes out.new)) }
 {
-    let mut members = members_of(alloc, write_envelope(alloc, envelope, trees)?);
+    let mut members = members_of(alloc, write_said(alloc, envelope, form)?);
     put_front(&mut members, alloc, place)?;
     put_links(&mut members, alloc, place, envelope, heading)?;
     put_found(&mut members, alloc, place, found)?;

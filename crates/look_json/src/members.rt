@@ -2,7 +2,7 @@
 ghost use Rattle.std.specs.Prelude.{◌≡◌, OnOk, string_bytes};
 ghost use Rattle.serde_json.specs.Data.{put as with_member, string};
 ghost use Rattle.serde_json.specs.View.{view, members_view};
-ghost use Rattle.look_json.specs.Lines.{link_data, members_in, Writes};
+ghost use Rattle.look_json.specs.Lines.{link_data, Writes};
 
 use serde_json::{Map, ToValue, Value, put};
 use std::alloc::{AllocError, Global};
@@ -40,16 +40,6 @@ pub(crate) fn put_text(
 {
     let text = text.to_value(alloc)?;
     put(members, alloc, key, text)
-}
-
-/// The members of an object; of another value none.
-pub(crate) fn members_of(alloc: Global, value: Value) -> Map<String, Value>
-    ensures { members_view result.entries ≡ members_in (view value) }
-{
-    match value {
-        Value::Object(members) => members,
-        _ => Map::new(alloc),
-    }
 }
 
 /// Writes a value as a line.

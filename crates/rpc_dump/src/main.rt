@@ -1,17 +1,22 @@
 //! Says what a captured conversation says: a line of JSON for each message (docs/messages.md).
 #![tactic(auto)]
 
+ghost use Rattle.std.specs.Prelude.{IfOk, option_copied};
+ghost use Rattle.look_names.specs.Names.{IsIndexed};
+ghost use Rattle.rpc_dump_lib.specs.Named.{IsNamedBy};
+
+use look_names::{Schema, SchemaError};
 use program_faults::ShownFault;
-use program_files::{ProgramFailure, unread};
+use program_files::{FAILED, ProgramFailure, unread};
 use rpc_dump_lib::{Failure, Options, dump, status, tell};
 use std::alloc::AllocError;
 use std::env::Args;
 use std::fs::File;
 use std::io::Write;
 use std::process::ExitCode;
-use std::{env, io};
+use std::{env, fs, io};
 
-/// `rpc_dump [--hex] [--payloads] [FILE]`; without a file the bytes are read from standard input.
+/// `rpc_dump [--schema FILE] [--hex] [--payloads] [FILE]`; without a file the bytes are read from standard input.
 fn main(rt: HostRuntime) -> ExitCode {
     let mut words = match env::args(&rt) {
         Ok(words) => words,
@@ -37,37 +42,122 @@ fn collect(rt: &HostRuntime, words: Args) -> Result<Vec<String>, AllocError> {
     Ok(all)
 }
 
-/// All words are options, or all but the last, which names the file.
-fn run(rt: &HostRuntime, words: &[String]) -> ExitCode {
-    if let Some(options) = options_of(words) {
-        let dumped = dump(rt.alloc(), options, &mut rt.stdin(), &mut rt.stdout());
-        return ended(rt, dumped, "-");
+/// What the words ask for.
+#[derive(Clone, Copy, Drop)]
+struct Asked<'w> {
+    options: Options,
+    /// The file of a schema.
+    schema: Option<&'w str>,
+    /// The file that is read.
+    file: Option<&'w str>,
+}
+
+impl<'w> Asked<'w> {
+    /// With what the first word asks for, and its value if it has one; and what stands behind them. `None` if it asks for
+    /// nothing.
+    fn with(self, words: &'w [String]) -> Option<(Asked<'w>, &'w [String])> {
+        let (word, behind) = words.split_first()?;
+        if let Some(options) = self.options.with(word.as_str()) {
+            return Some((Asked { options, ..self }, behind));
+        }
+        if word.as_str() == "--schema" {
+            let (name, behind) = behind.split_first()?;
+            let schema = Some(name.as_str());
+            return Some((Asked { schema, ..self }, behind));
+        }
+        if word.as_str().starts_with("--") || !behind.is_empty() {
+            return None;
+        }
+        let file = Some(word.as_str());
+        Some((Asked { file, ..self }, behind))
     }
-    let Some((name, words)) = words.split_last() else {
+}
+
+/// What all words ask for: options, and the file last. `None` if one asks for nothing.
+fn asked(words: &[String]) -> Option<Asked<'_>> {
+    let mut asked = Asked {
+        options: Options::new(),
+        schema: None,
+        file: None,
+    };
+    let mut rest = words;
+    for _ in 0..words.len() {
+        if rest.is_empty() {
+            break;
+        }
+        (asked, rest) = asked.with(rest)?;
+    }
+    Some(asked)
+}
+
+fn run(rt: &HostRuntime, words: &[String]) -> ExitCode {
+    let Some(asked) = asked(words) else {
         return ended(rt, Err(Failure::Program(ProgramFailure::Usage)), "-");
     };
-    match options_of(words) {
-        Some(options) if !name.as_str().starts_with("--") => {
-            let dumped = on_file(rt, options, name.as_str());
-            ended(rt, dumped, name.as_str())
-        }
-        _ => ended(rt, Err(Failure::Program(ProgramFailure::Usage)), "-"),
+    let Some(name) = asked.schema else {
+        return dump_in(rt, &asked, None);
+    };
+    match schema_in(rt, name) {
+        Ok(Ok(schema)) => dump_in(rt, &asked, Some(&schema)),
+        Ok(Err(SchemaError::Memory)) => out_of_memory(rt),
+        Ok(Err(error)) => no_schema(rt, error),
+        Err(failure) => ended(rt, Err(failure), name),
     }
 }
 
-/// What the words ask for; none if one asks for nothing.
-fn options_of(words: &[String]) -> Option<Options> {
-    let mut options = Options::new();
-    for word in words {
-        options = options.with(word.as_str())?;
+/// The schema in a file.
+fn schema_in(rt: &HostRuntime, name: &str) -> Result<Result<Schema, SchemaError>, Failure>
+    ensures { IfOk result (λ read. IfOk read IsIndexed) }
+{
+    match fs::read(rt, name) {
+        Ok(bytes) => Ok(Schema::read(rt.alloc(), bytes.as_slice())),
+        Err(error) => Err(unreadable(&error)),
     }
-    Some(options)
 }
 
-fn on_file(rt: &HostRuntime, options: Options, name: &str) -> Result<(), Failure> {
+fn unreadable(error: &io::Error) -> Failure {
+    Failure::Program(unread(error, ProgramFailure::Unreadable))
+}
+
+fn out_of_memory(rt: &HostRuntime) -> ExitCode {
+    ended(rt, Err(Failure::Program(ProgramFailure::Memory)), "-")
+}
+
+/// Says why a file is no schema.
+fn no_schema(rt: &HostRuntime, error: SchemaError) -> ExitCode {
+    let _told = writeln!(rt.stderr(), "the schema: {error}");
+    ExitCode::from(FAILED)
+}
+
+/// Dumps what is asked for, by the names of a schema if there is one.
+fn dump_in(rt: &HostRuntime, asked: &Asked<'_>, schema: Option<&Schema>) -> ExitCode
+    requires { IsNamedBy (option_copied schema) }
+{
+    let Some(name) = asked.file else {
+        let dumped = dump(
+            rt.alloc(),
+            asked.options,
+            schema,
+            &mut rt.stdin(),
+            &mut rt.stdout(),
+        );
+        return ended(rt, dumped, "-");
+    };
+    let dumped = on_file(rt, asked.options, schema, name);
+    ended(rt, dumped, name)
+}
+
+fn on_file(
+    rt: &HostRuntime,
+    options: Options,
+    schema: Option<&Schema>,
+    name: &str,
+) -> Result<(), Failure>
+    requires { IsNamedBy (option_copied schema) }
+{
     match File::open(rt, name) {
-        Ok(mut file) => dump(rt.alloc(), options, &mut file, &mut rt.stdout()),
-        Err(error) => Err(Failure::Program(unread(&error, ProgramFailure::Unreadable))),
+        Ok(mut file) => dump(rt.alloc(), options, schema, &mut file, &mut rt.stdout()),
+        Err(error) => Err(unreadable(&error)),
     }
 }
 

@@ -1,9 +1,12 @@
 -- No line's value has a float.
-use Rattle.std.proofs.Common.{◌≡◌, ℕ, ◌==◌, if◌then◌else◌, List, [], ◌∷◌, map, Option, None, Some, Bool, true, false, refl}
-use Rattle.std.specs.Prelude.{codes}
-use Rattle.serde_json.specs.Data.{Data, boolean}
+use Rattle.std.proofs.Common.{◌≡◌, ℕ, ◌==◌, if◌then◌else◌, List, [], ◌∷◌, map, Option, None, Some, Bool, true, false, Ordering, Less, Equal, Greater, refl}
+use Rattle.std.specs.Prelude.{codes, option_copied}
+use Rattle.std.specs.Ordering.{nat_cmp, match_ordering}
+use Rattle.std.specs.Cmp.Lexicographic.{slice_cmp}
+use Rattle.serde_json.specs.Data.{Data, boolean, string, object, Members, no_members, member, put}
 use Rattle.serde_json.specs.View.{items_of}
-use Rattle.serde_json.specs.Written.{has_float, items_have_float}
+use Rattle.serde_json.specs.Written.{has_float, items_have_float, members_have_float}
+use Rattle.capn_trees.specs.Views.{view as tree_view}
 use Rattle.capn_trees.specs.Trees as tree
 use Rattle.capn_trees.specs.Trees.{Tree, Trees, Elements, Structs}
 use Rattle.rpc_msg.specs.Payloads.{Contents as Payload, tree_of}
@@ -28,6 +31,10 @@ use Rattle.trace_write.specs.Parts.{nat, list, only, op_data, descriptor_data, t
 use Rattle.trace_write.specs.Messages.{resolved_data, context_data}
 use Rattle.rpc_codec.specs.Envelopes.{What, profile, tail_call, sent_elsewhere, taken_from_other, strange}
 use Rattle.rpc_dump_lib.specs.Trees.{text_in, text_or, packed_data, tree_data, trees_data, elements_data, structs_data}
+use Rattle.look_names.specs.declared.schema.Schema.{Schema}
+use Rattle.look_names.specs.Names.{Called, node_of, name_in, method_of}
+use Rattle.rpc_dump_lib.specs.declared.form.Form.{Form}
+use Rattle.rpc_dump_lib.specs.Named.{with_method_name, with_interface, with_names, named_by, line_data}
 use Rattle.rpc_dump_lib.specs.Lines.{payload_as, call_as, body_as, known_as, message_as, what_as}
 
 no_float : {A : Type 0} (f : A → Data) → ((x : A) → has_float (f x) ≡ false) → (xs : List A) → items_have_float (items_of (map f xs)) ≡ false
@@ -136,9 +143,63 @@ in_message : (trees : Bool) (m : Message) → has_float (message_as trees m) ≡
 in_message trees (message.Plain m) = in_known trees m
 in_message trees (message.Unimplemented m) = rw (in_known trees m) refl
 
-pub in_what : (trees : Bool) (w : What) → has_float (what_as trees w) ≡ false
+in_what : (trees : Bool) (w : What) → has_float (what_as trees w) ≡ false
 in_what trees (profile m) = in_message trees m
 in_what trees (tail_call c) = rw (in_call trees c) refl
 in_what trees (sent_elsewhere s) = refl
 in_what trees (taken_from_other t) = refl
 in_what trees (strange number t) = refl
+
+-- ---- with the names of a schema
+
+AllWhole : Members → Type 0
+AllWhole no_members = Unit {0}
+AllWhole (member k d ms) = (has_float d ≡ false) × AllWhole ms
+
+placed : (o : Ordering) (k : List ℕ) (d : Data) (l : List ℕ) (e : Data) (ms : Members) → has_float d ≡ false → has_float e ≡ false → AllWhole ms → AllWhole (put k d ms)
+    → AllWhole (match_ordering o (member k d (member l e ms)) (member l d ms) (member l e (put k d ms)))
+placed Less k d l e ms one other rest more = (one, (other, rest))
+placed Equal k d l e ms one other rest more = (one, rest)
+placed Greater k d l e ms one other rest more = (other, more)
+
+in_put : (k : List ℕ) (d : Data) (ms : Members) → has_float d ≡ false → AllWhole ms → AllWhole (put k d ms)
+in_put k d no_members one all = (one, tt)
+in_put k d (member l e ms) one all = placed (slice_cmp nat_cmp k l) k d l e ms one all.0 all.1 (in_put k d ms one all.1)
+
+in_members : (ms : Members) → AllWhole ms → members_have_float ms ≡ false
+in_members no_members all = refl
+in_members (member k d ms) all = rw (all.0, in_members ms all.1) refl
+
+in_method : (o : Option Called) (ms : Members) → AllWhole ms → AllWhole (with_method_name o ms)
+in_method None ms all = all
+in_method (Some m) ms all = in_put (codes "method") (string m.name) ms refl all
+
+in_interface : (o : Option (List ℕ)) (request : Tree) (c : Call) (ms : Members) → AllWhole ms → AllWhole (with_interface o request c ms)
+in_interface None request c ms all = all
+in_interface (Some name) request c ms all = in_method (method_of request c.interface c.method) (put (codes "interface") (string name) ms) (in_put (codes "interface") (string name) ms refl all)
+
+in_names : (request : Tree) (c : Call) (ms : Members) → AllWhole ms → has_float (object (with_names request c ms)) ≡ false
+in_names request c ms all = in_members (with_names request c ms) (in_interface (name_in (node_of request c.interface)) request c ms all)
+
+in_plain : (s : Schema) (trees : Bool) (m : PlainMessage) → has_float (named_by (Some s) (profile (message.Plain m)) (known_as trees m)) ≡ false
+in_plain s trees (plain.Abort e) = refl
+in_plain s trees (plain.Bootstrap q) = refl
+in_plain s trees (plain.Call c) = in_names (tree_view s.request) c (member (codes "call") (call_as trees c) no_members) (in_call trees c, tt)
+in_plain s trees (plain.Return r) = in_known trees (plain.Return r)
+in_plain s trees (plain.Finish f) = refl
+in_plain s trees (plain.Resolve r) = in_known trees (plain.Resolve r)
+in_plain s trees (plain.Release r) = refl
+in_plain s trees (plain.Disembargo d) = in_known trees (plain.Disembargo d)
+in_plain s trees (plain.Other n) = refl
+
+in_named : (o : Option Schema) (trees : Bool) (w : What) → has_float (named_by o w (what_as trees w)) ≡ false
+in_named None trees w = in_what trees w
+in_named (Some s) trees (profile (message.Plain m)) = in_plain s trees m
+in_named (Some s) trees (profile (message.Unimplemented m)) = in_what trees (profile (message.Unimplemented m))
+in_named (Some s) trees (tail_call c) = in_names (tree_view s.request) c (member (codes "tailCall") (call_as trees c) no_members) (in_call trees c, tt)
+in_named (Some s) trees (sent_elsewhere r) = refl
+in_named (Some s) trees (taken_from_other t) = refl
+in_named (Some s) trees (strange number t) = refl
+
+pub in_line : (form : Form) (w : What) → has_float (line_data form w) ≡ false
+in_line form w = in_named (option_copied form.schema) form.trees w

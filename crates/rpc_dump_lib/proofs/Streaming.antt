@@ -1,5 +1,5 @@
 -- A stream whose bytes come in pieces.
-use Rattle.std.proofs.Common.{◌≡◌, ℕ, ◌+◌, ◌-◌, ◌^◌, ◌<◌, ◌⊎◌, min, Bool, List, [], ◌∷◌, ◌++◌, length, take, drop, Option, Some, None, Result, Ok, Err, refl, sym, ap, subst, ◌∙◌, append_assoc, append-nil, length-drop, take-append-drop, arith, inl, inr}
+use Rattle.std.proofs.Common.{◌≡◌, ℕ, ◌+◌, ◌-◌, ◌^◌, ◌<◌, ◌⊎◌, min, List, [], ◌∷◌, ◌++◌, length, take, drop, Option, Some, None, Result, Ok, Err, refl, sym, ap, subst, ◌∙◌, append_assoc, append-nil, length-drop, take-append-drop, arith, inl, inr}
 use Rattle.std.specs.Io.KnownBytes.{Appends}
 use Rattle.std.proofs.lemmas.List.{take_all, drop_all, drop-drop}
 use Rattle.std.proofs.Math.Seq.{take-append-add, take-append_seam}
@@ -17,6 +17,7 @@ use Rattle.capn_stream.specs.Laws.{Stays, FrontsStay}
 use Rattle.program_files.specs.declared.fault.ProgramFailure.TheVariants as program
 use Rattle.rpc_dump_lib.specs.declared.failure.Failure.{Failure}
 use Rattle.rpc_dump_lib.specs.declared.failure.Failure.TheVariants as failure
+use Rattle.rpc_dump_lib.specs.declared.form.Form.{Form}
 use Rattle.rpc_dump_lib.specs.Conversations.{what_in, IsFault, IsNone, StreamStops, frame_line}
 use Rattle.rpc_dump_lib.specs.Failures.{of_stream}
 use Rattle.rpc_dump_lib.specs.Reading.{held_of, IsSound, IsOpen, SaidTo, GoesOn}
@@ -112,26 +113,26 @@ frame_taken (Err f) new frame taken = let h : ◌≡◌ {A = Option (List ℕ)} 
 frame_taken (Ok held) new frame taken = frame_by held frame (front_of held) new taken
 
 -- it is said
-pub whole_said : (trees : Bool) (input left frame bytes text : List ℕ) (old new : Reader) (number next : ℕ) (base before after : Option (List ℕ)) → Taken old (Some frame) new → bytes ≡ frame → IsFrame bytes
-    → frame_line trees bytes ≡ Some text → Appends before after text → next ≡ min (number + 1) (2 ^ 64 - 1)
-    → SaidTo trees input (held_of old ++ left) number base before → SaidTo trees input (held_of new ++ left) next base after
-whole_said trees input left frame bytes text old new number next base before after taken same whole one wrote is s =
+pub whole_said : (form : Form) (input left frame bytes text : List ℕ) (old new : Reader) (number next : ℕ) (base before after : Option (List ℕ)) → Taken old (Some frame) new → bytes ≡ frame → IsFrame bytes
+    → frame_line form bytes ≡ Some text → Appends before after text → next ≡ min (number + 1) (2 ^ 64 - 1)
+    → SaidTo form input (held_of old ++ left) number base before → SaidTo form input (held_of new ++ left) next base after
+whole_said form input left frame bytes text old new number next base before after taken same whole one wrote is s =
     let given = frame_taken old new frame taken in
-    let rest : SaidTo trees input (bytes ++ left) number base before = subst (λ (held : List ℕ). SaidTo trees input (held ++ left) number base before) (given.0 ∙ sym same) s in
-    subst (λ (r : Reader). SaidTo trees input (held_of r ++ left) next base after) (sym given.1)
-    (said_more {IsCut = IsSplit input} {line = frame_line trees} bytes (bytes ++ left) left text number next base before after (λ parts. frame_cut input bytes left parts whole) one wrote is rest)
+    let rest : SaidTo form input (bytes ++ left) number base before = subst (λ (held : List ℕ). SaidTo form input (held ++ left) number base before) (given.0 ∙ sym same) s in
+    subst (λ (r : Reader). SaidTo form input (held_of r ++ left) next base after) (sym given.1)
+    (said_more {IsCut = IsSplit input} {line = frame_line form} bytes (bytes ++ left) left text number next base before after (λ parts. frame_cut input bytes left parts whole) one wrote is rest)
 
 -- it is not said
-pub whole_ends : {W : Type 0} (contents : W → Option (List ℕ)) (trees : Bool) (input left frame bytes : List ℕ) (old new : Reader) (number : ℕ) (base : Option (List ℕ)) (before after : W) (why : Failure)
+pub whole_ends : {W : Type 0} (contents : W → Option (List ℕ)) (form : Form) (input left frame bytes : List ℕ) (old new : Reader) (number : ℕ) (base : Option (List ℕ)) (before after : W) (why : Failure)
     → Taken old (Some frame) new → bytes ≡ frame → (why ≡ failure.Program program.Unwritten) ⊎ ((after ≡ before) × ((more : List ℕ) → StreamStops (bytes ++ more) number why))
-    → SaidTo trees input (held_of old ++ left) number base (contents before) → GoesOn trees input (held_of new ++ left) base (contents after) (Err why)
-whole_ends contents trees input left frame bytes old new number base before after why taken same (inl e) s = inl e
-whole_ends contents trees input left frame bytes old new number base before after why taken same (inr fails) s =
+    → SaidTo form input (held_of old ++ left) number base (contents before) → GoesOn form input (held_of new ++ left) base (contents after) (Err why)
+whole_ends contents form input left frame bytes old new number base before after why taken same (inl e) s = inl e
+whole_ends contents form input left frame bytes old new number base before after why taken same (inr fails) s =
     let given = frame_taken old new frame taken in
     inr (record {
       rest = held_of old ++ left;
       number = number;
-      said = subst (λ (out : Option (List ℕ)). SaidTo trees input (held_of old ++ left) number base out) (ap contents (sym fails.0)) s;
+      said = subst (λ (out : Option (List ℕ)). SaidTo form input (held_of old ++ left) number base out) (ap contents (sym fails.0)) s;
       stops = subst (λ (held : List ℕ). StreamStops (held ++ left) number why) (same ∙ sym given.0) (fails.1 left);
     })
 

@@ -21,8 +21,9 @@ use Rattle.program_files.specs.declared.fault.ProgramFailure.{ProgramFailure}
 use Rattle.program_files.specs.declared.fault.ProgramFailure.TheVariants as program
 use Rattle.rpc_dump_lib.specs.declared.failure.Failure.{Failure}
 use Rattle.rpc_dump_lib.specs.declared.failure.Failure.TheVariants as failure
-use Rattle.rpc_dump_lib.specs.declared.options.Options.{Options}
-use Rattle.rpc_dump_lib.specs.Lines.{line_text, fault_data}
+use Rattle.rpc_dump_lib.specs.declared.form.Form.{Form}
+use Rattle.rpc_dump_lib.specs.Lines.{fault_data}
+use Rattle.rpc_dump_lib.specs.Named.{line_text}
 
 -- ---- lines, each with its newline
 
@@ -34,29 +35,29 @@ no_stamp = record { vat = A; reference = record { 0 = 0 }; index = 0 }
 abbrev pub what_in : List ℕ → Came What
 what_in frame = envelope_at no_stamp frame
 
-abbrev pub what_line : Bool → What → List ℕ
-what_line trees w = line_text trees w ++ 10 ∷ []
+abbrev pub what_line : Form → What → List ℕ
+what_line form w = line_text form w ++ 10 ∷ []
 
-abbrev pub message_line : Bool → Came What → Option (List ℕ)
-message_line trees (Ok w) = Some (what_line trees w)
-message_line trees (Err f) = None
+abbrev pub message_line : Form → Came What → Option (List ℕ)
+message_line form (Ok w) = Some (what_line form w)
+message_line form (Err f) = None
 
 -- of a frame of a stream; none where it says nothing
-abbrev pub frame_line : Bool → List ℕ → Option (List ℕ)
-frame_line trees frame = message_line trees (what_in frame)
+abbrev pub frame_line : Form → List ℕ → Option (List ℕ)
+frame_line form frame = message_line form (what_in frame)
 
 -- where frames stand by themselves, a fault has a line, too
-abbrev pub any_line : Bool → Came What → List ℕ
-any_line trees (Ok w) = what_line trees w
-any_line trees (Err f) = compact_text (fault_data (number_of f)) ++ 10 ∷ []
+abbrev pub any_line : Form → Came What → List ℕ
+any_line form (Ok w) = what_line form w
+any_line form (Err f) = compact_text (fault_data (number_of f)) ++ 10 ∷ []
 
-abbrev pub spelled_line : Bool → Result (List ℕ) FromHexError → Option (List ℕ)
-spelled_line trees (Ok frame) = Some (any_line trees (what_in frame))
-spelled_line trees (Err e) = None
+abbrev pub spelled_line : Form → Result (List ℕ) FromHexError → Option (List ℕ)
+spelled_line form (Ok frame) = Some (any_line form (what_in frame))
+spelled_line form (Err e) = None
 
 -- of the frame that digits spell; none where they are no hexadecimal
-abbrev pub digits_line : Bool → List ℕ → Option (List ℕ)
-digits_line trees digits = spelled_line trees (decode_of digits)
+abbrev pub digits_line : Form → List ℕ → Option (List ℕ)
+digits_line form digits = spelled_line form (decode_of digits)
 
 -- ---- the parts of an input
 
@@ -141,10 +142,10 @@ abbrev pub Says : (List (List ℕ) → List ℕ → Type 0) → (List ℕ → Op
 Says IsCut line Stops old new (Ok done) = (number : ℕ) × Said IsCut line [] number old new
 Says IsCut line Stops old new (Err why) = (why ≡ failure.Program program.Unwritten) ⊎ Stopped IsCut line Stops old new why
 
-abbrev pub SaysBy : Bool → Bool → List ℕ → Option (List ℕ) → Option (List ℕ) → Result (Unit {0}) Failure → Type 0
-SaysBy false trees input old new result = Says (IsSplit input) (frame_line trees) StreamStops old new result
-SaysBy true trees input old new result = Says (IsLines input) (digits_line trees) LinesStop old new result
+abbrev pub SaysBy : Bool → Form → List ℕ → Option (List ℕ) → Option (List ℕ) → Result (Unit {0}) Failure → Type 0
+SaysBy false form input old new result = Says (IsSplit input) (frame_line form) StreamStops old new result
+SaysBy true form input old new result = Says (IsLines input) (digits_line form) LinesStop old new result
 
--- What is said of a conversation that a reader gives, where an output held `old` and holds `new`.
-abbrev pub Dumps : Options → Option (List ℕ) → Option (List ℕ) → Option (List ℕ) → Result (Unit {0}) Failure → Type 0
-Dumps options bytes old new result = (input : List ℕ) × IsInput bytes input × SaysBy options.hex options.payloads input old new result
+-- What is said in a form of a conversation that a reader gives, in hexadecimal or as one stream, where an output held `old` and holds `new`.
+abbrev pub Dumps : Bool → Form → Option (List ℕ) → Option (List ℕ) → Option (List ℕ) → Result (Unit {0}) Failure → Type 0
+Dumps hex form bytes old new result = (input : List ℕ) × IsInput bytes input × SaysBy hex form input old new result

@@ -2,7 +2,6 @@
 -- that a Call has no stamp, since no bytes have one; what is no message there has a form of its own.
 use Rattle.std.specs.Prelude.{ℕ, Bool, true, false, List, codes}
 use Rattle.serde_json.specs.Data.{Data, boolean, string, object, no_members, member}
-use Rattle.serde_json.specs.Written.{compact_text}
 use Rattle.rpc_msg.specs.Payloads.{Contents as Payload, tree_of}
 use Rattle.rpc_msg.specs.declared.parts.Descriptor.{Descriptor}
 use Rattle.rpc_msg.specs.declared.message.Call.{Call}
@@ -82,10 +81,6 @@ what_as trees (tail_call c) = only (codes "tailCall") (call_as trees c)
 what_as trees (sent_elsewhere s) = only (codes "resultsSentElsewhere") (elsewhere_data s)
 what_as trees (taken_from_other t) = only (codes "takeFromOtherQuestion") (taken_data t)
 what_as trees (strange number t) = only (codes "unknown") (nat number)
-
--- the line without its newline
-abbrev pub line_text : Bool → What → List ℕ
-line_text trees w = compact_text (what_as trees w)
 
 -- in place of a frame that says nothing: why not
 abbrev pub fault_data : ℕ → Data

@@ -1,5 +1,5 @@
 -- A stream that is said while its bytes come.
-use Rattle.std.specs.Prelude.{◌≡◌, ℕ, ◌⊎◌, Bool, List, [], ◌++◌, Option, Result, Ok, Err}
+use Rattle.std.specs.Prelude.{◌≡◌, ℕ, ◌⊎◌, List, [], ◌++◌, Option, Result, Ok, Err}
 use Rattle.std.specs.Io.KnownBytes.{Consumes}
 use Rattle.capn_stream.specs.Fronts.{front_of, IsShort}
 use Rattle.capn_stream.specs.Readers.{Reader}
@@ -7,6 +7,7 @@ use Rattle.capn_stream.specs.Streams.{IsSplit}
 use Rattle.program_files.specs.declared.fault.ProgramFailure.TheVariants as program
 use Rattle.rpc_dump_lib.specs.declared.failure.Failure.{Failure}
 use Rattle.rpc_dump_lib.specs.declared.failure.Failure.TheVariants as failure
+use Rattle.rpc_dump_lib.specs.declared.form.Form.{Form}
 use Rattle.rpc_dump_lib.specs.Conversations.{Said, Stopped, StreamStops, frame_line}
 
 -- the bytes that wait
@@ -25,16 +26,16 @@ IsOpen (Ok held) = IsShort (front_of held)
 IsOpen (Err f) = ⊥
 
 -- of an input the messages were said up to a rest
-abbrev pub SaidTo : Bool → List ℕ → List ℕ → ℕ → Option (List ℕ) → Option (List ℕ) → Type 0
-SaidTo trees input rest number old new = Said (IsSplit input) (frame_line trees) rest number old new
+abbrev pub SaidTo : Form → List ℕ → List ℕ → ℕ → Option (List ℕ) → Option (List ℕ) → Type 0
+SaidTo form input rest number old new = Said (IsSplit input) (frame_line form) rest number old new
 
 -- more of them, up to this rest, or why not
-abbrev pub GoesOn : Bool → List ℕ → List ℕ → Option (List ℕ) → Option (List ℕ) → Result ℕ Failure → Type 0
-GoesOn trees input rest old new (Ok number) = SaidTo trees input rest number old new
-GoesOn trees input rest old new (Err why) = (why ≡ failure.Program program.Unwritten) ⊎ Stopped (IsSplit input) (frame_line trees) StreamStops old new why
+abbrev pub GoesOn : Form → List ℕ → List ℕ → Option (List ℕ) → Option (List ℕ) → Result ℕ Failure → Type 0
+GoesOn form input rest old new (Ok number) = SaidTo form input rest number old new
+GoesOn form input rest old new (Err why) = (why ≡ failure.Program program.Unwritten) ⊎ Stopped (IsSplit input) (frame_line form) StreamStops old new why
 
 -- Of what a reader gave so far, whatever comes behind it, the messages were said up to what waits.
-pub record Begun (trees : Bool) (known left : Option (List ℕ)) (held : List ℕ) (number : ℕ) (old new : Option (List ℕ)) : Type 0 where
+pub record Begun (form : Form) (known left : Option (List ℕ)) (held : List ℕ) (number : ℕ) (old new : Option (List ℕ)) : Type 0 where
   pub came : List ℕ
   pub consumed : Consumes known left came
-  pub said : (rest : List ℕ) → SaidTo trees (came ++ rest) (held ++ rest) number old new
+  pub said : (rest : List ℕ) → SaidTo form (came ++ rest) (held ++ rest) number old new

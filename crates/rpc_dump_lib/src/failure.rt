@@ -10,7 +10,7 @@ use std::io;
 use std::io::Write;
 
 /// How the program is called.
-const USAGE: &str = "usage: rpc_dump [--hex] [--payloads] [FILE]";
+const USAGE: &str = "usage: rpc_dump [--schema FILE] [--hex] [--payloads] [FILE]";
 
 /// Why the program stops. Messages and lines are counted from 1.
 #[derive(Clone, Copy, Debug, PartialEq, Eq, Drop)]

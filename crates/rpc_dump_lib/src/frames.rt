@@ -5,8 +5,10 @@ ghost use Rattle.hex.specs.Hex.{decode_of};
 ghost use Rattle.capn_stream.specs.Fronts.{IsFrame};
 ghost use Rattle.rpc_codec.specs.Decoding.{Misses};
 ghost use Rattle.rpc_dump_lib.specs.Conversations.{what_in, frame_line, any_line, digits_line, StreamStops, DigitsStop};
+ghost use Rattle.rpc_dump_lib.specs.Named.{IsNamed};
 
 use crate::failure::Failure;
+use crate::form::Form;
 use crate::line::{fault_line, line_of};
 use capn_stream::fronts_stay;
 use hex::FromHexError;
@@ -33,24 +35,26 @@ fn end_line(line: String) -> Result<String, AllocError>
 }
 
 /// The line of the message that a frame is; or why it is none.
-fn message_line(alloc: Global, payloads: bool, frame: &[u8]) -> Result<String, DecodeError>
-    ensures line { IfOk result (λ text. frame_line payloads frame.now ≡ Some (string_bytes text)) }
+fn message_line(alloc: Global, form: Form<'_>, frame: &[u8]) -> Result<String, DecodeError>
+    requires named { IsNamed form }
+    ensures line { IfOk result (λ text. frame_line form frame.now ≡ Some (string_bytes text)) }
     ensures fails { IfErr result (λ why. Misses why (what_in frame.now)) }
 {
     let envelope = match decode(alloc, frame, NO_STAMP) {
         Ok(envelope) => envelope,
         Err(error) => return Err(error),
     };
-    let line = line_of(alloc, &envelope, payloads)?;
+    let line = line_of(alloc, &envelope, form)?;
     let line = end_line(line)?;
     Ok(line)
 }
 
 /// The line of a frame that stands by itself, or of its fault.
-fn any_line_of(alloc: Global, payloads: bool, frame: &[u8]) -> Result<String, AllocError>
-    ensures { IfOk result (λ text. string_bytes text ≡ any_line payloads (what_in frame.now)) }
+fn any_line_of(alloc: Global, form: Form<'_>, frame: &[u8]) -> Result<String, AllocError>
+    requires named { IsNamed form }
+    ensures { IfOk result (λ text. string_bytes text ≡ any_line form (what_in frame.now)) }
 {
-    match message_line(alloc, payloads, frame) {
+    match message_line(alloc, form, frame) {
         Ok(line) => Ok(line),
         Err(DecodeError::Memory) => Err(AllocError),
         Err(DecodeError::Fault(fault)) => {
@@ -63,16 +67,17 @@ fn any_line_of(alloc: Global, payloads: bool, frame: &[u8]) -> Result<String, Al
 /// The line of the frame that digits spell, which are those of a line with that number.
 fn line_of_digits(
     alloc: Global,
-    payloads: bool,
+    form: Form<'_>,
     digits: &[u8],
     number: u64,
 ) -> Result<String, Failure>
-    ensures line { IfOk result (λ text. digits_line payloads digits.now ≡ Some (string_bytes text)) }
+    requires named { IsNamed form }
+    ensures line { IfOk result (λ text. digits_line form digits.now ≡ Some (string_bytes text)) }
     ensures fails { IfErr result (λ why. DigitsStop digits.now number why) }
 {
     match hex::decode(alloc, digits) {
         Ok(frame) => {
-            let line = any_line_of(alloc, payloads, frame.as_slice())?;
+            let line = any_line_of(alloc, form, frame.as_slice())?;
             Ok(line)
         }
         Err(FromHexError::OutOfMemory) => Err(Failure::Program(ProgramFailure::Memory)),
@@ -91,17 +96,18 @@ fn write_line<W: Write>(line: &str, out: &mut W) -> Result<(), Failure>
 /// Says the message of a frame, which has that number; or why nothing is said of a stream that goes on with this frame.
 pub fn say_frame<W: Write>(
     alloc: Global,
-    payloads: bool,
+    form: Form<'_>,
     frame: &[u8],
     number: u64,
     out: &mut W,
 ) -> Result<(), Failure>
-    requires { IsFrame frame.now }
-    ensures said { OnOk result ((text : List ℕ) × (frame_line payloads frame.now ≡ Some text) × Appends (W.contents out.old) (W.contents out.new) text) }
+    requires named { IsNamed form }
+    requires whole { IsFrame frame.now }
+    ensures said { OnOk result ((text : List ℕ) × (frame_line form frame.now ≡ Some text) × Appends (W.contents out.old) (W.contents out.new) text) }
     ensures fails { IfErr result (λ why. (why ≡ Failure.Program ProgramFailure.Unwritten) ⊎ ((out.new ≡ out.old) × ((left : List ℕ) → StreamStops (frame.now ++ left) number why))) }
 {
     fronts_stay();
-    match message_line(alloc, payloads, frame) {
+    match message_line(alloc, form, frame) {
         Ok(line) => write_line(line.as_str(), out),
         Err(DecodeError::Memory) => Err(Failure::Program(ProgramFailure::Memory)),
         Err(DecodeError::Fault(fault)) => Err(Failure::Message(number, fault.code())),
@@ -111,14 +117,15 @@ pub fn say_frame<W: Write>(
 /// Says the frame that digits spell, or its fault. The line that they are has that number.
 pub fn say_digits<W: Write>(
     alloc: Global,
-    payloads: bool,
+    form: Form<'_>,
     digits: &[u8],
     number: u64,
     out: &mut W,
 ) -> Result<(), Failure>
-    ensures said { OnOk result ((text : List ℕ) × (digits_line payloads digits.now ≡ Some text) × Appends (W.contents out.old) (W.contents out.new) text) }
+    requires named { IsNamed form }
+    ensures said { OnOk result ((text : List ℕ) × (digits_line form digits.now ≡ Some text) × Appends (W.contents out.old) (W.contents out.new) text) }
     ensures fails { IfErr result (λ why. (why ≡ Failure.Program ProgramFailure.Unwritten) ⊎ ((out.new ≡ out.old) × DigitsStop digits.now number why)) }
 {
-    let line = line_of_digits(alloc, payloads, digits, number)?;
+    let line = line_of_digits(alloc, form, digits, number)?;
     write_line(line.as_str(), out)
 }

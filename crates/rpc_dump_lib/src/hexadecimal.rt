@@ -3,8 +3,10 @@ ghost use Rattle.std.specs.Prelude.{◌≡◌, ◌⊎◌, ◌<◌, ℕ, List, le
 ghost use Rattle.std.specs.List.{position, before_first, after_first};
 ghost use Rattle.program_files.specs.Texts.{IsInput};
 ghost use Rattle.rpc_dump_lib.specs.Conversations.{IsLines, LinesStop, Says, digits_line, is_newline};
+ghost use Rattle.rpc_dump_lib.specs.Named.{IsNamed};
 
 use crate::failure::Failure;
+use crate::form::Form;
 use crate::frames::say_digits;
 use program_files::{ProgramFailure, unread};
 use std::alloc::Global;
@@ -13,14 +15,15 @@ use std::io::{Read, Write};
 /// Says the frame of each line, or its fault.
 pub fn dump_hex<R: Read, W: Write>(
     alloc: Global,
-    payloads: bool,
+    form: Form<'_>,
     reader: &mut R,
     out: &mut W,
 ) -> Result<(), Failure>
-    ensures { (input : List ℕ) × IsInput (R.remaining reader.old) input × Says (IsLines input) (digits_line payloads) LinesStop (W.contents out.old) (W.contents out.new) result }
+    requires named { IsNamed form }
+    ensures { (input : List ℕ) × IsInput (R.remaining reader.old) input × Says (IsLines input) (digits_line form) LinesStop (W.contents out.old) (W.contents out.new) result }
 {
     let input = read_all(alloc, reader)?;
-    say_lines(alloc, payloads, input.as_slice(), out)
+    say_lines(alloc, form, input.as_slice(), out)
 }
 
 fn read_all<R: Read>(alloc: Global, reader: &mut R) -> Result<Vec<u8>, Failure>
@@ -56,17 +59,18 @@ fn split_line(input: &[u8]) -> (&[u8], &[u8])
 
 fn say_lines<W: Write>(
     alloc: Global,
-    payloads: bool,
+    form: Form<'_>,
     input: &[u8],
     out: &mut W,
 ) -> Result<(), Failure>
-    ensures { Says (IsLines input.now) (digits_line payloads) LinesStop (W.contents out.old) (W.contents out.new) result }
+    requires named { IsNamed form }
+    ensures { Says (IsLines input.now) (digits_line form) LinesStop (W.contents out.old) (W.contents out.new) result }
 {
     let mut number: u64 = 1;
     let mut rest = input;
     'lines: while !rest.is_empty() {
         let (line, left) = split_line(rest);
-        say_digits(alloc, payloads, line, number, out)?;
+        say_digits(alloc, form, line, number, out)?;
         number = number.saturating_add(1);
         rest = left;
     }

@@ -5,12 +5,15 @@ ghost use Rattle.capn_stream.specs.Streams.{IsSplit};
 ghost use Rattle.program_files.specs.Texts.{IsInput};
 ghost use Rattle.rpc_dump_lib.specs.Conversations.{Says, StreamStops, Dumps, frame_line};
 ghost use Rattle.rpc_dump_lib.specs.Reading.{held_of, IsSound, IsOpen, SaidTo, GoesOn};
+ghost use Rattle.rpc_dump_lib.specs.Named.{IsNamed};
 
 use crate::failure::Failure;
+use crate::form::Form;
 use crate::frames::say_frame;
 use crate::hexadecimal::dump_hex;
 use crate::options::Options;
 use capn_stream::{FrameReader, fronts_stay};
+use look_names::Schema;
 use program_files::{ProgramFailure, unread};
 use std::alloc::{AllocError, Global};
 use std::io::{ErrorKind, Read, Write};
@@ -18,7 +21,7 @@ use std::io::{ErrorKind, Read, Write};
 /// How many bytes are read at a time.
 const PIECE: usize = 16_384;
 
-/// Says each message that the reader's bytes hold, in order, a line each. It ends at the first that is none, with its number and
+/// Says each message that the reader's bytes hold, in order, a line each, by the names of a schema if there is one. It ends at the first that is none, with its number and
 /// its fault. Of lines in hexadecimal it says the fault in place of the message, and goes on.
 ///
 /// `Unreadable` if the reader fails, `NotHex` for a line that is no hexadecimal, `Unwritten` if `out` fails, and
@@ -26,15 +29,21 @@ const PIECE: usize = 16_384;
 pub fn dump<R: Read, W: Write>(
     alloc: Global,
     options: Options,
+    schema: Option<&Schema>,
     reader: &mut R,
     out: &mut W,
 ) -> Result<(), Failure>
-    ensures { Dumps options (R.remaining reader.old) (W.contents out.old) (W.contents out.new) result }
+    requires { IsNamed (record { trees = options.payloads; schema = schema }) }
+    ensures { Dumps options.hex (record { trees = options.payloads; schema = schema }) (R.remaining reader.old) (W.contents out.old) (W.contents out.new) result }
 {
+    let form = Form {
+        trees: options.payloads,
+        schema,
+    };
     if options.hex {
-        dump_hex(alloc, options.payloads, reader, out)
+        dump_hex(alloc, form, reader, out)
     } else {
-        dump_stream(alloc, options.payloads, reader, out)
+        dump_stream(alloc, form, reader, out)
     }
 }
 
@@ -47,26 +56,28 @@ fn make_room(alloc: Global) -> Result<Vec<u8>, AllocError>
 
 fn dump_stream<R: Read, W: Write>(
     alloc: Global,
-    payloads: bool,
+    form: Form<'_>,
     reader: &mut R,
     out: &mut W,
 ) -> Result<(), Failure>
-    ensures { (input : List ℕ) × IsInput (R.remaining reader.old) input × Says (IsSplit input) (frame_line payloads) StreamStops (W.contents out.old) (W.contents out.new) result }
+    requires named { IsNamed form }
+    ensures { (input : List ℕ) × IsInput (R.remaining reader.old) input × Says (IsSplit input) (frame_line form) StreamStops (W.contents out.old) (W.contents out.new) result }
 {
     let mut room = make_room(alloc)?;
-    dump_pieces(alloc, payloads, reader, room.as_mut_slice(), out)
+    dump_pieces(alloc, form, reader, room.as_mut_slice(), out)
 }
 
 /// Says a stream whose bytes are read into the room, a piece at a time.
 fn dump_pieces<R: Read, W: Write>(
     alloc: Global,
-    payloads: bool,
+    form: Form<'_>,
     reader: &mut R,
     room: &mut [u8],
     out: &mut W,
 ) -> Result<(), Failure>
-    requires { 0 < length room.old }
-    ensures { (input : List ℕ) × IsInput (R.remaining reader.old) input × Says (IsSplit input) (frame_line payloads) StreamStops (W.contents out.old) (W.contents out.new) result }
+    requires named { IsNamed form }
+    requires some { 0 < length room.old }
+    ensures { (input : List ℕ) × IsInput (R.remaining reader.old) input × Says (IsSplit input) (frame_line form) StreamStops (W.contents out.old) (W.contents out.new) result }
 {
     let mut frames = FrameReader::new(alloc);
     let mut number: u64 = 1;
@@ -76,7 +87,7 @@ fn dump_pieces<R: Read, W: Write>(
             return end(&frames, number);
         }
         let piece = &room[..count];
-        number = dump_piece(alloc, payloads, &mut frames, piece, number, out)?;
+        number = dump_piece(alloc, form, &mut frames, piece, number, out)?;
     }
     Err(Failure::Program(ProgramFailure::Unreadable))
 }
@@ -115,21 +126,22 @@ fn end(frames: &FrameReader, number: u64) -> Result<(), Failure>
 /// Says the messages that end in a piece, the first of which has that number, and gives the next one's.
 fn dump_piece<W: Write>(
     alloc: Global,
-    payloads: bool,
+    form: Form<'_>,
     frames: &mut FrameReader,
     piece: &[u8],
     number: u64,
     out: &mut W,
 ) -> Result<u64, Failure>
-    requires { IsOpen frames.old }
+    requires named { IsNamed form }
+    requires opened { IsOpen frames.old }
     ensures opened { OnOk result (IsOpen frames.new) }
-    ensures said { (input left : List ℕ) (base : Option (List ℕ)) → SaidTo payloads input (held_of frames.old ++ (piece.now ++ left)) number base (W.contents out.old) → GoesOn payloads input (held_of frames.new ++ left) base (W.contents out.new) result }
+    ensures said { (input left : List ℕ) (base : Option (List ℕ)) → SaidTo form input (held_of frames.old ++ (piece.now ++ left)) number base (W.contents out.old) → GoesOn form input (held_of frames.new ++ left) base (W.contents out.new) result }
 {
     let mut number = number;
     let mut at = 0;
     'bytes: while at < piece.len() {
         at += take_in(frames, &piece[at..], number)?;
-        number = say_whole(alloc, payloads, frames, number, out)?;
+        number = say_whole(alloc, form, frames, number, out)?;
     }
     Ok(number)
 }
@@ -154,18 +166,19 @@ fn take_in(frames: &mut FrameReader, piece: &[u8], number: u64) -> Result<usize,
 /// Says the frame that is whole, if one is, whose message has that number, and gives the next one's.
 fn say_whole<W: Write>(
     alloc: Global,
-    payloads: bool,
+    form: Form<'_>,
     frames: &mut FrameReader,
     number: u64,
     out: &mut W,
 ) -> Result<u64, Failure>
-    requires { IsSound frames.old }
+    requires named { IsNamed form }
+    requires sound { IsSound frames.old }
     ensures opened { OnOk result (IsOpen frames.new) }
-    ensures said { (input left : List ℕ) (base : Option (List ℕ)) → SaidTo payloads input (held_of frames.old ++ left) number base (W.contents out.old) → GoesOn payloads input (held_of frames.new ++ left) base (W.contents out.new) result }
+    ensures said { (input left : List ℕ) (base : Option (List ℕ)) → SaidTo form input (held_of frames.old ++ left) number base (W.contents out.old) → GoesOn form input (held_of frames.new ++ left) base (W.contents out.new) result }
 {
     let Some(frame) = frames.take_frame() else {
         return Ok(number);
     };
-    say_frame(alloc, payloads, frame.bytes(), number, out)?;
+    say_frame(alloc, form, frame.bytes(), number, out)?;
     Ok(number.saturating_add(1))
 }

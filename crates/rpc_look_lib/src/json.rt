@@ -8,7 +8,9 @@ use capn_trees::PayloadFault;
 use look_books::{Books, Moment};
 use look_json::{Place, write_cut, write_message, write_none, write_open, write_rest, write_stuck};
 use look_lines::Ends;
+use look_names::Schema;
 use look_pieces::Side;
+use rpc_dump_lib::Form;
 use std::alloc::Global;
 use std::io::Write;
 
@@ -22,11 +24,18 @@ pub(crate) struct JsonPage<W: Write + Drop> {
     only: bool,
     /// Each payload with its tree.
     payloads: bool,
+    /// Each Call with its names.
+    schema: Option<Schema>,
 }
 
 impl<W: Write + Drop> JsonPage<W> {
     /// Nothing is said so far.
-    pub(crate) fn new(alloc: Global, options: Options, out: W) -> JsonPage<W> {
+    pub(crate) fn new(
+        alloc: Global,
+        options: Options,
+        schema: Option<Schema>,
+        out: W,
+    ) -> JsonPage<W> {
         JsonPage {
             alloc,
             sheet: Sheet::new(alloc, out),
@@ -36,6 +45,7 @@ impl<W: Write + Drop> JsonPage<W> {
             },
             only: options.only,
             payloads: options.payloads,
+            schema,
         }
     }
 
@@ -53,6 +63,10 @@ impl<W: Write + Drop> JsonPage<W> {
             side,
             moment,
         };
+        let form = Form {
+            trees: self.payloads,
+            schema: self.schema.as_ref(),
+        };
         match told {
             Told::Message(judged) => write_message(
                 self.alloc,
@@ -61,7 +75,7 @@ impl<W: Write + Drop> JsonPage<W> {
                 &judged.envelope,
                 judged.heading,
                 &judged.found,
-                self.payloads,
+                form,
             )?,
             Told::None(fault) => write_none(self.alloc, out, &place, *fault)?,
         }

@@ -253,7 +253,7 @@ pub fn look_log<R: Read, W: Write + Drop>(
 {
     let at = options.at;
     if options.json {
-        let mut page = JsonPage::new(alloc, options, out);
+        let mut page = JsonPage::new(alloc, options, schema, out);
         return read_log(alloc, at, reader, &mut page);
     }
     let mut page = TextPage::new(alloc, options, schema, out);

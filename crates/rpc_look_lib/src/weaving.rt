@@ -212,7 +212,7 @@ pub fn look_two<R: Read, W: Write + Drop>(
 ) -> Result<bool, Failure> {
     let at = options.at;
     if options.json {
-        let mut page = JsonPage::new(alloc, options, out);
+        let mut page = JsonPage::new(alloc, options, schema, out);
         return read_two(alloc, at, to, from, &mut page);
     }
     let mut page = TextPage::new(alloc, options, schema, out);

@@ -66,7 +66,7 @@ fn says(
 ) {
     let mut out = Vec::new(alloc);
     let mut reader = input;
-    let mut dumped = dump(alloc, options, &mut reader, &mut out);
+    let mut dumped = dump(alloc, options, None, &mut reader, &mut out);
     if matches!(
         dumped,
         Err(Failure::Program(ProgramFailure::Memory | ProgramFailure::Unwritten))
@@ -79,7 +79,7 @@ fn says(
         }
         out.clear();
         reader = input;
-        dumped = dump(alloc, options, &mut reader, &mut out);
+        dumped = dump(alloc, options, None, &mut reader, &mut out);
     }
     is_told(rt, alloc, dumped, failure);
     assert!(rt; out.as_slice() == lines.as_bytes());
@@ -171,14 +171,14 @@ impl Write for Broken {
 #[test]
 fn streams_that_break_off(rt: HostRuntime) {
     let mut out = Vec::new(rt.alloc());
-    let read = dump(rt.alloc(), STREAM, &mut Broken, &mut out);
+    let read = dump(rt.alloc(), STREAM, None, &mut Broken, &mut out);
     assert!(rt;
         read == Err(Failure::Program(ProgramFailure::Unreadable))
             || read == Err(Failure::Program(ProgramFailure::Memory))
     );
     assert!(rt; out.is_empty());
     let mut reader = BOOTSTRAP;
-    let written = dump(rt.alloc(), STREAM, &mut reader, &mut Broken);
+    let written = dump(rt.alloc(), STREAM, None, &mut reader, &mut Broken);
     assert!(rt;
         written == Err(Failure::Program(ProgramFailure::Unwritten))
             || written == Err(Failure::Program(ProgramFailure::Memory))

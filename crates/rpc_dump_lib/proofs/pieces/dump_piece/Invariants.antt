@@ -7,8 +7,8 @@ abbrev pub invariant-bytes : goal.invariant-bytes
 invariant-bytes g l = record {
   within : l.at ≤ length l.piece;
   opened : IsOpen l.frames;
-  said : (input left : List ℕ) (base : Option (List ℕ)) → SaidTo l.payloads input (held_of l.fn.frames ++ (l.piece ++ left)) l.fn.number base (g.W.Write.contents l.fn.out)
-      → SaidTo l.payloads input (held_of l.frames ++ (drop l.at l.piece ++ left)) l.number base (g.W.Write.contents l.out);
+  said : (input left : List ℕ) (base : Option (List ℕ)) → SaidTo l.form input (held_of l.fn.frames ++ (l.piece ++ left)) l.fn.number base (g.W.Write.contents l.fn.out)
+      → SaidTo l.form input (held_of l.frames ++ (drop l.at l.piece ++ left)) l.number base (g.W.Write.contents l.out);
 }
 
 abbrev pub decreases-bytes : goal.decreases-bytes
