@@ -108,9 +108,9 @@ pub fn write_message(
     envelope: &Envelope,
     heading: Heading,
     found: &Found,
-    form: Form<'_>,
+    form: &Form<'_>,
 ) -> Result<(), AllocError>
-    ensures { IsNamed form → OnOk result ((d : Data) × IsMessage place.now.moment (kept_of (end_of place.now.books.now place.now.side)) (kept_of (end_of place.now.books.now (other_side place.now.side))) envelope.now heading found.now form d × Writes d (string_bytes out.old) (string_bytes out.new)) }
+    ensures { IsNamed form.now → OnOk result ((d : Data) × IsMessage place.now.moment (kept_of (end_of place.now.books.now place.now.side)) (kept_of (end_of place.now.books.now (other_side place.now.side))) envelope.now heading found.now form.now d × Writes d (string_bytes out.old) (string_bytes out.new)) }
 {
     let mut members = members_of(alloc, write_said(alloc, envelope, form)?);
     put_front(&mut members, alloc, place)?;

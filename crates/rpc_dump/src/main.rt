@@ -1,14 +1,14 @@
 //! Says what a captured conversation says: a line of JSON for each message (docs/messages.md).
 #![tactic(auto)]
 
-ghost use Rattle.std.specs.Prelude.{IfOk, option_copied};
+ghost use Rattle.std.specs.Prelude.{IfOk};
 ghost use Rattle.look_names.specs.Names.{IsIndexed};
-ghost use Rattle.rpc_dump_lib.specs.Named.{IsNamedBy};
+ghost use Rattle.rpc_dump_lib.specs.Named.{IsNamed};
 
 use look_names::{Schema, SchemaError};
 use program_faults::ShownFault;
 use program_files::{FAILED, ProgramFailure, unread};
-use rpc_dump_lib::{Failure, Options, dump, status, tell};
+use rpc_dump_lib::{Failure, Form, Options, dump, status, tell};
 use std::alloc::AllocError;
 use std::env::Args;
 use std::fs::File;
@@ -94,12 +94,19 @@ fn run(rt: &HostRuntime, words: &[String]) -> ExitCode {
     let Some(asked) = asked(words) else {
         return ended(rt, Err(Failure::Program(ProgramFailure::Usage)), "-");
     };
+    let trees = asked.options.payloads;
     let Some(name) = asked.schema else {
-        return dump_in(rt, &asked, None);
+        let schema = None;
+        return dump_in(rt, &asked, &Form { trees, schema });
     };
     match schema_in(rt, name) {
-        Ok(Ok(schema)) => dump_in(rt, &asked, Some(&schema)),
-        Ok(Err(SchemaError::Memory)) => out_of_memory(rt),
+        Ok(Ok(schema)) => {
+            let schema = Some(&schema);
+            dump_in(rt, &asked, &Form { trees, schema })
+        }
+        Ok(Err(SchemaError::Memory)) => {
+            ended(rt, Err(Failure::Program(ProgramFailure::Memory)), name)
+        }
         Ok(Err(error)) => no_schema(rt, error),
         Err(failure) => ended(rt, Err(failure), name),
     }
@@ -119,44 +126,30 @@ fn unreadable(error: &io::Error) -> Failure {
     Failure::Program(unread(error, ProgramFailure::Unreadable))
 }
 
-fn out_of_memory(rt: &HostRuntime) -> ExitCode {
-    ended(rt, Err(Failure::Program(ProgramFailure::Memory)), "-")
-}
-
 /// Says why a file is no schema.
 fn no_schema(rt: &HostRuntime, error: SchemaError) -> ExitCode {
     let _told = writeln!(rt.stderr(), "the schema: {error}");
     ExitCode::from(FAILED)
 }
 
-/// Dumps what is asked for, by the names of a schema if there is one.
-fn dump_in(rt: &HostRuntime, asked: &Asked<'_>, schema: Option<&Schema>) -> ExitCode
-    requires { IsNamedBy (option_copied schema) }
+/// Dumps what is asked for, in that form.
+fn dump_in(rt: &HostRuntime, asked: &Asked<'_>, form: &Form<'_>) -> ExitCode
+    requires { IsNamed form.now }
 {
+    let hex = asked.options.hex;
     let Some(name) = asked.file else {
-        let dumped = dump(
-            rt.alloc(),
-            asked.options,
-            schema,
-            &mut rt.stdin(),
-            &mut rt.stdout(),
-        );
+        let dumped = dump(rt.alloc(), hex, form, &mut rt.stdin(), &mut rt.stdout());
         return ended(rt, dumped, "-");
     };
-    let dumped = on_file(rt, asked.options, schema, name);
+    let dumped = on_file(rt, hex, form, name);
     ended(rt, dumped, name)
 }
 
-fn on_file(
-    rt: &HostRuntime,
-    options: Options,
-    schema: Option<&Schema>,
-    name: &str,
-) -> Result<(), Failure>
-    requires { IsNamedBy (option_copied schema) }
+fn on_file(rt: &HostRuntime, hex: bool, form: &Form<'_>, name: &str) -> Result<(), Failure>
+    requires { IsNamed form.now }
 {
     match File::open(rt, name) {
-        Ok(mut file) => dump(rt.alloc(), options, schema, &mut file, &mut rt.stdout()),
+        Ok(mut file) => dump(rt.alloc(), hex, form, &mut file, &mut rt.stdout()),
         Err(error) => Err(unreadable(&error)),
     }
 }

@@ -199,7 +199,7 @@ in_named (Some s) trees (profile (message.Unimplemented m)) = in_what trees (pro
 in_named (Some s) trees (tail_call c) = in_names (tree_view s.request) c (member (codes "tailCall") (call_as trees c) no_members) (in_call trees c, tt)
 in_named (Some s) trees (sent_elsewhere r) = refl
 in_named (Some s) trees (taken_from_other t) = refl
-in_named (Some s) trees (strange number t) = refl
+in_named (Some s) trees (strange n t) = refl
 
 pub in_line : (form : Form) (w : What) → has_float (line_data form w) ≡ false
 in_line form w = in_named (option_copied form.schema) form.trees w

@@ -45,14 +45,14 @@ call_in (profile m) = call_of m
 call_in (tail_call c) = Some c
 call_in (sent_elsewhere s) = None
 call_in (taken_from_other t) = None
-call_in (strange number t) = None
+call_in (strange n t) = None
 
 -- ---- its names, beside it
 
 abbrev pub members_in : Data → Members
 members_in null = no_members
 members_in (boolean b) = no_members
-members_in (number n) = no_members
+members_in (number x) = no_members
 members_in (string s) = no_members
 members_in (array ds) = no_members
 members_in (object ms) = ms

@@ -35,9 +35,9 @@ fn end_line(line: String) -> Result<String, AllocError>
 }
 
 /// The line of the message that a frame is; or why it is none.
-fn message_line(alloc: Global, form: Form<'_>, frame: &[u8]) -> Result<String, DecodeError>
-    requires named { IsNamed form }
-    ensures line { IfOk result (λ text. frame_line form frame.now ≡ Some (string_bytes text)) }
+fn message_line(alloc: Global, form: &Form<'_>, frame: &[u8]) -> Result<String, DecodeError>
+    requires named { IsNamed form.now }
+    ensures line { IfOk result (λ text. frame_line form.now frame.now ≡ Some (string_bytes text)) }
     ensures fails { IfErr result (λ why. Misses why (what_in frame.now)) }
 {
     let envelope = match decode(alloc, frame, NO_STAMP) {
@@ -50,9 +50,9 @@ fn message_line(alloc: Global, form: Form<'_>, frame: &[u8]) -> Result<String, D
 }
 
 /// The line of a frame that stands by itself, or of its fault.
-fn any_line_of(alloc: Global, form: Form<'_>, frame: &[u8]) -> Result<String, AllocError>
-    requires named { IsNamed form }
-    ensures { IfOk result (λ text. string_bytes text ≡ any_line form (what_in frame.now)) }
+fn any_line_of(alloc: Global, form: &Form<'_>, frame: &[u8]) -> Result<String, AllocError>
+    requires named { IsNamed form.now }
+    ensures { IfOk result (λ text. string_bytes text ≡ any_line form.now (what_in frame.now)) }
 {
     match message_line(alloc, form, frame) {
         Ok(line) => Ok(line),
@@ -67,12 +67,12 @@ fn any_line_of(alloc: Global, form: Form<'_>, frame: &[u8]) -> Result<String, Al
 /// The line of the frame that digits spell, which are those of a line with that number.
 fn line_of_digits(
     alloc: Global,
-    form: Form<'_>,
+    form: &Form<'_>,
     digits: &[u8],
     number: u64,
 ) -> Result<String, Failure>
-    requires named { IsNamed form }
-    ensures line { IfOk result (λ text. digits_line form digits.now ≡ Some (string_bytes text)) }
+    requires named { IsNamed form.now }
+    ensures line { IfOk result (λ text. digits_line form.now digits.now ≡ Some (string_bytes text)) }
     ensures fails { IfErr result (λ why. DigitsStop digits.now number why) }
 {
     match hex::decode(alloc, digits) {
@@ -96,14 +96,14 @@ fn write_line<W: Write>(line: &str, out: &mut W) -> Result<(), Failure>
 /// Says the message of a frame, which has that number; or why nothing is said of a stream that goes on with this frame.
 pub fn say_frame<W: Write>(
     alloc: Global,
-    form: Form<'_>,
+    form: &Form<'_>,
     frame: &[u8],
     number: u64,
     out: &mut W,
 ) -> Result<(), Failure>
-    requires named { IsNamed form }
+    requires named { IsNamed form.now }
     requires whole { IsFrame frame.now }
-    ensures said { OnOk result ((text : List ℕ) × (frame_line form frame.now ≡ Some text) × Appends (W.contents out.old) (W.contents out.new) text) }
+    ensures said { OnOk result ((text : List ℕ) × (frame_line form.now frame.now ≡ Some text) × Appends (W.contents out.old) (W.contents out.new) text) }
     ensures fails { IfErr result (λ why. (why ≡ Failure.Program ProgramFailure.Unwritten) ⊎ ((out.new ≡ out.old) × ((left : List ℕ) → StreamStops (frame.now ++ left) number why))) }
 {
     fronts_stay();
@@ -117,13 +117,13 @@ pub fn say_frame<W: Write>(
 /// Says the frame that digits spell, or its fault. The line that they are has that number.
 pub fn say_digits<W: Write>(
     alloc: Global,
-    form: Form<'_>,
+    form: &Form<'_>,
     digits: &[u8],
     number: u64,
     out: &mut W,
 ) -> Result<(), Failure>
-    requires named { IsNamed form }
-    ensures said { OnOk result ((text : List ℕ) × (digits_line form digits.now ≡ Some text) × Appends (W.contents out.old) (W.contents out.new) text) }
+    requires named { IsNamed form.now }
+    ensures said { OnOk result ((text : List ℕ) × (digits_line form.now digits.now ≡ Some text) × Appends (W.contents out.old) (W.contents out.new) text) }
     ensures fails { IfErr result (λ why. (why ≡ Failure.Program ProgramFailure.Unwritten) ⊎ ((out.new ≡ out.old) × DigitsStop digits.now number why)) }
 {
     let line = line_of_digits(alloc, form, digits, number)?;

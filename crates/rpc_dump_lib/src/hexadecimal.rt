@@ -15,12 +15,12 @@ use std::io::{Read, Write};
 /// Says the frame of each line, or its fault.
 pub fn dump_hex<R: Read, W: Write>(
     alloc: Global,
-    form: Form<'_>,
+    form: &Form<'_>,
     reader: &mut R,
     out: &mut W,
 ) -> Result<(), Failure>
-    requires named { IsNamed form }
-    ensures { (input : List ℕ) × IsInput (R.remaining reader.old) input × Says (IsLines input) (digits_line form) LinesStop (W.contents out.old) (W.contents out.new) result }
+    requires named { IsNamed form.now }
+    ensures { (input : List ℕ) × IsInput (R.remaining reader.old) input × Says (IsLines input) (digits_line form.now) LinesStop (W.contents out.old) (W.contents out.new) result }
 {
     let input = read_all(alloc, reader)?;
     say_lines(alloc, form, input.as_slice(), out)
@@ -59,12 +59,12 @@ fn split_line(input: &[u8]) -> (&[u8], &[u8])
 
 fn say_lines<W: Write>(
     alloc: Global,
-    form: Form<'_>,
+    form: &Form<'_>,
     input: &[u8],
     out: &mut W,
 ) -> Result<(), Failure>
-    requires named { IsNamed form }
-    ensures { Says (IsLines input.now) (digits_line form) LinesStop (W.contents out.old) (W.contents out.new) result }
+    requires named { IsNamed form.now }
+    ensures { Says (IsLines input.now) (digits_line form.now) LinesStop (W.contents out.old) (W.contents out.new) result }
 {
     let mut number: u64 = 1;
     let mut rest = input;

@@ -12,9 +12,9 @@ use std::alloc::{AllocError, Global};
 use trace_write::write_number;
 
 /// The line of what a frame says, without a newline, as traces have messages, in that form. It fails only if memory is refused.
-pub fn line_of(alloc: Global, envelope: &Envelope, form: Form<'_>) -> Result<String, AllocError>
-    requires named { IsNamed form }
-    ensures { IfOk result (λ line. string_bytes line ≡ line_text form (seen_envelope envelope.now)) }
+pub fn line_of(alloc: Global, envelope: &Envelope, form: &Form<'_>) -> Result<String, AllocError>
+    requires named { IsNamed form.now }
+    ensures { IfOk result (λ line. string_bytes line ≡ line_text form.now (seen_envelope envelope.now)) }
 {
     let value = write_line(alloc, envelope, form)?;
     let line = value.to_string(alloc)?;

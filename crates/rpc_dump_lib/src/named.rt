@@ -96,8 +96,8 @@ fn write_named(
 }
 
 /// What a frame says, in that form. It fails only if memory is refused.
-pub fn write_line(alloc: Global, envelope: &Envelope, form: Form<'_>) -> Result<Value, AllocError>
-    ensures { IsNamed form → IfOk result (λ v. view v ≡ line_data form (seen_envelope envelope.now)) }
+pub fn write_line(alloc: Global, envelope: &Envelope, form: &Form<'_>) -> Result<Value, AllocError>
+    ensures { IsNamed form.now → IfOk result (λ v. view v ≡ line_data form.now (seen_envelope envelope.now)) }
 {
     let value = write_envelope(alloc, envelope, form.trees)?;
     match (form.schema, call_in(envelope)) {

@@ -11,9 +11,7 @@ use crate::failure::Failure;
 use crate::form::Form;
 use crate::frames::say_frame;
 use crate::hexadecimal::dump_hex;
-use crate::options::Options;
 use capn_stream::{FrameReader, fronts_stay};
-use look_names::Schema;
 use program_files::{ProgramFailure, unread};
 use std::alloc::{AllocError, Global};
 use std::io::{ErrorKind, Read, Write};
@@ -21,26 +19,23 @@ use std::io::{ErrorKind, Read, Write};
 /// How many bytes are read at a time.
 const PIECE: usize = 16_384;
 
-/// Says each message that the reader's bytes hold, in order, a line each, by the names of a schema if there is one. It ends at the first that is none, with its number and
-/// its fault. Of lines in hexadecimal it says the fault in place of the message, and goes on.
+/// Says each message that the reader's bytes hold, in order, a line each in that form. The bytes are one stream of frames, or with
+/// `hex` a frame a line in hexadecimal. It ends at the first that is none, with its number and its fault. Of lines in hexadecimal
+/// it says the fault in place of the message, and goes on.
 ///
 /// `Unreadable` if the reader fails, `NotHex` for a line that is no hexadecimal, `Unwritten` if `out` fails, and
 /// `Memory` if a growth was refused. What was said before stands.
 pub fn dump<R: Read, W: Write>(
     alloc: Global,
-    options: Options,
-    schema: Option<&Schema>,
+    hex: bool,
+    form: &Form<'_>,
     reader: &mut R,
     out: &mut W,
 ) -> Result<(), Failure>
-    requires { IsNamed (record { trees = options.payloads; schema = schema }) }
-    ensures { Dumps options.hex (record { trees = options.payloads; schema = schema }) (R.remaining reader.old) (W.contents out.old) (W.contents out.new) result }
+    requires named { IsNamed form.now }
+    ensures { Dumps hex form.now (R.remaining reader.old) (W.contents out.old) (W.contents out.new) result }
 {
-    let form = Form {
-        trees: options.payloads,
-        schema,
-    };
-    if options.hex {
+    if hex {
         dump_hex(alloc, form, reader, out)
     } else {
         dump_stream(alloc, form, reader, out)
@@ -56,12 +51,12 @@ fn make_room(alloc: Global) -> Result<Vec<u8>, AllocError>
 
 fn dump_stream<R: Read, W: Write>(
     alloc: Global,
-    form: Form<'_>,
+    form: &Form<'_>,
     reader: &mut R,
     out: &mut W,
 ) -> Result<(), Failure>
-    requires named { IsNamed form }
-    ensures { (input : List ℕ) × IsInput (R.remaining reader.old) input × Says (IsSplit input) (frame_line form) StreamStops (W.contents out.old) (W.contents out.new) result }
+    requires named { IsNamed form.now }
+    ensures { (input : List ℕ) × IsInput (R.remaining reader.old) input × Says (IsSplit input) (frame_line form.now) StreamStops (W.contents out.old) (W.contents out.new) result }
 {
     let mut room = make_room(alloc)?;
     dump_pieces(alloc, form, reader, room.as_mut_slice(), out)
@@ -70,14 +65,14 @@ fn dump_stream<R: Read, W: Write>(
 /// Says a stream whose bytes are read into the room, a piece at a time.
 fn dump_pieces<R: Read, W: Write>(
     alloc: Global,
-    form: Form<'_>,
+    form: &Form<'_>,
     reader: &mut R,
     room: &mut [u8],
     out: &mut W,
 ) -> Result<(), Failure>
-    requires named { IsNamed form }
+    requires named { IsNamed form.now }
     requires some { 0 < length room.old }
-    ensures { (input : List ℕ) × IsInput (R.remaining reader.old) input × Says (IsSplit input) (frame_line form) StreamStops (W.contents out.old) (W.contents out.new) result }
+    ensures { (input : List ℕ) × IsInput (R.remaining reader.old) input × Says (IsSplit input) (frame_line form.now) StreamStops (W.contents out.old) (W.contents out.new) result }
 {
     let mut frames = FrameReader::new(alloc);
     let mut number: u64 = 1;
@@ -126,16 +121,16 @@ fn end(frames: &FrameReader, number: u64) -> Result<(), Failure>
 /// Says the messages that end in a piece, the first of which has that number, and gives the next one's.
 fn dump_piece<W: Write>(
     alloc: Global,
-    form: Form<'_>,
+    form: &Form<'_>,
     frames: &mut FrameReader,
     piece: &[u8],
     number: u64,
     out: &mut W,
 ) -> Result<u64, Failure>
-    requires named { IsNamed form }
+    requires named { IsNamed form.now }
     requires opened { IsOpen frames.old }
     ensures opened { OnOk result (IsOpen frames.new) }
-    ensures said { (input left : List ℕ) (base : Option (List ℕ)) → SaidTo form input (held_of frames.old ++ (piece.now ++ left)) number base (W.contents out.old) → GoesOn form input (held_of frames.new ++ left) base (W.contents out.new) result }
+    ensures said { (input left : List ℕ) (base : Option (List ℕ)) → SaidTo form.now input (held_of frames.old ++ (piece.now ++ left)) number base (W.contents out.old) → GoesOn form.now input (held_of frames.new ++ left) base (W.contents out.new) result }
 {
     let mut number = number;
     let mut at = 0;
@@ -166,15 +161,15 @@ fn take_in(frames: &mut FrameReader, piece: &[u8], number: u64) -> Result<usize,
 /// Says the frame that is whole, if one is, whose message has that number, and gives the next one's.
 fn say_whole<W: Write>(
     alloc: Global,
-    form: Form<'_>,
+    form: &Form<'_>,
     frames: &mut FrameReader,
     number: u64,
     out: &mut W,
 ) -> Result<u64, Failure>
-    requires named { IsNamed form }
+    requires named { IsNamed form.now }
     requires sound { IsSound frames.old }
     ensures opened { OnOk result (IsOpen frames.new) }
-    ensures said { (input left : List ℕ) (base : Option (List ℕ)) → SaidTo form input (held_of frames.old ++ left) number base (W.contents out.old) → GoesOn form input (held_of frames.new ++ left) base (W.contents out.new) result }
+    ensures said { (input left : List ℕ) (base : Option (List ℕ)) → SaidTo form.now input (held_of frames.old ++ left) number base (W.contents out.old) → GoesOn form.now input (held_of frames.new ++ left) base (W.contents out.new) result }
 {
     let Some(frame) = frames.take_frame() else {
         return Ok(number);

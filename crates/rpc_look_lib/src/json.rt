@@ -75,7 +75,7 @@ impl<W: Write + Drop> JsonPage<W> {
                 &judged.envelope,
                 judged.heading,
                 &judged.found,
-                form,
+                &form,
             )?,
             Told::None(fault) => write_none(self.alloc, out, &place, *fault)?,
         }

@@ -1,10 +1,11 @@
 //! Captured conversations, each with what is to be said of it: honest ones of vats of several makes, broken ones, two files
-//! without an order, and logs that are cut at each byte. One of them is told by the names of its schema. A line of
-//! `stdin` is a case.
+//! without an order, and logs that are cut at each byte; as text, and as lines of JSON. One of them is told by the names of its
+//! schema. A line of `stdin` is a case.
 #![tactic(auto)]
 
 use anyhow::{Result, anyhow, bail};
 use look_names::Schema;
+use rpc_dump_lib::{Form, dump};
 use rpc_look_lib::{Failure, Options, look_log, look_two, read_schema, status};
 use std::fs;
 
@@ -38,9 +39,8 @@ fn data(rt: &HostRuntime, name: &str, kind: &str) -> Result<Vec<u8>> {
 }
 
 /// Whether what was said is what is to be said.
-fn compare(rt: &HostRuntime, name: &str, said: &[u8], looked: Result<bool, Failure>) -> Result<()> {
-    let status = status(looked);
-    let expected = data(rt, name, "said")?;
+fn compare(rt: &HostRuntime, name: &str, kind: &str, said: &[u8], status: u8) -> Result<()> {
+    let expected = data(rt, name, kind)?;
     if said == expected.as_slice() {
         println!(rt; "{name}: as it is to be said, status {status}")?;
         return Ok(());
@@ -53,13 +53,13 @@ fn compare(rt: &HostRuntime, name: &str, said: &[u8], looked: Result<bool, Failu
     Ok(())
 }
 
-fn play_log(rt: &HostRuntime, name: &str, log: &str, words: &[&str]) -> Result<()> {
+fn play_log(rt: &HostRuntime, name: &str, kind: &str, log: &str, words: &[&str]) -> Result<()> {
     let log = data(rt, log, "log")?;
     let options = asked(rt, words)?;
     let schema = schema_of(rt, &options)?;
     let mut said = Vec::new(rt.alloc());
     let looked = look_log(rt.alloc(), options, schema, &mut log.as_slice(), &mut said);
-    compare(rt, name, said.as_slice(), looked)
+    compare(rt, name, kind, said.as_slice(), status(looked))
 }
 
 fn play_two(rt: &HostRuntime, name: &str, files: &str) -> Result<()> {
@@ -74,7 +74,32 @@ fn play_two(rt: &HostRuntime, name: &str, files: &str) -> Result<()> {
         &mut from.as_slice(),
         &mut said,
     );
-    compare(rt, name, said.as_slice(), looked)
+    compare(rt, name, "said", said.as_slice(), status(looked))
+}
+
+/// What `rpc_dump` says of what the client sent, by the names of a schema.
+fn play_dump(rt: &HostRuntime, name: &str, files: &str, schema: &str) -> Result<()> {
+    let to = data(rt, files, "to")?;
+    let bytes = data(rt, schema, "cgr")?;
+    let Ok(schema) = Schema::read(rt.alloc(), bytes.as_slice()) else {
+        bail!("no schema");
+    };
+    let mut said = Vec::new(rt.alloc());
+    let options = rpc_dump_lib::Options::new();
+    let dumped = dump(
+        rt.alloc(),
+        options,
+        Some(&schema),
+        &mut to.as_slice(),
+        &mut said,
+    );
+    compare(
+        rt,
+        name,
+        "dumped",
+        said.as_slice(),
+        rpc_dump_lib::status(dumped),
+    )
 }
 
 /// What is to be said of the beginning of an honest log: nothing, or that it is cut.
@@ -105,13 +130,15 @@ fn play_cuts(rt: &HostRuntime, name: &str) -> Result<()> {
     Ok(())
 }
 
-/// `log NAME`, `as NAME LOG WORD..`, `two NAME FILES`, `cuts NAME`.
+/// `log NAME`, `as NAME LOG WORD..`, `json NAME LOG WORD..`, `two NAME FILES`, `dump NAME FILES SCHEMA`, `cuts NAME`.
 fn play(rt: &HostRuntime, line: &str) -> Result<()> {
     let words: Vec<&str> = line.split(' ').collect(rt.alloc())?;
     match words.as_slice() {
-        ["log", name] => play_log(rt, name, name, &[]),
-        ["as", name, log, words @ ..] => play_log(rt, name, log, words),
+        ["log", name] => play_log(rt, name, "said", name, &[]),
+        ["as", name, log, words @ ..] => play_log(rt, name, "said", log, words),
+        ["json", name, log, words @ ..] => play_log(rt, name, "json", log, words),
         ["two", name, files] => play_two(rt, name, files),
+        ["dump", name, files, schema] => play_dump(rt, name, files, schema),
         ["cuts", name] => play_cuts(rt, name),
         _ => Err(anyhow!("no case: {line}")),
     }

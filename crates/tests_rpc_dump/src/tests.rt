@@ -1,6 +1,6 @@
 //! What is said of conversations, with which status they end, and what is said then.
 use program_files::ProgramFailure;
-use rpc_dump_lib::{Failure, Options, dump, status, tell};
+use rpc_dump_lib::{Failure, Form, Options, dump, status, tell};
 use std::alloc::Global;
 use std::io;
 use std::io::{Error, ErrorKind, Read, Write};
@@ -26,6 +26,14 @@ const CONTENTS: &str =
 
 const CONTENTS_LINES: &str =
     "{\"call\":{\"caps\":[],\"interface\":11529215046068469763,\"method\":0,\"payload\":{\"bytes\":\"AAAAAAQAAAAAAAAAAAABAAEAAABSAAAAAAcOFRwjKjE4PwAAAAAAAA==\",\"caps\":0,\"tree\":{\"struct\":{\"pointers\":[{\"bytes\":[0,7,14,21,28,35,42,49,56,63]}],\"words\":[]}}},\"question\":1,\"target\":{\"import\":0}}}\n{\"return\":{\"answer\":0,\"body\":{\"results\":{\"caps\":[{\"senderHosted\":0}],\"payload\":{\"bytes\":\"AAAAAAEAAAADAAAAAAAAAA==\",\"caps\":1,\"tree\":{\"cap\":0}}}},\"releaseParamCaps\":true}}\n";
+
+// The form of lines that options ask for, without a schema.
+fn form_of(options: Options) -> Form<'static> {
+    Form {
+        trees: options.payloads,
+        schema: None,
+    }
+}
 
 const STREAM: Options = Options {
     hex: false,
@@ -66,7 +74,7 @@ fn says(
 ) {
     let mut out = Vec::new(alloc);
     let mut reader = input;
-    let mut dumped = dump(alloc, options, None, &mut reader, &mut out);
+    let mut dumped = dump(alloc, options.hex, &form_of(options), &mut reader, &mut out);
     if matches!(
         dumped,
         Err(Failure::Program(ProgramFailure::Memory | ProgramFailure::Unwritten))
@@ -79,7 +87,7 @@ fn says(
         }
         out.clear();
         reader = input;
-        dumped = dump(alloc, options, None, &mut reader, &mut out);
+        dumped = dump(alloc, options.hex, &form_of(options), &mut reader, &mut out);
     }
     is_told(rt, alloc, dumped, failure);
     assert!(rt; out.as_slice() == lines.as_bytes());
@@ -171,14 +179,26 @@ impl Write for Broken {
 #[test]
 fn streams_that_break_off(rt: HostRuntime) {
     let mut out = Vec::new(rt.alloc());
-    let read = dump(rt.alloc(), STREAM, None, &mut Broken, &mut out);
+    let read = dump(
+        rt.alloc(),
+        STREAM.hex,
+        &form_of(STREAM),
+        &mut Broken,
+        &mut out,
+    );
     assert!(rt;
         read == Err(Failure::Program(ProgramFailure::Unreadable))
             || read == Err(Failure::Program(ProgramFailure::Memory))
     );
     assert!(rt; out.is_empty());
     let mut reader = BOOTSTRAP;
-    let written = dump(rt.alloc(), STREAM, None, &mut reader, &mut Broken);
+    let written = dump(
+        rt.alloc(),
+        STREAM.hex,
+        &form_of(STREAM),
+        &mut reader,
+        &mut Broken,
+    );
     assert!(rt;
         written == Err(Failure::Program(ProgramFailure::Unwritten))
             || written == Err(Failure::Program(ProgramFailure::Memory))

@@ -14,6 +14,6 @@ lines-preserved g c =
     let said = c.in_ok-say_digits.ensures.said in
     let some : 0 < length rest = grind (arith, nat_tests) in
     rw c.split_line.ensures.left
-    (said_more {IsCut = IsLines c.args.input.now} {line = digits_line c.args.form} (before_first is_newline rest) rest (after_first is_newline rest) said.0 c.lines.number c.saturating_add-number.result
+    (said_more {IsCut = IsLines c.args.input.now} {line = digits_line c.args.form.now} (before_first is_newline rest) rest (after_first is_newline rest) said.0 c.lines.number c.saturating_add-number.result
     (g.W.Write.contents c.args.out.now) (g.W.Write.contents c.lines.out) (g.W.Write.contents c.say_digits.new.out)
-    (λ parts. line_cut c.args.input.now rest parts some) (ap (digits_line c.args.form) (sym c.split_line.ensures.line) ∙ said.1) said.2 c.saturating_add-number.ensures c.lines.invariant)
+    (λ parts. line_cut c.args.input.now rest parts some) (ap (digits_line c.args.form.now) (sym c.split_line.ensures.line) ∙ said.1) said.2 c.saturating_add-number.ensures c.lines.invariant)

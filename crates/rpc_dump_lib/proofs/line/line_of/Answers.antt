@@ -7,4 +7,4 @@ use Rattle.rpc_dump_lib.proofs.line.line_of.Goals as goal
 pub returns : goal.returns
 returns c =
     let e = c.in_ok-value.ensures c.requires.named in
-    c.in_ok-line.ensures.text (ap has_float e ∙ in_line c.args.form (seen_envelope c.args.envelope.now)) ∙ ap compact_text e
+    c.in_ok-line.ensures.text (ap has_float e ∙ in_line c.args.form.now (seen_envelope c.args.envelope.now)) ∙ ap compact_text e

@@ -22,4 +22,4 @@ returns-in_err-number-clause-said g c input left base said =
     let kept = rw (all_behind c.bytes.at c.args.piece.now) at c.in_ok-at.ensures.kept in
     let on = kept_on (held_of c.bytes.frames) (held_of c.take_in.new.frames) c.args.piece.now left c.bytes.at taken kept in
     rw (p.1, p.2) (c.in_err-number.ensures.said input rest base
-    (subst (λ (r : List ℕ). SaidTo c.args.form input r c.bytes.number base (g.W.Write.contents c.bytes.out)) on (c.bytes.invariant.said input left base said)))
+    (subst (λ (r : List ℕ). SaidTo c.args.form.now input r c.bytes.number base (g.W.Write.contents c.bytes.out)) on (c.bytes.invariant.said input left base said)))

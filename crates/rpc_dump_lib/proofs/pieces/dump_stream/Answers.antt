@@ -11,4 +11,4 @@ pub returns-in_err-room : goal.returns-in_err-room
 returns-in_err-room g c =
     let p = err_from_is_err_and c.from_residual.result c.from_residual.ensures.1 in
     rw (p.1, p.2)
-    (nothing_said {IsCut = IsSplit} {line = frame_line c.args.form} {Stops = StreamStops} (g.R.Read.remaining c.args.reader.now) (g.W.Write.contents c.args.out.now) (failure.Program program.Memory) (λ input. record { whole = tt; joined = refl }) (λ rest. tt))
+    (nothing_said {IsCut = IsSplit} {line = frame_line c.args.form.now} {Stops = StreamStops} (g.R.Read.remaining c.args.reader.now) (g.W.Write.contents c.args.out.now) (failure.Program program.Memory) (λ input. record { whole = tt; joined = refl }) (λ rest. tt))
