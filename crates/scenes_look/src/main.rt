@@ -85,14 +85,11 @@ fn play_dump(rt: &HostRuntime, name: &str, files: &str, schema: &str) -> Result<
         bail!("no schema");
     };
     let mut said = Vec::new(rt.alloc());
-    let options = rpc_dump_lib::Options::new();
-    let dumped = dump(
-        rt.alloc(),
-        options,
-        Some(&schema),
-        &mut to.as_slice(),
-        &mut said,
-    );
+    let form = Form {
+        trees: false,
+        schema: Some(&schema),
+    };
+    let dumped = dump(rt.alloc(), false, &form, &mut to.as_slice(), &mut said);
     compare(
         rt,
         name,
