@@ -152,7 +152,7 @@ in_what trees (strange number t) = refl
 
 -- ---- with the names of a schema
 
-AllWhole : Members → Type 0
+abbrev AllWhole : Members → Type 0
 AllWhole no_members = Unit {0}
 AllWhole (member k d ms) = (has_float d ≡ false) × AllWhole ms
 

@@ -15,7 +15,7 @@ status_after (Err why) = 2
 
 -- What is said of a failure if the input has that name.
 abbrev pub said_of : List ℕ → Failure → List ℕ
-said_of name (failure.Program given) = program_said_of (codes "usage: rpc_dump [--hex] [--payloads] [FILE]") name given
+said_of name (failure.Program given) = program_said_of (codes "usage: rpc_dump [--schema FILE] [--hex] [--payloads] [FILE]") name given
 said_of name (failure.NotHex number) = codes "line " ++ (decimal number ++ (codes ": not hexadecimal" ++ 10 ∷ []))
 said_of name (failure.Message number fault) = codes "message " ++ (decimal number ++ (codes ": fault " ++ (decimal fault ++ 10 ∷ [])))
 
