@@ -40,7 +40,7 @@ Writes d old new = (text : List ℕ) × IsTextOf text d × (new ≡ old ++ (text
 abbrev pub check_of : Breach → ℕ
 check_of (breach.BehindAbort n) = 13
 check_of (breach.InUse q asked returned) = 1
-check_of (breach.NotHeld usage x gone) = 2
+check_of (breach.NotHeld usage x back) = 2
 check_of (breach.NotAsked usage q lost) = 3
 check_of (breach.TooMany by count x there) = 5
 check_of (breach.AnswersNone q over) = 4
@@ -86,7 +86,7 @@ AreSaid Is xs d = (ds : List Data) × Each Is xs ds × (d ≡ array (items_of ds
 
 -- for each descriptor the message that it is of
 abbrev pub given_data : Kept → Kept → ℕ → List Descriptor → Data
-given_data own heard number ds = list (λ d. link_data (of_descriptor own heard number d)) ds
+given_data own heard n ds = list (λ d. link_data (of_descriptor own heard n d)) ds
 
 -- number, time, size and sender of a frame, the sender by its name
 abbrev pub with_front : Moment → List ℕ → Members → Members
@@ -94,8 +94,8 @@ with_front m name ms = put (codes "from") (string name) (put (codes "frame") (na
 
 -- the earlier messages that it belongs to
 abbrev pub with_links : Kept → Kept → ℕ → Envelope → Heading → Members → Members
-with_links own heard number e h ms =
-    put (codes "given") (given_data own heard number (descriptors_of e)) (
+with_links own heard n e h ms =
+    put (codes "given") (given_data own heard n (descriptors_of e)) (
     put (codes "targetOf") (link_data (target_of own heard e)) (
     put (codes "of") (link_data (about own heard e h)) ms))
 
