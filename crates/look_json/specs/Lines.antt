@@ -64,6 +64,10 @@ broken_data check words = object (
     member (codes "check") (nat check) (
     member (codes "words") (string words) no_members))
 
+-- what breaks the protocol where no message is, in words
+abbrev pub no_message_data : List ℕ → Data
+no_message_data words = array (item (broken_data no_message words) no_items)
+
 -- A breach is said, in some words.
 abbrev pub IsBroken : Breach → Data → Type 0
 IsBroken b d = (words : List ℕ) × (d ≡ broken_data (check_of b) words)
@@ -110,13 +114,12 @@ abbrev pub IsMessage : Moment → Kept → Kept → Envelope → Heading → Fou
 IsMessage m own heard e h found form d =
     (name : List ℕ) × (ms : Members) × IsFound found (with_links own heard m.number e h (with_front m name (members_in (line_data form (seen_envelope e))))) ms × (d ≡ object ms)
 
--- The line of a frame that is no message, with the number of its fault and some words.
-abbrev pub IsNone : Moment → EnvelopeFault → Data → Type 0
-IsNone m f d =
-    (name words : List ℕ) × (d ≡ object (
+-- The line of a frame that is no message, with the number of its fault and these words.
+abbrev pub none_data : Moment → EnvelopeFault → List ℕ → List ℕ → Data
+none_data m f name words = object (
     put (codes "odd") (array no_items) (
-    put (codes "breaks") (array (item (broken_data no_message words) no_items)) (
-    with_front m name (member (codes "fault") (nat (number_of f)) no_members)))))
+    put (codes "breaks") (no_message_data words) (
+    with_front m name (member (codes "fault") (nat (number_of f)) no_members))))
 
 -- ---- what else is said
 
@@ -129,7 +132,7 @@ rest_data name count = object (
 -- Nothing more of an end is read.
 abbrev pub cut_data : List ℕ → ℕ → List ℕ → Data
 cut_data name n words = object (
-    member (codes "breaks") (array (item (broken_data no_message words) no_items)) (
+    member (codes "breaks") (no_message_data words) (
     member (codes "cut") (nat n) (
     member (codes "from") (string name) no_members)))
 

@@ -1,7 +1,7 @@
 //! What is to be said of a message.
 ghost use Rattle.std.specs.Prelude.{◌≡◌, IfOk};
 ghost use Rattle.serde_json.specs.View.{view};
-ghost use Rattle.look_json.specs.Lines.{check_of, broken_data, IsBroken, IsOdd, AreSaid};
+ghost use Rattle.look_json.specs.Lines.{check_of, broken_data, no_message_data, IsBroken, IsOdd, AreSaid};
 
 use crate::members::put_text;
 use look_books::{Breach, Oddity};
@@ -12,7 +12,7 @@ use std::alloc::{AllocError, Global};
 use trace_write::write_numbers;
 
 /// The check that finds no message in a frame.
-pub(crate) const NO_MESSAGE: u64 = 14;
+const NO_MESSAGE: u64 = 14;
 
 /// The number of the check that finds a breach.
 fn check_of(breach: &Breach) -> u64
@@ -39,12 +39,21 @@ fn check_of(breach: &Breach) -> u64
 }
 
 /// What breaks the protocol: the number of a check, and words.
-pub(crate) fn write_check(alloc: Global, check: u64, words: &str) -> Result<Value, AllocError>
+fn write_check(alloc: Global, check: u64, words: &str) -> Result<Value, AllocError>
     ensures { IfOk result (λ v. view v ≡ broken_data check words.now) }
 {
     let mut members = write_numbers(alloc, &[("check", check)])?;
     put_text(&mut members, alloc, "words", words)?;
     Ok(Value::Object(members))
+}
+
+/// What breaks the protocol where no message is, in words.
+pub(crate) fn write_no_message(alloc: Global, words: &str) -> Result<Value, AllocError>
+    ensures { IfOk result (λ v. view v ≡ no_message_data words.now) }
+{
+    let mut values = Vec::new(alloc);
+    values.push(write_check(alloc, NO_MESSAGE, words)?)?;
+    Ok(Value::Array(values))
 }
 
 /// A breach of a message of an end.

@@ -5,9 +5,9 @@ ghost use Rattle.serde_json.specs.View.{view, members_view};
 ghost use Rattle.look_pieces.specs.Pieces.{other_side};
 ghost use Rattle.look_books.specs.Ends.{kept_of, end_of};
 ghost use Rattle.rpc_dump_lib.specs.Named.{IsNamed};
-ghost use Rattle.look_json.specs.Lines.{given_data, with_front, with_links, IsFound, IsMessage, IsNone, Writes};
+ghost use Rattle.look_json.specs.Lines.{given_data, with_front, with_links, IsFound, IsMessage, none_data, Writes};
 
-use crate::found::{NO_MESSAGE, write_breaches, write_check, write_oddities};
+use crate::found::{write_breaches, write_no_message, write_oddities};
 use crate::links::{about, descriptors_of, of_descriptor, target_of};
 use crate::members::{link, put_link, put_text, write_line};
 use look_books::{Books, End, Found, Moment};
@@ -119,6 +119,27 @@ pub fn write_message(
     write_line(alloc, out, &Value::Object(members))
 }
 
+/// What is to be said of a frame that is no message, in these words.
+fn none_said(
+    alloc: Global,
+    place: &Place<'_>,
+    fault: EnvelopeFault,
+    words: &str,
+) -> Result<Value, AllocError>
+    ensures { IfOk result (λ v. (name : List ℕ) × (view v ≡ none_data place.now.moment fault name words.now)) }
+{
+    let mut members = write_numbers(alloc, &[("fault", u64::from(fault.code()))])?;
+    put_front(&mut members, alloc, place)?;
+    put(
+        &mut members,
+        alloc,
+        "breaks",
+        write_no_message(alloc, words)?,
+    )?;
+    put(&mut members, alloc, "odd", Value::Array(Vec::new(alloc)))?;
+    Ok(Value::Object(members))
+}
+
 /// Writes the line of a frame that is no message, with why it is none. It fails only if memory is refused.
 pub fn write_none(
     alloc: Global,
@@ -126,13 +147,9 @@ pub fn write_none(
     place: &Place<'_>,
     fault: EnvelopeFault,
 ) -> Result<(), AllocError>
-    ensures { OnOk result ((d : Data) × IsNone place.now.moment fault d × Writes d (string_bytes out.old) (string_bytes out.new)) }
+    ensures { OnOk result ((name words : List ℕ) × Writes (none_data place.now.moment fault name words) (string_bytes out.old) (string_bytes out.new)) }
 {
     let words = format!(in alloc; "{fault}")?;
-    let mut members = write_numbers(alloc, &[("fault", u64::from(fault.code()))])?;
-    put_front(&mut members, alloc, place)?;
-    let broken = vec![in alloc; write_check(alloc, NO_MESSAGE, words.as_str())?]?;
-    put(&mut members, alloc, "breaks", Value::Array(broken))?;
-    put(&mut members, alloc, "odd", Value::Array(Vec::new(alloc)))?;
-    write_line(alloc, out, &Value::Object(members))
+    let said = none_said(alloc, place, fault, words.as_str())?;
+    write_line(alloc, out, &said)
 }
