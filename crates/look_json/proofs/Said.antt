@@ -14,12 +14,11 @@ each_more Is (y ∷ ys) x (e ∷ ds) d all one = (all.0, each_more Is ys x ds d 
 
 -- one item more
 pub said_more : {A : Type 0} (Is : A → Data → Type 0) (more done : List Value) (xs : List A) (i : ℕ) (x : A) (v : Value)
-    → more ≡ done ++ v ∷ [] → i < length xs → x ≡ get_or xs i x → Is x (view v) → Each Is (take i xs) (map view done) → Each Is (take (i + 1) xs) (map view more)
-said_more {A} Is more done xs i x v is_more lt is_x one so_far =
-    let taken : take (i + 1) xs ≡ take i xs ++ x ∷ [] = take_more xs i x lt ∙ ap (λ (y : A). take i xs ++ y ∷ []) (sym is_x) in
+    → more ≡ done ++ v ∷ [] → i < length xs → Is (get_or xs i x) (view v) → Each Is (take i xs) (map view done) → Each Is (take (i + 1) xs) (map view more)
+said_more {A} Is more done xs i x v is_more lt one so_far =
     let made : map view more ≡ map view done ++ view v ∷ [] = ap (map view) is_more ∙ map_push view done v in
     subst (λ (ds : List Data). Each Is (take (i + 1) xs) ds) (sym made)
-    (subst (λ (ys : List A). Each Is ys (map view done ++ view v ∷ [])) (sym taken) (each_more Is (take i xs) x (map view done) (view v) so_far one))
+    (subst (λ (ys : List A). Each Is ys (map view done ++ view v ∷ [])) (sym (take_more xs i x lt)) (each_more Is (take i xs) (get_or xs i x) (map view done) (view v) so_far one))
 
 -- all of them
 pub said_all : {A : Type 0} (Is : A → Data → Type 0) (done : List Value) (xs : List A) (i : ℕ) → length xs ≤ i → Each Is (take i xs) (map view done) → Each Is xs (map view done)

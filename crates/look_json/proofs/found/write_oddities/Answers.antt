@@ -1,13 +1,17 @@
-use Rattle.std.proofs.Common.{map, refl}
+use Rattle.std.proofs.Common.{map}
 use Rattle.serde_json.specs.View.{view}
+use Rattle.serde_json.proofs.Views.{view-Array}
 use Rattle.look_json.specs.Lines.{IsOdd}
 use Rattle.look_json.proofs.Said.{said_more, said_all}
 use Rattle.look_json.proofs.found.write_oddities.Goals as goal
 
 pub loop-oddity-preserved : goal.loop-oddity-preserved
 loop-oddity-preserved c =
-    said_more IsOdd c.push.new.self.items c.loop-oddity.values.items c.args.oddities.now c.loop-oddity.oddity-index c.oddity-item.result _ c.push.ensures.items c.loop-oddity-test.true c.oddity-item.is
-    c.in_ok-write_oddity.ensures c.loop-oddity.invariant
+    said_more IsOdd c.push.new.self.items c.loop-oddity.values.items c.args.oddities.now c.loop-oddity.oddity-index _ _ c.push.ensures.items c.loop-oddity-test.true c.in_ok-write_oddity.ensures c.loop-oddity.invariant
 
 pub returns : goal.returns
-returns c = (map view c.loop-oddity.values.items, said_all IsOdd c.loop-oddity.values.items c.args.oddities.now c.loop-oddity.oddity-index c.loop-oddity-test.false c.loop-oddity.invariant, refl)
+returns c = (
+      map view c.loop-oddity.values.items,
+      said_all IsOdd c.loop-oddity.values.items c.args.oddities.now c.loop-oddity.oddity-index c.loop-oddity-test.false c.loop-oddity.invariant,
+      view-Array c.loop-oddity.values,
+    )
