@@ -79,9 +79,9 @@ pub(crate) fn write_breaches(
 ) -> Result<Value, AllocError>
     ensures { IfOk result (λ v. AreSaid IsBroken breaches.now (view v)) }
 {
-    let mut values = Vec::new(alloc);
+    let mut values = Vec::with_capacity(alloc, breaches.len())?;
     for breach in breaches {
-        values.push(write_breach(alloc, ends, side, breach)?)?;
+        values.push_reserved(write_breach(alloc, ends, side, breach)?);
     }
     Ok(Value::Array(values))
 }
@@ -98,9 +98,9 @@ fn write_oddity(alloc: Global, oddity: &Oddity) -> Result<Value, AllocError>
 pub(crate) fn write_oddities(alloc: Global, oddities: &[Oddity]) -> Result<Value, AllocError>
     ensures { IfOk result (λ v. AreSaid IsOdd oddities.now (view v)) }
 {
-    let mut values = Vec::new(alloc);
+    let mut values = Vec::with_capacity(alloc, oddities.len())?;
     for oddity in oddities {
-        values.push(write_oddity(alloc, oddity)?)?;
+        values.push_reserved(write_oddity(alloc, oddity)?);
     }
     Ok(Value::Array(values))
 }
