@@ -74,7 +74,7 @@ impl<'w> Asked<'w> {
 }
 
 /// What all words ask for: options, and the file last. `None` if one asks for nothing.
-fn asked(words: &[String]) -> Option<Asked<'_>> {
+fn asked_by(words: &[String]) -> Option<Asked<'_>> {
     let mut asked = Asked {
         options: Options::new(),
         schema: None,
@@ -91,7 +91,7 @@ fn asked(words: &[String]) -> Option<Asked<'_>> {
 }
 
 fn run(rt: &HostRuntime, words: &[String]) -> ExitCode {
-    let Some(asked) = asked(words) else {
+    let Some(asked) = asked_by(words) else {
         return ended(rt, Err(Failure::Program(ProgramFailure::Usage)), "-");
     };
     let trees = asked.options.payloads;
