@@ -1,4 +1,6 @@
 //! What is said of conversations, with which status they end, and what is said then.
+ghost use Rattle.rpc_dump_lib.specs.Named.{IsNamed};
+
 use program_files::ProgramFailure;
 use rpc_dump_lib::{Failure, Form, Options, dump, status, tell};
 use std::alloc::Global;
@@ -28,7 +30,9 @@ const CONTENTS_LINES: &str =
     "{\"call\":{\"caps\":[],\"interface\":11529215046068469763,\"method\":0,\"payload\":{\"bytes\":\"AAAAAAQAAAAAAAAAAAABAAEAAABSAAAAAAcOFRwjKjE4PwAAAAAAAA==\",\"caps\":0,\"tree\":{\"struct\":{\"pointers\":[{\"bytes\":[0,7,14,21,28,35,42,49,56,63]}],\"words\":[]}}},\"question\":1,\"target\":{\"import\":0}}}\n{\"return\":{\"answer\":0,\"body\":{\"results\":{\"caps\":[{\"senderHosted\":0}],\"payload\":{\"bytes\":\"AAAAAAEAAAADAAAAAAAAAA==\",\"caps\":1,\"tree\":{\"cap\":0}}}},\"releaseParamCaps\":true}}\n";
 
 // The form of lines that options ask for, without a schema.
-fn form_of(options: Options) -> Form<'static> {
+fn form_of(options: Options) -> Form<'static>
+    ensures { IsNamed result }
+{
     Form {
         trees: options.payloads,
         schema: None,
