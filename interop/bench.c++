@@ -1,6 +1,7 @@
-// How many calls of a counter are answered in a second.
+// How many calls of a counter are answered in a second, and how many echoes of bytes.
 #include "scenarios.h"
 #include <chrono>
+#include <cstring>
 #include <iostream>
 
 namespace interop {
@@ -18,6 +19,20 @@ uint64_t rate(uint calls, Work&& work) {
   return calls / seconds.count();
 }
 
+// How often so many bytes are echoed in a second.
+uint64_t echoes(Peer& peer, uint calls, size_t size) {
+  auto bytes = kj::heapArray<kj::byte>(size);
+  memset(bytes.begin(), 7, size);
+  return rate(calls, [&]() {
+    for (uint i = 0; i < calls; i++) {
+      auto request = peer.registry.echoRequest();
+      request.setData(bytes);
+      auto came = request.send().wait(peer.io.waitScope);
+      KJ_REQUIRE(came.getData().size() == size);
+    }
+  });
+}
+
 }  // namespace
 
 void bench(Peer& peer, uint calls) {
@@ -33,7 +48,7 @@ void bench(Peer& peer, uint calls) {
       batch.wait(peer);
     }
   });
-  std::cout << single << " " << together << std::endl;
+  std::cout << single << " " << together << " " << echoes(peer, calls / 10, 65536) << " " << echoes(peer, calls / 10, 409600) << std::endl;
 }
 
 }  // namespace interop
