@@ -17,6 +17,7 @@ use std::time::Instant;
 
 /// How many bytes the contents have that come back.
 const SMALL: usize = 65_536;
+
 const LARGE: usize = 409_600;
 
 /// How often something takes place in a second.
