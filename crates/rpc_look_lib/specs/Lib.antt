@@ -5,9 +5,11 @@
 -- - `Streams`: the bytes of one end, of which parts come.
 -- - `Capturing`: a conversation of which pieces come.
 -- - `Reading`: a log, line by line.
+-- - `Weaving`: two files, without an order between them.
 pub mod Status
 pub mod Watching
 pub mod Talking
 pub mod Streams
 pub mod Capturing
 pub mod Reading
+pub mod Weaving
