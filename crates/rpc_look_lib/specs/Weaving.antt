@@ -16,12 +16,13 @@ use Rattle.rpc_look_lib.specs.Talking.{Stand, IsUnspoken, with_breach, is_done, 
 
 -- ---- frames
 
+-- Behind the frames of an end the beginning of the next one is left, or no frame comes next, which breaks the protocol.
 abbrev pub CutEnds : Front → Stand → Stand → Type 0
 CutEnds (front.Complete n) old new = ⊥
 CutEnds (front.Need n) old new = new ≡ old
 CutEnds (front.Fault f) old new = new ≡ with_breach old
 
--- The bytes of an end are these frames, behind which the beginning of one is left, or no frame comes.
+-- The bytes of an end are these frames, and what is left behind them.
 pub record Cuts (bytes : List ℕ) (old : Stand) (frames : List (List ℕ)) (new : Stand) : Type 0 where
   pub rest : List ℕ
   pub split : IsSplit bytes frames rest
@@ -34,6 +35,7 @@ abbrev pub IsNextOf : Stand → Side → List (List ℕ) → ℕ → Told → Ty
 IsNextOf x s [] size told = ⊥
 IsNextOf x s (frame ∷ frames) size told = (size ≡ length frame) × IsSaid frame told × IsJudged x.kept s told
 
+-- That is the next message of an end, if a frame of it is left.
 abbrev pub IsNextAt : Stand → Side → List (List ℕ) → Option Next → Type 0
 IsNextAt x s [] None = Unit {0}
 IsNextAt x s [] (Some n) = ⊥
@@ -54,6 +56,7 @@ HasNone x s (frame ∷ frames) = (told : Told) × IsSaid frame told × IsJudged 
 abbrev pub IsPicked : Stand → Side → List (List ℕ) → List (List ℕ) → ℕ → Told → Type 0
 IsPicked x s mine theirs size told = IsNextOf x s mine size told × (breaks told ≡ true → HasNone x (other_side s) theirs)
 
+-- That is the next message of the two ends, if a frame is left.
 abbrev pub IsChosen : Stand → Side → List (List ℕ) → List (List ℕ) → Option Next → Type 0
 IsChosen x s mine theirs None = (mine ≡ []) × (theirs ≡ [])
 IsChosen x s mine theirs (Some n) =
@@ -94,13 +97,14 @@ abbrev pub IsOver : Bool → Rest → Type 0
 IsOver true rest = Unit {0}
 IsOver false rest = (rest.client ≡ []) × (rest.server ≡ [])
 
+-- The frames of both ends that are left come in one order.
 pub record Woven (at : Option ℕ) (old : Stand) (left : Rest) (new : Stand) : Type 0 where
   pub order : List Side
   pub rest : Rest
   pub weaves : Weaves at old left order new rest
   pub over : IsOver (is_done at new) rest
 
--- Two files are looked at.
+-- Two files are looked at: their frames come in one order, and the verdict is that of what was said behind the last one.
 pub record LooksAtTwo (at : Option ℕ) (to from : List ℕ) (broken : Bool) : Type 0 where
   pub start : Stand
   pub unspoken : IsUnspoken start

@@ -38,6 +38,7 @@ fn keep_frame(frames: &mut Vec<Frame>, frame: Option<Frame>) -> Result<(), Alloc
 {
     match frame {
         Some(frame) => {
+            // Its contract says that a frame is whole.
             let _whole = frame.bytes();
             frames.push(frame).map_err(AllocError::from)
         }
