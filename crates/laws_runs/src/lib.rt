@@ -1,7 +1,7 @@
 //! Laws of runs of two vats, and what is promised of every run from what is left to prove of them. No code runs here: what
 //! each function ensures is the law.
 //!
-//! `laws.rt` has the laws of runs and scenes, `sessions.rt` those of sessions of ids, `counts.rt` those of counts. No step
+//! `laws.rt` and `scenes.rt` have the laws of runs and scenes, `sessions.rt` those of sessions of ids, `counts.rt` those of counts. No step
 //! of a core is unfolded here: what references count is a relation for the walk of `laws_steps`.
 #![tactic(auto)]
 

@@ -19,8 +19,8 @@ pub(crate) const ANSWER: u32 = 5;
 #[repr(C)]
 #[derive(Clone, Copy, Debug, PartialEq, Eq, Drop)]
 pub struct Lead {
-    /// 1 to an object of this vat, 2 to a promise of this vat that is not settled, 3 to the results of a call to this vat that did not
-    /// end, 4 to what the peer exports by an id, 5 to what stands in the results of a question, 6 nowhere.
+    /// Where they go. 1: to an object of this vat. 2: to a promise of this vat that is not settled. 3: to the results of a call to this
+    /// vat that did not end. 4: to what the peer exports by an id. 5: to what stands in the results of a question. 6: nowhere.
     pub kind: u32,
     /// 1 if they wait under an embargo before.
     pub is_embargoed: u32,

@@ -11,8 +11,8 @@ use vat_connection::{Delivery, Ended, Event, Outcome, PeerPlace};
 #[repr(C)]
 #[derive(Clone, Copy, Debug, PartialEq, Eq, Drop)]
 pub struct Notice {
-    /// 1 a call to serve, 2 an own call that ended, 3 the vat is down, 4 an object is released, 5 a task is cancelled, 6 what stands at a
-    /// place of the peer is known, 7 the embargo of a reference is over.
+    /// What it tells. 1: a call to serve. 2: an own call that ended. 3: the vat is down. 4: an object is released. 5: a task is cancelled.
+    /// 6: what stands at a place of the peer is known. 7: the embargo of a reference is over.
     pub kind: u32,
     /// Of 1: its method.
     pub method: u32,

@@ -1,6 +1,6 @@
 //! Whether a trace keeps the laws of two vats: the first entry that breaks one, or how many calls were delivered.
 //!
-//! - `checker.rt` takes entries and gives the verdict.
+//! - `checker.rt` takes entries and gives the verdict (`verdict.rt`).
 //! - `pending.rt` is what it knows while no law is broken, in three parts that each take every entry: `calls.rt` (the
 //!   references of both vats; `lines.rt` those of one), `ways.rt` (the messages on their way both ways; `way.rt` those of
 //!   one vat, `said.rt` what its questions and answers handed on, list by list, and which is the last of each id;

@@ -1,4 +1,7 @@
 //! The journal: what happened at two vats, entry by entry.
+//!
+//! - `entry.rt`: entries. `report.rt`: what they report of deliveries, ends of calls and shorter paths. `laws.rt`: what is proved of the
+//!   definitions of the history.
 #![tactic(auto)]
 
 mod entry;

@@ -1,4 +1,8 @@
 //! The messages that two vats send each other, as typed values: `rpc.capnp` at levels 0 and 1.
+//!
+//! - `message.rt`: the messages, with the rule of each. `parts.rt`: targets and descriptors. `path.rt`: paths. `exception.rt`, `text.rt`:
+//!   exceptions and texts. `ids.rt`: the vats, and the numbers of questions, exports, embargoes and references.
+//! - `items.rt`: lists that contracts see as lists.
 #![tactic(auto)]
 
 mod exception;

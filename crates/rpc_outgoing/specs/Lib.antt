@@ -1,1 +1,4 @@
+-- What each file says:
+-- - `Outflows`: the bytes that go out of a vat, and the frames that are kept to send back what was not understood.
+
 pub mod Outflows

@@ -194,8 +194,8 @@ impl Connection {
     }
 
     /// Takes a command of any kind, as `Host::command` does. Refused with `Full` too, if what it gives may be too large for
-    /// the frames that carry it (docs/messages.md, "What fits"), and with `Memory`, except for a `Shut`, if there is no place for a
-    /// call that it may make. A command that is refused is handed back.
+    /// the frames that carry it (docs/messages.md, "What fits"). Refused with `Memory` too, except for a `Shut`, if there is no place for
+    /// a call that it may make. A command that is refused is handed back.
     pub fn command(&mut self, command: Command) -> Result<Granted, Refused<Command>>
         ensures done { IfOk result (λ granted. Does self.old.speaker.host command granted self.new.speaker.host × Fits command) }
         ensures refused { IfErr result (λ e. Refuses self.old.speaker.host command e.refusal self.new.speaker.host ⊎ IsTooLarge self.old.speaker.host command e.refusal self.new.speaker.host) }
