@@ -8,9 +8,8 @@ def head(text):
 
 
 def unlisted(root):
-    """Each file of `specs/` that the head of its `Lib.antt` doesn't name, in crates that have several."""
+    """Each file of `specs/` that the head of its `Lib.antt` doesn't name."""
     for lib in sorted(root.glob("crates/*/specs/Lib.antt")):
         files = {it.stem for it in lib.parent.rglob("*.antt")} - {"Lib"}
-        if len(files) > 1:
-            for it in sorted(files - set(re.findall(r"`(?:specs/)?(\w+)`", head(lib.read_text())))):
-                yield f"{lib.relative_to(root)}: its head doesn't name {it}"
+        for it in sorted(files - set(re.findall(r"`(?:specs/)?(\w+)`", head(lib.read_text())))):
+            yield f"{lib.relative_to(root)}: its head doesn't name {it}"
