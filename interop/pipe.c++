@@ -1,13 +1,10 @@
-// pipe TRIPS CYCLES ECHOES: two vats in this process over a pipe in memory. Says how many calls of a method without arguments are
-// answered in a second, one at a time, and how often a promise is resolved to an object of the caller's own, with a call through it
-// before and one behind, which an embargo holds; and how many echoes of 64 KiB and of 400 KiB there are in a second. That is what
-// bench_connection does with two connections.
+// pipe TRIPS CYCLES: two vats in this process over a pipe in memory. Says how many calls of a method without arguments are answered
+// in a second, one at a time, and how often a promise is resolved to an object of the caller's own, with a call through it before
+// and one behind, which an embargo holds. That is what bench_connection does with two connections.
 #include "objects.h"
 #include <capnp/rpc-twoparty.h>
 #include <chrono>
-#include <cstring>
 #include <kj/async-io.h>
-#include <iostream>
 #include <string>
 
 namespace interop {
@@ -39,23 +36,11 @@ void cycle(kj::WaitScope& scope, Registry::Client& registry, Printer::Client own
   behind.wait(scope);
 }
 
-void echoed(kj::WaitScope& scope, Registry::Client& registry, kj::ArrayPtr<const kj::byte> bytes) {
-  auto request = registry.echoRequest();
-  request.setData(bytes);
-  KJ_REQUIRE(request.send().wait(scope).getData().size() == bytes.size());
-}
-
-uint64_t echoes(kj::WaitScope& scope, Registry::Client& registry, uint times, size_t size) {
-  auto bytes = kj::heapArray<kj::byte>(size);
-  memset(bytes.begin(), 7, size);
-  return rate(times, [&]() { echoed(scope, registry, bytes); });
-}
-
 }  // namespace
 
 int run(int words, char** word) {
-  if (words != 4) {
-    std::cerr << "usage: pipe TRIPS CYCLES ECHOES" << std::endl;
+  if (words != 3) {
+    std::cerr << "usage: pipe TRIPS CYCLES" << std::endl;
     return 2;
   }
   auto io = kj::setupAsyncIo();
@@ -73,9 +58,6 @@ int run(int words, char** word) {
   auto trips = rate(std::stoul(word[1]), [&]() { registry.unsubscribeRequest().send().wait(io.waitScope); });
   auto cycles = rate(std::stoul(word[2]), [&]() { cycle(io.waitScope, registry, own); });
   std::cout << trips << " round trips and " << cycles << " cycles with an embargo a second" << std::endl;
-  uint times = std::stoul(word[3]);
-  auto small = echoes(io.waitScope, registry, times, 65536);
-  std::cout << small << " echoes of 64KiB and " << echoes(io.waitScope, registry, times, 409600) << " of 400KiB a second" << std::endl;
   return 0;
 }
 

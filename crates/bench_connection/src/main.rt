@@ -1,8 +1,8 @@
 //! Measures two connections in one process, whose bytes go both ways through memory. What it prints differs from run to run;
 //! `docs/benchmarks.md` has figures.
 //!
-//! `bench_connection TRIPS CYCLES [ECHOES]` makes TRIPS calls that are answered and finished, and then takes CYCLES shorter paths, each
-//! with an embargo. Then it makes ECHOES calls with 64 KiB, and as many with 400 KiB, each of which comes back as its results.
+//! `bench_connection TRIPS CYCLES` makes so many calls that are answered and finished, and then takes so many shorter paths
+//! behind embargoes.
 //! Without arguments it does nothing.
 #![tactic(auto)]
 
@@ -10,15 +10,10 @@ mod pair;
 mod side;
 
 use anyhow::{Result, bail};
-use pair::{Pair, bytes_alone};
+use pair::Pair;
 use std::env;
 use std::process::ExitCode;
 use std::time::Instant;
-
-/// How many bytes the contents have that come back.
-const SMALL: usize = 65_536;
-
-const LARGE: usize = 409_600;
 
 /// How often something takes place in a second.
 fn rate(count: u32, nanos: u128) -> u128 {
@@ -41,24 +36,6 @@ fn measure(rt: &HostRuntime, pair: &mut Pair, trips: u32, cycles: u32) -> Result
     Ok(())
 }
 
-/// How often a call with so many bytes is answered with them in a second.
-fn echoes(rt: &HostRuntime, pair: &mut Pair, size: usize, count: u32) -> Result<u128> {
-    let contents = bytes_alone(rt.alloc(), size)?;
-    let start = Instant::now(rt)?;
-    for _ in 0..count {
-        pair.echo(&contents)?;
-    }
-    Ok(rate(count, start.elapsed(rt)?.as_nanos()))
-}
-
-/// Prints how many calls with each size of contents are answered with these in a second.
-fn measure_echoes(rt: &HostRuntime, pair: &mut Pair, count: u32) -> Result<()> {
-    let small = echoes(rt, pair, SMALL, count)?;
-    let large = echoes(rt, pair, LARGE, count)?;
-    println!(rt; "{small} echoes of 64KiB and {large} of 400KiB a second")?;
-    Ok(())
-}
-
 fn main(rt: HostRuntime) -> Result<ExitCode> {
     let mut words = env::args(&rt)?;
     let _program = words.next();
@@ -66,13 +43,10 @@ fn main(rt: HostRuntime) -> Result<ExitCode> {
         return Ok(ExitCode::SUCCESS);
     };
     let Some(cycles) = words.next() else {
-        bail!("usage: bench_connection TRIPS CYCLES [ECHOES]");
+        bail!("usage: bench_connection TRIPS CYCLES");
     };
     let (trips, cycles) = (trips.as_str().parse()?, cycles.as_str().parse()?);
     let mut pair = Pair::new(rt.alloc())?;
     measure(&rt, &mut pair, trips, cycles)?;
-    if let Some(count) = words.next() {
-        measure_echoes(&rt, &mut pair, count.as_str().parse()?)?;
-    }
     Ok(ExitCode::SUCCESS)
 }

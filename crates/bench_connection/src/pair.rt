@@ -2,9 +2,8 @@
 
 use crate::side::Side;
 use anyhow::{Result, bail};
-use rpc_msg::Tree;
 use std::alloc::Global;
-use vat_connection::{ObjectId, Payload, RefId, Vat};
+use vat_connection::{ObjectId, RefId, Vat};
 
 /// Two connections. Vat a has a reference to the bootstrap object of vat b, which has one to an object of vat a.
 #[derive(Drop)]
@@ -29,17 +28,6 @@ impl Pair {
         self.a.send(&mut self.b);
         let task = self.b.served()?;
         self.b.answer(task.id, None)?;
-        self.b.send(&mut self.a);
-        self.a.ended()?;
-        self.a.send(&mut self.b);
-        Ok(())
-    }
-
-    /// A call with these contents, which come back as its results, and its end.
-    pub(crate) fn echo(&mut self, contents: &Payload) -> Result<()> {
-        self.a.call_with(self.root, contents)?;
-        self.a.send(&mut self.b);
-        self.b.give_back()?;
         self.b.send(&mut self.a);
         self.a.ended()?;
         self.a.send(&mut self.b);
@@ -83,14 +71,6 @@ impl Pair {
         self.b.send(&mut self.a);
         Ok(reference)
     }
-}
-
-/// Contents that are so many bytes.
-pub(crate) fn bytes_alone(alloc: Global, size: usize) -> Result<Payload> {
-    let mut bytes = Vec::new(alloc);
-    bytes.resize(size, 7)?;
-    let tree = Tree::data(alloc, bytes.as_slice())?;
-    Ok(Payload::write(alloc, &tree, 0)?)
 }
 
 // Each gets a reference to an object of the other's.

@@ -63,28 +63,6 @@ impl Side {
         Ok(())
     }
 
-    /// A call with these contents.
-    pub(crate) fn call_with(&mut self, reference: RefId, contents: &Payload) -> Result<()> {
-        self.connection.call(CallCommand {
-            reference,
-            interface: 0,
-            method: 0,
-            payload: contents.copy(self.alloc)?,
-            refs: Items::new(self.alloc),
-        })?;
-        Ok(())
-    }
-
-    /// Answers the call that came with its own contents.
-    pub(crate) fn give_back(&mut self) -> Result<()> {
-        let Event::Served(task) = self.next()? else {
-            bail!("no call came");
-        };
-        self.connection
-            .answer(task.task, task.payload, Items::new(self.alloc))?;
-        Ok(())
-    }
-
     pub(crate) fn answer(&mut self, task: TaskId, given: Option<RefId>) -> Result<()> {
         let (payload, refs) = self.said(given)?;
         self.connection.answer(task, payload, refs)?;
