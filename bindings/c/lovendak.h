@@ -76,7 +76,7 @@ enum {
   LOVENDAK_NO_PAYLOAD = 102,    /* the bytes are no payload, or the text is no UTF-8 */
   LOVENDAK_ROOM = 103,          /* too little room: nothing was taken, and the lengths are said */
   LOVENDAK_NOTHING = 104,       /* there is nothing of the kind */
-  LOVENDAK_NO_SUCH_NUMBER = 105 /* no such level, kind of exception, number to shut with, index or width */
+  LOVENDAK_NO_SUCH_NUMBER = 105 /* no such level, kind of exception, number to shut with, time for Finishes, index or width */
 };
 
 /* Kinds of exceptions. */

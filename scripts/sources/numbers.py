@@ -13,7 +13,9 @@ SECTIONS = [
         """A vat goes down once, with one number. The event `Down` of a connection or a host has it, `lovendak_down` in C, and a `down` entry
 in a trace. The Abort that the vat sends has the reason `fault N` (kind `failed`). An application that shuts its vat chooses the number;
 0 is usual, and is also the number if the peer's stream ends between two messages. Numbers 2 to 12 and 60 to 68 come only over bytes.
-After any of them, drop the vat, and connect again with a new one.
+At a connection a call or an answer that breaks a limit (4 up to 64 MiB, 11, 12 and 62) fails its call alone, if the beginning of the
+message says which call that is ([messages.md](messages.md#messages-that-are-too-large)).
+After the vat went down, drop it, and connect again with a new one.
 If the peer sends an Abort with `fault N`, your own vat goes down with 34. Then row N says what the peer found wrong with the messages of
 your side: read it with the roles exchanged.""",
         "Fault",
@@ -22,15 +24,15 @@ your side: read it with the roles exchanged.""",
             "PayloadFault::Memory": None,  # a vat that lacks memory goes down with 33
             "PayloadFault::Short": "The peer's stream ended inside a message: it was cut off. Connect again.",
             "PayloadFault::TooManySegments": "Have the peer build messages with a larger first segment.",
-            "PayloadFault::TooLarge": "Have the peer split what it sends over several calls: a message has at most 512 KiB. A connection goes down only if it is no call or answer, or above 64 MiB.",
+            "PayloadFault::TooLarge": "Have the peer split what it sends over several calls: a message has at most 512 KiB.",
             "PayloadFault::Trailing": BYTES,
             "PayloadFault::OutOfBounds": BYTES,
             "PayloadFault::BadFar": BYTES,
             "PayloadFault::BadTag": BYTES,
             "PayloadFault::BadOther": BYTES,
             "PayloadFault::CapIndex": BYTES,
-            "PayloadFault::Depth": "Have the peer send contents that nest less deeply. At a connection such a call or answer fails its call alone.",
-            "PayloadFault::Traversal": "Have the peer send less in one message. Contents to which several pointers lead count once for each. At a connection such a call or answer fails its call alone.",
+            "PayloadFault::Depth": "Have the peer send contents that nest less deeply.",
+            "PayloadFault::Traversal": "Have the peer send less in one message. Contents to which several pointers lead count once for each.",
             "Fault::QuestionInUse": PEER,
             "Fault::UnknownQuestion": PEER,
             "Fault::UnknownExport": PEER,
@@ -42,13 +44,13 @@ your side: read it with the roles exchanged.""",
             "Fault::UnknownEmbargo": PEER,
             "Fault::KindMismatch": "The peer named a promise again after its Resolve. A connection hears other names in the kind of the first one. Capture both directions, print them with `rpc_dump`, and show them to the peer's maker.",
             "Fault::BadPayload": PEER,
-            "Fault::HeldLimit": "65,536 calls wait at promises. Settle promises sooner, or have callers wait for answers.",
+            "Fault::HeldLimit": "65,536 calls wait: at promises, for results and under embargoes. Settle promises sooner, or have callers wait for answers.",
             "Fault::UnimplementedAnswer": "The peer doesn't know a message that every vat has to know. It can't be served.",
-            "Fault::WantOfRoom": "Look at the limits ([protocol.md](protocol.md)): finish calls that have ended, drop references, answer tasks. If no table is near its limit, the process lacked memory.",
+            "Fault::WantOfRoom": "Look at the limits ([protocol.md](protocol.md)): finish calls that have ended, drop references, answer tasks. If no table is near its limit, the process lacked memory, or at a connection a message that goes on is too large for a frame.",
             "Fault::PeerAbort": "The event of going down has the reason of the Abort.",
             "EnvelopeFault::WrongKind": BYTES,
             "EnvelopeFault::BadText": BYTES,
-            "EnvelopeFault::TooManyDescriptors": "Have the peer send fewer capabilities in one message. At a connection such a call or answer fails its call alone.",
+            "EnvelopeFault::TooManyDescriptors": "Have the peer send fewer capabilities in one message.",
             "EnvelopeFault::NestedUnimplemented": PEER,
             "EnvelopeFault::BadContent": BYTES,
             "EnvelopeFault::UnknownReturn": "The peer speaks a later version of the protocol, or is at fault.",

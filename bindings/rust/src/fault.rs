@@ -39,11 +39,11 @@ numbered! {
         "The peer named a promise again after its Resolve. A connection hears other names in the kind of the first one. Capture both directions, print them with `rpc_dump`, and show them to the peer's maker.";
     30 BadPayload: "The payload's capabilities and the descriptors differ in number", PEER;
     31 HeldLimit: "A Call would have to wait where no more may",
-        "65,536 calls wait at promises. Settle promises sooner, or have callers wait for answers.";
+        "65,536 calls wait: at promises, for results and under embargoes. Settle promises sooner, or have callers wait for answers.";
     32 UnimplementedAnswer: "A message came back that every vat understands",
         "The peer doesn't know a message that every vat has to know. It can't be served.";
     33 WantOfRoom: "A growth was refused, or a limit would be passed",
-        "Look at the limits (docs/protocol.md): finish calls that have ended, drop references, answer tasks. If no table is near its limit, the process lacked memory.";
+        "Look at the limits (docs/protocol.md): finish calls that have ended, drop references, answer tasks. If no table is near its limit, the process lacked memory, or at a connection a message that goes on is too large for a frame.";
     34 PeerAbort: "The peer sent an Abort",
         "The event of going down has the reason of the Abort.";
     60 WrongKind: "A pointer leads to something of another kind than its field has", BYTES;
