@@ -8,9 +8,11 @@
  * bytes coming: a call through a reference to an object of the vat itself is delivered at once.
  *
  * A message has at most 65,536 words (512 KiB), payload and envelope together. Contents or a reason that may be too large for a message
- * that carries them are refused with FULL (docs/messages.md, "What fits"). If a larger call or answer comes, of up to 64 MiB, that call
- * fails with an exception that says so. Any other larger message takes the vat down with 4, and the peer gets an Abort with the reason
- * `fault 4`.
+ * that carries them are refused with FULL (docs/messages.md, "What fits"). If a larger call or answer comes, of up to 64 MiB, and its
+ * beginning says which call it is of, that call fails with an exception that says so (docs/messages.md, "Messages that are too large").
+ * Any other larger message takes the vat down with 4, and an Abort with the reason `fault 4` is to be sent.
+ *
+ * docs/promises/vats.md says what is proved of these functions, and what is not. What this header says of time and costs is not.
  *
  * Each function except `lovendak_version` returns a code. Results are written if the code is LOVENDAK_OK, and otherwise only if the
  * function says so. A command that is refused changes nothing, with one exception: the reference of a refused `lovendak_call` may have
@@ -185,9 +187,10 @@ uint32_t lovendak_load(lovendak_vat *vat, uint64_t *words, uint64_t *bytes);
  * events, again and again, until neither gives anything, and `lovendak_wants_bytes` says 1 or the load is above a limit. */
 uint32_t lovendak_set_limits(lovendak_vat *vat, uint64_t words, uint64_t bytes);
 
-/* When the Finish of a call goes from now on, if the call is finished before its Return came: at once (LOVENDAK_AT_ONCE, as from the
- * beginning) or behind its Return (LOVENDAK_AFTER_RETURN). The second is for a peer that sends no Return for a call of which it
- * heard the Finish before, as the Rust crate capnp-rpc. With another peer a call that is let go runs to its end there.
+/* When the Finish goes of a call that goes out from now on, if the call is finished before its Return came: at once (LOVENDAK_AT_ONCE,
+ * as from the beginning) or behind its Return (LOVENDAK_AFTER_RETURN). Calls that went out before stay as they were. The second is for a
+ * peer that sends no Return for a call of which it heard the Finish before, as the Rust crate capnp-rpc. With another peer a call that is
+ * let go runs to its end there.
  * NO_SUCH_NUMBER of another number. */
 uint32_t lovendak_set_finishes(lovendak_vat *vat, uint32_t when);
 
@@ -214,8 +217,8 @@ uint32_t lovendak_wants_bytes(lovendak_vat *vat, uint32_t *answer);
  * were sent first, ask again, since a message that can't be sent takes the vat down. */
 uint32_t lovendak_next_event(lovendak_vat *vat, lovendak_event *event, uint8_t *payload, size_t room, uint64_t *refs, size_t refs_room);
 
-/* Where calls through a reference go. Two references that lead to one import lead to one export of the peer. The work grows with the
- * links on the way; `lovendak_advance` makes the way short. DOWN, UNKNOWN_REF. */
+/* Where calls through a reference go. Two references that lead to one import lead to one export of the peer.
+ * DOWN, UNKNOWN_REF. */
 uint32_t lovendak_leads_to(lovendak_vat *vat, uint64_t ref, lovendak_place *place);
 
 /* How many questions, answers, exports and imports there are between the two vats, each at most 4,096. */
@@ -255,8 +258,8 @@ uint32_t lovendak_clone_ref(lovendak_vat *vat, uint64_t ref, uint64_t *made);
 uint32_t lovendak_drop_ref(lovendak_vat *vat, uint64_t ref);
 
 /* Makes a call, with a payload (framed segments) and a reference for each of its capabilities, which still belong to the caller. The
- * reference that is called first takes the shorter path, if one is known. NO_PAYLOAD if the bytes are no payload with so many
- * capabilities, UNKNOWN_REF, LEVEL. */
+ * reference that is called first takes one step of the shorter path, if one is known, and unless a limit or want of memory refuses that.
+ * NO_PAYLOAD if the bytes are no payload with so many capabilities, UNKNOWN_REF, LEVEL. */
 uint32_t lovendak_call(lovendak_vat *vat, uint64_t ref, uint64_t interface_id, uint16_t method, const uint8_t *payload, size_t len,
                        const uint64_t *refs, size_t refs_len, uint64_t *call);
 
@@ -282,7 +285,8 @@ uint32_t lovendak_reject(lovendak_vat *vat, uint64_t promise, uint32_t kind, con
 /* Lets a reference take one step of the shorter path, if one is known; `advanced` says what it did. UNKNOWN_REF, LEVEL. */
 uint32_t lovendak_advance(lovendak_vat *vat, uint64_t ref, uint32_t *advanced);
 
-/* Takes the vat down with a number up to 65,535; NO_SUCH_NUMBER of a greater one. Its Abort is the last message. */
+/* Takes the vat down with a number up to 65,535; NO_SUCH_NUMBER of a greater one. Its Abort is the last message, if
+ * there is memory for its bytes. */
 uint32_t lovendak_shut(lovendak_vat *vat, uint32_t number);
 
 /* Contents without a schema compiler. Any library that writes and reads Cap'n Proto messages will do: the root of the message is the
@@ -359,8 +363,8 @@ uint32_t lovendak_tree_push(lovendak_tree *tree, uint32_t list, uint32_t from);
  * than 64 levels deep. */
 uint32_t lovendak_tree_write(lovendak_tree *tree, uint32_t at, uint32_t caps, uint8_t *out, size_t room, size_t *len);
 
-/* Reads a payload, which goes with so many capabilities, and keeps a copy of it under a number. The functions below look into it at no
- * cost but that of the path. NO_PAYLOAD if the bytes are none. */
+/* Reads a payload, which goes with so many capabilities, and keeps a copy of it under a number. The functions below look into it.
+ * NO_PAYLOAD if the bytes are none. */
 uint32_t lovendak_tree_read(lovendak_tree *tree, const uint8_t *payload, size_t len, uint32_t caps, uint32_t *made);
 
 /* A path goes from the root of a payload that was read, by the number of a pointer in a struct (up to 65,535), and by the index of an
