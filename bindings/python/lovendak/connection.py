@@ -70,8 +70,8 @@ class Connection(asyncio.Protocol):
         return Remote(reference, interface)
 
     def set_finishes(self, after_return: bool) -> None:
-        """When the Finish of a call goes from now on that is cancelled before it has ended: behind its Return, or at once, as from the
-        beginning. `Vat.set_finishes` says which peers want it behind."""
+        """When the Finish goes of a call that goes out from now on and is cancelled before it has ended: behind its Return, or at once, as
+        from the beginning. `Vat.set_finishes` says which peers want it behind."""
         self.vat.set_finishes(after_return)
 
     def close(self) -> None:

@@ -153,9 +153,10 @@ class Vat:
         self._asked("set_limits", words, size)
 
     def set_finishes(self, after_return: bool) -> None:
-        """When the Finish of a call goes from now on, if the call is finished before its Return came: behind its Return, or at once, as
-        from the beginning. The first is for a peer that sends no Return for a call of which it heard the Finish before, as the Rust crate
-        `capnp-rpc`. With another peer a call that is let go runs to its end there."""
+        """When the Finish goes of a call that goes out from now on, if the call is finished before its Return came: behind its Return, or
+        at once, as from the beginning. Calls that went out before stay as they were. The first is for a peer that sends no Return for a
+        call of which it heard the Finish before, as the Rust crate `capnp-rpc`. With another peer a call that is let go runs to its end
+        there."""
         self._asked("set_finishes", int(bool(after_return)))
 
     def wants_bytes(self) -> bool:

@@ -114,7 +114,7 @@ impl Connection {
         root
     }
 
-    /// When the Finish of a call goes from now on that is given up before it has ended. From the beginning it goes at once.
+    /// When the Finish goes of a call that goes out from now on and is given up before it has ended. From the beginning it goes at once.
     pub fn set_finishes(&self, when: Finishes) {
         self.0.set_finishes(when);
     }

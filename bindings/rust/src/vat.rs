@@ -126,7 +126,8 @@ impl Vat {
         ok(ffi::lovendak_set_limits(&mut self.handle, words, bytes));
     }
 
-    /// When the Finish of a call goes from now on, if the call is finished before its Return came. From the beginning it goes at once.
+    /// When the Finish goes of a call that goes out from now on, if the call is finished before its Return came. From the beginning it
+    /// goes at once. Calls that went out before stay as they were.
     pub fn set_finishes(&mut self, when: Finishes) {
         ok(ffi::lovendak_set_finishes(&mut self.handle, u32::from(when == Finishes::AfterReturn)));
     }
@@ -294,8 +295,8 @@ impl Vat {
         Refusal::check(ffi::lovendak_drop_ref(&mut self.handle, reference.0))
     }
 
-    /// Makes a call; the references that go with it stay the caller's. The one that is called takes the shorter path before, where
-    /// one is known. `NoPayload`, `UnknownRef`, `Level`.
+    /// Makes a call; the references that go with it stay the caller's. The one that is called takes one step of the shorter path before,
+    /// where one is known, and unless a limit or want of memory refuses that. `NoPayload`, `UnknownRef`, `Level`.
     pub fn call(
         &mut self,
         reference: RefId,
