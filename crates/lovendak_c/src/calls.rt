@@ -20,8 +20,8 @@ pub extern "C" fn lovendak_bootstrap(alloc: Global, vat: &mut Handle, call: &mut
     done_with(answer, call)
 }
 
-/// Makes a call through a reference, which takes the shorter path before, if one is known: gives the number of the call. 102 if the
-/// payload is none that goes with so many references.
+/// Makes a call through a reference, which takes one step of the shorter path before, if one is known, and unless that step is refused:
+/// gives the number of the call. 102 if the payload is none that goes with so many references.
 #[unsafe(no_mangle)]
 pub extern "C" fn lovendak_call(
     alloc: Global,

@@ -96,7 +96,8 @@ pub extern "C" fn lovendak_drop_ref(alloc: Global, vat: &mut Handle, reference: 
     done(answer)
 }
 
-/// Lets a reference take the shorter path, if one is known: gives what became of it, 0 nothing, 1 switched, 2 embargoed, 3 broke.
+/// Lets a reference take one step of the shorter path, if one is known: gives what became of it, 0 nothing, 1 switched, 2 embargoed, 3
+/// broke.
 #[unsafe(no_mangle)]
 pub extern "C" fn lovendak_advance(
     alloc: Global,

@@ -116,7 +116,8 @@ pub extern "C" fn lovendak_set_limits(
     DONE
 }
 
-/// When the Finish of a call goes from now on: at once (0), as in the beginning, or behind its Return (1). 105 of another number.
+/// When the Finish goes of a call that goes out from now on: at once (0), as in the beginning, or behind its Return (1). 105 of another
+/// number.
 #[unsafe(no_mangle)]
 pub extern "C" fn lovendak_set_finishes(alloc: Global, vat: &mut Handle, when: u32) -> u32
     ensures { AsksOn vat.old.raw.desk vat.new.raw.desk result (Unit {0}) (λ old answer new. SetsFinishes old when answer new) }

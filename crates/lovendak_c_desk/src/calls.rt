@@ -20,7 +20,7 @@ impl Desk {
         }
     }
 
-    /// Makes a call through a reference, which takes the shorter path before, if one is known: gives the number of the call.
+    /// Makes a call through a reference, as `Connection::call`: gives the number of the call.
     /// `Malformed` if the bytes are no payload with so many capabilities.
     pub fn call(
         &mut self,

@@ -120,8 +120,8 @@ impl Desk {
         self.connection.set_limits(Limits { words, bytes });
     }
 
-    /// When the Finish of a call goes from now on, as `Connection::set_finishes`: 0 at once, 1 behind its Return. `NoSuchNumber` of
-    /// another number.
+    /// When the Finish goes of a call that goes out from now on, as `Connection::set_finishes`: 0 at once, 1 behind its Return.
+    /// `NoSuchNumber` of another number.
     pub fn set_finishes(&mut self, when: u32) -> Result<(), NotDone>
         ensures { SetsFinishes self.old when result self.new }
     {

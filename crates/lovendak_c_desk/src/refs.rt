@@ -77,7 +77,7 @@ impl Desk {
         }
     }
 
-    /// Lets a reference take the shorter path: gives what became of it, 0 nothing, 1 switched, 2 embargoed, 3 broke.
+    /// Lets a reference take one step of the shorter path: gives what became of it, 0 nothing, 1 switched, 2 embargoed, 3 broke.
     pub fn advance(&mut self, reference: u64) -> Result<u32, NotDone>
         ensures { Advances self.old reference result self.new }
     {

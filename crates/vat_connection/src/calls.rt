@@ -28,9 +28,9 @@ impl Connection {
         }
     }
 
-    /// Makes a call through a reference, as `Host::call` does: gives the number of the call. The reference takes the shorter
-    /// path before, if one is known. Refused with `Full` too, if the payload may be too large for the frames that carry it
-    /// (docs/messages.md, "What fits"). A call that is refused is handed back.
+    /// Makes a call through a reference, as `Host::call` does: gives the number of the call. The reference takes one
+    /// step of the shorter path before, if one is known, and unless that step is refused. Refused with `Full` too, if the payload may
+    /// be too large for the frames that carry it (docs/messages.md, "What fits"). A call that is refused is handed back.
     pub fn call(&mut self, call: CallCommand) -> Result<CallId, Refused<CallCommand>>
         ensures done { IfOk result (λ id. Calls self.old.speaker.host call (Ok id) self.new.speaker.host × Fits (command.Call call)) }
         ensures refused { IfErr result (λ e. Calls self.old.speaker.host call (Err e.refusal) self.new.speaker.host ⊎ IsTooLarge self.old.speaker.host (command.Call call) e.refusal self.new.speaker.host) }

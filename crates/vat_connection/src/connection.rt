@@ -70,9 +70,9 @@ impl Connection {
     }
 
     /// Takes bytes of the peer, in any pieces: the vat hears each frame that is whole now, in order, and the rest waits. While its load
-    /// is above the limits, frames wait too. A Call or a Return that breaks a limit of messages by itself costs its call alone
-    /// (docs/messages.md, "Messages that are too large"). What is no frame, or a frame that is at fault, takes the vat down with the
-    /// fault's number, and running out of memory with 33. A vat that is down drops what comes.
+    /// is above the limits, frames wait too. A Call or a Return that breaks a limit of messages by itself, and whose front says
+    /// its question, costs its call alone (docs/messages.md, "Messages that are too large"). What is no frame, or a frame that is at
+    /// fault, takes the vat down with the fault's number, and running out of memory with 33. A vat that is down drops what comes.
     pub fn received(&mut self, bytes: &[u8])
         ensures { Receives self.old bytes.now self.new }
     {
@@ -117,7 +117,8 @@ impl Connection {
 
     /// Hands out the bytes that are to be sent to the peer, once: the frames of all messages that the vat has said by now. Frames that
     /// wait unheard are heard before, as the load allows it. If a message has no frame, or memory runs out for it, the vat goes down
-    /// with 33, and of what it said from there on an Abort alone is sent. After that of a vat that is down nothing more is.
+    /// with 33, and of what it said from there on an Abort alone is sent, if memory suffices for it. After that of a vat that is down
+    /// nothing more is.
     pub fn outgoing(&mut self) -> Vec<u8>
         ensures { Gives self.old result.items self.new }
     {
@@ -125,10 +126,10 @@ impl Connection {
         self.speaker.take_bytes()
     }
 
-    /// What there is to tell, as `Host::next_event`: what the steps left, the oldest first, and behind that each object that is
-    /// released. Of a vat that is down, before that is told, each own call that is open, as one that ended with `Disconnected`. Frames
-    /// that wait unheard are heard before, as the load allows it, and what the vat has to say becomes frames, as by `outgoing`, since
-    /// the vat may hear something of it.
+    /// What there is to tell, as `Host::next_event`: what the steps left, the oldest first, and behind that each task that is cancelled
+    /// and each object that is released. Of a vat that is down, before that is told, each own call that is open, as one that ended with
+    /// `Disconnected`. Frames that wait unheard are heard before, as the load allows it, and what the vat has to say becomes frames, as
+    /// by `outgoing`, since the vat may hear something of it.
     pub fn next_event(&mut self) -> Option<Event>
         ensures { Tells self.old result self.new }
     {
@@ -174,8 +175,9 @@ impl Connection {
         }
     }
 
-    /// Sets the load above which frames wait unheard. What was heard is at most the limits and one frame more. A limit that is too
-    /// low for what two applications need of each other at a time stops both.
+    /// Sets the load above which frames wait unheard. Once the words of what was heard are at most their limit and one frame more, they
+    /// stay so while the vat is up (`load_is_bounded`). A limit that is too low for what two applications need of each other at a time
+    /// stops both.
     pub fn set_limits(&mut self, limits: Limits)
         ensures { self.new ≡ record self.old { limits = limits } }
     {

@@ -11,8 +11,8 @@ pub fn pieces_are_one()
     pieces_stand();
 }
 
-/// What a connection holds of its peer is at most its limit and one frame more: in words of frames, of Calls for which no Return was
-/// said, and of other frames until all events were told.
+/// If what a connection holds of its peer is at most its limit and one frame more, it stays so while the vat is up, whatever comes: in
+/// words of frames, of Calls for which no Return was said, and of other frames until all events were told.
 pub fn load_is_bounded()
     ensures { LoadIsBounded }
 {}
