@@ -22,7 +22,7 @@
 //! - each call, by `finish`, once it has ended or before; each task, by `answer` or `fail`; each promise, by `resolve` or
 //!   `reject`.
 //!
-//! Two hosts of one program whose messages are handed over in order keep all that is promised of two vats in one world:
+//! Two new hosts of level 1 whose messages are handed over in order keep all that is promised of two vats in one world:
 //! [`hosts_are_worlds`] has it as its contract, and runs no code.
 //!
 //! What is to be done: all messages of `next_message` go to the peer in this order, each once; calls of `next_event` are
@@ -30,7 +30,7 @@
 //! process.
 //!
 //! Going down: by `shut`, by a fault of the peer, by its Abort, or when room or memory runs out. The last message is
-//! then the Abort: send it, and close the connection. Everything else is gone.
+//! then an Abort, unless that of the peer was the reason: send it, and close the connection. Everything else is gone.
 //!
 //! Refusals: a refused command changes nothing and comes back ([`Refused`]); [`explain`] says of which reference, call,
 //! task or promise it speaks. Ids are plain numbers: one of the other vat may be taken for one of this vat's.
