@@ -235,7 +235,8 @@ uint32_t lovendak_calls_made(lovendak_vat *vat, uint64_t ref, uint64_t *made);
 
 /* Commands. Each except `lovendak_shut` may return DOWN and MEMORY, and each the codes that are named beside it. Those that make
  * something, and `lovendak_advance`, return FULL at a limit. `lovendak_call`, `lovendak_answer`, `lovendak_fail` and `lovendak_reject`
- * return FULL if what they carry may be too large for a message. Of `lovendak_answer`, `lovendak_fail`, `lovendak_resolve` and
+ * return FULL if what they carry may be too large for a message, and `lovendak_answer` and `lovendak_resolve` if the exports that they
+ * may want have no place: one for each reference of an answer, one for a promise. Nothing is changed then. Of `lovendak_answer`, `lovendak_fail`, `lovendak_resolve` and
  * `lovendak_reject`: if there is no room or memory for what follows of them, they return OK, and the vat goes down with 33. */
 
 /* Asks the peer for its bootstrap object: a call, whose result is that object. */

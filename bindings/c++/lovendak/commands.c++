@@ -107,6 +107,7 @@ void Vat::resolvePromise(uint64_t promise, uint64_t reference) {
   if (down) return;
   auto code = lovendak_resolve(&handle, promise, reference);
   if (code == LOVENDAK_CYCLE) return rejectPromise(promise, KJ_EXCEPTION(FAILED, "The promise was resolved to itself."));
+  if (code == LOVENDAK_FULL) return rejectPromise(promise, refusal(code));
   check(code);
   settledOwn();
 }

@@ -325,7 +325,7 @@ impl Vat {
     }
 
     /// Gives a task its results; the references that go with them stay the caller's. `NoPayload`, `UnknownTask`, `UnknownRef`,
-    /// `Level`.
+    /// `Level`; `Full` also if there is no place for one export more for each reference.
     pub fn answer(&mut self, task: TaskId, results: &Contents) -> Result<(), Refusal> {
         self.answer_parts(task, &results.payload, &results.refs)
     }
@@ -346,7 +346,8 @@ impl Vat {
         Ok((PromiseId(promise), RefId(made)))
     }
 
-    /// Settles a promise to what a reference leads to, which stays the caller's. `UnknownPromise`, `UnknownRef`, `Cycle`, `Level`.
+    /// Settles a promise to what a reference leads to, which stays the caller's. `UnknownPromise`, `UnknownRef`, `Cycle`, `Level`;
+    /// `Full` if there is no place for one export more.
     pub fn resolve(&mut self, promise: PromiseId, reference: RefId) -> Result<(), Refusal> {
         Refusal::check(ffi::lovendak_resolve(&mut self.handle, promise.0, reference.0))
     }

@@ -1,6 +1,6 @@
 // What a number is put into stays as it is if a command is refused, and so does the vat.
 ghost use Rattle.rpc_machine.specs.declared.command.Command.TheVariants as command;
-ghost use Rattle.lovendak_c_desk.specs.Commands.{IsAsked, a_promise, Rejects, nothing};
+ghost use Rattle.lovendak_c_desk.specs.Commands.{IsAsked, a_promise, Rejects, Resolves};
 ghost use Rattle.lovendak_c.specs.Calls.{GivesOn, AsksOn};
 
 use crate::codes::{DONE, EMPTY, code_of, done};
@@ -32,7 +32,7 @@ pub extern "C" fn lovendak_promise(
     }
 }
 
-/// Settles a promise to what a reference leads to.
+/// Settles a promise to what a reference leads to. Refused with 2, if there is no place for one export more.
 #[unsafe(no_mangle)]
 pub extern "C" fn lovendak_resolve(
     alloc: Global,
@@ -40,7 +40,7 @@ pub extern "C" fn lovendak_resolve(
     promise: u64,
     reference: u64,
 ) -> u32
-    ensures { AsksOn vat.old.raw.desk vat.new.raw.desk result (Unit {0}) (λ old answer new. IsAsked old (command.Resolve (record { 0 = promise }) (record { 0 = reference })) nothing answer new) }
+    ensures { AsksOn vat.old.raw.desk vat.new.raw.desk result (Unit {0}) (λ old answer new. Resolves old promise reference answer new) }
 {
     let Some(mut desk) = vat.take(alloc) else {
         return EMPTY;

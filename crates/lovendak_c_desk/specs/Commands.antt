@@ -49,13 +49,14 @@ IsAsked old c grants (Ok x) new = Asks old.connection c (Ok (grants x)) new.conn
 IsAsked old c grants (Err (not_done.Refused r)) new = Asks old.connection c (Err r) new.connection × (new ≡ with_connection old new.connection)
 IsAsked old c grants (Err e) new = ⊥
 
--- The same of a command whose contents may be too large, or unfit for the reason told: then nothing is changed.
+-- The same of a command whose contents may be too large, or unfit for the reason told, or whose exports may have no place: then nothing is
+-- changed.
 abbrev pub IsAskedToFit : {A : Type 0} → (NotDone → Type 0) → Desk → Command → (A → Granted) → Result A NotDone → Desk → Type 0
 IsAskedToFit Unfit old c grants (Ok x) new = AsksToFit old.connection c (Ok (grants x)) new.connection × (new ≡ with_connection old new.connection)
 IsAskedToFit Unfit old c grants (Err (not_done.Refused r)) new = AsksToFit old.connection c (Err r) new.connection × (new ≡ with_connection old new.connection)
 IsAskedToFit Unfit old c grants (Err e) new = Unfit e × (new ≡ old)
 
--- ---- answer, fail, reject, advance
+-- ---- answer, fail, resolve, reject, advance
 
 -- A task gets these bytes, with these references.
 abbrev pub Answers : {A : Type 0} → Desk → ℕ → List ℕ → List ℕ → Result A NotDone → Desk → Type 0
@@ -70,6 +71,10 @@ Excepts (Some kind) old c reason answer new = IsAskedToFit (IsNoText reason) old
 abbrev pub Fails : {A : Type 0} → Desk → ℕ → ℕ → List ℕ → Result A NotDone → Desk → Type 0
 Fails old task kind reason answer new =
     Excepts (kind_at kind) old (λ k. command.Fail (record { 0 = task }) (record { kind = k; reason = reason })) reason answer new
+
+-- A promise is settled to what a reference leads to.
+abbrev pub Resolves : {A : Type 0} → Desk → ℕ → ℕ → Result A NotDone → Desk → Type 0
+Resolves old promise to answer new = IsAskedToFit (λ why. ⊥) old (command.Resolve (record { 0 = promise }) (record { 0 = to })) nothing answer new
 
 abbrev pub Rejects : {A : Type 0} → Desk → ℕ → ℕ → List ℕ → Result A NotDone → Desk → Type 0
 Rejects old promise kind reason answer new =

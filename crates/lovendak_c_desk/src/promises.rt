@@ -1,5 +1,5 @@
 ghost use Rattle.rpc_machine.specs.declared.command.Command.TheVariants as command;
-ghost use Rattle.lovendak_c_desk.specs.Commands.{IsAsked, a_promise, Rejects, nothing};
+ghost use Rattle.lovendak_c_desk.specs.Commands.{IsAsked, a_promise, Rejects, Resolves};
 ghost use Rattle.lovendak_c_desk.specs.Given.{reference};
 
 use crate::desk::Desk;
@@ -19,9 +19,9 @@ impl Desk {
         }
     }
 
-    /// Settles a promise to what a reference leads to.
+    /// Settles a promise to what a reference leads to. Refused with `Full`, if there is no place for one export more.
     pub fn resolve(&mut self, promise: u64, reference: u64) -> Result<(), NotDone>
-        ensures { IsAsked self.old (command.Resolve (record { 0 = promise }) (record { 0 = reference })) nothing result self.new }
+        ensures { Resolves self.old promise reference result self.new }
     {
         match self
             .connection

@@ -189,7 +189,7 @@ calls d e c (Ok n) ((h, Err r, first, more), fits, is) = made_call d e c n h (Er
 calls d e c (Err (not_done.Refused f)) (inl (h, Ok a, first, more), is) = refused_call d e c f h (Ok a) first more is (inr refl)
 calls d e c (Err (not_done.Refused f)) (inl (h, Err r, first, more), is) = refused_call d e c f h (Err r) first more is (inl refl)
 calls d e c (Err (not_done.Refused f)) (inr large, is) =
-    alone (Calls c (Err (not_done.Refused f))) (acts.Commands (command.Call c) (Err f)) d e (record { handed = λ kind k. refl; shown = λ n s. s; down = λ t. t }) (inr (inr large, ap (λ (x : Desk). x.connection) is)) refl (ap (λ (x : Desk). x.event) is) (λ id gone. gone) (λ id m. m) (inl refl)
+    alone (Calls c (Err (not_done.Refused f))) (acts.Commands (command.Call c) (Err f)) d e (record { handed = λ kind k. refl; shown = λ n s. s; down = λ t. t }) (inr (inr (large.0, inl large.1, large.2), ap (λ (x : Desk). x.connection) is)) refl (ap (λ (x : Desk). x.event) is) (λ id gone. gone) (λ id m. m) (inl refl)
 calls d e c (Err not_done.Empty) (why, is) = same_desk (Calls c (Err not_done.Empty)) d e (record { handed = λ kind k. refl; shown = λ n s. s; down = λ t. t }) is (inl refl) (λ id m. m)
 calls d e c (Err not_done.InUse) (why, is) = same_desk (Calls c (Err not_done.InUse)) d e (record { handed = λ kind k. refl; shown = λ n s. s; down = λ t. t }) is (inl refl) (λ id m. m)
 calls d e c (Err not_done.Malformed) (why, is) = same_desk (Calls c (Err not_done.Malformed)) d e (record { handed = λ kind k. refl; shown = λ n s. s; down = λ t. t }) is (inl refl) (λ id m. m)

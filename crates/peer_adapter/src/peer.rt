@@ -10,6 +10,7 @@ ghost use Rattle.peer_overload.specs.Overloading.{admitted, seen_admission};
 ghost use Rattle.peer_kinds.specs.Kinds.{Tells as Stands, heard, seen_kinds, set_aside};
 ghost use Rattle.peer_broken.specs.Naming.{Tells};
 ghost use Rattle.peer_tail_calls.specs.Adapting as tails;
+ghost use Rattle.peer_tail_calls.specs.Nulling.{IsLaidOut};
 ghost use Rattle.peer_tail_calls.specs.declared.heard.Heard.TheVariants as hearing;
 ghost use Rattle.peer_adapter.specs.declared.told.Aside.TheVariants as aside;
 ghost use Rattle.peer_adapter.specs.Peering.{Comes, GivesBack, Goes, IsRefused, IsRole, Tables, admits, besides_of, besides_with, comes, fresh, gives, gives_plain, goes, heard_by, hears, kinds_by, passes, seen_aside};
@@ -252,7 +253,8 @@ impl PeerAdapter {
     /// What is said to the peer for a message of the vat, and what the vat is to hear then, before anything else comes or
     /// goes. `Memory` leaves the adapter as it was.
     pub fn outbound(&mut self, message: Message) -> Result<Outbound, Memory>
-        ensures { Goes self.old (goes self.old message) result self.new }
+        ensures went { Goes self.old (goes self.old message) result self.new }
+        ensures laid { IfOk result (λ o. IsLaidOut message) }
     {
         match role_of(&message) {
             Role::Asks(question) => self.ask(question, message),
@@ -263,7 +265,8 @@ impl PeerAdapter {
 
     fn ask(&mut self, question: QuestionId, message: Message) -> Result<Outbound, Memory>
         requires { asked_by message ≡ Some question }
-        ensures { Goes self.old (goes self.old message) result self.new }
+        ensures went { Goes self.old (goes self.old message) result self.new }
+        ensures laid { IfOk result (λ o. IsLaidOut message) }
     {
         let outbound = self.pass(message)?;
         let asked = self.finishes.ask(question);
@@ -271,7 +274,8 @@ impl PeerAdapter {
     }
 
     fn finish(&mut self, finish: Finish) -> Result<Outbound, Memory>
-        ensures { Goes self.old (goes self.old (message.Plain (plain.Finish finish))) result self.new }
+        ensures went { Goes self.old (goes self.old (message.Plain (plain.Finish finish))) result self.new }
+        ensures laid { IfOk result (λ o. IsLaidOut (message.Plain (plain.Finish finish))) }
     {
         if self.finishes.finish(finish) {
             return self.pass(Message::Plain(PlainMessage::Finish(finish)));
@@ -287,7 +291,8 @@ impl PeerAdapter {
     }
 
     fn pass(&mut self, message: Message) -> Result<Outbound, Memory>
-        ensures { Goes self.old (passes self.old (Some message)) result self.new }
+        ensures went { Goes self.old (passes self.old (Some message)) result self.new }
+        ensures laid { IfOk result (λ o. IsLaidOut message) }
     {
         let outbound = self.tails.outbound(message)?;
         let peer_tail_calls::Outbound { said, heard } = outbound;

@@ -1,2 +1,3 @@
+pub mod Small
 pub mod Spared
 pub mod Steps

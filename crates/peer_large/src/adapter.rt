@@ -5,6 +5,8 @@ ghost use Rattle.rpc_msg.specs.declared.message.PlainMessage.TheVariants as plai
 ghost use Rattle.peer_kinds.specs.Kinds.{Tells as Stands};
 ghost use Rattle.peer_broken.specs.Naming.{Tells};
 ghost use Rattle.peer_adapter.specs.Peering.{Tables, seen_aside};
+ghost use Rattle.rpc_msg.specs.declared.message.Message.TheVariants as message;
+ghost use Rattle.peer_tail_calls.specs.Nulling.{IsLaidOut};
 ghost use Rattle.peer_tail_calls.specs.declared.heard.Heard.TheVariants as hearing;
 ghost use Rattle.peer_large.specs.Opening.{envelope, seen};
 ghost use Rattle.peer_large.specs.Sparing.{Comes, Goes, comes, ending, ends, failed, fails, fresh, giving, giving_besides, giving_plain, goes, goes_plain, passes, spares, told_alone};
@@ -238,7 +240,8 @@ impl SparingAdapter {
     /// What is said to the peer for a message of the vat, and what the vat is to hear then, before anything else comes or
     /// goes, as `PeerAdapter::outbound` answers. `Memory` leaves the adapter as it was.
     pub fn outbound(&mut self, message: Message) -> Result<Outbound, Memory>
-        ensures { Goes self.old (goes self.old message) result self.new }
+        ensures went { Goes self.old (goes self.old message) result self.new }
+        ensures laid { IfOk result (λ o. IsLaidOut message) }
     {
         match message {
             Message::Plain(PlainMessage::Finish(finish)) => self.finish(finish),
@@ -247,7 +250,8 @@ impl SparingAdapter {
     }
 
     fn pass(&mut self, message: Message) -> Result<Outbound, Memory>
-        ensures { Goes self.old (passes self.old message) result self.new }
+        ensures went { Goes self.old (passes self.old message) result self.new }
+        ensures laid { IfOk result (λ o. IsLaidOut message) }
     {
         // Each arm by itself: a result that is handed on whole leaves its clauses to be proved by cases.
         match self.adapter.outbound(message) {
@@ -257,7 +261,8 @@ impl SparingAdapter {
     }
 
     fn finish(&mut self, finish: Finish) -> Result<Outbound, Memory>
-        ensures { Goes self.old (goes_plain self.old (plain.Finish finish)) result self.new }
+        ensures went { Goes self.old (goes_plain self.old (plain.Finish finish)) result self.new }
+        ensures laid { IfOk result (λ o. IsLaidOut (message.Plain (plain.Finish finish))) }
     {
         if !self.returned.has(finish.question) {
             return self.pass(Message::Plain(PlainMessage::Finish(finish)));

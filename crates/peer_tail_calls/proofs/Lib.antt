@@ -1,3 +1,4 @@
+mod Absent
 mod Finding
 mod HeardGive
 mod Holding

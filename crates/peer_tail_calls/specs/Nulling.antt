@@ -1,5 +1,5 @@
 -- Pointers to capabilities that are not there (rpc.capnp, CapDescriptor.none), as null.
-use Rattle.std.specs.Prelude.{ℕ, Bool, true, false, if◌then◌else◌, List, slice_get}
+use Rattle.std.specs.Prelude.{◌≡◌, ℕ, Bool, true, false, if◌then◌else◌, List, slice_get}
 use Rattle.std.specs.Option.{option_map_or}
 use Rattle.std.specs.List.{list_any}
 use Rattle.capn_trees.specs.Trees.{Tree, null, struct, list, capability, Trees, no_trees, tree, Elements, packed, pointers, structs, Structs, no_structs, struct_of}
@@ -11,6 +11,10 @@ use Rattle.rpc_msg.specs.declared.message.Call.{Call}
 use Rattle.rpc_msg.specs.declared.message.Return.{Return}
 use Rattle.rpc_msg.specs.declared.message.ReturnBody.{ReturnBody}
 use Rattle.rpc_msg.specs.declared.message.ReturnBody.TheVariants as body
+use Rattle.rpc_msg.specs.declared.message.PlainMessage.{PlainMessage}
+use Rattle.rpc_msg.specs.declared.message.PlainMessage.TheVariants as plain
+use Rattle.rpc_msg.specs.declared.message.Message.{Message}
+use Rattle.rpc_msg.specs.declared.message.Message.TheVariants as message
 
 abbrev pub is_absent : Descriptor → Bool
 is_absent descriptor.None = true
@@ -58,3 +62,30 @@ nulled_body body.Canceled = body.Canceled
 
 abbrev pub nulled_return : Return → Return
 nulled_return r = record r { body = nulled_body r.body }
+
+-- ---- what that says
+
+-- The payload says the same tree, with null in the place of capabilities that are not there.
+abbrev pub IsPayloadLaidOut : List Descriptor → Contents → Type 0
+IsPayloadLaidOut ds p = tree_of (nulled_payload ds p) ≡ nulled ds (tree_of p)
+
+abbrev pub IsBodyLaidOut : ReturnBody → Type 0
+IsBodyLaidOut (body.Results p ds) = IsPayloadLaidOut ds p
+IsBodyLaidOut (body.Exception e) = Unit {0}
+IsBodyLaidOut body.Canceled = Unit {0}
+
+abbrev pub IsPlainLaidOut : PlainMessage → Type 0
+IsPlainLaidOut (plain.Abort e) = Unit {0}
+IsPlainLaidOut (plain.Bootstrap q) = Unit {0}
+IsPlainLaidOut (plain.Call c) = IsPayloadLaidOut c.descriptors c.payload
+IsPlainLaidOut (plain.Return r) = IsBodyLaidOut r.body
+IsPlainLaidOut (plain.Finish f) = Unit {0}
+IsPlainLaidOut (plain.Resolve r) = Unit {0}
+IsPlainLaidOut (plain.Release r) = Unit {0}
+IsPlainLaidOut (plain.Disembargo d) = Unit {0}
+IsPlainLaidOut (plain.Other n) = Unit {0}
+
+-- What is laid out anew of a message says what it said, with null in the place of capabilities that are not there.
+abbrev pub IsLaidOut : Message → Type 0
+IsLaidOut (message.Plain m) = IsPlainLaidOut m
+IsLaidOut (message.Unimplemented m) = Unit {0}

@@ -3,13 +3,14 @@ ghost use Rattle.std.specs.Prelude.{◌≡◌, None, Some, IfOk};
 ghost use Rattle.std.specs.FinMap as map;
 ghost use Rattle.rpc_codec.specs.Envelopes.{seen_envelope, tail_call};
 ghost use Rattle.peer_tail_calls.specs.Adapting.{Adapting, Comes, Goes, comes, comes_message, comes_plain, finish_of, finishes, fresh, gives, goes, goes_back, goes_plain, return_to, seen_inbound, seen_outbound, taker_of, takes, told};
+ghost use Rattle.peer_tail_calls.specs.Nulling.{IsBodyLaidOut, IsLaidOut, IsPlainLaidOut};
 ghost use Rattle.peer_tail_calls.specs.declared.heard.Heard.TheVariants as heard;
 ghost use Rattle.peer_tail_calls.specs.declared.heard.Said.TheVariants as said;
 ghost use Rattle.peer_tail_calls.specs.declared.tails.Tail.TheVariants.{Asked};
 
 use crate::errors::{AdapterError, AdapterFault};
 use crate::heard::{Heard, Inbound, Outbound, Said};
-use crate::nulls::{null_call, null_return};
+use crate::nulls::{null_call, null_return, try_body};
 use crate::outcomes::turn;
 use crate::tails::{Tail, Tails, Taker};
 use rpc_codec::{Envelope, SentElsewhere, TakenFromOther};
@@ -139,9 +140,10 @@ impl Adapter {
     }
 
     /// What is said to the peer for a message of the vat, and what the vat is to hear then, before anything else comes or
-    /// goes. `Memory` leaves the adapter as it was.
+    /// goes. `Memory` leaves the adapter as it was; it is also answered if the contents can't be laid out without what is not there.
     pub fn outbound(&mut self, message: Message) -> Result<Outbound, Memory>
-        ensures { Goes self.old (goes self.old message) result self.new }
+        ensures went { Goes self.old (goes self.old message) result self.new }
+        ensures laid { IfOk result (λ o. IsLaidOut message) }
     {
         match message {
             Message::Plain(message) => self.say(message),
@@ -150,7 +152,8 @@ impl Adapter {
     }
 
     fn say(&mut self, message: PlainMessage) -> Result<Outbound, Memory>
-        ensures { Goes self.old (goes_plain self.old message) result self.new }
+        ensures went { Goes self.old (goes_plain self.old message) result self.new }
+        ensures laid { IfOk result (λ o. IsPlainLaidOut message) }
     {
         match message {
             PlainMessage::Return(said) => self.give(said),
@@ -164,6 +167,19 @@ impl Adapter {
 
     // A Return goes.
     fn give(&mut self, said: Return) -> Result<Outbound, Memory>
+        ensures went { Goes self.old (gives self.old said (map.get self.old.tails said.answer.0)) result self.new }
+        ensures laid { IfOk result (λ o. IsBodyLaidOut said.body) }
+    {
+        if let None = self.tails.get(said.answer) {
+            let said = null_return(self.alloc, said)?;
+            return Ok(plainly(Message::Plain(PlainMessage::Return(said))));
+        }
+        try_body(self.alloc, &said.body)?;
+        self.give_tail(said)
+    }
+
+    // A Return goes, maybe of a tail call.
+    fn give_tail(&mut self, said: Return) -> Result<Outbound, Memory>
         ensures { Goes self.old (gives self.old said (map.get self.old.tails said.answer.0)) result self.new }
     {
         let id = said.answer;

@@ -5,7 +5,7 @@ ghost use Rattle.capn_trees.specs.Trees.{capability, list, packed};
 ghost use Rattle.capn_writing.specs.Placing.{written};
 ghost use Rattle.rpc_msg.specs.Payloads.{tree_of};
 ghost use Rattle.capn_trees.specs.Views.{view, held, items_view, structs_view, trees_view};
-ghost use Rattle.peer_tail_calls.specs.Nulling.{is_absent, lacks, nulled, nulled_body, nulled_call, nulled_each, nulled_elements, nulled_payload, nulled_return, nulled_structs};
+ghost use Rattle.peer_tail_calls.specs.Nulling.{IsBodyLaidOut, IsPayloadLaidOut, is_absent, lacks, nulled, nulled_body, nulled_call, nulled_each, nulled_elements, nulled_payload, nulled_return, nulled_structs};
 
 use capn_trees::{Element, Fields, Items as Elements, Pointers, make_fields};
 use rpc_msg::{Call, Descriptor, Items, Memory, Payload, Return, ReturnBody, Tree};
@@ -13,7 +13,8 @@ use std::alloc::Global;
 
 /// A Call as it goes to the peer.
 pub(crate) fn null_call(alloc: Global, call: Call) -> Result<Call, Memory>
-    ensures { IfOk result (λ made. made ≡ nulled_call call) }
+    ensures made { IfOk result (λ made. made ≡ nulled_call call) }
+    ensures laid { IfOk result (λ made. IsPayloadLaidOut call.descriptors call.payload) }
 {
     let Call {
         question,
@@ -38,7 +39,8 @@ pub(crate) fn null_call(alloc: Global, call: Call) -> Result<Call, Memory>
 
 /// A Return as it goes to the peer.
 pub(crate) fn null_return(alloc: Global, said: Return) -> Result<Return, Memory>
-    ensures { IfOk result (λ made. made ≡ nulled_return said) }
+    ensures made { IfOk result (λ made. made ≡ nulled_return said) }
+    ensures laid { IfOk result (λ made. IsBodyLaidOut said.body) }
 {
     let Return {
         answer,
@@ -54,15 +56,29 @@ pub(crate) fn null_return(alloc: Global, said: Return) -> Result<Return, Memory>
 }
 
 fn null_body(alloc: Global, body: ReturnBody) -> Result<ReturnBody, Memory>
-    ensures { IfOk result (λ made. made ≡ nulled_body body) }
+    ensures made { IfOk result (λ made. made ≡ nulled_body body) }
+    ensures laid { IfOk result (λ made. IsBodyLaidOut body) }
 {
     match body {
         ReturnBody::Results(payload, descriptors) => {
             let payload = null_payload(alloc, payload, &descriptors)?;
             Ok(ReturnBody::Results(payload, descriptors))
         }
-        _ => Ok(body),
+        ReturnBody::Exception(exception) => Ok(ReturnBody::Exception(exception)),
+        ReturnBody::Canceled => Ok(ReturnBody::Canceled),
     }
+}
+
+/// Looks whether the outcome of a tail call can be laid out without the capabilities that are not there, as that of any other
+/// call that goes to the peer.
+#[cold]
+#[inline(never)]
+pub(crate) fn try_body(alloc: Global, body: &ReturnBody) -> Result<(), Memory>
+    ensures { IfOk result (λ u. IsBodyLaidOut body.now) }
+{
+    let body = body.copy(alloc)?;
+    null_body(alloc, body)?;
+    Ok(())
 }
 
 fn null_payload(
@@ -70,19 +86,22 @@ fn null_payload(
     payload: Payload,
     descriptors: &Items<Descriptor>,
 ) -> Result<Payload, Memory>
-    ensures { IfOk result (λ made. made ≡ nulled_payload descriptors.now payload) }
+    ensures made { IfOk result (λ made. made ≡ nulled_payload descriptors.now payload) }
+    ensures laid { IfOk result (λ made. IsPayloadLaidOut descriptors.now payload) }
 {
-    if !some_absent(descriptors) {
+    let rows = descriptors.as_slice();
+    if !some_absent(rows) {
         return Ok(payload);
     }
-    lay_out(alloc, &payload, descriptors)
+    lay_out(alloc, &payload, rows)
 }
 
 // The payload, laid out anew.
 #[cold]
 #[inline(never)]
 fn lay_out(alloc: Global, payload: &Payload, descriptors: &[Descriptor]) -> Result<Payload, Memory>
-    ensures { IfOk result (λ made. made ≡ record { bytes = written (nulled descriptors.now (tree_of payload.now)); caps = payload.now.caps }) }
+    ensures made { IfOk result (λ made. made ≡ record { bytes = written (nulled descriptors.now (tree_of payload.now)); caps = payload.now.caps }) }
+    ensures tree { IfOk result (λ made. tree_of made ≡ nulled descriptors.now (tree_of payload.now)) }
 {
     let tree = payload.tree(alloc)?;
     let tree = null_tree(alloc, &tree, descriptors)?;

@@ -8,12 +8,9 @@ use Rattle.rpc_msg.specs.declared.exception.Exception.{Exception}
 use Rattle.rpc_msg.specs.declared.parts.Descriptor.{Descriptor}
 use Rattle.rpc_msg.specs.declared.message.Call.{Call}
 use Rattle.rpc_msg.specs.declared.message.Return.{Return}
-use Rattle.rpc_msg.specs.declared.message.ReturnBody.{ReturnBody}
 use Rattle.rpc_msg.specs.declared.message.ReturnBody.TheVariants as body
 use Rattle.rpc_msg.specs.declared.message.Resolve.{Resolve}
-use Rattle.rpc_msg.specs.declared.message.ResolvedTo.{ResolvedTo}
 use Rattle.rpc_msg.specs.declared.message.ResolvedTo.TheVariants as to
-use Rattle.rpc_msg.specs.declared.message.PlainMessage.{PlainMessage}
 use Rattle.rpc_msg.specs.declared.message.PlainMessage.TheVariants as plain
 use Rattle.rpc_msg.specs.declared.message.Message.{Message}
 use Rattle.rpc_msg.specs.declared.message.Message.TheVariants as message
@@ -58,31 +55,6 @@ Carries (command.Resolve promise r) m = ⊥
 Carries (command.Finish call) m = ⊥
 Carries (command.Advance r) m = ⊥
 Carries (command.Shut number) m = ⊥
-
--- The messages that carry on what a message brought: its content to any target, its results, or its exception.
-abbrev pub BodyGoesOn : ReturnBody → Message → Type 0
-BodyGoesOn (body.Results p ds) m = Returns p m
-BodyGoesOn (body.Exception e) m = Breaks e m ⊎ Throws e m
-BodyGoesOn body.Canceled m = ⊥
-
-abbrev pub ResolvedGoesOn : ResolvedTo → Message → Type 0
-ResolvedGoesOn (to.Cap d) m = ⊥
-ResolvedGoesOn (to.Exception e) m = Breaks e m ⊎ Throws e m
-
-abbrev pub PlainGoesOn : PlainMessage → Message → Type 0
-PlainGoesOn (plain.Call c) m = Calls c.payload m
-PlainGoesOn (plain.Return r) m = BodyGoesOn r.body m
-PlainGoesOn (plain.Resolve r) m = ResolvedGoesOn r.to m
-PlainGoesOn (plain.Abort e) m = ⊥
-PlainGoesOn (plain.Bootstrap q) m = ⊥
-PlainGoesOn (plain.Finish f) m = ⊥
-PlainGoesOn (plain.Release r) m = ⊥
-PlainGoesOn (plain.Disembargo d) m = ⊥
-PlainGoesOn (plain.Other n) m = ⊥
-
-abbrev pub GoesOn : Message → Message → Type 0
-GoesOn (message.Plain said) m = PlainGoesOn said m
-GoesOn (message.Unimplemented said) m = ⊥
 
 -- The content can be laid out by itself, as it is when it is read.
 abbrev pub IsAlone : Contents → Type 0

@@ -3,10 +3,10 @@ ghost use Rattle.std.specs.Prelude.{◌≡◌, ◌≤◌, ◌<◌, ◌^◌, true
 ghost use Rattle.rpc_msg.specs.Payloads.{words_in};
 ghost use Rattle.rpc_msg.specs.declared.message.Message.{Message as SpecMessage};
 ghost use Rattle.rpc_codec.specs.Frames.{message_frame};
-ghost use Rattle.rpc_codec_fits.specs.Carrying.{Carries, GoesOn, StandsAlone, HasRoom, fits, fits_beside, table_room, reason_room};
+ghost use Rattle.rpc_codec_fits.specs.Carrying.{Carries, StandsAlone, HasRoom, fits, fits_beside, table_room, reason_room};
 
 use rpc_machine::Command;
-use rpc_msg::{Exception, Message, Payload, PlainMessage, ResolvedTo, ReturnBody};
+use rpc_msg::{Exception, Payload};
 
 /// The levels that a content may have in a Call or a Return, behind those of the message, of its struct and of the
 /// payload.
@@ -79,31 +79,6 @@ pub fn fits_envelope(command: &Command) -> bool
         Command::Call(call) => content_fits(&call.payload, CALL_WORDS),
         Command::Answer(_, payload, _) => content_fits(payload, RETURN_WORDS),
         Command::Reject(_, exception) | Command::Fail(_, exception) => reason_fits(exception),
-        _ => true,
-    }
-}
-
-/// Does what a message brings fit into the frame of every message that carries it on? That is a Call with its content, to
-/// whatever target; a Return with its results; a Return or a Resolve with its exception; with descriptors of whatever
-/// length. It came in a frame, but beside a shorter path, or fewer words, than it may have to leave with.
-#[tactic(auto, using(crate::proofs::Room::calls_fit, crate::proofs::Room::returns_fit, crate::proofs::Room::rejects_fit))]
-pub fn fits_onward(message: &Message) -> bool
-    ensures { result ≡ true → (m : SpecMessage) → GoesOn message.now m → IsOk (message_frame m) }
-{
-    let Message::Plain(message) = message else {
-        return true;
-    };
-    match message {
-        PlainMessage::Call(call) => content_fits(&call.payload, CALL_WORDS),
-        PlainMessage::Return(said) => match &said.body {
-            ReturnBody::Results(payload, _) => content_fits(payload, RETURN_WORDS),
-            ReturnBody::Exception(exception) => reason_fits(exception),
-            ReturnBody::Canceled => true,
-        },
-        PlainMessage::Resolve(resolve) => match &resolve.to {
-            ResolvedTo::Cap(_) => true,
-            ResolvedTo::Exception(exception) => reason_fits(exception),
-        },
         _ => true,
     }
 }

@@ -1,7 +1,6 @@
-//! What the frames of messages have room for: which commands of a vat can be carried to a peer in bytes, and
-//! which messages that came can be carried on.
+//! What the frames of messages have room for: which commands of a vat can be carried to a peer in bytes.
 #![tactic(auto)]
 
 mod lengths;
 
-pub use lengths::{fits_envelope, fits_onward};
+pub use lengths::fits_envelope;

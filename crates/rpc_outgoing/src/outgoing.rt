@@ -1,9 +1,13 @@
 //! The bytes that go out.
-ghost use Rattle.std.specs.Prelude.{◌≡◌, [], ◌++◌, OnOk, OnErr, take};
+ghost use Rattle.std.specs.Prelude.{◌≡◌, [], ◌++◌, true, IfOk, Ok, OnOk, OnErr, take};
 ghost use Rattle.std.specs.Option.{option_map};
 ghost use Rattle.capn_trees.specs.Views.{view};
-ghost use Rattle.rpc_outgoing.specs.Outflows.{Keeps, Puts, PutsElsewhere, is_alone, nothing_out};
+ghost use Rattle.rpc_codec.specs.Frames.{Writes, message_frame};
+ghost use Rattle.rpc_outgoing.specs.Outflows.{IsSayable, Keeps, Puts, PutsElsewhere, is_alone, is_sound, nothing_out};
 
+use crate::errors::WriteError;
+use crate::sound::is_sound;
+use crate::widths::fit;
 use rpc_codec::{EncodeError, SentElsewhere, echo, encode, encode_sent_elsewhere};
 use rpc_msg::{Memory, Message, Payload, PlainMessage, Tree};
 use std::alloc::Global;
@@ -77,10 +81,14 @@ impl Outgoing {
     }
 
     /// Puts the frame of a message behind the bytes: for an Unimplemented of `Other` the oldest that is kept, which is kept
-    /// no longer; for every other message its own. A `Fault` if it has none, and `Memory`, leave all as it was.
-    pub fn write(&mut self, message: &Message) -> Result<(), EncodeError>
+    /// no longer; for every other message its own. Refused is a message that has none, and one that no vat says; that and want
+    /// of memory leave all as it was.
+    pub fn write(&mut self, message: &Message) -> Result<(), WriteError>
         ensures { Puts self.old message.now result self.new }
     {
+        if !is_sound(message) {
+            return Err(WriteError::Unsound);
+        }
         if is_alone(message) {
             if let Some(echo) = self.echoes.front() {
                 append(&mut self.bytes, echo.bytes())?;
@@ -88,7 +96,7 @@ impl Outgoing {
                 return Ok(());
             }
         }
-        let frame = encode(self.alloc, message)?;
+        let frame = frame_of(self.alloc, message)?;
         append(&mut self.bytes, frame.bytes())?;
         Ok(())
     }
@@ -109,6 +117,17 @@ fn is_alone(message: &Message) -> bool
     ensures { result ≡ is_alone message.now }
 {
     matches!(message, Message::Unimplemented(PlainMessage::Other(_)))
+}
+
+/// The frame of a sound message.
+fn frame_of(alloc: Global, message: &Message) -> Result<Payload, EncodeError>
+    requires { is_sound message.now ≡ true }
+    ensures frame { Writes (λ p. p) result (message_frame message.now) }
+    ensures sayable { IfOk result (λ p. IsSayable message.now) }
+{
+    fit(message);
+    let frame = encode(alloc, message)?;
+    Ok(frame)
 }
 
 fn append(bytes: &mut Vec<u8>, frame: &[u8]) -> Result<(), Memory>

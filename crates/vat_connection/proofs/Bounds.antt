@@ -1,5 +1,6 @@
 -- The words of what is held.
-use Rattle.std.proofs.Common.{◌≡◌, ℕ, ◌+◌, ◌*◌, ◌≤◌, Bool, true, false, List, [], ◌∷◌, ◌++◌, length, sum, Option, Some, None, Result, Ok, Err, inl, inr, IsSome, refl, sym, ap, subst, ◌∙◌, arith}
+use Rattle.std.proofs.Common.{◌≡◌, ℕ, zero, suc, ◌+◌, ◌*◌, ◌≤◌, Bool, true, false, List, [], ◌∷◌, ◌++◌, length, sum, Option, Some, None, Result, Ok, Err, inl, inr, IsSome, refl, sym, ap, subst, ◌∙◌, arith}
+use Rattle.std.specs.Prelude.{IfOk}
 use Rattle.std.proofs.lemmas.Bool.Decides.{nat_tests}
 use Rattle.rpc_msg.specs.declared.ids.QuestionId.{QuestionId}
 use Rattle.rpc_msg.specs.declared.message.Message.{Message}
@@ -11,16 +12,26 @@ use Rattle.rpc_machine.specs.State.{State}
 use Rattle.rpc_machine.specs.Steps.{Receives}
 use Rattle.rpc_machine.specs.Steps.Receives.{WasDown, FaultsBy, LacksRoom, IsHandled}
 use Rattle.vat_host.specs.Hosting.{Hosted}
+use Rattle.capn_trees.specs.declared.faults.PayloadFault.TheVariants.{TooLarge}
+use Rattle.rpc_msg.specs.declared.ids.Stamp.{Stamp}
+use Rattle.rpc_codec_parts.specs.declared.faults.EnvelopeFault.{EnvelopeFault}
+use Rattle.rpc_codec_parts.specs.declared.faults.EnvelopeFault.TheVariants.{Encoding}
 use Rattle.rpc_codec.specs.Decoding as codec
 use Rattle.peer_adapter.specs.declared.errors.PeerFault.{PeerFault}
-use Rattle.peer_large.specs.Opening.{Came}
+use Rattle.peer_large.specs.declared.front.Large.{Large}
+use Rattle.peer_large.specs.declared.limit.Limit.{Limit}
+use Rattle.peer_large.specs.declared.limit.Limit.TheVariants as limit
+use Rattle.peer_large.specs.Contents.{content_words, most_content_words}
+use Rattle.peer_large.specs.Fronts.{large_in}
+use Rattle.peer_large.specs.Laws.{ContentsAreSmall}
+use Rattle.peer_large.specs.Opening.{Came, came_at, spared_or}
 use Rattle.peer_large.specs.Sparing.{Coming, comes}
 use Rattle.capn_reading.specs.Framing.{segment_count, sizes}
 use Rattle.capn_stream.specs.declared.front.Front.TheVariants as front
 use Rattle.capn_fronts.specs.Parts.{IsWhole, Part, front_at, front_of, keeps_at, keeps_of, nothing}
 use Rattle.vat_connection.specs.declared.load.Limits.{Limits}
-use Rattle.vat_connection.specs.Load.{Intake, question_in, weighed, without_call}
-use Rattle.vat_connection.specs.Speaking.{Speaking, Breaks, Falls, Fails, HearsCame, HearsAll, HearsComing, HearsUp, Says, SaysTo, saying, came_of, stamp_of, tables_of, without, words_in}
+use Rattle.vat_connection.specs.Load.{Intake, held_words, question_in, weighed, without_call}
+use Rattle.vat_connection.specs.Speaking.{Speaking, Breaks, Falls, Fails, HearsCame, HearsAll, HearsComing, HearsUp, Says, SaysTo, saying, came_by, came_of, stamp_of, tables_of, without, words_in}
 use Rattle.vat_connection.specs.Speaking.SaysTo.{Nothing, Oldest, Broken}
 use Rattle.vat_connection.specs.Hearing.{Ends, EndsUp, FollowsBy, HearsInTurn, Inflow, IsOver, Leaves, Proceeds, Rests, may_hear}
 use Rattle.vat_connection.specs.Hearing.HearsInTurn.{All, Saying, Above, Down, Lacking, Oldest as OldestHeard}
@@ -65,7 +76,7 @@ less_without (message.Unimplemented x) i = omega arith
 
 says_less : (new old : Speaking) → SaysTo new old → new.host.core.down ≡ None → words new ≤ words old
 says_less new old (Nothing none same) up = let e = ap words same in omega (arith, e)
-says_less new old (Oldest {s} {mid} m ms is (out, told, (host, hears, mid_is)) more) up =
+says_less new old (Oldest {s} {mid} m ms is laid (out, told, (host, hears, mid_is)) more) up =
     let later = says_less new mid more up in
     let e = ap words mid_is in
     let less = less_without m old.heard in
@@ -88,7 +99,7 @@ hears_down old new (m ∷ ms) (mid, (noted, notes, (effects, receives, is)), mor
 
 says_down : (new old : Speaking) → SaysTo new old → IsSome old.host.core.down → IsSome new.host.core.down
 says_down new old (Nothing none same) down = subst (λ (s : Speaking). IsSome s.host.core.down) (sym same) down
-says_down new old (Oldest {s} {mid} m ms is (out, told, (host, hears, mid_is)) more) down =
+says_down new old (Oldest {s} {mid} m ms is laid (out, told, (host, hears, mid_is)) more) down =
     says_down new mid more (subst (λ (s : Speaking). IsSome s.host.core.down) (sym mid_is) (hears_down (without old.host ms) host _ hears down))
 says_down new old (Broken m ms is breaks) is_down = broke (saying old m ms) new breaks
 
@@ -106,13 +117,27 @@ coming_less : (s mid : Speaking) (n : ℕ) (c : Result Coming PeerFault) → Hea
 coming_less s mid n (Ok c) (out, aside, (host, hears, is)) up = let e = ap words is in let less = less_weighed (question_in c.heard) n s.heard in omega (arith, e, less)
 coming_less s mid n (Err f) fails up = none_up mid.host.core.down up (failed s mid _ fails)
 
-came_less : (s mid : Speaking) (n : ℕ) (c : codec.Came Came) → HearsCame s n c mid → mid.host.core.down ≡ None → words mid ≤ words s + n
-came_less s mid n (Ok w) hears up = coming_less s mid n (comes (tables_of s.host.core) s.adapter w) hears up
-came_less s mid n (Err f) falls up = none_up mid.host.core.down up (fell s mid _ falls)
+came_less : (s mid : Speaking) (n most : ℕ) (c : codec.Came Came) → n ≤ most → IfOk c (λ w. content_words w ≤ most) → HearsCame s n c mid → mid.host.core.down ≡ None → words mid ≤ words s + most
+came_less s mid n most (Ok w) few small hears up = let less = coming_less s mid (held_words n w) (comes (tables_of s.host.core) s.adapter w) hears up in omega (arith, less, few, small)
+came_less s mid n most (Err f) few small falls up = none_up mid.host.core.down up (fell s mid _ falls)
 
-hears_less : (s mid : Speaking) (frame : Part) → HearsUp s frame mid → mid.host.core.down ≡ None → words mid ≤ words s + words_in frame
-hears_less s mid frame (inl came) up = came_less s mid (words_in frame) (came_of (stamp_of s) frame) came up
-hears_less s mid frame (inr lacks) up = none_up mid.host.core.down up (failed s mid _ lacks)
+-- the contents of a frame are no larger than a message may be
+module _ (small : ContentsAreSmall) where
+  few_or_none : (broken : Limit) (l : Option Large) (f : EnvelopeFault) → IfOk (spared_or broken l (Err f)) (λ w. content_words w ≤ most_frame_words)
+  few_or_none broken (Some l) f = omega arith
+  few_or_none broken None f = tt
+
+  most_or_less : (c : codec.Came Came) → IfOk c (λ w. content_words w ≤ most_content_words) → IfOk c (λ w. content_words w ≤ most_frame_words)
+  most_or_less (Ok w) h = omega (arith, h)
+  most_or_less (Err f) h = tt
+
+  few_by : (dropped : ℕ) (stamp : Stamp) (bytes : List ℕ) → IfOk (came_by dropped stamp bytes) (λ w. content_words w ≤ most_frame_words)
+  few_by zero stamp bytes = most_or_less (came_at stamp bytes) (small stamp bytes)
+  few_by (suc n) stamp bytes = few_or_none limit.Words (large_in bytes) (Encoding TooLarge)
+
+  hears_less : (s mid : Speaking) (frame : Part) → words_in frame ≤ most_frame_words → HearsUp s frame mid → mid.host.core.down ≡ None → words mid ≤ words s + most_frame_words
+  hears_less s mid frame few (inl came) up = came_less s mid (words_in frame) most_frame_words (came_of (stamp_of s) frame) few (few_by frame.dropped (stamp_of s) frame.kept) came up
+  hears_less s mid frame few (inr lacks) up = none_up mid.host.core.down up (failed s mid _ lacks)
 
 -- ---- a frame
 
@@ -135,7 +160,7 @@ frame_less frame whole =
 within : (l : Limits) (s : Speaking) → may_hear l s ≡ true → words s ≤ l.words
 within l s may = grind (arith, nat_tests, may)
 
-module _ (l : Limits) (bound : ℕ) (fits : l.words + most_frame_words ≤ bound) where
+module _ (small : ContentsAreSmall) (l : Limits) (bound : ℕ) (fits : l.words + most_frame_words ≤ bound) where
   turn_less : (new : Speaking) (left : List Part) (s : Speaking) (frames : List Part) → HearsInTurn l new left s frames → words s ≤ bound → new.host.core.down ≡ None → words new ≤ bound
   turn_less new left s [] (All same none) here up = let e = ap words same in omega (arith, e, here)
   turn_less new left s (f ∷ fs) (Saying {said = said} frame frames is_up says more) here up =
@@ -151,10 +176,9 @@ module _ (l : Limits) (bound : ℕ) (fits : l.words + most_frame_words ≤ bound
       said_less : (said : Speaking) → Says s said → said.host.core.down ≡ None → words said ≤ bound
       said_less said says still = let less = says_less said s says still in omega (arith, less, here)
   turn_less new left s (f ∷ fs) (OldestHeard {mid = mid} frame frames is_up silent may whole hears more) here up =
-      let one = hears_less s mid frame hears (mid_up frames mid more) in
-      let most = frame_less frame whole in
+      let one = hears_less small s mid frame (frame_less frame whole) hears (mid_up frames mid more) in
       let low = within l s may in
-      turn_less new left mid frames more (omega (arith, one, most, low, fits)) up
+      turn_less new left mid frames more (omega (arith, one, low, fits)) up
     where
       mid_up : (fs : List Part) (mid : Speaking) → HearsInTurn l new left mid fs → mid.host.core.down ≡ None
       mid_up [] mid (All same none) = ap (λ (x : Speaking). x.host.core.down) (sym same) ∙ up
@@ -203,15 +227,15 @@ module _ (l : Limits) (bound : ℕ) (fits : l.words + most_frame_words ≤ bound
       let less = turn_less mid left s (i.unheard ++ kept) turn here (ap (λ (x : Speaking). x.host.core.down) (sym same) ∙ up) in
       subst (λ (x : Speaking). words x ≤ bound) (sym same) less
 
-works_less : (bound : ℕ) (old new : Connected) → old.limits.words + most_frame_words ≤ bound → words old.speaker ≤ bound → WorksOn old new → down new ≡ None → words new.speaker ≤ bound
-works_less bound old new fits here (mid, inflow, proceeds, (said, says, is)) up =
+works_less : (small : ContentsAreSmall) (bound : ℕ) (old new : Connected) → old.limits.words + most_frame_words ≤ bound → words old.speaker ≤ bound → WorksOn old new → down new ≡ None → words new.speaker ≤ bound
+works_less small bound old new fits here (mid, inflow, proceeds, (said, says, is)) up =
     let said_up : said.host.core.down ≡ None = ap (λ (c : Connected). down c) (sym is) ∙ up in
     let less = says_less said mid says said_up in
     let e = ap (λ (c : Connected). words c.speaker) is in
     let mid_up : mid.host.core.down ≡ None = was_up mid.host.core.down (λ down. none_up said.host.core.down said_up (says_down said mid says down)) in
-    let mid_less = proceeds_less old.limits bound fits old.speaker mid old.inflow inflow proceeds here mid_up in
+    let mid_less = proceeds_less small old.limits bound fits old.speaker mid old.inflow inflow proceeds here mid_up in
     omega (arith, less, e, mid_less)
 
-pub load_is_bounded : LoadIsBounded
-load_is_bounded bound bytes old new fits here (inl receives) up = follows_less old.limits bound fits (down old) old.inflow.over old.speaker new.speaker old.inflow new.inflow bytes receives.0 here up
-load_is_bounded bound bytes old new fits here (inr works) up = works_less bound old new fits here works up
+pub load_is_bounded : ContentsAreSmall → LoadIsBounded
+load_is_bounded small bound bytes old new fits here (inl receives) up = follows_less small old.limits bound fits (down old) old.inflow.over old.speaker new.speaker old.inflow new.inflow bytes receives.0 here up
+load_is_bounded small bound bytes old new fits here (inr works) up = works_less small bound old new fits here works up

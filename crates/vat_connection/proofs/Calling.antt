@@ -11,12 +11,13 @@ use Rattle.rpc_machine.specs.declared.command.Granted.TheVariants as granted
 use Rattle.rpc_machine.specs.declared.command.Refusal.{Refusal}
 use Rattle.rpc_machine.specs.declared.command.Refusal.TheVariants as refusal
 use Rattle.rpc_machine.specs.Steps.{Shuts}
+use Rattle.laws_places.specs.Wanted.{lacks_places}
 use Rattle.vat_host.specs.Hosting.{Hosted, Does, Refuses, hosted_by, stepped}
 use Rattle.vat_host.specs.Objects.{with_object}
 use Rattle.peer_large.specs.Sparing.{Sparing}
 use Rattle.rpc_codec_fits.specs.Carrying.{Carries}
 use Rattle.rpc_outgoing.specs.Outflows.{Outflow}
-use Rattle.vat_connection.specs.Calling.{Calls, Fits, IsTooLarge, Obeys, ObeysToFit, answered}
+use Rattle.vat_connection.specs.Calling.{Calls, FindsRoom, Fits, IsTooLarge, Obeys, ObeysToFit, answered}
 use Rattle.vat_connection.specs.Speaking.{Speaking, Shuts as IsShut}
 use Rattle.vat_connection.specs.Load.{Intake}
 use Rattle.vat_connection.specs.declared.load.Limits.{Limits}
@@ -45,10 +46,10 @@ pub lacks_place : (old : Hosted) (c : CallCommand) → Calls old c (Err refusal.
 lacks_place old c = (old, Err refusal.Memory, (inr (refl, refl), refl), (inr (refl, refl), refl))
 
 -- A shut, of which nothing follows but an Abort.
-pub shuts : (old new : Hosted) (c : Command) (n : ℕ) → c ≡ command.Shut n → IsShut old n new → Does old c granted.Done new × Fits c
+pub shuts : (old new : Hosted) (c : Command) (n : ℕ) → c ≡ command.Shut n → IsShut old n new → Does old c granted.Done new × FindsRoom old c
 shuts old new c n is falls = (
   (falls.0, Shuts n is refl falls.1, falls.2 ∙ ap (λ (k : Command). record (stepped old falls.0 new.core) { objects = with_object (hosted_by k) old.objects }) (sym is)),
-  λ m carries. absurd (subst (λ (k : Command). Carries k m) is carries),
+  (λ m carries. absurd (subst (λ (k : Command). Carries k m) is carries), ap (lacks_places old.core) is),
 )
 
 -- ---- of a connection

@@ -13,7 +13,7 @@ use Rattle.peer_large.specs.declared.opening.Opened.{Opened}
 use Rattle.peer_large.specs.Opening.{Came, came_at, came_in, seen}
 use Rattle.peer_large.specs.Sparing.{Sparing, Coming, comes}
 use Rattle.rpc_outgoing.specs.Outflows.{Outflow}
-use Rattle.vat_connection.specs.Load.{Intake, with_frame}
+use Rattle.vat_connection.specs.Load.{Intake, held_words, with_frame}
 use Rattle.vat_connection.specs.Speaking.{Speaking, Fails, Falls, HearsAll, HearsCame, HearsComing, HearsUp, IsAside, Shuts, came_by, came_of, stamp_of, tables_of, want_of_room, words_in}
 use Rattle.vat_connection.specs.Framing.{HearsOpened, HearsInbound, IsFault, IsRefused, Opens, Turned}
 use Rattle.vat_connection.proofs.Saying.{speaking}
@@ -81,6 +81,6 @@ module _ (host : Hosted) (out : Outflow) (adapter : Sparing) (heard : Intake) wh
     not_opened n next (inl is) shuts = inl (fault_by came n next is shuts)
     not_opened n next (inr is) shuts = inr (adapter, heard, (subst (λ (k : ℕ). Shuts host k next) is shuts, refl))
 
-    pub opened : (e : Opened) (new : Speaking) → Opens came (Ok e) → HearsOpened start (words_in frame) e new → HearsUp start frame new
+    pub opened : (e : Opened) (new : Speaking) → Opens came (Ok e) → HearsOpened start (held_words (words_in frame) (seen e)) e new → HearsUp start frame new
     opened e new is (inl hears) = inl (subst (λ (c : codec.Came Came). HearsCame start (words_in frame) c new) (sym is) hears)
     opened e new is (inr lacks) = inr lacks

@@ -4,6 +4,7 @@ use Rattle.std.proofs.Math.Dec.{eqb-suc-zero}
 use Rattle.rpc_msg.specs.declared.message.Message.{Message}
 use Rattle.vat_host.specs.Hosting.{Hosted, is_abort}
 use Rattle.peer_tail_calls.specs.Adapting.{messages_in}
+use Rattle.peer_tail_calls.specs.Nulling.{IsLaidOut}
 use Rattle.peer_adapter.specs.declared.told.Outbound.{Outbound}
 use Rattle.peer_large.specs.Sparing.{Sparing, Going, goes, seen_outbound}
 use Rattle.rpc_outgoing.specs.Outflows.{Outflow}
@@ -53,8 +54,8 @@ module _ (host next : Hosted) (out : Outflow) (adapter : Sparing) (heard : Intak
   none_said none same = Nothing none (ap (λ (h : Hosted). speaking h out adapter heard) same)
 
   module _ (m : Message) (new : Speaking) (is : host ≡ record next { messages = m ∷ next.messages }) where
-    pub one_said : (mid : Speaking) → Turns (speaking next out adapter (without_call m heard)) (goes adapter m) mid → Says mid new → Says (speaking host out adapter heard) new
-    one_said mid turns more = subst (λ (h : Hosted). SaysTo new (speaking h out adapter heard)) (sym is) (Oldest m next.messages refl turns more)
+    pub one_said : (mid : Speaking) → IsLaidOut m → Turns (speaking next out adapter (without_call m heard)) (goes adapter m) mid → Says mid new → Says (speaking host out adapter heard) new
+    one_said mid laid turns more = subst (λ (h : Hosted). SaysTo new (speaking h out adapter heard)) (sym is) (Oldest m next.messages refl laid turns more)
 
     -- whatever the adapter took
     pub breaks : (a : Sparing) → Breaks (speaking next out a (without_call m heard)) new → Says (speaking host out adapter heard) new
@@ -63,7 +64,7 @@ module _ (host next : Hosted) (out : Outflow) (adapter : Sparing) (heard : Intak
 -- All went out that a vat had to say.
 pub says_all : (new old : Speaking) → SaysTo new old → new.host.messages ≡ []
 says_all new old (Nothing none same) = ap (λ (s : Speaking). s.host.messages) same ∙ none
-says_all new old (Oldest {s} {mid} m ms is turns more) = says_all new mid more
+says_all new old (Oldest {s} {mid} m ms is laid turns more) = says_all new mid more
 says_all new old (Broken m ms is (mid, lacks, passes)) = ap (λ (s : Speaking). s.host.messages) passes.1
 
 -- What the adapter says of a message is done.

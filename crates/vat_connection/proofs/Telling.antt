@@ -15,7 +15,7 @@ framed_longer old new (Err f) put = absurd put
 
 -- Where a Release is put, bytes are.
 pub put_longer : (old new : Outflow) (e : ExportId) → Put old (release_of e) new → IsLonger old new
-put_longer old new e put = framed_longer old new (message_frame (release_of e)) put
+put_longer old new e put = framed_longer old new (message_frame (release_of e)) put.1
 
 pub same_longer : (out : Outflow) → IsLonger out out
 same_longer out = ([], ap (λ (bytes : List ℕ). record out { bytes = bytes }) (sym (append-nil out.bytes)))

@@ -1,5 +1,6 @@
--- Commands: what they give fits into frames, and a call's reference takes the shorter path before.
-use Rattle.std.specs.Prelude.{◌≡◌, false, IsOk, List, Option, Some, None, Result, Ok, Err, ◌⊎◌}
+-- Commands: what they give fits into frames, the exports that they may want have a place, and a call's reference takes the shorter path
+-- before.
+use Rattle.std.specs.Prelude.{◌≡◌, true, false, IsOk, List, Option, Some, None, Result, Ok, Err, ◌⊎◌}
 use Rattle.rpc_msg.specs.Payloads.{Contents}
 use Rattle.rpc_msg.specs.declared.exception.Exception.{Exception}
 use Rattle.rpc_msg.specs.declared.ids.CallId.{CallId}
@@ -13,6 +14,7 @@ use Rattle.rpc_machine.specs.declared.command.Granted.{Granted}
 use Rattle.rpc_machine.specs.declared.command.Refusal.{Refusal}
 use Rattle.rpc_msg.specs.declared.message.Message.{Message}
 use Rattle.rpc_machine.specs.declared.command.Refusal.TheVariants as refusal
+use Rattle.laws_places.specs.Wanted.{lacks_places}
 use Rattle.vat_host.specs.Hosting.{Hosted, Does, Refuses}
 use Rattle.rpc_codec.specs.Frames.{message_frame}
 use Rattle.rpc_codec_fits.specs.Carrying.{Carries, fits}
@@ -24,6 +26,14 @@ Fits c = (m : Message) → Carries c m → IsOk (message_frame m)
 -- What a command gives is too large for that by its words, and nothing is changed.
 abbrev pub IsTooLarge : Hosted → Command → Refusal → Hosted → Type 0
 IsTooLarge old c r new = (r ≡ refusal.Full) × (fits c ≡ false) × (new ≡ old)
+
+-- What it gives fits, and the exports that it may want by itself have a place.
+abbrev pub FindsRoom : Hosted → Command → Type 0
+FindsRoom old c = Fits c × (lacks_places old.core c ≡ false)
+
+-- What it gives is too large, or those exports have no place, and nothing is changed.
+abbrev pub FindsNoRoom : Hosted → Command → Refusal → Hosted → Type 0
+FindsNoRoom old c r new = (r ≡ refusal.Full) × ((fits c ≡ false) ⊎ (lacks_places old.core c ≡ true)) × (new ≡ old)
 
 abbrev pub call_of : Command → Option CallCommand
 call_of (command.Call c) = Some c
@@ -45,10 +55,10 @@ abbrev pub Obeys : Hosted → Command → Result Granted Refusal → Hosted → 
 Obeys old c (Ok granted) new = Does old c granted new
 Obeys old c (Err r) new = Refuses old c r new
 
--- What comes of a command whose contents may be too large: where it is done, what it gives fits.
+-- What comes of a command whose contents may be too large, or whose exports may have no place: where it is done, it found room.
 abbrev pub ObeysToFit : Hosted → Command → Result Granted Refusal → Hosted → Type 0
-ObeysToFit old c (Ok granted) new = Does old c granted new × Fits c
-ObeysToFit old c (Err r) new = Refuses old c r new ⊎ IsTooLarge old c r new
+ObeysToFit old c (Ok granted) new = Does old c granted new × FindsRoom old c
+ObeysToFit old c (Err r) new = Refuses old c r new ⊎ FindsNoRoom old c r new
 
 -- What a command answers, told by what the call of its name answers: what that gives, or why it is refused.
 abbrev pub answered : {A E : Type 0} → Result A E → (A → Granted) → (E → Refusal) → Result Granted Refusal

@@ -103,7 +103,7 @@ wants_bytes c = (is_none (down c) && is_none c.inflow.over) && ((length c.inflow
 abbrev pub Asks : Connected → Command → Result Granted Refusal → Connected → Type 0
 Asks old c answer new = Obeys old.speaker.host c answer new.speaker.host × (new ≡ answered_by old c answer new.speaker.host)
 
--- The same of a command whose contents may be too large.
+-- The same of a command whose contents may be too large, or whose exports may have no place.
 abbrev pub AsksToFit : Connected → Command → Result Granted Refusal → Connected → Type 0
 AsksToFit old c answer new = ObeysToFit old.speaker.host c answer new.speaker.host × (new ≡ answered_by old c answer new.speaker.host)
 

@@ -28,7 +28,7 @@ abbrev pub Turned : Result Coming PeerFault → Result Inbound ℕ → Sparing �
 Turned coming (Ok i) new = coming ≡ Ok (seen_inbound new i)
 Turned coming (Err n) new = IsRefused coming n ⊎ (n ≡ want_of_room)
 
--- What a frame says is heard of which so many words are kept; or memory is wanting, and the vat goes down.
+-- What a frame says is heard of which so many words are held; or memory is wanting, and the vat goes down.
 abbrev pub HearsOpened : Speaking → ℕ → Opened → Speaking → Type 0
 HearsOpened old words came new = HearsComing old words (comes (tables_of old.host.core) old.adapter (seen came)) new ⊎ Lacks old new
 

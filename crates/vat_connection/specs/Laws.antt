@@ -6,7 +6,7 @@ use Rattle.vat_connection.specs.Connecting.{Connected, Receives, WorksOn, down}
 abbrev pub PiecesAreOne : Type 0
 PiecesAreOne = (piece more : List ℕ) (old mid new : Connected) → Receives old piece mid → Receives mid more new → Receives old (piece ++ more) new
 
--- the most words that are kept of a frame: the table of 16 segments, and as many words as a message may have
+-- the most words that are held of a frame: the table of 16 segments, and as many words as a message may have
 abbrev pub most_frame_words : ℕ
 most_frame_words = 65545
 

@@ -1,6 +1,5 @@
--- How much of what the peer sent a connection holds, in words of the frames in which it came (docs/embedding.md, "How much a peer
--- makes a vat hold").
-use Rattle.std.specs.Prelude.{ℕ, ◌+◌, ◌-◌, Bool, not, nat_lt, ◌&&◌, List, [], ◌∷◌, Option, Some, None, refl}
+-- How much of what the peer sent a connection holds, in words (docs/embedding.md, "How much a peer makes a vat hold").
+use Rattle.std.specs.Prelude.{ℕ, ◌+◌, ◌-◌, max, Bool, not, nat_lt, ◌&&◌, List, [], ◌∷◌, Option, Some, None, refl}
 use Rattle.std.specs.Coded.{Coded, code_by, coded×, coded_ℕ}
 use Rattle.std.specs.FinMap as map
 use Rattle.std.specs.Ordering.{nat_cmp}
@@ -8,6 +7,8 @@ use Rattle.rpc_msg.specs.declared.ids.QuestionId.{QuestionId}
 use Rattle.rpc_msg.specs.declared.message.Message.{Message}
 use Rattle.rpc_msg.specs.declared.message.Message.TheVariants as message
 use Rattle.rpc_msg.specs.declared.message.PlainMessage.TheVariants as plain
+use Rattle.peer_large.specs.Contents.{content_words}
+use Rattle.peer_large.specs.Opening.{Came}
 use Rattle.vat_connection.specs.declared.load.Limits.{Limits}
 
 -- What was heard: how many frames; the words of each Call for which no Return was said, by its question; the words that are counted,
@@ -25,6 +26,10 @@ intake_code =
     (λ i. ((i.frames, i.calls), (i.words, i.others)))
     (λ p. record { frames = p.0.0; calls = p.0.1; words = p.1.0; others = p.1.1 })
     (λ _. refl)
+
+-- What is held of a frame of so many words that says this: these words, or those of its contents where these are more.
+abbrev pub held_words : ℕ → Came → ℕ
+held_words words came = max words (content_words came)
 
 abbrev pub nothing_heard : Intake
 nothing_heard = record { frames = 0; calls = map.empty; words = 0; others = 0 }
@@ -51,11 +56,11 @@ abbrev pub weighed : Option QuestionId → ℕ → Intake → Intake
 weighed (Some question) words i = record i { calls = map.insert i.calls question.0 words; words = (i.words - words_of (map.get i.calls question.0)) + words }
 weighed None words i = record i { words = i.words + words; others = i.others + words }
 
--- One more frame was heard, of so many words, with a Call of that question or without one.
+-- One more frame was heard, of which so many words are held, with a Call of that question or without one.
 abbrev pub counted : Option QuestionId → ℕ → Intake → Intake
 counted question words i = record (weighed question words i) { frames = i.frames + 1 }
 
--- A frame of so many words was heard, of which the vat is given these messages.
+-- A frame was heard of which so many words are held, and of which the vat is given these messages.
 abbrev pub with_frame : List Message → ℕ → Intake → Intake
 with_frame ms = counted (question_in ms)
 

@@ -15,6 +15,7 @@ use Rattle.peer_finishes.specs.declared.held.Finishes.{Finishes}
 use Rattle.peer_kinds.specs.Standings.{standings_in}
 use Rattle.peer_tail_calls.specs.declared.heard.Said.{Said}
 use Rattle.peer_tail_calls.specs.declared.heard.Said.TheVariants as said
+use Rattle.peer_tail_calls.specs.Nulling.{IsLaidOut}
 use Rattle.peer_adapter.specs.declared.errors.PeerFault.{PeerFault}
 use Rattle.peer_adapter.specs.declared.told.Told.{Told}
 use Rattle.peer_adapter.specs.Numbers.{number_of as number_of_peer}
@@ -27,7 +28,7 @@ use Rattle.rpc_machine.specs.Fullness.{has_no_room}
 use Rattle.rpc_machine.specs.State.{State}
 use Rattle.vat_core.specs.Foreseen.{is_broken, is_finished}
 use Rattle.vat_host.specs.Hosting.{Hosted, Hears, hosted_code, is_abort, stepped}
-use Rattle.vat_connection.specs.Load.{Intake, intake_code, with_frame, without_call}
+use Rattle.vat_connection.specs.Load.{Intake, held_words, intake_code, with_frame, without_call}
 use Rattle.rpc_outgoing.specs.contracts.outgoing.Outgoing as outgoing_row
 use Rattle.rpc_outgoing.specs.Outflows.{Outflow, Kept, Put, PutElsewhere}
 
@@ -130,7 +131,7 @@ Turns old going new =
 -- message that breaks it off.
 pub data SaysTo (new : Speaking) : Speaking → Type 0 where
   Nothing : {s : Speaking} → s.host.messages ≡ [] → new ≡ s → SaysTo new s
-  Oldest : {s mid : Speaking} (m : Message) (ms : List Message) → s.host.messages ≡ m ∷ ms → Turns (saying s m ms) (goes s.adapter m) mid → SaysTo new mid → SaysTo new s
+  Oldest : {s mid : Speaking} (m : Message) (ms : List Message) → s.host.messages ≡ m ∷ ms → IsLaidOut m → Turns (saying s m ms) (goes s.adapter m) mid → SaysTo new mid → SaysTo new s
   Broken : {s : Speaking} (m : Message) (ms : List Message) → s.host.messages ≡ m ∷ ms → Breaks (saying s m ms) new → SaysTo new s
 
 abbrev pub Says : Speaking → Speaking → Type 0
@@ -160,7 +161,7 @@ abbrev pub IsAside : Outflow → Besides → Outflow → Type 0
 IsAside old (Tells told) new = IsTold old told new
 IsAside old (Keeps original) new = Kept old (Some original) new
 
--- The adapter says what a frame comes to of which so many words are kept: the peer is told that, or it is kept to go back, and the
+-- The adapter says what a frame comes to of which so many words are held: the peer is told that, or it is kept to go back, and the
 -- vat hears what it is to hear; a fault takes the vat down with its number.
 abbrev pub HearsComing : Speaking → ℕ → Result Coming PeerFault → Speaking → Type 0
 HearsComing old words (Ok c) new =
@@ -168,9 +169,9 @@ HearsComing old words (Ok c) new =
     × ((host : Hosted) × HearsAll old.host c.heard host × (new ≡ record { host = host; out = out; adapter = c.state; heard = with_frame c.heard words old.heard }))
 HearsComing old words (Err f) new = Fails old (number_of_peer f) new
 
--- So many words of a frame are kept, and this is what it says; a fault takes the vat down with its number.
+-- A frame of which so many words are kept says this; a fault takes the vat down with its number.
 abbrev pub HearsCame : Speaking → ℕ → codec.Came Came → Speaking → Type 0
-HearsCame old words (Ok w) new = HearsComing old words (comes (tables_of old.host.core) old.adapter w) new
+HearsCame old words (Ok w) new = HearsComing old (held_words words w) (comes (tables_of old.host.core) old.adapter w) new
 HearsCame old words (Err f) new = Falls old (number_of f) new
 
 -- the words that are kept of a frame

@@ -2,7 +2,7 @@
 ghost use Rattle.std.specs.Prelude.{◌≡◌, ◌⊎◌, false, IfOk, IfErr, not, length, ◌==◌, ◌||◌};
 ghost use Rattle.rpc_machine.specs.Refusals.{is_shut};
 ghost use Rattle.vat_host.specs.Hosting.{Does, Refuses};
-ghost use Rattle.vat_connection.specs.Calling.{Fits, IsTooLarge, answered};
+ghost use Rattle.vat_connection.specs.Calling.{FindsNoRoom, FindsRoom, answered};
 ghost use Rattle.vat_connection.specs.Connecting.{Connected, Finishes, Gives, Receives, Tells, TellsNext, WorksOn, answered_by, fresh, IsShut, wants_bytes};
 ghost use Rattle.vat_connection.specs.Load.{no_limits};
 
@@ -163,8 +163,8 @@ impl Connection {
         Some(event)
     }
 
-    /// What the connection holds of its peer: the words of the frames of Calls for which no Return was said, and of other frames until
-    /// `next_event` found nothing to tell; and the bytes that wait to be sent.
+    /// What the connection holds of its peer: the words of Calls for which no Return was said, and of other frames until `next_event`
+    /// found nothing to tell, each as large as its frame or its contents, whichever is more; and the bytes that wait to be sent.
     pub fn load(&self) -> Load
         ensures words { result.words ≡ self.now.speaker.heard.words }
         ensures bytes { result.bytes ≡ length self.now.speaker.out.bytes }
@@ -196,11 +196,12 @@ impl Connection {
     }
 
     /// Takes a command of any kind, as `Host::command` does. Refused with `Full` too, if what it gives may be too large for
-    /// the frames that carry it (docs/messages.md, "What fits"). Refused with `Memory` too, except for a `Shut`, if there is no place for
+    /// the frames that carry it (docs/messages.md, "What fits"), or if the exports that an `Answer` or a `Resolve` may want have no
+    /// place (docs/protocol.md, "Limits"). Refused with `Memory` too, except for a `Shut`, if there is no place for
     /// a call that it may make. A command that is refused is handed back.
     pub fn command(&mut self, command: Command) -> Result<Granted, Refused<Command>>
-        ensures done { IfOk result (λ granted. Does self.old.speaker.host command granted self.new.speaker.host × Fits command) }
-        ensures refused { IfErr result (λ e. Refuses self.old.speaker.host command e.refusal self.new.speaker.host ⊎ IsTooLarge self.old.speaker.host command e.refusal self.new.speaker.host) }
+        ensures done { IfOk result (λ granted. Does self.old.speaker.host command granted self.new.speaker.host × FindsRoom self.old.speaker.host command) }
+        ensures refused { IfErr result (λ e. Refuses self.old.speaker.host command e.refusal self.new.speaker.host ⊎ FindsNoRoom self.old.speaker.host command e.refusal self.new.speaker.host) }
         ensures handed_back { IfErr result (λ e. e.back ≡ command) }
         ensures rest { self.new ≡ answered_by self.old command (answered result (λ granted. granted) (λ e. e.refusal)) self.new.speaker.host }
     {
@@ -214,8 +215,8 @@ impl Connection {
     // Takes a command, if there is a place for a call that it may make.
     fn command_with_place(&mut self, command: Command) -> Result<Granted, Refused<Command>>
         requires { is_shut command ≡ false }
-        ensures done { IfOk result (λ granted. Does self.old.speaker.host command granted self.new.speaker.host × Fits command) }
-        ensures refused { IfErr result (λ e. Refuses self.old.speaker.host command e.refusal self.new.speaker.host ⊎ IsTooLarge self.old.speaker.host command e.refusal self.new.speaker.host) }
+        ensures done { IfOk result (λ granted. Does self.old.speaker.host command granted self.new.speaker.host × FindsRoom self.old.speaker.host command) }
+        ensures refused { IfErr result (λ e. Refuses self.old.speaker.host command e.refusal self.new.speaker.host ⊎ FindsNoRoom self.old.speaker.host command e.refusal self.new.speaker.host) }
         ensures handed_back { IfErr result (λ e. e.back ≡ command) }
         ensures rest { self.new ≡ answered_by self.old command (answered result (λ granted. granted) (λ e. e.refusal)) self.new.speaker.host }
     {

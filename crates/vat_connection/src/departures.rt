@@ -2,6 +2,7 @@
 ghost use Rattle.std.specs.Prelude.{◌≡◌, true, false, IsTrue, MatchBool};
 ghost use Rattle.vat_host.specs.Hosting.{is_abort};
 ghost use Rattle.peer_tail_calls.specs.Adapting.{messages_in};
+ghost use Rattle.peer_tail_calls.specs.Nulling.{IsLaidOut};
 ghost use Rattle.rpc_outgoing.specs.Outflows.{Outflow};
 ghost use Rattle.peer_adapter.specs.Peering.{release_of, seen_aside};
 ghost use Rattle.peer_large.specs.Sparing.{goes};
@@ -48,7 +49,7 @@ impl Speaker {
     // Puts the frame of what the adapter says in place of a message, and lets the vat hear what it is to hear then; says whether
     // it could.
     fn say_one(&mut self, message: Message) -> bool
-        ensures { MatchBool result (Turns self.old (goes self.old.adapter message) self.new) (self.new ≡ record self.old { adapter = self.new.adapter }) }
+        ensures { MatchBool result (IsLaidOut message × Turns self.old (goes self.old.adapter message) self.new) (self.new ≡ record self.old { adapter = self.new.adapter }) }
     {
         let Ok(outbound) = self.adapter.outbound(message) else {
             return false;

@@ -8,7 +8,7 @@ ghost use Rattle.vat_connection.specs.Speaking.{HearsUp, came_of, stamp_of, tabl
 ghost use Rattle.vat_connection.specs.Framing.{HearsOpened, HearsInbound, Opens, Turned};
 
 use crate::departures::{hear_each, put_aside};
-use crate::load::question_in;
+use crate::load::{held_words, question_in};
 use crate::speaker::{Speaker, lack_room};
 use capn_fronts::KeptFrame;
 use peer_adapter::{Inbound, PeerError, Standing};
@@ -32,10 +32,11 @@ impl Speaker {
             Ok(came) => came,
             Err(number) => return self.host.shut(number),
         };
-        self.hear_opened(came, frame.bytes().len() as u64 / BYTES_OF_A_WORD);
+        let words = held_words(frame.bytes().len() as u64 / BYTES_OF_A_WORD, &came);
+        self.hear_opened(came, words);
     }
 
-    // Hears what a frame says of which so many words are kept.
+    // Hears what a frame says of which so many words are held.
     fn hear_opened(&mut self, came: Opened, words: u64)
         ensures { HearsOpened self.old words came self.new }
     {
@@ -46,7 +47,7 @@ impl Speaker {
         self.hear_inbound(inbound, words);
     }
 
-    // Hears what the adapter said of a frame of so many words.
+    // Hears what the adapter said of a frame of which so many words are held.
     fn hear_inbound(&mut self, inbound: Inbound, words: u64)
         ensures { HearsInbound self.old words inbound self.new }
     {

@@ -8,6 +8,7 @@
 //! - `inflow.rt`: what came and was not heard. `arrivals.rt`: the vat hears each frame in its turn. `load.rt`: how much of what came is
 //!   held, and how much may be.
 //! - `open_calls.rt`: the own calls that are open, which end when the vat goes down.
+//! - `places.rt`: whether the exports that an answer or a resolve may want have a place.
 //! - `finishes.rt`: when a Finish goes.
 //! - `laws.rt`: that pieces do not matter, and that the load is bounded, as contracts of functions that do nothing.
 //!
@@ -24,6 +25,7 @@ mod inflow;
 mod laws;
 mod load;
 mod open_calls;
+mod places;
 mod promises;
 mod refs;
 mod speaker;

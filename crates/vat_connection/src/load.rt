@@ -2,9 +2,11 @@
 ghost use Rattle.std.specs.Prelude.{◌≡◌, Some, None, OnOk, OnErr, option_copied};
 ghost use Rattle.std.specs.FinMap as map;
 ghost use Rattle.peer_tail_calls.specs.Adapting.{messages_in};
-ghost use Rattle.vat_connection.specs.Load.{all_told, counted, is_within, nothing_heard, question_in, question_of, weighed, without_call, without_question, words_of};
+ghost use Rattle.peer_large.specs.Opening.{seen};
+ghost use Rattle.vat_connection.specs.Load.{all_told, counted, held_words, is_within, nothing_heard, question_in, question_of, weighed, without_call, without_question, words_of};
 
 use peer_adapter::Heard;
+use peer_large::Opened;
 use rpc_msg::{AnswerId, Memory, Message, PlainMessage, QuestionId};
 use std::alloc::Global;
 use std::collections::BTreeMap;
@@ -13,7 +15,8 @@ use std::marker::Model;
 /// What a connection holds of its peer.
 #[derive(Clone, Copy, Debug, PartialEq, Eq, Drop)]
 pub struct Load {
-    /// The words that are kept of the frames of each Call for which no Return was said, and of other frames until all events were told.
+    /// The words that are held of each Call for which no Return was said, and of other frames until all events were told: those of its
+    /// frame, or those of its contents where these are more.
     pub words: u64,
     /// The bytes that wait to be sent.
     pub bytes: u64,
@@ -144,7 +147,7 @@ impl Intake {
         self.words
     }
 
-    /// Counts one more frame, of so many words, with the Call of that question if it has one. `Memory` also if a count is beyond what
+    /// Counts one more frame, of which so many words are held, with the Call of that question if it has one. `Memory` also if a count is beyond what
     /// a number says; it leaves all as it was.
     pub(crate) fn add(&mut self, question: Option<QuestionId>, words: u64) -> Result<(), Memory>
         ensures { OnOk result (self.new ≡ counted question words self.old) }
@@ -209,6 +212,13 @@ impl Intake {
         self.words = self.words.saturating_sub(self.others);
         self.others = 0;
     }
+}
+
+/// The words that are held of a frame of so many words that says this: these, or those of its contents where these are more.
+pub(crate) fn held_words(words: u64, came: &Opened) -> u64
+    ensures { result ≡ held_words words (seen came.now) }
+{
+    words.max(came.content_words())
 }
 
 /// The question of the first Call of these messages, if one is there.

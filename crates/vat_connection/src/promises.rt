@@ -19,11 +19,15 @@ impl Connection {
         self.speaker.host.promise()
     }
 
-    /// Settles a promise to what a reference leads to, as `Host::resolve` does. A refusal changes nothing.
+    /// Settles a promise to what a reference leads to, as `Core::resolve` does. Refused with `Full` too, if there is no place for
+    /// one export more (docs/protocol.md, "Limits"). A refusal changes nothing.
     pub fn resolve(&mut self, promise: PromiseId, reference: RefId) -> Result<(), Refusal>
-        ensures { Asks self.old (command.Resolve promise reference) (answered result (λ _. granted.Done) (λ r. r)) self.new }
+        ensures { AsksToFit self.old (command.Resolve promise reference) (answered result (λ _. granted.Done) (λ r. r)) self.new }
     {
-        self.speaker.host.resolve(promise, reference)
+        match self.speaker.command(Command::Resolve(promise, reference)) {
+            Ok(_granted) => return Ok(()),
+            Err(refused) => return Err(refused.refusal),
+        }
     }
 
     /// Breaks a promise, as `Core::reject` does. Refused with `Full` too, if the exception's reason may be too long for the

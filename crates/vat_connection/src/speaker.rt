@@ -7,12 +7,13 @@ ghost use Rattle.vat_host.specs.Hosting.{Does, Refuses, idle};
 ghost use Rattle.rpc_codec_fits.specs.Carrying.{fits};
 ghost use Rattle.rpc_outgoing.specs.Outflows.{nothing_out};
 ghost use Rattle.peer_large.specs.Sparing.{fresh as fresh_adapter};
-ghost use Rattle.vat_connection.specs.Calling.{Calls, Fits, IsTooLarge, call_of};
+ghost use Rattle.vat_connection.specs.Calling.{Calls, FindsNoRoom, FindsRoom, Fits, IsTooLarge, call_of};
 ghost use Rattle.vat_connection.specs.Load.{nothing_heard};
 ghost use Rattle.vat_connection.specs.Hearing.{IsReady, may_hear};
 ghost use Rattle.vat_connection.specs.Speaking.{Falls, Shuts, finishing, given, want_of_room};
 
 use crate::load::{Intake, Limits};
+use crate::places::lacks_places;
 use peer_adapter::Finishes;
 use peer_large::SparingAdapter;
 use rpc_codec_fits::fits_envelope;
@@ -104,14 +105,21 @@ impl Speaker {
         self.adapter.set_finishes(finishes);
     }
 
-    /// Takes a command of any kind, unless what it gives may be too large for the frames that carry it.
+    /// Takes a command of any kind, unless what it gives may be too large for the frames that carry it, or the exports that it may
+    /// want by itself have no place.
     pub(crate) fn command(&mut self, command: Command) -> Result<Granted, Refused<Command>>
-        ensures done { IfOk result (λ granted. Does self.old.host command granted self.new.host × Fits command) }
-        ensures refused { IfErr result (λ e. Refuses self.old.host command e.refusal self.new.host ⊎ IsTooLarge self.old.host command e.refusal self.new.host) }
+        ensures done { IfOk result (λ granted. Does self.old.host command granted self.new.host × FindsRoom self.old.host command) }
+        ensures refused { IfErr result (λ e. Refuses self.old.host command e.refusal self.new.host ⊎ FindsNoRoom self.old.host command e.refusal self.new.host) }
         ensures handed_back { IfErr result (λ e. e.back ≡ command) }
         ensures rest { self.new ≡ record self.old { host = self.new.host } }
     {
         if !fits_envelope(&command) {
+            return Err(Refused {
+                refusal: Refusal::Full,
+                back: command,
+            });
+        }
+        if lacks_places(self.host.core(), &command) {
             return Err(Refused {
                 refusal: Refusal::Full,
                 back: command,

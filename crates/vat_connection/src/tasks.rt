@@ -12,7 +12,8 @@ use vat_host::Refused;
 
 impl Connection {
     /// Gives a task its results, as `Core::answer` does. Refused with `Full` too, if they may be too large for the frame that
-    /// carries them (docs/messages.md, "What fits"). A refusal changes nothing, and the results are handed back.
+    /// carries them (docs/messages.md, "What fits"), or if there is no place for one export more for each reference
+    /// (docs/protocol.md, "Limits"). A refusal changes nothing, and the results are handed back.
     pub fn answer(
         &mut self,
         task: TaskId,

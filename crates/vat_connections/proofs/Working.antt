@@ -19,6 +19,7 @@ use Rattle.vat_host.specs.Hosting.{Hosted, Hears}
 use Rattle.vat_hosts.specs.OneHost.{Act, ActsAll, Happening, happened_by, told_by}
 use Rattle.vat_hosts.specs.OneHost.Act.{Commands, Takes, Receives}
 use Rattle.vat_connection.specs.declared.load.Limits.{Limits}
+use Rattle.vat_connection.specs.Load.{held_words}
 use Rattle.vat_connection.specs.Speaking.{Speaking, Breaks, Falls, Fails, HearsAll, HearsCame, HearsComing, HearsUp, Passes, SaysTo, Turns, saying, came_of, stamp_of, tables_of, want_of_room, without, words_in}
 use Rattle.vat_connection.specs.Speaking.SaysTo.{Nothing, Oldest, Broken}
 use Rattle.vat_connection.specs.Hearing.{Comes, Ends, EndsUp, FollowsBy, HearsInTurn, Inflow, IsOver, Leaves, Proceeds, Rests}
@@ -90,7 +91,7 @@ turns s t g (out, told, (host, heard, is)) = subst (λ (u : Speaking). Works s.h
 
 pub says : (t s : Speaking) → SaysTo t s → Works s.host t.host
 says t _ (Nothing {s = s} none is) = stays s t is
-says t _ (Oldest {s = s} {mid = mid} m ms is turned more) =
+says t _ (Oldest {s = s} {mid = mid} m ms is laid turned more) =
     then s.host (without s.host ms) t.host (takes s.host (m ∷ []) ms is) (then (without s.host ms) mid.host t.host (turns (saying s m ms) mid (goes s.adapter m) turned) (says t mid more))
 says t _ (Broken {s = s} m ms is broke) = then s.host (without s.host ms) t.host (takes s.host (m ∷ []) ms is) (breaks (saying s m ms) t broke)
 
@@ -101,7 +102,7 @@ comes_one s t words (Ok c) (out, aside, (host, heard, is)) = subst (λ (u : Spea
 comes_one s t words (Err f) failed = fails s t (number_of_peer f) failed
 
 came_one : (s t : Speaking) (words : ℕ) (r : codec.Came Came) → HearsCame s words r t → Works s.host t.host
-came_one s t words (Ok w) heard = comes_one s t words (comes (tables_of s.host.core) s.adapter w) heard
+came_one s t words (Ok w) heard = comes_one s t (held_words words w) (comes (tables_of s.host.core) s.adapter w) heard
 came_one s t words (Err f) fell = falls s t (number_of f) fell
 
 hears_up : (s t : Speaking) (frame : Part) → HearsUp s frame t → Works s.host t.host

@@ -1,22 +1,17 @@
 //! The largest contents and reasons that fit, and the smallest that don't.
-use crate::tests::contents::{call, nested, reason, sevens};
+use crate::tests::contents::{nested, reason, sevens};
 use capn_trees::{Tree, WriteFault};
-use rpc_codec_fits::{fits_envelope, fits_onward};
+use rpc_codec_fits::fits_envelope;
 use rpc_machine::{CallCommand, Command};
-use rpc_msg::{
-    Exception, ExportId, Items, Message, Payload, PlainMessage, PromiseId, QuestionId, RefId,
-    Resolve, ResolvedTo, Return, ReturnBody, Target, TaskId,
-};
+use rpc_msg::{Exception, Items, Payload, PromiseId, RefId, TaskId};
 use std::alloc::Global;
 use std::test::Fail;
 
-/// What has the contents: a command, or a message that came and goes on.
+/// The command that has the contents.
 #[derive(Clone, Copy, Drop)]
 enum Carrier {
     Call,
     Answer,
-    CameCall,
-    CameReturn,
 }
 
 #[derive(Clone, Copy, Drop)]
@@ -27,11 +22,11 @@ enum Contents {
     Words(usize),
 }
 
-use Carrier::{Answer, Call, CameCall, CameReturn};
+use Carrier::{Answer, Call};
 use Contents::{Levels, Words};
 
 /// Contents with so many capabilities, and whether they fit.
-const FIT: [(Carrier, Contents, u32, bool); 14] = [
+const FIT: [(Carrier, Contents, u32, bool); 10] = [
     (Call, Levels(61), 0, true),
     (Call, Levels(62), 0, false),
     (Answer, Levels(61), 0, true),
@@ -42,10 +37,6 @@ const FIT: [(Carrier, Contents, u32, bool); 14] = [
     (Call, Words(65_462), 2, false),
     (Answer, Words(65_528), 0, true),
     (Answer, Words(65_529), 0, false),
-    (CameCall, Words(65_504), 0, true),
-    (CameCall, Words(65_505), 0, false),
-    (CameReturn, Words(65_528), 0, true),
-    (CameReturn, Words(65_529), 0, false),
 ];
 
 fn tree_of(alloc: Global, contents: Contents) -> Result<Tree, WriteFault> {
@@ -64,10 +55,6 @@ fn goes(command: Command) -> bool {
     fits_envelope(&command)
 }
 
-fn goes_on(message: PlainMessage) -> bool {
-    fits_onward(&Message::Plain(message))
-}
-
 fn fits(alloc: Global, carrier: Carrier, payload: Payload) -> bool {
     match carrier {
         Carrier::Call => goes(Command::Call(CallCommand {
@@ -78,15 +65,6 @@ fn fits(alloc: Global, carrier: Carrier, payload: Payload) -> bool {
             refs: Items::new(alloc),
         })),
         Carrier::Answer => goes(Command::Answer(TaskId(0), payload, Items::new(alloc))),
-        Carrier::CameCall => {
-            let target = Target::ImportedCap(ExportId(0));
-            goes_on(PlainMessage::Call(call(target, payload, Items::new(alloc))))
-        }
-        Carrier::CameReturn => goes_on(PlainMessage::Return(Return {
-            answer: QuestionId(0),
-            release_param_caps: false,
-            body: ReturnBody::Results(payload, Items::new(alloc)),
-        })),
     }
 }
 
@@ -108,19 +86,11 @@ fn rejects(exception: Exception) -> bool {
     goes(Command::Reject(PromiseId(0), exception))
 }
 
-fn resolves(exception: Exception) -> bool {
-    goes_on(PlainMessage::Resolve(Resolve {
-        promise: ExportId(0),
-        to: ResolvedTo::Exception(exception),
-    }))
-}
-
 #[test]
 fn reasons_fit_up_to_their_room(rt: HostRuntime) -> Result<(), Fail> {
     for (bytes, wanted) in [(524_215, true), (524_216, false)] {
         assert!(rt; fails(reason(rt.alloc(), bytes)?) == wanted);
         assert!(rt; rejects(reason(rt.alloc(), bytes)?) == wanted);
-        assert!(rt; resolves(reason(rt.alloc(), bytes)?) == wanted);
     }
     assert!(rt; goes(Command::Bootstrap));
     Ok(())

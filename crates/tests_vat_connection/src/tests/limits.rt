@@ -98,3 +98,49 @@ fn what_comes_waits_for_what_goes_out(rt: HostRuntime) {
     let sent = scene(&rt, rt.alloc(), [None, ROOT], 4096, &[ASKED, UNSENT]);
     assert!(rt; sent[1] > 0);
 }
+
+/// A frame of a Bootstrap of question 0.
+const BOOTSTRAP: [u8; 48] = [
+    0, 0, 0, 0, 5, 0, 0, 0, 0, 0, 0, 0, 1, 0, 1, 0, 8, 0, 0, 0, 0, 0, 0, 0, 0, 0, 0, 0, 1, 0, 1, 0,
+    0, 0, 0, 0, 0, 0, 0, 0, 0, 0, 0, 0, 0, 0, 0, 0,
+];
+
+/// A Call of question 7 to the results of question 0 (`rpc.capnp`). Its content is a struct of two pointers, which both lead to the
+/// next such struct. There are 14 of them, of 2 words each in the frame, and 16,383 in the content.
+const SHARED: [u8; 336] = [
+    0, 0, 0, 0, 41, 0, 0, 0, 0, 0, 0, 0, 1, 0, 1, 0, 2, 0, 0, 0, 0, 0, 0, 0, 0, 0, 0, 0, 3, 0, 3,
+    0, 7, 0, 0, 0, 0, 0, 0, 0, 0, 0, 0, 0, 0, 0, 0, 0, 0, 0, 0, 0, 0, 0, 0, 0, 8, 0, 0, 0, 1, 0, 1,
+    0, 12, 0, 0, 0, 0, 0, 2, 0, 0, 0, 0, 0, 0, 0, 0, 0, 0, 0, 0, 0, 1, 0, 0, 0, 0, 0, 0, 0, 0, 0,
+    0, 0, 4, 0, 0, 0, 0, 0, 2, 0, 0, 0, 0, 0, 0, 0, 0, 0, 4, 0, 0, 0, 0, 0, 2, 0, 0, 0, 0, 0, 0, 0,
+    2, 0, 4, 0, 0, 0, 0, 0, 2, 0, 0, 0, 0, 0, 0, 0, 2, 0, 4, 0, 0, 0, 0, 0, 2, 0, 0, 0, 0, 0, 0, 0,
+    2, 0, 4, 0, 0, 0, 0, 0, 2, 0, 0, 0, 0, 0, 0, 0, 2, 0, 4, 0, 0, 0, 0, 0, 2, 0, 0, 0, 0, 0, 0, 0,
+    2, 0, 4, 0, 0, 0, 0, 0, 2, 0, 0, 0, 0, 0, 0, 0, 2, 0, 4, 0, 0, 0, 0, 0, 2, 0, 0, 0, 0, 0, 0, 0,
+    2, 0, 4, 0, 0, 0, 0, 0, 2, 0, 0, 0, 0, 0, 0, 0, 2, 0, 4, 0, 0, 0, 0, 0, 2, 0, 0, 0, 0, 0, 0, 0,
+    2, 0, 4, 0, 0, 0, 0, 0, 2, 0, 0, 0, 0, 0, 0, 0, 2, 0, 4, 0, 0, 0, 0, 0, 2, 0, 0, 0, 0, 0, 0, 0,
+    2, 0, 4, 0, 0, 0, 0, 0, 2, 0, 0, 0, 0, 0, 0, 0, 2, 0, 4, 0, 0, 0, 0, 0, 2, 0, 0, 0, 0, 0, 0, 0,
+    2, 0, 0, 0, 0, 0, 0, 0, 0, 0, 0, 0, 0, 0, 0, 0, 0, 0,
+];
+
+/// The words of its content, with its table and the root's pointer.
+const SHARED_WORDS: u64 = 32_768;
+
+/// Of 500 such Calls one is heard, since what is held of it is above the limit. Its frame alone is not.
+const HELD: Steps<'static> = &[
+    (Vat::B, Step::Limits(1000, NO_LIMIT)),
+    (Vat::B, Step::Hears(&BOOTSTRAP)),
+    (Vat::B, Step::Tells(Told::Nothing)),
+    (Vat::B, Step::Loads(0)),
+    (Vat::B, Step::HearsOften(&SHARED, 500)),
+    (Vat::B, Step::Loads(SHARED_WORDS)),
+    (Vat::B, Step::WantsBytes(false)),
+    (Vat::B, Step::Tells(Told::Served(TaskId(0), Given::Nothing))),
+    (Vat::B, Step::Tells(Told::Nothing)),
+    (Vat::B, Step::Loads(SHARED_WORDS)),
+    (Vat::B, Step::IsUp),
+];
+
+#[test]
+fn contents_count_where_they_are_more_than_their_frame(rt: HostRuntime) {
+    let sent = scene(&rt, rt.alloc(), [None, ROOT], 0, &[HELD]);
+    assert!(rt; sent[0] == 0);
+}

@@ -2,14 +2,14 @@ use Rattle.std.proofs.Common.{◌≡◌, Ok, refl, sym, subst}
 use Rattle.rpc_machine.specs.declared.command.Command.{Command}
 use Rattle.rpc_machine.specs.declared.command.Granted.TheVariants as granted
 use Rattle.vat_host.specs.Hosting.{Does}
-use Rattle.vat_connection.specs.Calling.{Fits}
+use Rattle.vat_connection.specs.Calling.{FindsRoom}
 use Rattle.vat_connection.specs.Connecting.{Connected}
 use Rattle.vat_connection.specs.OwnCalls.{asked}
 use Rattle.vat_connection.proofs.Calling.{leaves, shuts}
 use Rattle.vat_connection.proofs.connection.Connection.command.Goals as goal
 
 pub returns-in-Shut-clause-done : goal.returns-in-Shut-clause-done
-returns-in-Shut-clause-done c = subst (λ (o : Connected). Does o.speaker.host c.args.command granted.Done c.fall.new.self.host × Fits c.args.command) c.self.view_is (shuts c.self.inside.speaker.host c.fall.new.self.host c.args.command c.in-Shut.number c.in-Shut.is c.fall.ensures.0)
+returns-in-Shut-clause-done c = subst (λ (o : Connected). Does o.speaker.host c.args.command granted.Done c.fall.new.self.host × FindsRoom o.speaker.host c.args.command) c.self.view_is (shuts c.self.inside.speaker.host c.fall.new.self.host c.args.command c.in-Shut.number c.in-Shut.is c.fall.ensures.0)
 
 pub returns-in-Shut-clause-rest : goal.returns-in-Shut-clause-rest
 returns-in-Shut-clause-rest c =

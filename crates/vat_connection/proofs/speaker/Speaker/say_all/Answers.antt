@@ -9,8 +9,8 @@ pub loop-message-preserved : goal.loop-message-preserved
 loop-message-preserved c =
     λ new more. c.loop-message.invariant new
     (subst (λ (s : Speaking). Says s new) c.self.view_is
-    (one_said c.self.inside.host c.next_message.new.self c.self.inside.out c.self.inside.adapter c.self.inside.heard c.in-Some.message new c.in-Some.ensures.oldest c.say_one.new.self
-    (subst (λ (h : Intake). Turns (speaking c.next_message.new.self c.self.inside.out c.self.inside.adapter h) (goes c.self.inside.adapter c.in-Some.message) c.say_one.new.self) c.say.ensures c.if-not-say_one.ensures) more))
+    (one_said c.self.inside.host c.next_message.new.self c.self.inside.out c.self.inside.adapter c.self.inside.heard c.in-Some.message new c.in-Some.ensures.oldest c.say_one.new.self c.if-not-say_one.ensures.0
+    (subst (λ (h : Intake). Turns (speaking c.next_message.new.self c.self.inside.out c.self.inside.adapter h) (goes c.self.inside.adapter c.in-Some.message) c.say_one.new.self) c.say.ensures c.if-not-say_one.ensures.1) more))
 
 pub returns-then-left-eq0 : goal.returns-then-left-eq0
 returns-then-left-eq0 c =
