@@ -38,11 +38,11 @@ use Rattle.vat_connections.specs.OneConnection.Act.{Commands, Receives, Ends, Sh
 use Rattle.vat_hosts.specs.OneHost.Act.{Commands as HostCommands}
 use Rattle.vat_connections.proofs.Downs.{is_down_behind, silent_behind}
 use Rattle.vat_connections.proofs.Working.{Works, ends_stream as works_ends, falls as works_falls, follows as works_follows, works_on}
-use Rattle.laws_in_bytes.specs.Conditions.{IsKnown}
 use Rattle.laws_in_bytes.specs.Wired.{TellsCutOff, but_shut, done_by_act, done_of}
 use Rattle.laws_in_bytes.proofs.Viewing.{Reached, View, commanded, commands, commands_down, stepped_view, world_of}
 use Rattle.laws_in_bytes.proofs.Tied.{AllAborts, IsPlainly, Link, Tied, falls, not_down, some_down, step_ties, told_elsewhere, told_here}
 use Rattle.laws_in_bytes.proofs.Aside.{StandAside}
+use Rattle.laws_in_bytes.proofs.Within.{HasSmallIds, command_keeps}
 use Rattle.laws_in_bytes.proofs.Flowing.{Flows, Unheard, Waits, coming, ends_stream, follows, works}
 
 -- ---- what is told
@@ -93,7 +93,7 @@ same_tied : (me other peer : Speaking) (to_me to_them : List ℕ) (w : View) →
 same_tied me other peer to_me to_them w s t = record {
   mine = t.mine ∙ sym s.core;
   theirs = t.theirs;
-  own = record { echoes = ap (λ (o : Outflow). o.echoes) s.out ∙ t.own.echoes; plainly = s.adapter t.own.plainly; level = ap (λ (x : State). x.level) s.core ∙ t.own.level };
+  own = record { echoes = ap (λ (o : Outflow). o.echoes) s.out ∙ t.own.echoes; plainly = s.adapter t.own.plainly; level = ap (λ (x : State). x.level) s.core ∙ t.own.level; small = subst HasSmallIds (sym s.core) t.own.small };
   own_theirs = t.own_theirs;
   link = λ up. t.link (sym (ap (λ (x : State). x.down) s.core) ∙ up);
   link_theirs = λ p. subst (λ (o : Outflow). Link w.to_them other.host.messages other.host.core.down (to_them ++ o.bytes)) (sym s.out)
@@ -169,7 +169,7 @@ module _ (root_a root_b : Option ObjectId) (v : Vat) (w : View) (peer : Speaking
           acted (stepped_view w effects s)
           (world_of v (stepped_view w effects s), commands v w c (Ok g) effects s (ap (λ (x : State). x.down) t.mine ∙ up) (subst (λ (x : State). Obeys x c (Ok g) effects s) (sym t.mine) done.1), refl)
           (step_ties old.speaker peer new.speaker (coming gone r) to_them (coming gone r) w effects w.to_me t up messages (ap (λ (x : Speaking). x.out) speaker_is) (plainly_then t.own.plainly)
-          ((names.commands old.speaker.host.core c (Ok g) effects s done.1).level ∙ t.own.level) (λ u. t.link up))
+          ((names.commands old.speaker.host.core c (Ok g) effects s done.1).level ∙ t.own.level) (command_keeps old.speaker.host.core c (Ok g) effects s done.1 t.own.small) (λ u. t.link up))
         where
           plainly_then : IsPlainly old.speaker → IsPlainly new.speaker
           plainly_then (inl f) = inl (ap (λ (x : Speaking). x.adapter) speaker_is ∙ f)
@@ -370,7 +370,7 @@ given_tied : (said peer : Speaking) (to_me to_them : List ℕ) (w : View) → Ti
 given_tied said peer to_me to_them w t = record {
   mine = t.mine;
   theirs = t.theirs;
-  own = record { echoes = t.own.echoes; plainly = t.own.plainly; level = t.own.level };
+  own = record { echoes = t.own.echoes; plainly = t.own.plainly; level = t.own.level; small = t.own.small };
   own_theirs = t.own_theirs;
   link = t.link;
   link_theirs = λ u. subst (λ (x : List ℕ). Link w.to_them said.host.messages said.host.core.down x) (sym (append-nil (to_them ++ said.out.bytes))) (t.link_theirs u);
@@ -405,21 +405,21 @@ finishing_same s f is = record { core = refl; messages = refl; out = refl; adapt
 module _ (aside : StandAside) (alike : FittingNamesAreAlike) (runs : WiredRunsAreRuns) (refuse : RunsRefuseNothing) (understood : EveryRunIsUnderstood) (names : OfEachStep KeepsNames) (root_a root_b : Option ObjectId) (v : Vat) (w : View) (reached : Reached root_a root_b (world_of v w)) (peer : Speaking) where
   module _ (r to_them : List ℕ) (old new : Connected) (gone : Unheard) (waits : Waits old.inflow gone) where
     -- Bytes come: the oldest of those on their way.
-    pub receives : (bytes : List ℕ) (h : Acts old (Receives bytes) new) → IsKnown old (Receives bytes) new h → Tied old.speaker peer (coming gone (bytes ++ r)) to_them w
+    pub receives : (bytes : List ℕ) → Acts old (Receives bytes) new → Tied old.speaker peer (coming gone (bytes ++ r)) to_them w
         → Acted root_a root_b v w (Receives bytes) old new peer r to_them
-    receives bytes (followed, is) known t =
+    receives bytes (followed, is) t =
         by_itself root_a root_b v w peer r to_them (Receives bytes) old new (coming gone (bytes ++ r)) refl refl
         (works_follows (down old) old.inflow.over old.limits old.speaker new.speaker old.inflow new.inflow bytes followed) t
-        (follows root_a root_b v peer r to_them aside alike runs refuse understood names (down old) old.inflow.over old.limits old.speaker new.speaker old.inflow new.inflow bytes gone refl refl waits followed known)
+        (follows root_a root_b v peer r to_them aside alike runs refuse understood names (down old) old.inflow.over old.limits old.speaker new.speaker old.inflow new.inflow bytes gone refl refl waits followed)
         reached
 
     -- Bytes are handed out, behind those on their way to the other.
-    pub gives_out : (bytes : List ℕ) (h : Acts old (Gives bytes) new) → IsKnown old (Gives bytes) new h → Tied old.speaker peer (coming gone r) to_them w
+    pub gives_out : (bytes : List ℕ) → Acts old (Gives bytes) new → Tied old.speaker peer (coming gone r) to_them w
         → Acted root_a root_b v w (Gives bytes) old new peer r (to_them ++ bytes)
-    gives_out bytes (mid, worked, bytes_are, is) known t =
+    gives_out bytes (mid, worked, bytes_are, is) t =
         gives root_a root_b v w peer r to_them bytes old mid new bytes_are is
         (by_itself root_a root_b v w peer r to_them (Gives bytes) old mid (coming gone r) refl refl (works_on old mid worked) t
-        (works root_a root_b v peer r to_them aside alike runs refuse understood names old mid gone waits worked known) reached)
+        (works root_a root_b v peer r to_them aside alike runs refuse understood names old mid gone waits worked) reached)
 
     pub commands_it : (c : Command) (answer : Result Granted Refusal) → Acts old (Commands c answer) new → Tied old.speaker peer (coming gone r) to_them w → Acted root_a root_b v w (Commands c answer) old new peer r to_them
     commands_it c answer h t = commands_by root_a root_b v w peer r to_them old new gone waits t names c answer h
@@ -439,10 +439,10 @@ module _ (aside : StandAside) (alike : FittingNamesAreAlike) (runs : WiredRunsAr
         })
         reached
 
-    pub asks_it : (event : Option Event) (h : Acts old (Asks event) new) → IsKnown old (Asks event) new h → Tied old.speaker peer (coming gone r) to_them w → Acted root_a root_b v w (Asks event) old new peer r to_them
-    asks_it event (mid, worked, tells) known t =
+    pub asks_it : (event : Option Event) → Acts old (Asks event) new → Tied old.speaker peer (coming gone r) to_them w → Acted root_a root_b v w (Asks event) old new peer r to_them
+    asks_it event (mid, worked, tells) t =
         tells_next root_a root_b v w peer r to_them old mid new gone t (works_on old mid worked)
-        (works root_a root_b v peer r to_them aside alike runs refuse understood names old mid gone waits worked known) reached event tells
+        (works root_a root_b v peer r to_them aside alike runs refuse understood names old mid gone waits worked) reached event tells
 
     pub limits_it : (limits : Limits) → Acts old (SetsLimits limits) new → Tied old.speaker peer (coming gone r) to_them w → Acted root_a root_b v w (SetsLimits limits) old new peer r to_them
     limits_it limits is t =
@@ -450,8 +450,8 @@ module _ (aside : StandAside) (alike : FittingNamesAreAlike) (runs : WiredRunsAr
         (with_new_host old.speaker new.speaker old.speaker.host (ap (λ (c : Connected). c.speaker) is) refl refl) (ap (λ (c : Connected). c.inflow) is)
         (same_host root_a root_b v w peer r to_them old new gone waits t [] refl (ap (λ (c : Connected). c.speaker.host) is))
 
-    pub finishes_it : (f : Finishes) (h : Acts old (SetsFinishes f) new) → IsKnown old (SetsFinishes f) new h → Tied old.speaker peer (coming gone r) to_them w → Acted root_a root_b v w (SetsFinishes f) old new peer r to_them
-    finishes_it f is known t =
+    pub finishes_it : (f : Finishes) → Acts old (SetsFinishes f) new → f ≡ AtOnce → Tied old.speaker peer (coming gone r) to_them w → Acted root_a root_b v w (SetsFinishes f) old new peer r to_them
+    finishes_it f is at_once t =
         beside root_a root_b v w peer r to_them old new gone waits t (SetsFinishes f) refl
-        (subst (λ (s : Speaking). IsSame old.speaker s) (sym (ap (λ (c : Connected). c.speaker) is)) (finishing_same old.speaker f known)) (ap (λ (c : Connected). c.inflow) is)
+        (subst (λ (s : Speaking). IsSame old.speaker s) (sym (ap (λ (c : Connected). c.speaker) is)) (finishing_same old.speaker f at_once)) (ap (λ (c : Connected). c.inflow) is)
         (same_host root_a root_b v w peer r to_them old new gone waits t [] refl (ap (λ (c : Connected). c.speaker.host) is))

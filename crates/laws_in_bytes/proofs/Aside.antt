@@ -5,6 +5,7 @@ use Rattle.rpc_msg.specs.declared.message.PlainMessage.{PlainMessage}
 use Rattle.rpc_msg.specs.declared.message.PlainMessage.TheVariants as plain
 use Rattle.rpc_msg.specs.declared.message.Message.{Message}
 use Rattle.rpc_msg.specs.declared.message.Message.TheVariants as message
+use Rattle.rpc_machine.specs.Fullness.{has_no_room}
 use Rattle.rpc_machine.specs.State.{State}
 use Rattle.rpc_codec.specs.Envelopes.{What, profile}
 use Rattle.peer_overload.specs.declared.errors.OverloadFault.{OverloadFault}
@@ -26,12 +27,25 @@ use Rattle.peer_large.specs.Sparing as large
 use Rattle.peer_large.specs.Sparing.{Going, Sparing, fresh, goes, passed_by, with_going}
 use Rattle.vat_host.specs.Hosting.{is_abort}
 use Rattle.vat_connection.specs.Speaking.{tables_of}
-use Rattle.laws_in_bytes.specs.Conditions.{HasRoom}
+use Rattle.laws_read_back.specs.ReadBack.{FramesReadBack}
 
--- The laws of the adapters.
+-- The laws of the adapters, and of the frames of what the peer is told.
 pub record StandAside : Type 0 where
   pub adapter : StandsAside
   pub sparing : SparesNothing
+  pub reads : FramesReadBack
+
+-- A message that asks finds room for one answer more.
+abbrev pub HasRoom : State → PlainMessage → Type 0
+HasRoom s (plain.Abort e) = Unit {0}
+HasRoom s (plain.Bootstrap q) = has_no_room s.answers ≡ false
+HasRoom s (plain.Call c) = has_no_room s.answers ≡ false
+HasRoom s (plain.Return r) = Unit {0}
+HasRoom s (plain.Finish f) = Unit {0}
+HasRoom s (plain.Resolve r) = Unit {0}
+HasRoom s (plain.Release r) = Unit {0}
+HasRoom s (plain.Disembargo d) = Unit {0}
+HasRoom s (plain.Other n) = Unit {0}
 
 -- ---- what comes
 

@@ -17,7 +17,6 @@ use Rattle.vat_connection.specs.declared.load.Limits.{Limits}
 use Rattle.vat_connection.specs.Speaking.{Speaking, Falls, want_of_room}
 use Rattle.vat_connection.specs.Hearing.{Ends, EndsUp, FollowsBy, Inflow, IsBegun, IsOver, Leaves, Proceeds, Rests, nothing_in}
 use Rattle.vat_connection.specs.Connecting.{Connected, EndsStream, WorksOn}
-use Rattle.laws_in_bytes.specs.Conditions.{FollowsKnown, ProceedsKnown, WorksKnown}
 use Rattle.laws_in_bytes.proofs.Aside.{StandAside}
 use Rattle.laws_in_bytes.proofs.Streams.{concat_append}
 use Rattle.laws_in_bytes.proofs.Viewing.{Reached, View, world_of}
@@ -151,21 +150,21 @@ module _ (root_a root_b : Option ObjectId) (v : Vat) (peer : Speaking) (r to_the
         ∙ ap (λ (x : List ℕ). x ++ (rest ++ r)) (sym (concat_append unheard frames))
 
     pub follows : (d o : Option ℕ) (l : Limits) (old new : Speaking) (inflow later : Inflow) (bytes : List ℕ) (gone : Unheard) → old.host.core.down ≡ d → inflow.over ≡ o → Waits inflow gone
-        → (h : FollowsBy d o l old inflow bytes new later) → FollowsKnown d o l old inflow bytes new later h → Flows old new (coming gone (bytes ++ r)) later
-    follows (Some n) o l old new inflow later bytes gone d over_is waits (is, e) known = record {
+        → FollowsBy d o l old inflow bytes new later → Flows old new (coming gone (bytes ++ r)) later
+    follows (Some n) o l old new inflow later bytes gone d over_is waits (is, e) = record {
       gone = gone;
       waits = subst (λ (i : Inflow). Waits i gone) (sym e) waits;
       goes = λ u reached t. nothing2 v u old.host new.host (Tied new peer (coming gone r) to_them) (ap (λ (x : Speaking). x.host.events) is)
           (subst (λ (x : Speaking). Tied x peer (coming gone r) to_them u) (sym is) (retie old peer (coming gone (bytes ++ r)) to_them (coming gone r) u (some_down old.host.core.down n d) t));
     }
-    follows None (Some n) l old new inflow later bytes gone d over_is waits (is, e) known =
+    follows None (Some n) l old new inflow later bytes gone d over_is waits (is, e) =
         stays old new (coming gone (bytes ++ r)) later (of gone.frames (gone.rest ++ bytes))
         (record {
           kept = subst (λ (i : Inflow). AreKept gone.frames i.unheard) (sym e) waits.kept;
           begun = λ up. not_over n (gone.rest ++ bytes) later.waiting (sym over_is ∙ sym (ap (λ (i : Inflow). i.over) e) ∙ up);
         })
         is (ap (λ (x : List ℕ). concat gone.frames ++ x) (sym (append_assoc gone.rest bytes r)))
-    follows None None l old new inflow later bytes gone d over_is waits (some, behind) known =
+    follows None None l old new inflow later bytes gone d over_is waits (some, behind) =
         let begun = waits.begun over_is in
         let came = behind gone.rest begun in
         let split = came.3 in
@@ -179,34 +178,34 @@ module _ (root_a root_b : Option ObjectId) (v : Vat) (peer : Speaking) (r to_the
           gone = k.gone;
           waits = k.waits;
           goes = λ u reached t. then2 root_a root_b v u old.host mid.host new.host (Tied mid peer (coming (of fs.0 came.2) r) to_them) (Tied new peer (coming k.gone r) to_them) reached
-              (in_turn aside alike runs refuse understood names root_a root_b v l peer mid came.4.1 (came.2 ++ r) to_them old (inflow.unheard ++ came.1) u turn (gone.frames ++ came.0) kept (known gone.rest begun) reached
+              (in_turn aside alike runs refuse understood names root_a root_b v l peer mid came.4.1 (came.2 ++ r) to_them old (inflow.unheard ++ came.1) u turn (gone.frames ++ came.0) kept reached
               (subst (λ (x : List ℕ). Tied old peer x to_them u) e t))
               k.goes;
         }
 
     -- ---- it goes on
 
-    proceeds : (l : Limits) (old new : Speaking) (inflow later : Inflow) (gone : Unheard) → Waits inflow gone → (h : Proceeds l old inflow new later) → ProceedsKnown l old inflow new later h
+    proceeds : (l : Limits) (old new : Speaking) (inflow later : Inflow) (gone : Unheard) → Waits inflow gone → Proceeds l old inflow new later
         → Flows old new (coming gone r) later
-    proceeds l old new inflow later gone waits (mid, left, turn, left_so) known =
+    proceeds l old new inflow later gone waits (mid, left, turn, left_so) =
         let fs = left_of turn gone.frames waits.kept in
         let k = leaves mid.host.core.down mid new left fs.0 inflow.waiting gone.rest inflow.over later refl fs.1 waits.begun left_so in
         record {
           gone = k.gone;
           waits = k.waits;
           goes = λ u reached t. then2 root_a root_b v u old.host mid.host new.host (Tied mid peer (coming (of fs.0 gone.rest) r) to_them) (Tied new peer (coming k.gone r) to_them) reached
-              (in_turn aside alike runs refuse understood names root_a root_b v l peer mid left (gone.rest ++ r) to_them old inflow.unheard u turn gone.frames waits.kept known reached t)
+              (in_turn aside alike runs refuse understood names root_a root_b v l peer mid left (gone.rest ++ r) to_them old inflow.unheard u turn gone.frames waits.kept reached t)
               k.goes;
         }
 
-    pub works : (old new : Connected) (gone : Unheard) → Waits old.inflow gone → (h : WorksOn old new) → WorksKnown old new h → Flows old.speaker new.speaker (coming gone r) new.inflow
-    works old new gone waits (speaker, inflow, proceeded, (said, said_so, is)) known =
-        let k = proceeds old.limits old.speaker speaker old.inflow inflow gone waits proceeded known.0 in
+    pub works : (old new : Connected) (gone : Unheard) → Waits old.inflow gone → WorksOn old new → Flows old.speaker new.speaker (coming gone r) new.inflow
+    works old new gone waits (speaker, inflow, proceeded, (said, said_so, is)) =
+        let k = proceeds old.limits old.speaker speaker old.inflow inflow gone waits proceeded in
         record {
           gone = k.gone;
           waits = subst (λ (c : Connected). Waits c.inflow k.gone) (sym is) k.waits;
           goes = λ u reached t. subst (λ (c : Connected). Happens2 v u old.speaker.host c.speaker.host (Tied c.speaker peer (coming k.gone r) to_them)) (sym is)
               (then2 root_a root_b v u old.speaker.host speaker.host said.host (Tied speaker peer (coming k.gone r) to_them) (Tied said peer (coming k.gone r) to_them) reached
               (k.goes u reached t)
-              (λ w reached_w s. says aside runs refuse understood root_a root_b v said peer (coming k.gone r) to_them w speaker said_so known.1 reached_w s));
+              (λ w reached_w s. says aside runs refuse understood root_a root_b v said peer (coming k.gone r) to_them w speaker said_so reached_w s));
         }

@@ -5,6 +5,7 @@ use Rattle.rpc_msg.specs.declared.exception.Exception.{Exception}
 use Rattle.rpc_msg.specs.declared.ids.ObjectId.{ObjectId}
 use Rattle.rpc_msg.specs.declared.ids.Vat.{Vat}
 use Rattle.rpc_msg.specs.declared.ids.Vat.TheVariants.{A, B}
+use Rattle.rpc_msg.specs.declared.message.PlainMessage.{PlainMessage}
 use Rattle.rpc_msg.specs.declared.message.PlainMessage.TheVariants as plain
 use Rattle.rpc_msg.specs.declared.message.Message.{Message}
 use Rattle.rpc_msg.specs.declared.message.Message.TheVariants as message
@@ -40,16 +41,18 @@ use Rattle.vat_host.specs.Watching.{known_by}
 use Rattle.vat_hosts.specs.Calls.{calls_told, of_calls}
 use Rattle.vat_hosts.proofs.Calls.{known_no_call, more_calls}
 use Rattle.vat_connection.specs.declared.load.Limits.{Limits}
+use Rattle.vat_connection.specs.Load.{held_words}
 use Rattle.vat_connection.specs.Speaking.{Speaking, HearsCame, HearsComing, HearsUp, Lacks, came_by, came_of, stamp_of, tables_of, want_of_room, words_in}
 use Rattle.vat_connection.specs.Hearing.{HearsInTurn}
 use Rattle.vat_connection.specs.Hearing.HearsInTurn.{All, Saying, Above, Down, Lacking, Oldest as OldestHeard}
-use Rattle.laws_in_bytes.specs.Conditions.{FindsRoom, HasRoom, TurnIsKnown}
-use Rattle.laws_in_bytes.proofs.Aside.{StandAside, as_it_came, heard_aside}
-use Rattle.laws_in_bytes.proofs.Honest.{Plainly, heard_well, names_none, oldest_well}
+use Rattle.laws_in_bytes.proofs.Aside.{HasRoom, StandAside, as_it_came, heard_aside}
+use Rattle.laws_in_bytes.proofs.Counting.{has_room}
+use Rattle.laws_in_bytes.proofs.Honest.{IsNewQuestion, Plainly, heard_well, names_none, oldest_well}
 use Rattle.laws_in_bytes.proofs.Streams.{not_empty, same_kept}
 use Rattle.laws_in_bytes.proofs.Viewing.{Reached, View, delivered, hears, stepped_view, world_of}
 use Rattle.laws_in_bytes.proofs.Tied.{not_down, AllAborts, Clean, Happens2, IsPlainly, Link, Lost, Tied, fallen_down, falls, nothing2, one2, retie, shut2, step_ties, then2, told_elsewhere, told_here}
 use Rattle.laws_in_bytes.proofs.Said.{says}
+use Rattle.laws_in_bytes.proofs.Within.{HasSmallIds, IsFew, fallen_small, heard_few, message_keeps, shut_keeps}
 
 -- ---- one message is heard
 
@@ -78,6 +81,23 @@ took_so me new words x (out, (before, given_back, sends), (host, (first, (mid, (
       out = ap (λ (s : Speaking). s.out) new_is ∙ sends ∙ given_back;
       adapter = ap (λ (s : Speaking). s.adapter) new_is;
     }
+
+-- ---- there is room for it
+
+-- The ids of a vat's answers are fewer than it may have, and that of a new one is not among them.
+room_for : (s : State) (p : PlainMessage) → HasSmallIds s → IsFew (message.Plain p) → IsNewQuestion s p → HasRoom s p
+room_for s (plain.Abort e) small few new = tt
+room_for s (plain.Bootstrap q) small few new = has_room s.answers q.0 small.0 few.0 new
+room_for s (plain.Call c) small few new = has_room s.answers c.question.0 small.0 few.0 new
+room_for s (plain.Return r) small few new = tt
+room_for s (plain.Finish f) small few new = tt
+room_for s (plain.Resolve r) small few new = tt
+room_for s (plain.Release r) small few new = tt
+room_for s (plain.Disembargo d) small few new = tt
+room_for s (plain.Other n) small few new = tt
+
+room_of : (s : State) (x : Message) → HasSmallIds s → IsFew x → (pl : Plainly s x) → HasRoom s pl.0
+room_of s x small few (p, is, w) = room_for s p small (subst IsFew is few) w.asks
 
 -- ---- an Abort is heard
 
@@ -148,33 +168,32 @@ module _ (aside : StandAside) (alike : FittingNamesAreAlike) (runs : WiredRunsAr
   took : (me new : Speaking) (words : ℕ) (came : codec.Came Came) (x : Message) → me.adapter ≡ fresh → came ≡ Ok (envelope (profile x)) → (pl : Plainly me.host.core x) → HasRoom me.host.core pl.0 → HearsCame me words came new → Took me new x
   took me new words came x f e (p, is, w) room h =
       let c = heard_aside aside me.host.core p room (alike me.host.core p w.first w.none) (names_none me.host.core p w) in
-      let a : HearsComing me words (comes (tables_of me.host.core) me.adapter (envelope (profile x))) new = subst (λ (c : codec.Came Came). HearsCame me words c new) e h in
-      let b : HearsComing me words (comes (tables_of me.host.core) fresh (envelope (profile (message.Plain p)))) new =
-      subst (λ (m : Message). HearsComing me words (comes (tables_of me.host.core) fresh (envelope (profile m))) new) is
-      (subst (λ (s : Sparing). HearsComing me words (comes (tables_of me.host.core) s (envelope (profile x))) new) f a) in
-      subst (Took me new) (sym is) (took_so me new words (message.Plain p) (subst (λ (r : Result Coming PeerFault). HearsComing me words r new) c b))
-
-  room_of : (me : Speaking) (frame : Part) (x : Message) → FindsRoom me frame → came_of (stamp_of me) frame ≡ Ok (envelope (profile x)) → (pl : Plainly me.host.core x) → HasRoom me.host.core pl.0
-  room_of me frame x finds e (p, is, w) = finds p (e ∙ ap (λ (m : Message). came_as (profile m)) is)
+      let a : HearsComing me (held_words words (envelope (profile x))) (comes (tables_of me.host.core) me.adapter (envelope (profile x))) new = subst (λ (c : codec.Came Came). HearsCame me words c new) e h in
+      let b : HearsComing me (held_words words (envelope (profile x))) (comes (tables_of me.host.core) fresh (envelope (profile (message.Plain p)))) new =
+      subst (λ (m : Message). HearsComing me (held_words words (envelope (profile x))) (comes (tables_of me.host.core) fresh (envelope (profile m))) new) is
+      (subst (λ (s : Sparing). HearsComing me (held_words words (envelope (profile x))) (comes (tables_of me.host.core) s (envelope (profile x))) new) f a) in
+      subst (Took me new) (sym is) (took_so me new (held_words words (envelope (profile x))) (message.Plain p) (subst (λ (r : Result Coming PeerFault). HearsComing me (held_words words (envelope (profile x))) r new) c b))
 
   module _ (v : Vat) (peer new : Speaking) (more to_them : List ℕ) where
     -- The oldest message is heard, of which this is a frame.
-    delivers : (me : Speaking) (part : Part) (frame to_me : List ℕ) (w : View) (m : Message) (ms : List Message) → me.host.core.down ≡ None → FindsRoom me part → ReadsBack m frame → part.kept ≡ frame → part.dropped ≡ 0
+    delivers : (me : Speaking) (part : Part) (frame to_me : List ℕ) (w : View) (m : Message) (ms : List Message) → me.host.core.down ≡ None → ReadsBack m frame → part.kept ≡ frame → part.dropped ≡ 0
         → w.to_me ≡ m ∷ ms → HearsCame me (words_in part) (came_of (stamp_of me) part) new → Reached root_a root_b (world_of v w) → Tied me peer to_me to_them w
         → Link ms peer.host.messages peer.host.core.down (more ++ peer.out.bytes) → Happens2 v w me.host new.host (Tied new peer more to_them)
-    delivers me part frame to_me w m ms up finds r kept none there h reached t l =
+    delivers me part frame to_me w m ms up r kept none there h reached t l =
         let x = r.says (stamp_of me) in
         let came : came_of (stamp_of me) part ≡ Ok (envelope (profile x.0)) = all_kept (stamp_of me) part frame kept none ∙ profile_came (stamp_of me) frame x.0 x.2 in
         let c : core (world_of v w) v ≡ me.host.core = mine_core v w ∙ t.mine in
         let well = subst (λ (s : State). Plainly s m) c
         (oldest_well runs refuse understood root_a root_b (world_of v w) v m ms reached (ap (λ (s : State). s.down) c ∙ up) (ap (λ (s : State). s.level) c ∙ t.own.level) (mine_inbox v w ∙ there)) in
         let pl = heard_well me.host.core m x.0 x.1 well in
-        let k = took me new (words_in part) (came_of (stamp_of me) part) x.0 (adapter_up me up t.own.plainly) came pl (room_of me part x.0 finds came pl) h in
+        let few = heard_few m x.0 x.1 (r.asks, r.names) in
+        let k = took me new (words_in part) (came_of (stamp_of me) part) x.0 (adapter_up me up t.own.plainly) came pl (room_of me.host.core x.0 t.own.small few pl) h in
         let step : Receives w.mine x.0 k.effects new.host.core = subst (λ (s : State). Receives s x.0 k.effects new.host.core) (sym t.mine) k.step in
         one2 v w (record (stepped_view w k.effects new.host.core) { to_me = ms }) me.host new.host (delivered v k.effects) k.effects (Tied new peer more to_them)
         (world_of v (record (stepped_view w k.effects new.host.core) { to_me = ms }), hears v w m x.0 ms k.effects new.host.core (ap (λ (s : State). s.down) t.mine ∙ up) there x.1 step, refl)
         refl (told_here v (calls_told k.effects)) (told_elsewhere v (calls_told k.effects)) k.calls
-        (step_ties me peer new to_me to_them more w k.effects ms t up k.messages k.out (inl k.adapter) ((names.messages me.host.core x.0 k.effects new.host.core k.step).level ∙ t.own.level) (λ u. l))
+        (step_ties me peer new to_me to_them more w k.effects ms t up k.messages k.out (inl k.adapter) ((names.messages me.host.core x.0 k.effects new.host.core k.step).level ∙ t.own.level)
+        (message_keeps me.host.core x.0 k.effects new.host.core few.0 few.1 k.step t.own.small) (λ u. l))
 
     -- An Abort is heard behind which others were lost: the vat is shut with 34.
     aborts : (me : Speaking) (part : Part) (frame to_me : List ℕ) (w : View) (m : Message) → me.host.core.down ≡ None → ReadsBack m frame → part.kept ≡ frame → part.dropped ≡ 0 → is_abort m ≡ true
@@ -183,7 +202,7 @@ module _ (aside : StandAside) (alike : FittingNamesAreAlike) (runs : WiredRunsAr
         let x = r.says (stamp_of me) in
         let came : came_of (stamp_of me) part ≡ Ok (envelope (profile x.0)) = all_kept (stamp_of me) part frame kept none ∙ profile_came (stamp_of me) frame x.0 x.2 in
         let a = heard_abort m x.0 is x.1 in
-        let k = took me new (words_in part) (came_of (stamp_of me) part) x.0 (adapter_up me up t.own.plainly) came (plain.Abort a.0, a.1, record { first = tt; none = tt }) tt h in
+        let k = took me new (words_in part) (came_of (stamp_of me) part) x.0 (adapter_up me up t.own.plainly) came (plain.Abort a.0, a.1, record { first = tt; none = tt; asks = tt }) tt h in
         let got = abort_received me.host.core a.0 k.effects new.host.core up (subst (λ (y : Message). Receives me.host.core y k.effects new.host.core) a.1 k.step) in
         shut2 v w me.host new.host 34 (falling 34) new.host.core (Tied new peer more to_them) t.mine up
         (subst (λ (o : Option ℕ). ShutsFrom me.host.core 34 o (falling 34) new.host.core) (sym up) (record { effects_are = refl; new_is = got.1 }))
@@ -195,6 +214,7 @@ module _ (aside : StandAside) (alike : FittingNamesAreAlike) (runs : WiredRunsAr
             echoes = ap (λ (o : Outflow). o.echoes) k.out ∙ t.own.echoes;
             plainly = inl k.adapter;
             level = ap (λ (s : State). s.level) got.1 ∙ t.own.level;
+            small = subst HasSmallIds (sym got.1) (fallen_small me.host.core 34);
           };
           own_theirs = t.own_theirs;
           link = λ u. absurd (not_down new.host.core.down u (fallen_down me.host.core new.host.core 34 got.1));
@@ -202,26 +222,26 @@ module _ (aside : StandAside) (alike : FittingNamesAreAlike) (runs : WiredRunsAr
         })
 
     -- A frame is heard of which this is kept.
-    comes_by : (me : Speaking) (part : Part) (frame : List ℕ) (w : View) → me.host.core.down ≡ None → FindsRoom me part → IsKept frame part → HearsCame me (words_in part) (came_of (stamp_of me) part) new
+    comes_by : (me : Speaking) (part : Part) (frame : List ℕ) (w : View) → me.host.core.down ≡ None → IsKept frame part → HearsCame me (words_in part) (came_of (stamp_of me) part) new
         → Reached root_a root_b (world_of v w) → Tied me peer (frame ++ more) to_them w → Link w.to_me peer.host.messages peer.host.core.down ((frame ++ more) ++ peer.out.bytes)
         → Happens2 v w me.host new.host (Tied new peer more to_them)
-    comes_by me part frame w up finds kept h reached t (Clean [] [] f i b) = absurd (not_empty frame (more ++ peer.out.bytes) part kept (sym (append_assoc frame more peer.out.bytes) ∙ b))
-    comes_by me part frame w up finds kept h reached t (Clean (m ∷ ms) [] f i b) = absurd f
-    comes_by me part frame w up finds kept h reached t (Clean [] (g ∷ gs) f i b) = absurd f
-    comes_by me part frame w up finds kept h reached t (Clean (m ∷ ms) (g ∷ gs) f i b) =
+    comes_by me part frame w up kept h reached t (Clean [] [] f i b) = absurd (not_empty frame (more ++ peer.out.bytes) part kept (sym (append_assoc frame more peer.out.bytes) ∙ b))
+    comes_by me part frame w up kept h reached t (Clean (m ∷ ms) [] f i b) = absurd f
+    comes_by me part frame w up kept h reached t (Clean [] (g ∷ gs) f i b) = absurd f
+    comes_by me part frame w up kept h reached t (Clean (m ∷ ms) (g ∷ gs) f i b) =
         let s = same_kept frame g (more ++ peer.out.bytes) (concat gs) part kept f.0.whole (sym (append_assoc frame more peer.out.bytes) ∙ b) in
-        delivers me part g (frame ++ more) w m (ms ++ peer.host.messages) up finds f.0 s.kept s.whole i h reached t (Clean ms gs f.1 refl s.behind)
-    comes_by me part frame w up finds kept h reached t (Lost [] lost [] [] [] f g a i b n d) = absurd (not_empty frame (more ++ peer.out.bytes) part kept (sym (append_assoc frame more peer.out.bytes) ∙ b))
-    comes_by me part frame w up finds kept h reached t (Lost [] lost (x ∷ xs) [] [] f g a i b n d) = absurd g
-    comes_by me part frame w up finds kept h reached t (Lost [] lost [] [] (y ∷ ys) f g a i b n d) = absurd g
-    comes_by me part frame w up finds kept h reached t (Lost [] lost (x ∷ xs) [] (y ∷ ys) f g a i b n d) =
+        delivers me part g (frame ++ more) w m (ms ++ peer.host.messages) up f.0 s.kept s.whole i h reached t (Clean ms gs f.1 refl s.behind)
+    comes_by me part frame w up kept h reached t (Lost [] lost [] [] [] f g a i b n d) = absurd (not_empty frame (more ++ peer.out.bytes) part kept (sym (append_assoc frame more peer.out.bytes) ∙ b))
+    comes_by me part frame w up kept h reached t (Lost [] lost (x ∷ xs) [] [] f g a i b n d) = absurd g
+    comes_by me part frame w up kept h reached t (Lost [] lost [] [] (y ∷ ys) f g a i b n d) = absurd g
+    comes_by me part frame w up kept h reached t (Lost [] lost (x ∷ xs) [] (y ∷ ys) f g a i b n d) =
         let s = same_kept frame y (more ++ peer.out.bytes) (concat ys) part kept g.0.whole (sym (append_assoc frame more peer.out.bytes) ∙ b) in
         aborts me part y (frame ++ more) w x up g.0 s.kept s.whole a.0 d h t
-    comes_by me part frame w up finds kept h reached t (Lost (m ∷ ms) lost xs [] gs f g a i b n d) = absurd f
-    comes_by me part frame w up finds kept h reached t (Lost [] lost xs (z ∷ zs) gs f g a i b n d) = absurd f
-    comes_by me part frame w up finds kept h reached t (Lost (m ∷ ms) lost xs (z ∷ zs) gs f g a i b n d) =
+    comes_by me part frame w up kept h reached t (Lost (m ∷ ms) lost xs [] gs f g a i b n d) = absurd f
+    comes_by me part frame w up kept h reached t (Lost [] lost xs (z ∷ zs) gs f g a i b n d) = absurd f
+    comes_by me part frame w up kept h reached t (Lost (m ∷ ms) lost xs (z ∷ zs) gs f g a i b n d) =
         let s = same_kept frame z (more ++ peer.out.bytes) (concat zs ++ concat gs) part kept f.0.whole (sym (append_assoc frame more peer.out.bytes) ∙ b ∙ append_assoc z (concat zs) (concat gs)) in
-        delivers me part z (frame ++ more) w m (ms ++ lost) up finds f.0 s.kept s.whole i h reached t (Lost ms lost xs zs gs f.1 g a refl s.behind n d)
+        delivers me part z (frame ++ more) w m (ms ++ lost) up f.0 s.kept s.whole i h reached t (Lost ms lost xs zs gs f.1 g a refl s.behind n d)
 
     -- Memory is wanting for it.
     lacks : (me : Speaking) (to_me : List ℕ) (w : View) → Lacks me new → Tied me peer to_me to_them w → me.host.core.down ≡ None → me.host.messages ≡ [] → Happens2 v w me.host new.host (Tied new peer more to_them)
@@ -231,34 +251,34 @@ module _ (aside : StandAside) (alike : FittingNamesAreAlike) (runs : WiredRunsAr
         let said : new.host.messages ≡ [] ++ (falling want_of_room).sends = ap (λ (x : Hosted). x.messages) host_is ∙ (λ i. none i ++ (s.effects_are i).sends) in
         shut2 v w me.host new.host want_of_room effects new.host.core (Tied new peer more to_them) t.mine up from (ap (λ (x : Hosted). flat_map of_calls x.events) host_is ∙ more_calls me.host.events effects None refl)
         (step_ties me peer new to_me to_them more w effects w.to_me t up (ap (λ (x : Hosted). x.messages) host_is) (ap (λ (x : Speaking). x.out) is)
-        (inr (gone, subst AllAborts (sym said) (refl, tt))) (ap (λ (x : State). x.level) s.new_is ∙ t.own.level) (λ u. absurd (not_down new.host.core.down u gone)))
+        (inr (gone, subst AllAborts (sym said) (refl, tt))) (ap (λ (x : State). x.level) s.new_is ∙ t.own.level) (shut_keeps me.host.core want_of_room None effects new.host.core s t.own.small) (λ u. absurd (not_down new.host.core.down u gone)))
 
-    hears_up : (me : Speaking) (part : Part) (frame : List ℕ) (w : View) → me.host.core.down ≡ None → me.host.messages ≡ [] → IsKept frame part → HearsUp me part new → FindsRoom me part
+    hears_up : (me : Speaking) (part : Part) (frame : List ℕ) (w : View) → me.host.core.down ≡ None → me.host.messages ≡ [] → IsKept frame part → HearsUp me part new
         → Reached root_a root_b (world_of v w) → Tied me peer (frame ++ more) to_them w → Happens2 v w me.host new.host (Tied new peer more to_them)
-    hears_up me part frame w up none kept (inl h) finds reached t = comes_by me part frame w up finds kept h reached t (t.link up)
-    hears_up me part frame w up none kept (inr h) finds reached t = lacks me (frame ++ more) w h t up none
+    hears_up me part frame w up none kept (inl h) reached t = comes_by me part frame w up kept h reached t (t.link up)
+    hears_up me part frame w up none kept (inr h) reached t = lacks me (frame ++ more) w h t up none
 
   -- ---- frames are heard in turn
 
   pub in_turn : (v : Vat) (l : Limits) (peer new : Speaking) (left : List Part) (r to_them : List ℕ) (s : Speaking) (parts : List Part) (w : View) (h : HearsInTurn l new left s parts)
-      (frames : List (List ℕ)) (kept : AreKept frames parts) → TurnIsKnown h → Reached root_a root_b (world_of v w) → Tied s peer (concat frames ++ r) to_them w
+      (frames : List (List ℕ)) (kept : AreKept frames parts) → Reached root_a root_b (world_of v w) → Tied s peer (concat frames ++ r) to_them w
       → Happens2 v w s.host new.host (Tied new peer (concat (left_of h frames kept).0 ++ r) to_them)
-  in_turn v l peer new left r to_them _ _ w (All {s = s} is none) [] kept known reached t =
+  in_turn v l peer new left r to_them _ _ w (All {s = s} is none) [] kept reached t =
       nothing2 v w s.host new.host (Tied new peer ([] ++ r) to_them) (ap (λ (x : Speaking). x.host.events) is) (subst (λ (x : Speaking). Tied x peer ([] ++ r) to_them w) (sym is) t)
-  in_turn v l peer new left r to_them _ _ w (All {s = s} is none) (f ∷ fs) kept known reached t = absurd kept
-  in_turn v l peer new left r to_them _ _ w (Saying {s = s} {said = said} part parts up said_so more) frames kept known reached t =
+  in_turn v l peer new left r to_them _ _ w (All {s = s} is none) (f ∷ fs) kept reached t = absurd kept
+  in_turn v l peer new left r to_them _ _ w (Saying {s = s} {said = said} part parts up said_so more) frames kept reached t =
       then2 root_a root_b v w s.host said.host new.host (Tied said peer (concat frames ++ r) to_them) (Tied new peer (concat (left_of more frames kept).0 ++ r) to_them) reached
-      (says aside runs refuse understood root_a root_b v said peer (concat frames ++ r) to_them w s said_so known.0 reached t)
-      (λ u reached_u k. in_turn v l peer new left r to_them said (part ∷ parts) u more frames kept known.1 reached_u k)
-  in_turn v l peer new left r to_them _ _ w (OldestHeard {s = s} {mid = mid} part parts up none may whole heard more) [] kept known reached t = absurd kept
-  in_turn v l peer new left r to_them _ _ w (OldestHeard {s = s} {mid = mid} part parts up none may whole heard more) (f ∷ fs) kept known reached t =
+      (says aside runs refuse understood root_a root_b v said peer (concat frames ++ r) to_them w s said_so reached t)
+      (λ u reached_u k. in_turn v l peer new left r to_them said (part ∷ parts) u more frames kept reached_u k)
+  in_turn v l peer new left r to_them _ _ w (OldestHeard {s = s} {mid = mid} part parts up none may whole heard more) [] kept reached t = absurd kept
+  in_turn v l peer new left r to_them _ _ w (OldestHeard {s = s} {mid = mid} part parts up none may whole heard more) (f ∷ fs) kept reached t =
       then2 root_a root_b v w s.host mid.host new.host (Tied mid peer (concat fs ++ r) to_them) (Tied new peer (concat (left_of more fs kept.1).0 ++ r) to_them) reached
-      (hears_up v peer mid (concat fs ++ r) to_them s part f w up none kept.0 heard known.0 reached (subst (λ (x : List ℕ). Tied s peer x to_them w) (append_assoc f (concat fs) r) t))
-      (λ u reached_u k. in_turn v l peer new left r to_them mid parts u more fs kept.1 known.1 reached_u k)
-  in_turn v l peer new left r to_them _ _ w (Above {s = s} part parts up none above is rest) frames kept known reached t =
+      (hears_up v peer mid (concat fs ++ r) to_them s part f w up none kept.0 heard reached (subst (λ (x : List ℕ). Tied s peer x to_them w) (append_assoc f (concat fs) r) t))
+      (λ u reached_u k. in_turn v l peer new left r to_them mid parts u more fs kept.1 reached_u k)
+  in_turn v l peer new left r to_them _ _ w (Above {s = s} part parts up none above is rest) frames kept reached t =
       nothing2 v w s.host new.host (Tied new peer (concat frames ++ r) to_them) (ap (λ (x : Speaking). x.host.events) is) (subst (λ (x : Speaking). Tied x peer (concat frames ++ r) to_them w) (sym is) t)
-  in_turn v l peer new left r to_them _ _ w (Down {s = s} part parts down is none) frames kept known reached t =
+  in_turn v l peer new left r to_them _ _ w (Down {s = s} part parts down is none) frames kept reached t =
       nothing2 v w s.host new.host (Tied new peer ([] ++ r) to_them) (ap (λ (x : Speaking). x.host.events) is)
       (subst (λ (x : Speaking). Tied x peer ([] ++ r) to_them w) (sym is) (retie s peer (concat frames ++ r) to_them ([] ++ r) w down t))
-  in_turn v l peer new left r to_them _ _ w (Lacking {s = s} part parts up fell none) frames kept known reached t =
+  in_turn v l peer new left r to_them _ _ w (Lacking {s = s} part parts up fell none) frames kept reached t =
       falls v s peer new want_of_room (concat frames ++ r) to_them ([] ++ r) w t fell

@@ -27,6 +27,7 @@ use Rattle.rpc_msg.specs.declared.message.Message.TheVariants as message
 use Rattle.rpc_journal.specs.History.{or_rest, if_so}
 use Rattle.rpc_machine.specs.declared.command.Level.{Level}
 use Rattle.rpc_machine.specs.declared.command.Level.TheVariants.{Zero, One}
+use Rattle.rpc_machine.specs.declared.entries.AnswerEntry.{AnswerEntry}
 use Rattle.rpc_machine.specs.declared.entries.Import.{Import}
 use Rattle.rpc_machine.specs.declared.entries.Question.{Question}
 use Rattle.rpc_machine.specs.declared.entries.Resolution.{Resolution}
@@ -53,10 +54,23 @@ use Rattle.laws_wired.specs.Wires.{IsHeard, AsSaid, OfCall, OfResults, TwoSides,
 
 -- ---- what a message names that is no fault
 
--- It names each export in one kind, and it resolves a promise that was not resolved.
+-- No answer is open under the id of a question that it asks.
+abbrev pub IsNewQuestion : State → PlainMessage → Type 0
+IsNewQuestion s (plain.Abort e) = Unit {0}
+IsNewQuestion s (plain.Bootstrap q) = finite.get s.answers q.0 ≡ None
+IsNewQuestion s (plain.Call c) = finite.get s.answers c.question.0 ≡ None
+IsNewQuestion s (plain.Return r) = Unit {0}
+IsNewQuestion s (plain.Finish f) = Unit {0}
+IsNewQuestion s (plain.Resolve r) = Unit {0}
+IsNewQuestion s (plain.Release r) = Unit {0}
+IsNewQuestion s (plain.Disembargo d) = Unit {0}
+IsNewQuestion s (plain.Other n) = Unit {0}
+
+-- It names each export in one kind, it resolves a promise that was not resolved, and what it asks is a new question.
 pub record NamesWell (s : State) (p : PlainMessage) : Type 0 where
   pub first : IsFirstResolve s p
   pub none : NoneClashes s [] (descriptors_of_plain p)
+  pub asks : IsNewQuestion s p
 
 first_none : (a b : Option ℕ) → or_rest a b ≡ None → a ≡ None
 first_none None b e = refl
@@ -69,6 +83,11 @@ rest_none (Some x) b e = cc
 not_so : (b : Bool) (k : ℕ) → if_so b k ≡ None → b ≡ false
 not_so false k e = refl
 not_so true k e = cc
+
+-- what is not among the keys
+not_there : (o : Option AnswerEntry) → is_some o ≡ false → o ≡ None
+not_there None e = refl
+not_there (Some x) e = absurd (let bad : true ≡ false = e in cc)
 
 clashes : (s : State) (before ds : List Descriptor) → each_fault s before ds ≡ None → NoneClashes s before ds
 clashes s before [] h = tt
@@ -179,32 +198,45 @@ module _ (s : State) (one : s.level ≡ One) where
       let returned = skip (if_so (is_some x.returned) unknown_question) _ (so_other (is_some x.returned) unknown_question question_differs) h in
       body_well b (skip (body_fault s b) _ (body_other s b) returned.1).0
 
-  call_well : (a b c d : Option ℕ) (rest : Option ℕ) → IsOther a → IsOther b → IsOther c → IsOther d → MayFault (or_rest a (or_rest b (or_rest c (or_rest d rest)))) → d ≡ None
-  call_well a b c d rest x y z u h = (skip d rest u (skip c _ z (skip b _ y (skip a _ x h).1).1).1).0
+  call_well : (a b c d : Option ℕ) (rest : Option ℕ) → IsOther a → IsOther b → IsOther c → IsOther d → MayFault (or_rest a (or_rest b (or_rest c (or_rest d rest)))) → (a ≡ None) × (d ≡ None)
+  call_well a b c d rest x y z u h =
+      let one = skip a _ x h in
+      (one.0, (skip d rest u (skip c _ z (skip b _ y one.1).1).1).0)
+
+  new_by : (q : ℕ) → if_so (finite.contains_key s.answers q) question_in_use ≡ None → finite.get s.answers q ≡ None
+  new_by q h = not_there (finite.get s.answers q) (not_so (finite.contains_key s.answers q) question_in_use h)
+
+  root_well : (o : Option ℕ) → IsOther o → MayFault o → o ≡ None
+  root_well None other h = refl
+  root_well (Some n) other h = absurd (other (ap Some h))
 
   resolved_well : (to : ResolvedTo) → MayFault (or_rest (resolve_fault s to) None) → NoneClashes s [] (descriptors_of_resolved to)
   resolved_well (resolved.Cap d) h = looked_at (d ∷ []) (skip (descriptors_fault s (d ∷ [])) None (all_other s (d ∷ [])) h).0
   resolved_well (resolved.Exception e) h = tt
 
   well : (p : PlainMessage) → MayFault (plain_fault s p) → NamesWell s p
-  well (plain.Abort e) h = record { first = tt; none = tt }
-  well (plain.Bootstrap q) h = record { first = tt; none = tt }
-  well (plain.Call c) h = record {
+  well (plain.Abort e) h = record { first = tt; none = tt; asks = tt }
+  well (plain.Bootstrap q) h = record {
     first = tt;
-    none = looked_at c.descriptors (call_well _ _ _ (descriptors_fault s c.descriptors) _ (so_other _ question_in_use use_differs) (target_other s c.target) (so_other _ bad_payload payload_differs) (all_other s c.descriptors) h);
+    none = tt;
+    asks = new_by q.0 (root_well (if_so (finite.contains_key s.answers q.0) question_in_use) (so_other _ question_in_use use_differs) h);
   }
-  well (plain.Return r) h = record { first = tt; none = return_well r.release_param_caps r.body (finite.get s.questions r.answer.0) h }
-  well (plain.Finish f) h = record { first = tt; none = tt }
+  well (plain.Call c) h =
+      let k = call_well (if_so (finite.contains_key s.answers c.question.0) question_in_use) _ _ (descriptors_fault s c.descriptors) _ (so_other _ question_in_use use_differs) (target_other s c.target) (so_other _ bad_payload payload_differs) (all_other s c.descriptors) h in
+      record { first = tt; none = looked_at c.descriptors k.1; asks = new_by c.question.0 k.0 }
+  well (plain.Return r) h = record { first = tt; none = return_well r.release_param_caps r.body (finite.get s.questions r.answer.0) h; asks = tt }
+  well (plain.Finish f) h = record { first = tt; none = tt; asks = tt }
   well (plain.Resolve r) h =
       let hosted = skip (if_so (is_hosted (finite.get s.imports r.promise.0)) not_a_promise) _ (so_other _ not_a_promise promise_differs) h in
       let twice = skip (if_so (is_resolved (finite.get s.imports r.promise.0)) resolved_twice) _ (so_other _ resolved_twice twice_differs) hosted.1 in
       record {
         first = (not_so _ not_a_promise hosted.0, not_so _ resolved_twice twice.0);
         none = resolved_well r.to twice.1;
+        asks = tt;
       }
-  well (plain.Release r) h = record { first = tt; none = tt }
-  well (plain.Disembargo d) h = record { first = tt; none = tt }
-  well (plain.Other n) h = record { first = tt; none = tt }
+  well (plain.Release r) h = record { first = tt; none = tt; asks = tt }
+  well (plain.Disembargo d) h = record { first = tt; none = tt; asks = tt }
+  well (plain.Other n) h = record { first = tt; none = tt; asks = tt }
 
   pub not_refused : (p : PlainMessage) → MayFault (fault_of s (message.Plain p)) → NamesWell s p
   not_refused p h = well p (subst (λ (l : Level). MayFault (unless_foreign (is_foreign l p) (plain_fault s p))) one h)
@@ -222,10 +254,10 @@ pub heard_well : (s : State) (m x : Message) → IsHeard m x → Plainly s m →
 heard_well s m x (AsSaid is) (p, e, w) = (p, is ∙ e, w)
 heard_well s m x (OfCall c stamp q heard said_is heard_is) (p, e, w) =
     let v = subst (NamesWell s) (sym (plain_in (plain.Call (record c { stamp = c.stamp; payload = c.payload })) p (sym said_is ∙ e))) w in
-    (plain.Call (record c { stamp = stamp; payload = q }), heard_is, record { first = tt; none = v.none })
+    (plain.Call (record c { stamp = stamp; payload = q }), heard_is, record { first = tt; none = v.none; asks = v.asks })
 heard_well s m x (OfResults a flag ds said q heard said_is heard_is) (p, e, w) =
     let v = subst (NamesWell s) (sym (plain_in (plain.Return (record { answer = a; release_param_caps = flag; body = body.Results said ds })) p (sym said_is ∙ e))) w in
-    (plain.Return (record { answer = a; release_param_caps = flag; body = body.Results q ds }), heard_is, record { first = tt; none = v.none })
+    (plain.Return (record { answer = a; release_param_caps = flag; body = body.Results q ds }), heard_is, record { first = tt; none = v.none; asks = tt })
 
 -- ---- it names no promise that is known to be broken
 
@@ -312,22 +344,34 @@ module _ (z : TwoStates) where
   first_too (plain.Disembargo d) h = tt
   first_too (plain.Other n) h = tt
 
+  -- both have the same answers
+  asks_too : (p : PlainMessage) → IsNewQuestion (state_at true z) p → IsNewQuestion (state_at false z) p
+  asks_too (plain.Abort e) h = h
+  asks_too (plain.Bootstrap q) h = h
+  asks_too (plain.Call c) h = h
+  asks_too (plain.Return r) h = h
+  asks_too (plain.Finish f) h = h
+  asks_too (plain.Resolve r) h = h
+  asks_too (plain.Release r) h = h
+  asks_too (plain.Disembargo d) h = h
+  asks_too (plain.Other n) h = h
+
   plain_too : (p : PlainMessage) → NamesWell (state_at true z) p → NamesWell (state_at false z) p
-  plain_too p w = record { first = first_too p w.first; none = none_too [] (descriptors_of_plain p) w.none }
+  plain_too p w = record { first = first_too p w.first; none = none_too [] (descriptors_of_plain p) w.none; asks = asks_too p w.asks }
 
   message_too : (y : TwoMessages) → Plainly (state_at true z) (message_at true y) → Plainly (state_at false z) (message_at false y)
   message_too (Same m) (p, is, w) = (p, is, plain_too p w)
   message_too (Calls c stamp x gone) (p, is, w) =
       let v = subst (NamesWell (state_at true z)) (sym (plain_in (plain.Call (record c { stamp = stamp true; payload = x.at true })) p is)) w in
-      (plain.Call (record c { stamp = stamp false; payload = x.at false }), refl, record { first = tt; none = none_too [] c.descriptors v.none })
+      (plain.Call (record c { stamp = stamp false; payload = x.at false }), refl, record { first = tt; none = none_too [] c.descriptors v.none; asks = v.asks })
   message_too (Returns a flag x ds gone) (p, is, w) =
       let v = subst (NamesWell (state_at true z)) (sym (plain_in (plain.Return (record { answer = a; release_param_caps = flag; body = body.Results (x.at true) ds })) p is)) w in
-      (plain.Return (record { answer = a; release_param_caps = flag; body = body.Results (x.at false) ds }), refl, record { first = tt; none = none_too [] ds v.none })
+      (plain.Return (record { answer = a; release_param_caps = flag; body = body.Results (x.at false) ds }), refl, record { first = tt; none = none_too [] ds v.none; asks = tt })
   message_too (ReturnsWhy a flag why) (p, is, w) =
-      (plain.Return (record { answer = a; release_param_caps = flag; body = body.Exception (failed (reason_text (why false))) }), refl, record { first = tt; none = tt })
+      (plain.Return (record { answer = a; release_param_caps = flag; body = body.Exception (failed (reason_text (why false))) }), refl, record { first = tt; none = tt; asks = tt })
   message_too (ResolvesWhy e why) (p, is, w) =
       let v = subst (NamesWell (state_at true z)) (sym (plain_in (resolve_saying e (why true)) p is)) w in
-      (resolve_saying e (why false), refl, record { first = first_too (resolve_saying e (why false)) v.first; none = tt })
+      (resolve_saying e (why false), refl, record { first = first_too (resolve_saying e (why false)) v.first; none = tt; asks = tt })
   message_too (SendsBack e why) (p, is, w) = absurd cc
 
 -- ---- on the way
@@ -372,7 +416,7 @@ side_well y m ms one understood passes is =
   where
     by : (x : TwoMessages) (p : PlainMessage) → message_at true x ≡ message.Plain p → ((e : Exception) × (message_at true x ≡ message.Plain (plain.Abort e))) ⊎ MayFault (fault_of (state_at true y.core) (message_at true x))
         → Plainly (state_at true y.core) (message_at true x)
-    by x p e (inl (a, b)) = (plain.Abort a, b, record { first = tt; none = tt })
+    by x p e (inl (a, b)) = (plain.Abort a, b, record { first = tt; none = tt; asks = tt })
     by x p e (inr h) = (p, e, not_refused (state_at true y.core) one p (subst (λ (n : Message). MayFault (fault_of (state_at true y.core) n)) e h))
 
 module _ (runs : WiredRunsAreRuns) (refuse : RunsRefuseNothing) (understood : EveryRunIsUnderstood) (root_a root_b : Option ObjectId) where

@@ -6,6 +6,7 @@ use Rattle.rpc_msg.specs.Vats.{other_vat}
 use Rattle.rpc_msg.specs.declared.ids.ObjectId.{ObjectId}
 use Rattle.rpc_msg.specs.declared.ids.Vat.{Vat}
 use Rattle.rpc_msg.specs.declared.ids.Vat.TheVariants.{A, B}
+use Rattle.rpc_machine.specs.declared.command.Level.TheVariants.{One}
 use Rattle.rpc_machine.specs.Laws.{OfEachStep}
 use Rattle.rpc_machine.specs.World.{Happening, core, new_world}
 use Rattle.laws_ends.specs.Names.{KeepsNames}
@@ -21,12 +22,12 @@ use Rattle.vat_connection.specs.Speaking.{Speaking}
 use Rattle.vat_connection.specs.Connecting.{Connected}
 use Rattle.vat_connections.specs.OneConnection.{Act, told_by as told_by_act}
 use Rattle.vat_connections.specs.OneConnection.Act.{Commands, Receives, Ends, Shuts, Gives, Asks, SetsLimits, SetsFinishes}
-use Rattle.laws_in_bytes.specs.Conditions.{IsKnown}
-use Rattle.laws_in_bytes.specs.Joined.{Does, Doing, Joined, JoinedRun, RunIsKnown, end, new_joined}
+use Rattle.laws_in_bytes.specs.Joined.{Does, Doing, FinishAtOnce, FinishesAtOnce, Joined, JoinedRun, end, new_joined}
 use Rattle.laws_in_bytes.specs.Wired.{JoinedRunsAreWired, AreCutOff, TellsCutOff, done_by, done_of, told_by}
 use Rattle.laws_in_bytes.proofs.Viewing.{Reached, View, runs_on, world_of}
 use Rattle.laws_in_bytes.proofs.Tied.{Clean, Tied, told_elsewhere, told_here}
 use Rattle.laws_in_bytes.proofs.Aside.{StandAside}
+use Rattle.laws_in_bytes.proofs.Within.{start_small}
 use Rattle.laws_in_bytes.proofs.Flowing.{Unheard, Waits, coming, no_bytes, none_waits}
 use Rattle.laws_in_bytes.proofs.Acting.{Acted, CutsOne, TellsInTurn, asks_it, commands_it, ends_it, finishes_it, gives_out, limits_it, receives, shuts_it}
 
@@ -229,81 +230,81 @@ module _ (aside : StandAside) (alike : FittingNamesAreAlike) (runs : WiredRunsAr
         → So root_a root_b (xs ++ record { vat = B; act = act } ∷ []) new
     plain_b act c is k = subst (λ (n : Joined). So root_a root_b (xs ++ record { vat = B; act = act } ∷ []) n) (sym is) (of_b root_a root_b xs j so act (record j { b = c }) j.to_b refl refl k)
 
-    at_a : (act : Act) (does : Does j (record { vat = A; act = act }) new) → IsKnown j.a act does.left does.acts → So root_a root_b (xs ++ record { vat = A; act = act } ∷ []) new
-    at_a (Receives bytes) does known =
+    at_a : (act : Act) → Does j (record { vat = A; act = act }) new → FinishesAtOnce act → So root_a root_b (xs ++ record { vat = A; act = act } ∷ []) new
+    at_a (Receives bytes) does at_once =
         let c = does.left in
         let m = does.moves in
         subst (λ (n : Joined). So root_a root_b (xs ++ record { vat = A; act = Receives bytes } ∷ []) n) (sym m.2)
         (of_a root_a root_b xs j so (Receives bytes) (record j { a = c; to_a = m.0 }) m.0 refl refl
-        (receives aside alike runs refuse understood names root_a root_b A so.view reached_a j.b.speaker m.0 (coming so.gone_b j.to_b) j.a c so.gone_a so.waits_a bytes does.acts known
+        (receives aside alike runs refuse understood names root_a root_b A so.view reached_a j.b.speaker m.0 (coming so.gone_b j.to_b) j.a c so.gone_a so.waits_a bytes does.acts
         (subst (λ (s : List ℕ). Tied j.a.speaker j.b.speaker (coming so.gone_a s) (coming so.gone_b j.to_b) so.view) m.1 so.holds)))
-    at_a (Gives bytes) does known =
+    at_a (Gives bytes) does at_once =
         let c = does.left in
         subst (λ (n : Joined). So root_a root_b (xs ++ record { vat = A; act = Gives bytes } ∷ []) n) (sym does.moves)
         (of_a root_a root_b xs j so (Gives bytes) (record j { a = c; to_b = j.to_b ++ bytes }) j.to_a refl refl
         (subst (λ (s : List ℕ). Acted root_a root_b A so.view (Gives bytes) j.a c j.b.speaker j.to_a s) (behind so.gone_b j.to_b bytes)
-        (gives_out aside alike runs refuse understood names root_a root_b A so.view reached_a j.b.speaker j.to_a (coming so.gone_b j.to_b) j.a c so.gone_a so.waits_a bytes does.acts known so.holds)))
-    at_a (Commands command answer) does known =
+        (gives_out aside alike runs refuse understood names root_a root_b A so.view reached_a j.b.speaker j.to_a (coming so.gone_b j.to_b) j.a c so.gone_a so.waits_a bytes does.acts so.holds)))
+    at_a (Commands command answer) does at_once =
         plain_a (Commands command answer) does.left does.moves
         (commands_it aside alike runs refuse understood names root_a root_b A so.view reached_a j.b.speaker j.to_a (coming so.gone_b j.to_b) j.a does.left so.gone_a so.waits_a command answer does.acts so.holds)
-    at_a Ends does known =
+    at_a Ends does at_once =
         plain_a Ends does.left does.moves
         (ends_it aside alike runs refuse understood names root_a root_b A so.view reached_a j.b.speaker j.to_a (coming so.gone_b j.to_b) j.a does.left so.gone_a so.waits_a does.acts so.holds)
-    at_a (Shuts n) does known =
+    at_a (Shuts n) does at_once =
         plain_a (Shuts n) does.left does.moves
         (shuts_it aside alike runs refuse understood names root_a root_b A so.view reached_a j.b.speaker j.to_a (coming so.gone_b j.to_b) j.a does.left so.gone_a so.waits_a n does.acts so.holds)
-    at_a (Asks event) does known =
+    at_a (Asks event) does at_once =
         plain_a (Asks event) does.left does.moves
-        (asks_it aside alike runs refuse understood names root_a root_b A so.view reached_a j.b.speaker j.to_a (coming so.gone_b j.to_b) j.a does.left so.gone_a so.waits_a event does.acts known so.holds)
-    at_a (SetsLimits limits) does known =
+        (asks_it aside alike runs refuse understood names root_a root_b A so.view reached_a j.b.speaker j.to_a (coming so.gone_b j.to_b) j.a does.left so.gone_a so.waits_a event does.acts so.holds)
+    at_a (SetsLimits limits) does at_once =
         plain_a (SetsLimits limits) does.left does.moves
         (limits_it aside alike runs refuse understood names root_a root_b A so.view reached_a j.b.speaker j.to_a (coming so.gone_b j.to_b) j.a does.left so.gone_a so.waits_a limits does.acts so.holds)
-    at_a (SetsFinishes finishes) does known =
+    at_a (SetsFinishes finishes) does at_once =
         plain_a (SetsFinishes finishes) does.left does.moves
-        (finishes_it aside alike runs refuse understood names root_a root_b A so.view reached_a j.b.speaker j.to_a (coming so.gone_b j.to_b) j.a does.left so.gone_a so.waits_a finishes does.acts known so.holds)
+        (finishes_it aside alike runs refuse understood names root_a root_b A so.view reached_a j.b.speaker j.to_a (coming so.gone_b j.to_b) j.a does.left so.gone_a so.waits_a finishes does.acts at_once so.holds)
 
-    at_b : (act : Act) (does : Does j (record { vat = B; act = act }) new) → IsKnown j.b act does.left does.acts → So root_a root_b (xs ++ record { vat = B; act = act } ∷ []) new
-    at_b (Receives bytes) does known =
+    at_b : (act : Act) → Does j (record { vat = B; act = act }) new → FinishesAtOnce act → So root_a root_b (xs ++ record { vat = B; act = act } ∷ []) new
+    at_b (Receives bytes) does at_once =
         let c = does.left in
         let m = does.moves in
         subst (λ (n : Joined). So root_a root_b (xs ++ record { vat = B; act = Receives bytes } ∷ []) n) (sym m.2)
         (of_b root_a root_b xs j so (Receives bytes) (record j { b = c; to_b = m.0 }) m.0 refl refl
-        (receives aside alike runs refuse understood names root_a root_b B (swap so.view) reached_b j.a.speaker m.0 (coming so.gone_a j.to_a) j.b c so.gone_b so.waits_b bytes does.acts known
+        (receives aside alike runs refuse understood names root_a root_b B (swap so.view) reached_b j.a.speaker m.0 (coming so.gone_a j.to_a) j.b c so.gone_b so.waits_b bytes does.acts
         (subst (λ (s : List ℕ). Tied j.b.speaker j.a.speaker (coming so.gone_b s) (coming so.gone_a j.to_a) (swap so.view)) m.1 held_b)))
-    at_b (Gives bytes) does known =
+    at_b (Gives bytes) does at_once =
         let c = does.left in
         subst (λ (n : Joined). So root_a root_b (xs ++ record { vat = B; act = Gives bytes } ∷ []) n) (sym does.moves)
         (of_b root_a root_b xs j so (Gives bytes) (record j { b = c; to_a = j.to_a ++ bytes }) j.to_b refl refl
         (subst (λ (s : List ℕ). Acted root_a root_b B (swap so.view) (Gives bytes) j.b c j.a.speaker j.to_b s) (behind so.gone_a j.to_a bytes)
-        (gives_out aside alike runs refuse understood names root_a root_b B (swap so.view) reached_b j.a.speaker j.to_b (coming so.gone_a j.to_a) j.b c so.gone_b so.waits_b bytes does.acts known held_b)))
-    at_b (Commands command answer) does known =
+        (gives_out aside alike runs refuse understood names root_a root_b B (swap so.view) reached_b j.a.speaker j.to_b (coming so.gone_a j.to_a) j.b c so.gone_b so.waits_b bytes does.acts held_b)))
+    at_b (Commands command answer) does at_once =
         plain_b (Commands command answer) does.left does.moves
         (commands_it aside alike runs refuse understood names root_a root_b B (swap so.view) reached_b j.a.speaker j.to_b (coming so.gone_a j.to_a) j.b does.left so.gone_b so.waits_b command answer does.acts held_b)
-    at_b Ends does known =
+    at_b Ends does at_once =
         plain_b Ends does.left does.moves
         (ends_it aside alike runs refuse understood names root_a root_b B (swap so.view) reached_b j.a.speaker j.to_b (coming so.gone_a j.to_a) j.b does.left so.gone_b so.waits_b does.acts held_b)
-    at_b (Shuts n) does known =
+    at_b (Shuts n) does at_once =
         plain_b (Shuts n) does.left does.moves
         (shuts_it aside alike runs refuse understood names root_a root_b B (swap so.view) reached_b j.a.speaker j.to_b (coming so.gone_a j.to_a) j.b does.left so.gone_b so.waits_b n does.acts held_b)
-    at_b (Asks event) does known =
+    at_b (Asks event) does at_once =
         plain_b (Asks event) does.left does.moves
-        (asks_it aside alike runs refuse understood names root_a root_b B (swap so.view) reached_b j.a.speaker j.to_b (coming so.gone_a j.to_a) j.b does.left so.gone_b so.waits_b event does.acts known held_b)
-    at_b (SetsLimits limits) does known =
+        (asks_it aside alike runs refuse understood names root_a root_b B (swap so.view) reached_b j.a.speaker j.to_b (coming so.gone_a j.to_a) j.b does.left so.gone_b so.waits_b event does.acts held_b)
+    at_b (SetsLimits limits) does at_once =
         plain_b (SetsLimits limits) does.left does.moves
         (limits_it aside alike runs refuse understood names root_a root_b B (swap so.view) reached_b j.a.speaker j.to_b (coming so.gone_a j.to_a) j.b does.left so.gone_b so.waits_b limits does.acts held_b)
-    at_b (SetsFinishes finishes) does known =
+    at_b (SetsFinishes finishes) does at_once =
         plain_b (SetsFinishes finishes) does.left does.moves
-        (finishes_it aside alike runs refuse understood names root_a root_b B (swap so.view) reached_b j.a.speaker j.to_b (coming so.gone_a j.to_a) j.b does.left so.gone_b so.waits_b finishes does.acts known held_b)
+        (finishes_it aside alike runs refuse understood names root_a root_b B (swap so.view) reached_b j.a.speaker j.to_b (coming so.gone_a j.to_a) j.b does.left so.gone_b so.waits_b finishes does.acts at_once held_b)
 
-    one : (v : Vat) (act : Act) (does : Does j (record { vat = v; act = act }) new) → IsKnown (end j v) act does.left does.acts → So root_a root_b (xs ++ record { vat = v; act = act } ∷ []) new
-    one A act does known = at_a act does known
-    one B act does known = at_b act does known
+    one : (v : Vat) (act : Act) → Does j (record { vat = v; act = act }) new → FinishesAtOnce act → So root_a root_b (xs ++ record { vat = v; act = act } ∷ []) new
+    one A act does at_once = at_a act does at_once
+    one B act does at_once = at_b act does at_once
 
-  so_all : (before xs : List Doing) (j new : Joined) → So root_a root_b before j → (ran : JoinedRun j xs new) → RunIsKnown j xs new ran → So root_a root_b (before ++ xs) new
-  so_all before [] j new so same known = subst (λ (l : List Doing). So root_a root_b l new) (sym (append-nil before)) (subst (λ (n : Joined). So root_a root_b before n) (sym same) so)
-  so_all before (x ∷ xs) j new so (mid, does, more) known =
+  so_all : (before xs : List Doing) (j new : Joined) → So root_a root_b before j → JoinedRun j xs new → FinishAtOnce xs → So root_a root_b (before ++ xs) new
+  so_all before [] j new so same at_once = subst (λ (l : List Doing). So root_a root_b l new) (sym (append-nil before)) (subst (λ (n : Joined). So root_a root_b before n) (sym same) so)
+  so_all before (x ∷ xs) j new so (mid, does, more) at_once =
       subst (λ (l : List Doing). So root_a root_b l new) (append_assoc before (x ∷ []) xs)
-      (so_all (before ++ x ∷ []) xs mid new (one before j mid so x.vat x.act does known.0) more known.1)
+      (so_all (before ++ x ∷ []) xs mid new (one before j mid so x.vat x.act does at_once.0) more at_once.1)
 
   so_new : So root_a root_b [] (new_joined root_a root_b)
   so_new = record {
@@ -319,8 +320,8 @@ module _ (aside : StandAside) (alike : FittingNamesAreAlike) (runs : WiredRunsAr
     holds = record {
       mine = refl;
       theirs = refl;
-      own = record { echoes = refl; plainly = inl refl; level = refl };
-      own_theirs = record { echoes = refl; plainly = inl refl; level = refl };
+      own = record { echoes = refl; plainly = inl refl; level = refl; small = start_small A One root_a };
+      own_theirs = record { echoes = refl; plainly = inl refl; level = refl; small = start_small B One root_b };
       link = λ up. Clean [] [] tt refl refl;
       link_theirs = λ up. Clean [] [] tt refl refl;
     };
@@ -331,8 +332,8 @@ module _ (aside : StandAside) (alike : FittingNamesAreAlike) (runs : WiredRunsAr
       both_new B = record { cut = []; cut_off = tt; is = refl; over = inl refl }
 
 pub joined_runs_are_wired : StandAside → FittingNamesAreAlike → WiredRunsAreRuns → RunsRefuseNothing → EveryRunIsUnderstood → OfEachStep KeepsNames → JoinedRunsAreWired
-joined_runs_are_wired aside alike runs refuse understood names root_a root_b xs j ran known =
-    let so = so_all aside alike runs refuse understood names root_a root_b [] xs (new_joined root_a root_b) j (so_new aside alike runs refuse understood names root_a root_b) ran known in
+joined_runs_are_wired aside alike runs refuse understood names root_a root_b xs j ran at_once =
+    let so = so_all aside alike runs refuse understood names root_a root_b [] xs (new_joined root_a root_b) j (so_new aside alike runs refuse understood names root_a root_b) ran at_once in
     record {
       happened = so.happened;
       world = world_of A so.view;

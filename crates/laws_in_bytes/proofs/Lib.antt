@@ -1,5 +1,7 @@
 mod Streams
 mod Viewing
+mod Counting
+mod Within
 mod Honest
 mod Aside
 mod Tied

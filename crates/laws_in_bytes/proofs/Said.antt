@@ -13,10 +13,11 @@ use Rattle.rpc_machine.specs.State.{State}
 use Rattle.rpc_machine.specs.Down.{fallen, ShutsFrom}
 use Rattle.rpc_codec.specs.declared.envelope.SentElsewhere.{SentElsewhere}
 use Rattle.rpc_codec.specs.Frames.{Written, message_frame, sent_elsewhere_frame}
-use Rattle.rpc_outgoing.specs.Outflows.{Outflow, Framing, framed, frame_by, is_alone, Put, PutBy}
+use Rattle.rpc_outgoing.specs.Outflows.{Outflow, Framing, framed, frame_by, is_alone, IsSayable, Put, PutBy}
 use Rattle.peer_tail_calls.specs.declared.heard.Said.{Said}
 use Rattle.peer_tail_calls.specs.declared.heard.Said.TheVariants as said
-use Rattle.peer_tail_calls.specs.Laws.{told_of, told_plain}
+use Rattle.peer_tail_calls.specs.Laws.{told_of}
+use Rattle.peer_tail_calls.specs.Nulling.{IsLaidOut}
 use Rattle.peer_large.specs.Sparing.{Going, Sparing, goes}
 use Rattle.vat_host.specs.declared.event.Event.{Event}
 use Rattle.vat_host.specs.Hosting.{Hosted, is_abort}
@@ -29,11 +30,11 @@ use Rattle.vat_connection.specs.Speaking.SaysTo.{Nothing, Oldest, Broken}
 use Rattle.laws_scenes.specs.Refused.{RunsRefuseNothing}
 use Rattle.laws_understood.specs.Understood.{IsUnderstood, EveryRunIsUnderstood}
 use Rattle.laws_wired.specs.Wires.{WiredRunsAreRuns}
-use Rattle.laws_read_back.specs.ReadBack.{ReadsBack}
-use Rattle.laws_in_bytes.specs.Conditions.{AbortsAreRead, IsRead, IsReadIf, SaysReadably}
+use Rattle.laws_read_back.specs.ReadBack.{FramesReadBack, ReadsBack}
 use Rattle.laws_in_bytes.proofs.Aside.{StandAside, abort_aside, aside_of, said_aside}
 use Rattle.laws_in_bytes.proofs.Honest.{AreUnderstood, on_way}
 use Rattle.laws_in_bytes.proofs.Streams.{concat_append}
+use Rattle.laws_in_bytes.proofs.Within.{HasSmallIds, shut_keeps}
 use Rattle.laws_in_bytes.proofs.Viewing.{Reached, View, world_of}
 use Rattle.laws_in_bytes.proofs.Tied.{not_down, some_down, AllAborts, AreFrames, Clean, Happens2, IsPlainly, Link, Lost, Own, Tied, fallen_down, frames_append, nothing2, shut2}
 
@@ -42,7 +43,7 @@ use Rattle.laws_in_bytes.proofs.Tied.{not_down, some_down, AllAborts, AreFrames,
 -- These bytes are what goes out of what the peer is told.
 abbrev pub IsSaid : Option Said → List ℕ → Type 0
 IsSaid None bytes = bytes ≡ []
-IsSaid (Some (said.Message n)) bytes = (frame : Contents) × (message_frame n ≡ Ok frame) × (bytes ≡ frame.bytes)
+IsSaid (Some (said.Message n)) bytes = (frame : Contents) × (message_frame n ≡ Ok frame) × (bytes ≡ frame.bytes) × IsSayable n
 IsSaid (Some (said.SentElsewhere s)) bytes = Unit {0}
 
 record Added (old new : Outflow) (o : Option Said) : Type 0 where
@@ -51,9 +52,9 @@ record Added (old new : Outflow) (o : Option Said) : Type 0 where
   bytes : new.bytes ≡ old.bytes ++ more
   echoes : new.echoes ≡ []
 
-put_so : (old new : Outflow) (n : Message) (w : Written Contents) → message_frame n ≡ w → PutBy old (framed [] w) new → Added old new (Some (said.Message n))
-put_so old new n (Ok frame) e h = record { more = frame.bytes; said = (frame, e, refl); bytes = ap (λ (x : Outflow). x.bytes) h; echoes = ap (λ (x : Outflow). x.echoes) h }
-put_so old new n (Err f) e h = absurd h
+put_so : (old new : Outflow) (n : Message) (w : Written Contents) → message_frame n ≡ w → IsSayable n → PutBy old (framed [] w) new → Added old new (Some (said.Message n))
+put_so old new n (Ok frame) e sayable h = record { more = frame.bytes; said = (frame, e, refl, sayable); bytes = ap (λ (x : Outflow). x.bytes) h; echoes = ap (λ (x : Outflow). x.echoes) h }
+put_so old new n (Err f) e sayable h = absurd h
 
 alone_or_not : (n : Message) (b : Bool) → frame_by b [] n ≡ framed [] (message_frame n)
 alone_or_not n true = refl
@@ -61,8 +62,8 @@ alone_or_not n false = refl
 
 added : (old new : Outflow) (n : Message) → old.echoes ≡ [] → Put old n new → Added old new (Some (said.Message n))
 added old new n none h =
-    put_so old new n (message_frame n) refl
-    (subst (λ (x : Framing). PutBy old x new) (alone_or_not n (is_alone n)) (subst (λ (es : List Contents). PutBy old (frame_by (is_alone n) es n) new) none h))
+    put_so old new n (message_frame n) refl h.0
+    (subst (λ (x : Framing). PutBy old x new) (alone_or_not n (is_alone n)) (subst (λ (es : List Contents). PutBy old (frame_by (is_alone n) es n) new) none h.1))
 
 elsewhere_so : (old new : Outflow) (s : SentElsewhere) (es : List Contents) (w : Written Contents) → es ≡ [] → PutBy old (framed es w) new → Added old new (Some (said.SentElsewhere s))
 elsewhere_so old new s es (Ok frame) none h = record { more = frame.bytes; said = tt; bytes = ap (λ (x : Outflow). x.bytes) h; echoes = ap (λ (x : Outflow). x.echoes) h ∙ none }
@@ -74,22 +75,25 @@ sent old new (Some (said.Message n)) none h = added old new n none h
 sent old new (Some (said.SentElsewhere s)) none h = elsewhere_so old new s old.echoes (sent_elsewhere_frame s) none h
 
 -- It reads back, if the message is understood.
-readable : (m : Message) (more : List ℕ) → IsUnderstood m → IsRead m → IsSaid (told_of m) more → ReadsBack m more
-readable (message.Plain p) more u read (frame, e, is) = subst (ReadsBack (message.Plain p)) (sym is) (read (message.Plain (told_plain p)) frame refl e)
-readable (message.Unimplemented p) more u read said = absurd u
+readable : FramesReadBack → (m : Message) (more : List ℕ) → IsUnderstood m → IsLaidOut m → IsSaid (told_of m) more → ReadsBack m more
+readable reads (message.Plain p) more u laid (frame, e, is, sayable) = subst (ReadsBack (message.Plain p)) (sym is) (reads p frame e sayable laid)
+readable reads (message.Unimplemented p) more u laid said = absurd u
 
--- what is told of an Abort
-told_abort : (m : Message) → is_abort m ≡ true → told_of m ≡ Some (said.Message m)
-told_abort (message.Plain (plain.Abort e)) h = refl
-told_abort (message.Plain (plain.Bootstrap q)) h = cc
-told_abort (message.Plain (plain.Call c)) h = cc
-told_abort (message.Plain (plain.Return r)) h = cc
-told_abort (message.Plain (plain.Finish f)) h = cc
-told_abort (message.Plain (plain.Resolve r)) h = cc
-told_abort (message.Plain (plain.Release r)) h = cc
-told_abort (message.Plain (plain.Disembargo d)) h = cc
-told_abort (message.Plain (plain.Other k)) h = cc
-told_abort (message.Unimplemented m) h = cc
+not_abort : false ≡ true → ⊥
+not_abort e = cc
+
+-- So does an Abort, of which the peer is told as it is.
+read_of : FramesReadBack → (m : Message) (frame : Contents) → is_abort m ≡ true → message_frame m ≡ Ok frame → IsSayable m → ReadsBack m frame.bytes
+read_of reads (message.Plain (plain.Abort x)) frame is e sayable = reads (plain.Abort x) frame e sayable tt
+read_of reads (message.Plain (plain.Bootstrap q)) frame is e sayable = absurd (not_abort is)
+read_of reads (message.Plain (plain.Call c)) frame is e sayable = absurd (not_abort is)
+read_of reads (message.Plain (plain.Return r)) frame is e sayable = absurd (not_abort is)
+read_of reads (message.Plain (plain.Finish f)) frame is e sayable = absurd (not_abort is)
+read_of reads (message.Plain (plain.Resolve r)) frame is e sayable = absurd (not_abort is)
+read_of reads (message.Plain (plain.Release r)) frame is e sayable = absurd (not_abort is)
+read_of reads (message.Plain (plain.Disembargo d)) frame is e sayable = absurd (not_abort is)
+read_of reads (message.Plain (plain.Other k)) frame is e sayable = absurd (not_abort is)
+read_of reads (message.Unimplemented m) frame is e sayable = absurd (not_abort is)
 
 -- ---- it breaks off
 
@@ -101,28 +105,25 @@ record Passed (old new : Outflow) : Type 0 where
   bytes : new.bytes ≡ old.bytes ++ concat frames
   echoes : new.echoes ≡ []
 
-read_of : (m : Message) (frame : Contents) → is_abort m ≡ true → IsRead m → message_frame m ≡ Ok frame → ReadsBack m frame.bytes
-read_of m frame is read e = read m frame (told_abort m is) e
-
-pass_on : (old new mid : Outflow) (m : Message) (b : Bool) → is_abort m ≡ b → IsReadIf b m → old.echoes ≡ [] → PassesOne b old m mid → ((x : Outflow) → x ≡ mid → x.echoes ≡ [] → Passed x new) → Passed old new
-pass_on old new mid m false i read n k f = f old (sym k) n
-pass_on old new mid m true i read n (false, g) f = f old (sym g) n
-pass_on old new mid m true i read n (true, g) f =
+pass_on : FramesReadBack → (old new mid : Outflow) (m : Message) (b : Bool) → is_abort m ≡ b → old.echoes ≡ [] → PassesOne b old m mid → ((x : Outflow) → x ≡ mid → x.echoes ≡ [] → Passed x new) → Passed old new
+pass_on reads old new mid m false i n k f = f old (sym k) n
+pass_on reads old new mid m true i n (false, g) f = f old (sym g) n
+pass_on reads old new mid m true i n (true, g) f =
     let a = added old mid m n g in
     let r = f mid refl a.echoes in
     record {
       aborts = m ∷ r.aborts;
       frames = a.said.0.bytes ∷ r.frames;
-      are = (read_of m a.said.0 i read a.said.1, r.are);
+      are = (read_of reads m a.said.0 i a.said.1 a.said.3, r.are);
       all = (i, r.all);
       bytes = r.bytes ∙ ap (λ (x : List ℕ). x ++ concat r.frames) (a.bytes ∙ ap (λ (x : List ℕ). old.bytes ++ x) a.said.2) ∙ append_assoc old.bytes a.said.0.bytes (concat r.frames);
       echoes = r.echoes;
     }
 
-passes : (old new : Outflow) (ms : List Message) → old.echoes ≡ [] → AbortsAreRead ms → PassesAll old ms new → Passed old new
-passes old new [] n read h = record { aborts = []; frames = []; are = tt; all = tt; bytes = ap (λ (x : Outflow). x.bytes) h ∙ sym (append-nil old.bytes); echoes = ap (λ (x : Outflow). x.echoes) h ∙ n }
-passes old new (m ∷ ms) n read h =
-    pass_on old new h.0 m (is_abort m) refl read.0 n h.1 (λ x e z. passes x new ms z read.1 (subst (λ (y : Outflow). PassesAll y ms new) (sym e) h.2))
+passes : FramesReadBack → (old new : Outflow) (ms : List Message) → old.echoes ≡ [] → PassesAll old ms new → Passed old new
+passes reads old new [] n h = record { aborts = []; frames = []; are = tt; all = tt; bytes = ap (λ (x : Outflow). x.bytes) h ∙ sym (append-nil old.bytes); echoes = ap (λ (x : Outflow). x.echoes) h ∙ n }
+passes reads old new (m ∷ ms) n h =
+    pass_on reads old new h.0 m (is_abort m) refl n h.1 (λ x e z. passes reads x new ms z (subst (λ (y : Outflow). PassesAll y ms new) (sym e) h.2))
 
 link_lost : (inbox unsaid rest : List Message) (m : Message) (ms : List Message) (down later : Option ℕ) (bytes : List ℕ) (aborts : List Message) (gs : List (List ℕ)) → unsaid ≡ m ∷ ms → AreFrames aborts gs → AllAborts aborts → IsSome later
     → Link inbox unsaid down bytes → Link (inbox ++ rest) [] later (bytes ++ concat gs)
@@ -131,11 +132,11 @@ link_lost inbox unsaid rest m ms down later bytes aborts gs e are all d (Clean t
 link_lost inbox unsaid rest m ms down later bytes aborts gs e are all d (Lost told lost others fs hs f g a i b n k) = absurd (let bad : m ∷ ms ≡ [] = sym e ∙ n in cc)
 
 tied_broken : (me peer new : Speaking) (to_me to_them : List ℕ) (w : View) (m : Message) (ms : List Message) (rest : List Message) (s : State) → me.host.messages ≡ m ∷ ms → (p : Passed me.out new.out)
-    → new.host.messages ≡ [] → s ≡ new.host.core → s.level ≡ me.host.core.level → IsSome new.host.core.down → Tied me peer to_me to_them w → Tied new peer to_me to_them (record w { mine = s; to_them = w.to_them ++ rest })
-tied_broken me peer new to_me to_them w m ms rest s e p gone is level d t = record {
+    → new.host.messages ≡ [] → s ≡ new.host.core → s.level ≡ me.host.core.level → HasSmallIds s → IsSome new.host.core.down → Tied me peer to_me to_them w → Tied new peer to_me to_them (record w { mine = s; to_them = w.to_them ++ rest })
+tied_broken me peer new to_me to_them w m ms rest s e p gone is level small d t = record {
   mine = is;
   theirs = t.theirs;
-  own = record { echoes = p.echoes; plainly = inr (d, subst AllAborts (sym gone) tt); level = ap (λ (x : State). x.level) (sym is) ∙ level ∙ t.own.level };
+  own = record { echoes = p.echoes; plainly = inr (d, subst AllAborts (sym gone) tt); level = ap (λ (x : State). x.level) (sym is) ∙ level ∙ t.own.level; small = subst HasSmallIds is small };
   own_theirs = t.own_theirs;
   link = λ up. absurd (not_down new.host.core.down up d);
   link_theirs = λ up. subst (λ (x : List ℕ). Link (w.to_them ++ rest) new.host.messages new.host.core.down x)
@@ -145,9 +146,9 @@ tied_broken me peer new to_me to_them w m ms rest s e p gone is level d t = reco
 }
 
 -- A vat goes down with 33 as it speaks.
-broken : (v : Vat) (me peer new : Speaking) (to_me to_them : List ℕ) (w : View) (m : Message) (ms : List Message) → me.host.messages ≡ m ∷ ms → (h : Breaks (saying me m ms) new) → AbortsAreRead h.0.host.messages
+broken : FramesReadBack → (v : Vat) (me peer new : Speaking) (to_me to_them : List ℕ) (w : View) (m : Message) (ms : List Message) → me.host.messages ≡ m ∷ ms → Breaks (saying me m ms) new
     → Tied me peer to_me to_them w → Happens2 v w me.host new.host (Tied new peer to_me to_them)
-broken v me peer new to_me to_them w m ms e (mid, (adapter, heard, ((effects, from, host_is), mid_is)), (all, new_is)) read t =
+broken reads v me peer new to_me to_them w m ms e (mid, (adapter, heard, ((effects, from, host_is), mid_is)), (all, new_is)) t =
     by me.host.core.down refl from
   where
     out_is : mid.out ≡ me.out
@@ -157,7 +158,7 @@ broken v me peer new to_me to_them w m ms e (mid, (adapter, heard, ((effects, fr
     gone = ap (λ (x : Speaking). x.host.messages) new_is
 
     passed : Passed me.out new.out
-    passed = subst (λ (o : Outflow). Passed o new.out) out_is (passes mid.out new.out mid.host.messages (ap (λ (o : Outflow). o.echoes) out_is ∙ t.own.echoes) read all)
+    passed = subst (λ (o : Outflow). Passed o new.out) out_is (passes reads mid.out new.out mid.host.messages (ap (λ (o : Outflow). o.echoes) out_is ∙ t.own.echoes) all)
 
     core_is : new.host.core ≡ mid.host.core
     core_is = ap (λ (x : Speaking). x.host.core) new_is
@@ -172,13 +173,13 @@ broken v me peer new to_me to_them w m ms e (mid, (adapter, heard, ((effects, fr
         let still : mid.host.events ≡ me.host.events = ap (λ (h : Hosted). h.events) host_is ∙ ap (λ (x : Effects). me.host.events ++ told x None) s.effects_are ∙ append-nil me.host.events in
         nothing2 v w me.host new.host (Tied new peer to_me to_them) (events_are ∙ still)
         (subst (λ (xs : List Message). Tied new peer to_me to_them (record w { to_them = xs })) (append-nil w.to_them)
-        (tied_broken me peer new to_me to_them w m ms [] w.mine e passed gone (t.mine ∙ sym c) (ap (λ (x : State). x.level) t.mine) down t))
+        (tied_broken me peer new to_me to_them w m ms [] w.mine e passed gone (t.mine ∙ sym c) (ap (λ (x : State). x.level) t.mine) (subst HasSmallIds (sym t.mine) t.own.small) down t))
     by None d s =
         let c : new.host.core ≡ fallen me.host.core want_of_room = core_is ∙ s.new_is in
         let down = fallen_down me.host.core new.host.core want_of_room c in
         shut2 v w me.host new.host want_of_room effects mid.host.core (Tied new peer to_me to_them) t.mine d (subst (λ (o : Option ℕ). ShutsFrom me.host.core want_of_room o effects mid.host.core) (sym d) s)
         (ap (λ (es : List Event). flat_map of_calls es) (events_are ∙ ap (λ (h : Hosted). h.events) host_is) ∙ more_calls me.host.events effects None refl)
-        (tied_broken me peer new to_me to_them w m ms effects.sends mid.host.core e passed gone (sym core_is) (ap (λ (x : State). x.level) s.new_is) down t)
+        (tied_broken me peer new to_me to_them w m ms effects.sends mid.host.core e passed gone (sym core_is) (ap (λ (x : State). x.level) s.new_is) (shut_keeps me.host.core want_of_room None effects mid.host.core s t.own.small) down t)
 
 -- ---- the adapter stands aside
 
@@ -194,29 +195,29 @@ one_of : (told : List Message) (m : Message) (ms : List Message) → AreUndersto
 one_of [] m ms u = u.0
 one_of (n ∷ told) m ms u = one_of told m ms u.1
 
-link_said : (inbox : List Message) (unsaid : List Message) (m : Message) (ms : List Message) (down : Option ℕ) (bytes more : List ℕ) → unsaid ≡ m ∷ ms → AreUnderstood inbox → IsRead m → IsSaid (told_of m) more
+link_said : FramesReadBack → (inbox : List Message) (unsaid : List Message) (m : Message) (ms : List Message) (down : Option ℕ) (bytes more : List ℕ) → unsaid ≡ m ∷ ms → AreUnderstood inbox → IsLaidOut m → IsSaid (told_of m) more
     → Link inbox unsaid down bytes → Link inbox ms down (bytes ++ more)
-link_said inbox unsaid m ms down bytes more e u read said (Clean told fs f i b) =
+link_said reads inbox unsaid m ms down bytes more e u laid said (Clean told fs f i b) =
     let there : inbox ≡ told ++ (m ∷ ms) = i ∙ ap (λ (xs : List Message). told ++ xs) e in
-    Clean (told ++ m ∷ []) (fs ++ more ∷ []) (frames_append told fs m more f (readable m more (one_of told m ms (subst AreUnderstood there u)) read said))
+    Clean (told ++ m ∷ []) (fs ++ more ∷ []) (frames_append told fs m more f (readable reads m more (one_of told m ms (subst AreUnderstood there u)) laid said))
     (there ∙ sym (append_assoc told (m ∷ []) ms))
     (ap (λ (xs : List ℕ). xs ++ more) b ∙ ap (λ (xs : List ℕ). concat fs ++ xs) (sym (append-nil more)) ∙ sym (concat_append fs (more ∷ [])))
-link_said inbox unsaid m ms down bytes more e u read said (Lost told lost aborts fs gs f g a i b n d) = absurd (let bad : m ∷ ms ≡ [] = sym e ∙ n in cc)
+link_said reads inbox unsaid m ms down bytes more e u laid said (Lost told lost aborts fs gs f g a i b n d) = absurd (let bad : m ∷ ms ≡ [] = sym e ∙ n in cc)
 
-tied_said : (me peer mid : Speaking) (to_me to_them : List ℕ) (w : View) (m : Message) (ms : List Message) → me.host.messages ≡ m ∷ ms → AreUnderstood w.to_them → IsRead m → Turned me mid m ms
+tied_said : FramesReadBack → (me peer mid : Speaking) (to_me to_them : List ℕ) (w : View) (m : Message) (ms : List Message) → me.host.messages ≡ m ∷ ms → AreUnderstood w.to_them → IsLaidOut m → Turned me mid m ms
     → Tied me peer to_me to_them w → Tied mid peer to_me to_them w
-tied_said me peer mid to_me to_them w m ms e u read k t =
+tied_said reads me peer mid to_me to_them w m ms e u laid k t =
     let c = ap (λ (x : State). x.down) k.core in
     record {
       mine = t.mine ∙ sym k.core;
       theirs = t.theirs;
-      own = record { echoes = k.went.echoes; plainly = owns t.own.plainly; level = ap (λ (x : State). x.level) k.core ∙ t.own.level };
+      own = record { echoes = k.went.echoes; plainly = owns t.own.plainly; level = ap (λ (x : State). x.level) k.core ∙ t.own.level; small = subst HasSmallIds (sym k.core) t.own.small };
       own_theirs = t.own_theirs;
       link = λ up. t.link (sym c ∙ up);
       link_theirs = λ p. subst (λ (x : List ℕ). Link w.to_them mid.host.messages mid.host.core.down x) (append_assoc to_them me.out.bytes k.went.more ∙ ap (λ (x : List ℕ). to_them ++ x) (sym k.went.bytes))
           (subst (λ (x : Option ℕ). Link w.to_them mid.host.messages x ((to_them ++ me.out.bytes) ++ k.went.more)) (sym c)
           (subst (λ (x : List Message). Link w.to_them x me.host.core.down ((to_them ++ me.out.bytes) ++ k.went.more)) (sym k.messages)
-          (link_said w.to_them me.host.messages m ms me.host.core.down (to_them ++ me.out.bytes) k.went.more e u read k.went.said (t.link_theirs p))));
+          (link_said reads w.to_them me.host.messages m ms me.host.core.down (to_them ++ me.out.bytes) k.went.more e u laid k.went.said (t.link_theirs p))));
     }
   where
     owns : IsPlainly me → IsPlainly mid
@@ -248,12 +249,12 @@ module _ (aside : StandAside) (runs : WiredRunsAreRuns) (refuse : RunsRefuseNoth
   to_them_understood B w r = on_way runs refuse understood root_a root_b (world_of B w) A r
 
   -- All goes out that it has to say.
-  pub says : (v : Vat) (new peer : Speaking) (to_me to_them : List ℕ) (w : View) (me : Speaking) (h : SaysTo new me) → SaysReadably h → Reached root_a root_b (world_of v w) → Tied me peer to_me to_them w
+  pub says : (v : Vat) (new peer : Speaking) (to_me to_them : List ℕ) (w : View) (me : Speaking) → SaysTo new me → Reached root_a root_b (world_of v w) → Tied me peer to_me to_them w
       → Happens2 v w me.host new.host (Tied new peer to_me to_them)
-  says v new peer to_me to_them w _ (Nothing {s = me} e f) read r t = nothing2 v w me.host new.host (Tied new peer to_me to_them) (ap (λ (x : Speaking). x.host.events) f) (subst (λ (x : Speaking). Tied x peer to_me to_them w) (sym f) t)
-  says v new peer to_me to_them w _ (Oldest {s = me} {mid = mid} m ms e h rest) read r t =
+  says v new peer to_me to_them w _ (Nothing {s = me} e f) r t = nothing2 v w me.host new.host (Tied new peer to_me to_them) (ap (λ (x : Speaking). x.host.events) f) (subst (λ (x : Speaking). Tied x peer to_me to_them w) (sym f) t)
+  says v new peer to_me to_them w _ (Oldest {s = me} {mid = mid} m ms e laid h rest) r t =
       let k = turned me mid m ms e t.own h in
-      let n = says v new peer to_me to_them w mid rest read.1 r (tied_said me peer mid to_me to_them w m ms e (to_them_understood v w r) read.0 k t) in
+      let n = says v new peer to_me to_them w mid rest r (tied_said aside.reads me peer mid to_me to_them w m ms e (to_them_understood v w r) laid k t) in
       record {
         happened = n.happened;
         view = n.view;
@@ -263,4 +264,4 @@ module _ (aside : StandAside) (runs : WiredRunsAreRuns) (refuse : RunsRefuseNoth
         calls = n.calls ∙ ap (λ (es : List Event). flat_map of_calls es ++ flat_map (told_in v) n.happened) k.events;
         holds = n.holds;
       }
-  says v new peer to_me to_them w _ (Broken {s = me} m ms e h) read r t = broken v me peer new to_me to_them w m ms e h read t
+  says v new peer to_me to_them w _ (Broken {s = me} m ms e h) r t = broken aside.reads v me peer new to_me to_them w m ms e h t

@@ -27,6 +27,7 @@ use Rattle.vat_hosts.proofs.Calls.{more_calls}
 use Rattle.vat_connection.specs.Speaking.{Speaking, Falls}
 use Rattle.laws_read_back.specs.ReadBack.{ReadsBack}
 use Rattle.laws_in_bytes.specs.Wired.{done_of}
+use Rattle.laws_in_bytes.proofs.Within.{HasSmallIds, shut_keeps}
 use Rattle.laws_in_bytes.proofs.Viewing.{Reached, View, reached_on, world_of, shut_with, stepped_view, shuts, runs_on}
 
 pub not_down : (o : Option ℕ) → o ≡ None → IsSome o → ⊥
@@ -60,14 +61,16 @@ pub data Link (inbox unsaid : List Message) (down : Option ℕ) (bytes : List �
   Clean : (told : List Message) (fs : List (List ℕ)) → AreFrames told fs → inbox ≡ told ++ unsaid → bytes ≡ concat fs → Link inbox unsaid down bytes
   Lost : (told lost aborts : List Message) (fs gs : List (List ℕ)) → AreFrames told fs → AreFrames aborts gs → AllAborts aborts → inbox ≡ told ++ lost → bytes ≡ concat fs ++ concat gs → unsaid ≡ [] → IsSome down → Link inbox unsaid down bytes
 
--- Nothing is kept to go back, and the adapter stands aside, or nothing but Aborts is still to be said.
+-- The adapter stands aside, or nothing but Aborts is still to be said.
 abbrev pub IsPlainly : Speaking → Type 0
 IsPlainly s = (s.adapter ≡ fresh) ⊎ (IsSome s.host.core.down × AllAborts s.host.messages)
 
+-- Nothing is kept to go back; and its answers and imports have ids that the other may have.
 pub record Own (s : Speaking) : Type 0 where
   pub echoes : s.out.echoes ≡ []
   pub plainly : IsPlainly s
   pub level : s.host.core.level ≡ One
+  pub small : HasSmallIds s.host.core
 
 pub record Tied (me peer : Speaking) (to_me to_them : List ℕ) (w : View) : Type 0 where
   pub mine : w.mine ≡ me.host.core
@@ -164,13 +167,13 @@ link_more inbox unsaid sends down later bytes up (Clean told fs f e b) = Clean t
 link_more inbox unsaid sends down later bytes up (Lost told lost aborts fs gs f g a e b n d) = absurd (not_down down up d)
 
 pub step_ties : (me peer new : Speaking) (to_me to_them later : List ℕ) (w : View) (effects : Effects) (ms : List Message)
-    → Tied me peer to_me to_them w → me.host.core.down ≡ None → new.host.messages ≡ me.host.messages ++ effects.sends → new.out ≡ me.out → IsPlainly new → new.host.core.level ≡ One
+    → Tied me peer to_me to_them w → me.host.core.down ≡ None → new.host.messages ≡ me.host.messages ++ effects.sends → new.out ≡ me.out → IsPlainly new → new.host.core.level ≡ One → HasSmallIds new.host.core
     → (new.host.core.down ≡ None → Link ms peer.host.messages peer.host.core.down (later ++ peer.out.bytes))
     → Tied new peer later to_them (record (stepped_view w effects new.host.core) { to_me = ms })
-step_ties me peer new to_me to_them later w effects ms t up said o a one l = record {
+step_ties me peer new to_me to_them later w effects ms t up said o a one small l = record {
   mine = refl;
   theirs = t.theirs;
-  own = record { echoes = ap (λ (x : Outflow). x.echoes) o ∙ t.own.echoes; plainly = a; level = one };
+  own = record { echoes = ap (λ (x : Outflow). x.echoes) o ∙ t.own.echoes; plainly = a; level = one; small = small };
   own_theirs = t.own_theirs;
   link = l;
   link_theirs = λ p. subst (λ (x : Outflow). Link (w.to_them ++ effects.sends) new.host.messages new.host.core.down (to_them ++ x.bytes)) (sym o)
@@ -226,7 +229,7 @@ falls v me peer new n to_me to_them later w t h = by me.host.core.down refl (rec
         let steps = stepped_so me.host new.host s.effects s.is in
         shut2 v w me.host new.host n s.effects new.host.core (Tied new peer later to_them) t.mine d (subst (λ (o : Option ℕ). ShutsFrom me.host.core n o s.effects new.host.core) (sym d) s.from) steps.calls
         (step_ties me peer new to_me to_them later w s.effects w.to_me t d steps.messages (ap (λ (x : Speaking). x.out) h.1) (plainly_then t.own.plainly)
-        (ap (λ (x : State). x.level) s.from.new_is ∙ t.own.level) (λ up. absurd (not_down new.host.core.down up gone)))
+        (ap (λ (x : State). x.level) s.from.new_is ∙ t.own.level) (shut_keeps me.host.core n None s.effects new.host.core s.from t.own.small) (λ up. absurd (not_down new.host.core.down up gone)))
       where
         plainly_then : IsPlainly me → IsPlainly new
         plainly_then (inl f) = inl (ap (λ (x : Speaking). x.adapter) h.1 ∙ f)

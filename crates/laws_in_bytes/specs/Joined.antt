@@ -5,10 +5,10 @@ use Rattle.rpc_msg.specs.declared.ids.ObjectId.{ObjectId}
 use Rattle.rpc_msg.specs.declared.ids.Vat.{Vat}
 use Rattle.rpc_msg.specs.declared.ids.Vat.TheVariants.{A, B}
 use Rattle.rpc_machine.specs.declared.command.Level.TheVariants.{One}
+use Rattle.peer_finishes.specs.declared.held.Finishes.TheVariants.{AtOnce}
 use Rattle.vat_connection.specs.Connecting.{Connected, fresh}
 use Rattle.vat_connections.specs.OneConnection.{Act, Acts}
 use Rattle.vat_connections.specs.OneConnection.Act.{Commands, Receives, Ends, Shuts, Gives, Asks, SetsLimits, SetsFinishes}
-use Rattle.laws_in_bytes.specs.Conditions.{IsKnown}
 
 -- Two connections, and the bytes that are on their way to each, the oldest first.
 pub record Joined : Type 0 where
@@ -65,7 +65,20 @@ abbrev pub JoinedRun : Joined → List Doing → Joined → Type 0
 JoinedRun j [] new = new ≡ j
 JoinedRun j (x ∷ xs) new = (mid : Joined) × Does j x mid × JoinedRun mid xs new
 
--- The conditions hold of each act.
-abbrev pub RunIsKnown : (j : Joined) (xs : List Doing) (new : Joined) → JoinedRun j xs new → Type 0
-RunIsKnown j [] new h = Unit {0}
-RunIsKnown j (x ∷ xs) new h = IsKnown (end j x.vat) x.act h.1.left h.1.acts × RunIsKnown h.0 xs new h.2
+-- ---- how Finishes go
+
+-- The act lets Finishes go at once, if it says when they go.
+abbrev pub FinishesAtOnce : Act → Type 0
+FinishesAtOnce (Commands command answer) = Unit {0}
+FinishesAtOnce (Receives bytes) = Unit {0}
+FinishesAtOnce Ends = Unit {0}
+FinishesAtOnce (Shuts n) = Unit {0}
+FinishesAtOnce (Gives bytes) = Unit {0}
+FinishesAtOnce (Asks event) = Unit {0}
+FinishesAtOnce (SetsLimits limits) = Unit {0}
+FinishesAtOnce (SetsFinishes finishes) = finishes ≡ AtOnce
+
+-- So do all these acts. Finishes go at once from the beginning.
+abbrev pub FinishAtOnce : List Doing → Type 0
+FinishAtOnce [] = Unit {0}
+FinishAtOnce (x ∷ xs) = FinishesAtOnce x.act × FinishAtOnce xs

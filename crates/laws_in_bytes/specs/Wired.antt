@@ -14,7 +14,7 @@ use Rattle.vat_hosts.specs.Worlds.{done_in, told_in}
 use Rattle.vat_connection.specs.OwnCalls.{IsCutOff}
 use Rattle.vat_connections.specs.OneConnection.{Act, told_by as told_by_act}
 use Rattle.vat_connections.specs.OneConnection.Act.{Commands}
-use Rattle.laws_in_bytes.specs.Joined.{Doing, Joined, JoinedRun, RunIsKnown, end, new_joined}
+use Rattle.laws_in_bytes.specs.Joined.{Doing, FinishAtOnce, Joined, JoinedRun, end, new_joined}
 
 -- ---- what the applications did
 
@@ -71,8 +71,7 @@ pub record AreOverWires (root_a root_b : Option ObjectId) (xs : List Doing) (j :
   pub told : (v : Vat) → IsToldSo (told_to xs j v) (flat_map (told_in v) happened)
   pub cores : (v : Vat) → core world v ≡ (end j v).speaker.host.core
 
--- Whatever two new connections do that are joined by two streams, if what is taken as known holds of each act.
+-- Whatever two new connections do that are joined by two streams, if Finishes go at once.
 abbrev pub JoinedRunsAreWired : Type 0
 JoinedRunsAreWired =
-    (root_a root_b : Option ObjectId) (xs : List Doing) (j : Joined) (ran : JoinedRun (new_joined root_a root_b) xs j) → RunIsKnown (new_joined root_a root_b) xs j ran
-    → AreOverWires root_a root_b xs j
+    (root_a root_b : Option ObjectId) (xs : List Doing) (j : Joined) → JoinedRun (new_joined root_a root_b) xs j → FinishAtOnce xs → AreOverWires root_a root_b xs j

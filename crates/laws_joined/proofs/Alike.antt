@@ -85,8 +85,8 @@ done_same (x ∷ xs) =
 -- ---- both
 
 pub joined_runs_are_sound : JoinedRunsAreWired → WiredRunsAreSound → JoinedRunsAreSound
-joined_runs_are_sound wired sound root_a root_b xs j ran known =
-    let w = wired root_a root_b xs j ran known in
+joined_runs_are_sound wired sound root_a root_b xs j ran at_once =
+    let w = wired root_a root_b xs j ran at_once in
     let s = sound root_a root_b w.happened w.world w.ran in
     let hs = s.there.happened in
     record {

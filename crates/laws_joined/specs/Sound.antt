@@ -8,7 +8,7 @@ use Rattle.laws_over_wires.specs.Sound.{IsSoundThere}
 use Rattle.vat_host.specs.declared.event.Event.{Event}
 use Rattle.vat_host.specs.declared.event.Event.TheVariants as event
 use Rattle.vat_hosts.specs.Worlds.{told_in}
-use Rattle.laws_in_bytes.specs.Joined.{Doing, Joined, JoinedRun, RunIsKnown, new_joined}
+use Rattle.laws_in_bytes.specs.Joined.{Doing, FinishAtOnce, Joined, JoinedRun, new_joined}
 use Rattle.laws_in_bytes.specs.Wired.{AreOverWires, done_by, done_of}
 
 -- What an application is told of a call, over wires and in one world at once: the two differ in the stamp and the contents, and in the
@@ -36,8 +36,7 @@ pub record AreSoundInBytes (root_a root_b : Option ObjectId) (xs : List Doing) (
   pub done : flat_map done_of (map (happening_at true) sound.there.happened) ≡ flat_map done_by xs
   pub told : (v : Vat) → AreToldAlike (flat_map (told_in v) wires.happened) (flat_map (told_in v) (map (happening_at true) sound.there.happened))
 
--- Whatever two new connections do that are joined by two streams, if what is taken as known holds of each act.
+-- Whatever two new connections do that are joined by two streams, if Finishes go at once.
 abbrev pub JoinedRunsAreSound : Type 0
 JoinedRunsAreSound =
-    (root_a root_b : Option ObjectId) (xs : List Doing) (j : Joined) (ran : JoinedRun (new_joined root_a root_b) xs j) → RunIsKnown (new_joined root_a root_b) xs j ran
-    → AreSoundInBytes root_a root_b xs j
+    (root_a root_b : Option ObjectId) (xs : List Doing) (j : Joined) → JoinedRun (new_joined root_a root_b) xs j → FinishAtOnce xs → AreSoundInBytes root_a root_b xs j

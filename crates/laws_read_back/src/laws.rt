@@ -2,8 +2,7 @@
 
 ghost use Rattle.laws_read_back.specs.ReadBack.{FramesReadBack};
 
-/// The frame of a message whose numbers have their widths, and whose contents can be laid out anew, reads back as a message that a
-/// vat hears of it over a wire.
+/// The frame of a message that goes out reads back as a message that a vat hears of it over a wire.
 pub fn frames_read_back()
     ensures { FramesReadBack }
 {}

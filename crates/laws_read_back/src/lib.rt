@@ -1,5 +1,4 @@
-//! What a vat says is heard over a wire as it was said, if its numbers have their widths. No code runs here: what each function
-//! ensures is the law.
+//! What a vat says is heard over a wire as it was said. No code runs here: what each function ensures is the law.
 //!
 //! How the laws are proved stands in docs/laws/over-wires.md.
 #![tactic(auto)]
