@@ -1,0 +1,7 @@
+mod Lists
+mod Reaching
+mod Acting
+mod Journals
+mod Serving
+mod Promising
+mod Logging

@@ -1,0 +1,26 @@
+use Rattle.std.proofs.Common.{refl, subst}
+use Rattle.rpc_msg.specs.declared.ids.Vat.TheVariants.{A, B}
+use Rattle.vat_connections.specs.OneConnection.Act.{Ends}
+use Rattle.vat_joined.specs.Recorded.{Recorded}
+use Rattle.vat_joined.specs.Doing.{DoesEnd}
+use Rattle.vat_joined.proofs.Acting.{seen, unnoted_at}
+use Rattle.vat_joined.proofs.Reaching.{goes_on}
+use Rattle.vat_joined.proofs.joined.Joined.end.Goals as goal
+
+pub invariant_of-self : goal.invariant_of-self
+invariant_of-self c = goes_on _ (tt, tt) c.self.invariant
+    (unnoted_at c.args.vat A c.in-A.is (seen c.self.inside.a c.self.inside.b c.self.inside.to_a c.self.inside.to_b c.self.inside.journal.items) Ends c.ended.new.self tt refl c.ended.ensures)
+
+pub returns-in-A : goal.returns-in-A
+returns-in-A c =
+    subst (λ (w : Recorded). DoesEnd w c.args.vat (seen c.ended.new.self c.self.inside.b c.self.inside.to_a c.self.inside.to_b c.self.inside.journal.items)) c.self.view_is
+    (unnoted_at c.args.vat A c.in-A.is (seen c.self.inside.a c.self.inside.b c.self.inside.to_a c.self.inside.to_b c.self.inside.journal.items) Ends c.ended.new.self tt refl c.ended.ensures)
+
+pub invariant_of-self-in-B : goal.invariant_of-self-in-B
+invariant_of-self-in-B c = goes_on _ (tt, tt) c.self.invariant
+    (unnoted_at c.args.vat B c.in-B.is (seen c.self.inside.a c.self.inside.b c.self.inside.to_a c.self.inside.to_b c.self.inside.journal.items) Ends c.ended-in-B.new.self tt refl c.ended-in-B.ensures)
+
+pub returns-in-B : goal.returns-in-B
+returns-in-B c =
+    subst (λ (w : Recorded). DoesEnd w c.args.vat (seen c.self.inside.a c.ended-in-B.new.self c.self.inside.to_a c.self.inside.to_b c.self.inside.journal.items)) c.self.view_is
+    (unnoted_at c.args.vat B c.in-B.is (seen c.self.inside.a c.self.inside.b c.self.inside.to_a c.self.inside.to_b c.self.inside.journal.items) Ends c.ended-in-B.new.self tt refl c.ended-in-B.ensures)
