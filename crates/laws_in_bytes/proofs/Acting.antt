@@ -62,7 +62,7 @@ pub record CutsOne (old new : Hosted) (told run : List Event) : Type 0 where
   pub left : new.events ≡ []
   pub over : IsSome new.core.down
 
-pub record Acted (root_a root_b : Option ObjectId) (v : Vat) (w : View) (x : Act) (old new : Connected) (peer : Speaking) (r to_them : List ℕ) : Type 0 where
+pub record Acted (letters : Vat → Vat) (root_a root_b : Option ObjectId) (v : Vat) (w : View) (x : Act) (old new : Connected) (peer : Speaking) (r to_them : List ℕ) : Type 0 where
   pub gone : Unheard
   pub waits : Waits new.inflow gone
   pub happened : List Happening
@@ -128,7 +128,7 @@ none_there (x ∷ es) e = absurd (grind (arith, nat_tests, e))
 only_down : (h : Hosted) → has_only_down h ≡ true → (h.events ≡ []) × IsSome h.core.down
 only_down h e = let k = both_so (length h.events == 0) (is_some h.core.down) (not h.down_notice.told) e in (none_there h.events k.0, k.1)
 
-module _ (root_a root_b : Option ObjectId) (v : Vat) (w : View) (peer : Speaking) (r to_them : List ℕ) where
+module _ (letters : Vat → Vat) (root_a root_b : Option ObjectId) (v : Vat) (w : View) (peer : Speaking) (r to_them : List ℕ) where
   -- ---- commands
 
   module _ (old new : Connected) (gone : Unheard) (waits : Waits old.inflow gone) (t : Tied old.speaker peer (coming gone r) to_them w) where
@@ -146,7 +146,7 @@ module _ (root_a root_b : Option ObjectId) (v : Vat) (w : View) (peer : Speaking
       told_so = append-nil (told_in v (commanded v c (Ok g) effects)) ∙ told_here v (calls_told effects)
 
       acted : (view : View) → WiredRun (world_of v w) (commanded v c (Ok g) effects ∷ []) (world_of v view) → Tied new.speaker peer (coming gone r) to_them view
-          → Acted root_a root_b v w (Commands c (Ok g)) old new peer r to_them
+          → Acted letters root_a root_b v w (Commands c (Ok g)) old new peer r to_them
       acted view ran holds = record {
         gone = gone;
         waits = subst (λ (i : Inflow). Waits i gone) (sym same) waits;
@@ -163,7 +163,7 @@ module _ (root_a root_b : Option ObjectId) (v : Vat) (w : View) (peer : Speaking
         holds = holds;
       }
 
-      does_by : (o : Option ℕ) → old.speaker.host.core.down ≡ o → Acted root_a root_b v w (Commands c (Ok g)) old new peer r to_them
+      does_by : (o : Option ℕ) → old.speaker.host.core.down ≡ o → Acted letters root_a root_b v w (Commands c (Ok g)) old new peer r to_them
       does_by None up =
           let s = new.speaker.host.core in
           acted (stepped_view w effects s)
@@ -187,7 +187,7 @@ module _ (root_a root_b : Option ObjectId) (v : Vat) (w : View) (peer : Speaking
 
     -- Nothing happened to its vat, and this is told.
     beside : (x : Act) → done_by_act v x ≡ [] → IsSame old.speaker new.speaker → new.inflow ≡ old.inflow
-        → TellsInTurn old.speaker.host new.speaker.host (told_by_act x) [] → Acted root_a root_b v w x old new peer r to_them
+        → TellsInTurn old.speaker.host new.speaker.host (told_by_act x) [] → Acted letters root_a root_b v w x old new peer r to_them
     beside x none s same tells = record {
       gone = gone;
       waits = subst (λ (i : Inflow). Waits i gone) (sym same) waits;
@@ -210,13 +210,13 @@ module _ (root_a root_b : Option ObjectId) (v : Vat) (w : View) (peer : Speaking
         none_first : [] ≡ told
         none_first = sym none
 
-    refuses : (c : Command) (e : Refusal) → new.speaker.host ≡ old.speaker.host → new ≡ answered_by old c (Err e) new.speaker.host → Acted root_a root_b v w (Commands c (Err e)) old new peer r to_them
+    refuses : (c : Command) (e : Refusal) → new.speaker.host ≡ old.speaker.host → new ≡ answered_by old c (Err e) new.speaker.host → Acted letters root_a root_b v w (Commands c (Err e)) old new peer r to_them
     refuses c e is new_is =
         beside (Commands c (Err e)) refl
         (with_new_host old.speaker new.speaker new.speaker.host (ap (λ (x : Connected). x.speaker) new_is) (ap (λ (h : Hosted). h.core) is) (ap (λ (h : Hosted). h.messages) is))
         (ap (λ (x : Connected). x.inflow) new_is) (same_host [] refl is)
 
-    commands_by : (names : OfEachStep KeepsNames) (c : Command) (answer : Result Granted Refusal) → AsksCommand old c answer new ⊎ AsksToFit old c answer new → Acted root_a root_b v w (Commands c answer) old new peer r to_them
+    commands_by : (names : OfEachStep KeepsNames) (c : Command) (answer : Result Granted Refusal) → AsksCommand old c answer new ⊎ AsksToFit old c answer new → Acted letters root_a root_b v w (Commands c answer) old new peer r to_them
     commands_by names c (Ok g) (inl (done, is)) = does_by names c g done (ap (λ (x : Connected). x.inflow) is) (ap (λ (x : Connected). x.speaker) is) old.speaker.host.core.down refl
     commands_by names c (Ok g) (inr ((done, fits), is)) = does_by names c g done (ap (λ (x : Connected). x.inflow) is) (ap (λ (x : Connected). x.speaker) is) old.speaker.host.core.down refl
     commands_by names c (Err e) (inl ((why, same), is)) = refuses c e same is
@@ -227,7 +227,7 @@ module _ (root_a root_b : Option ObjectId) (v : Vat) (w : View) (peer : Speaking
 
   -- Nothing is told, and this happens.
   by_itself : (x : Act) (old new : Connected) (to_me : List ℕ) → done_by_act v x ≡ [] → told_by_act x ≡ [] → Works old.speaker.host new.speaker.host → Tied old.speaker peer to_me to_them w
-      → Flows root_a root_b v peer r to_them old.speaker new.speaker to_me new.inflow → Reached root_a root_b (world_of v w) → Acted root_a root_b v w x old new peer r to_them
+      → Flows letters root_a root_b v peer r to_them old.speaker new.speaker to_me new.inflow → Reached letters root_a root_b (world_of v w) → Acted letters root_a root_b v w x old new peer r to_them
   by_itself x old new to_me none silent worked t f reached =
       let k = f.goes w reached t in
       record {
@@ -250,11 +250,11 @@ module _ (root_a root_b : Option ObjectId) (v : Vat) (w : View) (peer : Speaking
 
   -- Something is told once the vat went on.
   module _ (old mid new : Connected) (gone : Unheard) (t : Tied old.speaker peer (coming gone r) to_them w) (worked : Works old.speaker.host mid.speaker.host)
-      (f : Flows root_a root_b v peer r to_them old.speaker mid.speaker (coming gone r) mid.inflow) (reached : Reached root_a root_b (world_of v w)) where
+      (f : Flows letters root_a root_b v peer r to_them old.speaker mid.speaker (coming gone r) mid.inflow) (reached : Reached letters root_a root_b (world_of v w)) where
     tells_with : (x : Act) → done_by_act v x ≡ [] → IsSame mid.speaker new.speaker → new.inflow ≡ mid.inflow
         → ((run : List Event) → flat_map of_calls mid.speaker.host.events ≡ flat_map of_calls old.speaker.host.events ++ run
         → TellsInTurn old.speaker.host new.speaker.host (told_by_act x) run ⊎ CutsOne old.speaker.host new.speaker.host (told_by_act x) run)
-        → Acted root_a root_b v w x old new peer r to_them
+        → Acted letters root_a root_b v w x old new peer r to_them
     tells_with x none s same tells =
         let k = f.goes w reached t in
         record {
@@ -279,7 +279,7 @@ module _ (root_a root_b : Option ObjectId) (v : Vat) (w : View) (peer : Speaking
     not_empty : (e : Event) (es : List Event) → e ∷ es ≡ [] → ⊥
     not_empty e es is = cc
 
-    oldest : (e : Event) → TellsOldest mid e new → Acted root_a root_b v w (Asks (Some e)) old new peer r to_them
+    oldest : (e : Event) → TellsOldest mid e new → Acted letters root_a root_b v w (Asks (Some e)) old new peer r to_them
     oldest e (is, new_is) =
         tells_with (Asks (Some e)) refl
         (with_new_host mid.speaker new.speaker new.speaker.host (ap (λ (c : Connected). c.speaker) new_is) (sym (ap (λ (h : Hosted). h.core) is)) (sym (ap (λ (h : Hosted). h.messages) is)))
@@ -291,7 +291,7 @@ module _ (root_a root_b : Option ObjectId) (v : Vat) (w : View) (peer : Speaking
 
     -- Nothing is told of calls, and nothing else changes of what is between the two.
     beside_calls : (event : Option Event) → told_by_act (Asks event) ≡ [] → IsSame mid.speaker new.speaker → new.inflow ≡ mid.inflow → new.speaker.host.events ≡ mid.speaker.host.events
-        → Acted root_a root_b v w (Asks event) old new peer r to_them
+        → Acted letters root_a root_b v w (Asks event) old new peer r to_them
     beside_calls event none s same events =
         tells_with (Asks event) refl s same
         (λ run calls. inl (record {
@@ -299,7 +299,7 @@ module _ (root_a root_b : Option ObjectId) (v : Vat) (w : View) (peer : Speaking
           silent = λ d empty. (none, events ∙ mid_silent d empty);
         }))
 
-    freed : (e : Event) → TellsFreed mid e new → Acted root_a root_b v w (Asks (Some e)) old new peer r to_them
+    freed : (e : Event) → TellsFreed mid e new → Acted letters root_a root_b v w (Asks (Some e)) old new peer r to_them
     freed (event.Released o) ((none, up, released, is), new_is) =
         beside_calls (Some (event.Released o)) refl
         (with_new_host mid.speaker new.speaker new.speaker.host (ap (λ (c : Connected). c.speaker) new_is) (ap (λ (h : Hosted). h.core) is) (ap (λ (h : Hosted). h.messages) is))
@@ -314,7 +314,7 @@ module _ (root_a root_b : Option ObjectId) (v : Vat) (w : View) (peer : Speaking
     freed (event.Lifted reference) (tells, new_is) = absurd tells
     freed (event.Down n reason) (tells, new_is) = absurd tells
 
-    told_down : (e : Event) → TellsDown mid e new → Acted root_a root_b v w (Asks (Some e)) old new peer r to_them
+    told_down : (e : Event) → TellsDown mid e new → Acted letters root_a root_b v w (Asks (Some e)) old new peer r to_them
     told_down (event.Down n reason) ((none, still, is_down, why, is), calls, new_is) =
         beside_calls (Some (event.Down n reason)) refl
         (with_new_host mid.speaker new.speaker new.speaker.host (ap (λ (c : Connected). c.speaker) new_is) (ap (λ (h : Hosted). h.core) is) (ap (λ (h : Hosted). h.messages) is))
@@ -326,7 +326,7 @@ module _ (root_a root_b : Option ObjectId) (v : Vat) (w : View) (peer : Speaking
     told_down (event.Cancelled task) (tells, calls, new_is) = absurd tells
     told_down (event.Released o) (tells, calls, new_is) = absurd tells
 
-    cut_off : (e : Event) → CutsOff mid e new → Acted root_a root_b v w (Asks (Some e)) old new peer r to_them
+    cut_off : (e : Event) → CutsOff mid e new → Acted letters root_a root_b v w (Asks (Some e)) old new peer r to_them
     cut_off (event.Ended x) (only, cut, is) =
         let speaker_is : new.speaker ≡ mid.speaker = sym (ap (λ (c : Connected). c.speaker) is) in
         let had = only_down mid.speaker.host only in
@@ -348,7 +348,7 @@ module _ (root_a root_b : Option ObjectId) (v : Vat) (w : View) (peer : Speaking
     cut_off (event.Released o) cuts = absurd cuts
     cut_off (event.Down n reason) cuts = absurd cuts
 
-    tells_next : (event : Option Event) → TellsNext mid event new → Acted root_a root_b v w (Asks event) old new peer r to_them
+    tells_next : (event : Option Event) → TellsNext mid event new → Acted letters root_a root_b v w (Asks event) old new peer r to_them
     tells_next (Some e) (inl tells) = oldest e tells
     tells_next (Some e) (inr (inl tells)) = freed e tells
     tells_next (Some e) (inr (inr (inl cuts))) = cut_off e cuts
@@ -376,10 +376,10 @@ given_tied said peer to_me to_them w t = record {
   link_theirs = λ u. subst (λ (x : List ℕ). Link w.to_them said.host.messages said.host.core.down x) (sym (append-nil (to_them ++ said.out.bytes))) (t.link_theirs u);
 }
 
-gives : (root_a root_b : Option ObjectId) (v : Vat) (w : View) (peer : Speaking) (r to_them bytes : List ℕ) (old mid new : Connected) → bytes ≡ mid.speaker.out.bytes → new ≡ record mid { speaker = given mid.speaker }
-    → Acted root_a root_b v w (Gives bytes) old mid peer r to_them → Acted root_a root_b v w (Gives bytes) old new peer r (to_them ++ bytes)
-gives root_a root_b v w peer r to_them bytes old mid new bytes_are is k =
-    subst (λ (c : Connected). Acted root_a root_b v w (Gives bytes) old c peer r (to_them ++ bytes)) (sym is)
+gives : (letters : Vat → Vat) (root_a root_b : Option ObjectId) (v : Vat) (w : View) (peer : Speaking) (r to_them bytes : List ℕ) (old mid new : Connected) → bytes ≡ mid.speaker.out.bytes → new ≡ record mid { speaker = given mid.speaker }
+    → Acted letters root_a root_b v w (Gives bytes) old mid peer r to_them → Acted letters root_a root_b v w (Gives bytes) old new peer r (to_them ++ bytes)
+gives letters root_a root_b v w peer r to_them bytes old mid new bytes_are is k =
+    subst (λ (c : Connected). Acted letters root_a root_b v w (Gives bytes) old c peer r (to_them ++ bytes)) (sym is)
     (record {
       gone = k.gone;
       waits = k.waits;
@@ -402,36 +402,36 @@ finishing_same s f is = record { core = refl; messages = refl; out = refl; adapt
     by (inl e) = inl (λ i. record (e i) { peering = record ((e i).peering) { finishes = record ((e i).peering.finishes) { finishes = is i } } })
     by (inr a) = inr a
 
-module _ (aside : StandAside) (alike : FittingNamesAreAlike) (runs : WiredRunsAreRuns) (refuse : RunsRefuseNothing) (understood : EveryRunIsUnderstood) (names : OfEachStep KeepsNames) (root_a root_b : Option ObjectId) (v : Vat) (w : View) (reached : Reached root_a root_b (world_of v w)) (peer : Speaking) where
+module _ (aside : StandAside) (alike : FittingNamesAreAlike) (runs : WiredRunsAreRuns) (refuse : RunsRefuseNothing) (understood : EveryRunIsUnderstood) (names : OfEachStep KeepsNames) (letters : Vat → Vat) (root_a root_b : Option ObjectId) (v : Vat) (w : View) (reached : Reached letters root_a root_b (world_of v w)) (peer : Speaking) where
   module _ (r to_them : List ℕ) (old new : Connected) (gone : Unheard) (waits : Waits old.inflow gone) where
     -- Bytes come: the oldest of those on their way.
     pub receives : (bytes : List ℕ) → Acts old (Receives bytes) new → Tied old.speaker peer (coming gone (bytes ++ r)) to_them w
-        → Acted root_a root_b v w (Receives bytes) old new peer r to_them
+        → Acted letters root_a root_b v w (Receives bytes) old new peer r to_them
     receives bytes (followed, is) t =
-        by_itself root_a root_b v w peer r to_them (Receives bytes) old new (coming gone (bytes ++ r)) refl refl
+        by_itself letters root_a root_b v w peer r to_them (Receives bytes) old new (coming gone (bytes ++ r)) refl refl
         (works_follows (down old) old.inflow.over old.limits old.speaker new.speaker old.inflow new.inflow bytes followed) t
-        (follows root_a root_b v peer r to_them aside alike runs refuse understood names (down old) old.inflow.over old.limits old.speaker new.speaker old.inflow new.inflow bytes gone refl refl waits followed)
+        (follows letters root_a root_b v peer r to_them aside alike runs refuse understood names (down old) old.inflow.over old.limits old.speaker new.speaker old.inflow new.inflow bytes gone refl refl waits followed)
         reached
 
     -- Bytes are handed out, behind those on their way to the other.
     pub gives_out : (bytes : List ℕ) → Acts old (Gives bytes) new → Tied old.speaker peer (coming gone r) to_them w
-        → Acted root_a root_b v w (Gives bytes) old new peer r (to_them ++ bytes)
+        → Acted letters root_a root_b v w (Gives bytes) old new peer r (to_them ++ bytes)
     gives_out bytes (mid, worked, bytes_are, is) t =
-        gives root_a root_b v w peer r to_them bytes old mid new bytes_are is
-        (by_itself root_a root_b v w peer r to_them (Gives bytes) old mid (coming gone r) refl refl (works_on old mid worked) t
-        (works root_a root_b v peer r to_them aside alike runs refuse understood names old mid gone waits worked) reached)
+        gives letters root_a root_b v w peer r to_them bytes old mid new bytes_are is
+        (by_itself letters root_a root_b v w peer r to_them (Gives bytes) old mid (coming gone r) refl refl (works_on old mid worked) t
+        (works letters root_a root_b v peer r to_them aside alike runs refuse understood names old mid gone waits worked) reached)
 
-    pub commands_it : (c : Command) (answer : Result Granted Refusal) → Acts old (Commands c answer) new → Tied old.speaker peer (coming gone r) to_them w → Acted root_a root_b v w (Commands c answer) old new peer r to_them
-    commands_it c answer h t = commands_by root_a root_b v w peer r to_them old new gone waits t names c answer h
+    pub commands_it : (c : Command) (answer : Result Granted Refusal) → Acts old (Commands c answer) new → Tied old.speaker peer (coming gone r) to_them w → Acted letters root_a root_b v w (Commands c answer) old new peer r to_them
+    commands_it c answer h t = commands_by letters root_a root_b v w peer r to_them old new gone waits t names c answer h
 
-    pub ends_it : Acts old Ends new → Tied old.speaker peer (coming gone r) to_them w → Acted root_a root_b v w Ends old new peer r to_them
+    pub ends_it : Acts old Ends new → Tied old.speaker peer (coming gone r) to_them w → Acted letters root_a root_b v w Ends old new peer r to_them
     ends_it h t =
-        by_itself root_a root_b v w peer r to_them Ends old new (coming gone r) refl refl (works_ends (down old) old.inflow.over old new h) t
-        (ends_stream root_a root_b v peer r to_them (down old) old.inflow.over old new gone waits h) reached
+        by_itself letters root_a root_b v w peer r to_them Ends old new (coming gone r) refl refl (works_ends (down old) old.inflow.over old new h) t
+        (ends_stream letters root_a root_b v peer r to_them (down old) old.inflow.over old new gone waits h) reached
 
-    pub shuts_it : (n : ℕ) → Acts old (Shuts n) new → Tied old.speaker peer (coming gone r) to_them w → Acted root_a root_b v w (Shuts n) old new peer r to_them
+    pub shuts_it : (n : ℕ) → Acts old (Shuts n) new → Tied old.speaker peer (coming gone r) to_them w → Acted letters root_a root_b v w (Shuts n) old new peer r to_them
     shuts_it n (fell, is) t =
-        by_itself root_a root_b v w peer r to_them (Shuts n) old new (coming gone r) refl refl (works_falls old.speaker new.speaker n fell) t
+        by_itself letters root_a root_b v w peer r to_them (Shuts n) old new (coming gone r) refl refl (works_falls old.speaker new.speaker n fell) t
         (record {
           gone = gone;
           waits = subst (λ (c : Connected). Waits c.inflow gone) (sym is) waits;
@@ -439,19 +439,19 @@ module _ (aside : StandAside) (alike : FittingNamesAreAlike) (runs : WiredRunsAr
         })
         reached
 
-    pub asks_it : (event : Option Event) → Acts old (Asks event) new → Tied old.speaker peer (coming gone r) to_them w → Acted root_a root_b v w (Asks event) old new peer r to_them
+    pub asks_it : (event : Option Event) → Acts old (Asks event) new → Tied old.speaker peer (coming gone r) to_them w → Acted letters root_a root_b v w (Asks event) old new peer r to_them
     asks_it event (mid, worked, tells) t =
-        tells_next root_a root_b v w peer r to_them old mid new gone t (works_on old mid worked)
-        (works root_a root_b v peer r to_them aside alike runs refuse understood names old mid gone waits worked) reached event tells
+        tells_next letters root_a root_b v w peer r to_them old mid new gone t (works_on old mid worked)
+        (works letters root_a root_b v peer r to_them aside alike runs refuse understood names old mid gone waits worked) reached event tells
 
-    pub limits_it : (limits : Limits) → Acts old (SetsLimits limits) new → Tied old.speaker peer (coming gone r) to_them w → Acted root_a root_b v w (SetsLimits limits) old new peer r to_them
+    pub limits_it : (limits : Limits) → Acts old (SetsLimits limits) new → Tied old.speaker peer (coming gone r) to_them w → Acted letters root_a root_b v w (SetsLimits limits) old new peer r to_them
     limits_it limits is t =
-        beside root_a root_b v w peer r to_them old new gone waits t (SetsLimits limits) refl
+        beside letters root_a root_b v w peer r to_them old new gone waits t (SetsLimits limits) refl
         (with_new_host old.speaker new.speaker old.speaker.host (ap (λ (c : Connected). c.speaker) is) refl refl) (ap (λ (c : Connected). c.inflow) is)
-        (same_host root_a root_b v w peer r to_them old new gone waits t [] refl (ap (λ (c : Connected). c.speaker.host) is))
+        (same_host letters root_a root_b v w peer r to_them old new gone waits t [] refl (ap (λ (c : Connected). c.speaker.host) is))
 
-    pub finishes_it : (f : Finishes) → Acts old (SetsFinishes f) new → f ≡ AtOnce → Tied old.speaker peer (coming gone r) to_them w → Acted root_a root_b v w (SetsFinishes f) old new peer r to_them
+    pub finishes_it : (f : Finishes) → Acts old (SetsFinishes f) new → f ≡ AtOnce → Tied old.speaker peer (coming gone r) to_them w → Acted letters root_a root_b v w (SetsFinishes f) old new peer r to_them
     finishes_it f is at_once t =
-        beside root_a root_b v w peer r to_them old new gone waits t (SetsFinishes f) refl
+        beside letters root_a root_b v w peer r to_them old new gone waits t (SetsFinishes f) refl
         (subst (λ (s : Speaking). IsSame old.speaker s) (sym (ap (λ (c : Connected). c.speaker) is)) (finishing_same old.speaker f at_once)) (ap (λ (c : Connected). c.inflow) is)
-        (same_host root_a root_b v w peer r to_them old new gone waits t [] refl (ap (λ (c : Connected). c.speaker.host) is))
+        (same_host letters root_a root_b v w peer r to_them old new gone waits t [] refl (ap (λ (c : Connected). c.speaker.host) is))

@@ -59,12 +59,12 @@ kept_append [] (p ∷ ps) ys qs a b = absurd a
 kept_append (x ∷ xs) [] ys qs a b = absurd a
 kept_append (x ∷ xs) (p ∷ ps) ys qs a b = (a.0, kept_append xs ps ys qs a.1 b)
 
-module _ (root_a root_b : Option ObjectId) (v : Vat) (peer : Speaking) (r to_them : List ℕ) where
+module _ (letters : Vat → Vat) (root_a root_b : Option ObjectId) (v : Vat) (peer : Speaking) (r to_them : List ℕ) where
   -- What comes of a vat to which these bytes came.
   pub record Flows (mid new : Speaking) (bytes : List ℕ) (later : Inflow) : Type 0 where
     pub gone : Unheard
     pub waits : Waits later gone
-    pub goes : (u : View) → Reached root_a root_b (world_of v u) → Tied mid peer bytes to_them u → Happens2 v u mid.host new.host (Tied new peer (coming gone r) to_them)
+    pub goes : (u : View) → Reached letters root_a root_b (world_of v u) → Tied mid peer bytes to_them u → Happens2 v u mid.host new.host (Tied new peer (coming gone r) to_them)
 
   stays : (mid new : Speaking) (bytes : List ℕ) (later : Inflow) (gone : Unheard) → Waits later gone → new ≡ mid → bytes ≡ coming gone r → Flows mid new bytes later
   stays mid new bytes later gone waits is e = record {
@@ -177,8 +177,8 @@ module _ (root_a root_b : Option ObjectId) (v : Vat) (peer : Speaking) (r to_the
         record {
           gone = k.gone;
           waits = k.waits;
-          goes = λ u reached t. then2 root_a root_b v u old.host mid.host new.host (Tied mid peer (coming (of fs.0 came.2) r) to_them) (Tied new peer (coming k.gone r) to_them) reached
-              (in_turn aside alike runs refuse understood names root_a root_b v l peer mid came.4.1 (came.2 ++ r) to_them old (inflow.unheard ++ came.1) u turn (gone.frames ++ came.0) kept reached
+          goes = λ u reached t. then2 letters root_a root_b v u old.host mid.host new.host (Tied mid peer (coming (of fs.0 came.2) r) to_them) (Tied new peer (coming k.gone r) to_them) reached
+              (in_turn aside alike runs refuse understood names letters root_a root_b v l peer mid came.4.1 (came.2 ++ r) to_them old (inflow.unheard ++ came.1) u turn (gone.frames ++ came.0) kept reached
               (subst (λ (x : List ℕ). Tied old peer x to_them u) e t))
               k.goes;
         }
@@ -193,8 +193,8 @@ module _ (root_a root_b : Option ObjectId) (v : Vat) (peer : Speaking) (r to_the
         record {
           gone = k.gone;
           waits = k.waits;
-          goes = λ u reached t. then2 root_a root_b v u old.host mid.host new.host (Tied mid peer (coming (of fs.0 gone.rest) r) to_them) (Tied new peer (coming k.gone r) to_them) reached
-              (in_turn aside alike runs refuse understood names root_a root_b v l peer mid left (gone.rest ++ r) to_them old inflow.unheard u turn gone.frames waits.kept reached t)
+          goes = λ u reached t. then2 letters root_a root_b v u old.host mid.host new.host (Tied mid peer (coming (of fs.0 gone.rest) r) to_them) (Tied new peer (coming k.gone r) to_them) reached
+              (in_turn aside alike runs refuse understood names letters root_a root_b v l peer mid left (gone.rest ++ r) to_them old inflow.unheard u turn gone.frames waits.kept reached t)
               k.goes;
         }
 
@@ -205,7 +205,7 @@ module _ (root_a root_b : Option ObjectId) (v : Vat) (peer : Speaking) (r to_the
           gone = k.gone;
           waits = subst (λ (c : Connected). Waits c.inflow k.gone) (sym is) k.waits;
           goes = λ u reached t. subst (λ (c : Connected). Happens2 v u old.speaker.host c.speaker.host (Tied c.speaker peer (coming k.gone r) to_them)) (sym is)
-              (then2 root_a root_b v u old.speaker.host speaker.host said.host (Tied speaker peer (coming k.gone r) to_them) (Tied said peer (coming k.gone r) to_them) reached
+              (then2 letters root_a root_b v u old.speaker.host speaker.host said.host (Tied speaker peer (coming k.gone r) to_them) (Tied said peer (coming k.gone r) to_them) reached
               (k.goes u reached t)
-              (λ w reached_w s. says aside runs refuse understood root_a root_b v said peer (coming k.gone r) to_them w speaker said_so reached_w s));
+              (λ w reached_w s. says aside runs refuse understood letters root_a root_b v said peer (coming k.gone r) to_them w speaker said_so reached_w s));
         }

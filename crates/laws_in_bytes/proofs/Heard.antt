@@ -163,7 +163,7 @@ mine_inbox : (v : Vat) (w : View) → inbox (world_of v w) v ≡ w.to_me
 mine_inbox A w = refl
 mine_inbox B w = refl
 
-module _ (aside : StandAside) (alike : FittingNamesAreAlike) (runs : WiredRunsAreRuns) (refuse : RunsRefuseNothing) (understood : EveryRunIsUnderstood) (names : OfEachStep KeepsNames) (root_a root_b : Option ObjectId) where
+module _ (aside : StandAside) (alike : FittingNamesAreAlike) (runs : WiredRunsAreRuns) (refuse : RunsRefuseNothing) (understood : EveryRunIsUnderstood) (names : OfEachStep KeepsNames) (letters : Vat → Vat) (root_a root_b : Option ObjectId) where
   -- A frame says a message that names well, and for which there is room.
   took : (me new : Speaking) (words : ℕ) (came : codec.Came Came) (x : Message) → me.adapter ≡ fresh → came ≡ Ok (envelope (profile x)) → (pl : Plainly me.host.core x) → HasRoom me.host.core pl.0 → HearsCame me words came new → Took me new x
   took me new words came x f e (p, is, w) room h =
@@ -177,14 +177,14 @@ module _ (aside : StandAside) (alike : FittingNamesAreAlike) (runs : WiredRunsAr
   module _ (v : Vat) (peer new : Speaking) (more to_them : List ℕ) where
     -- The oldest message is heard, of which this is a frame.
     delivers : (me : Speaking) (part : Part) (frame to_me : List ℕ) (w : View) (m : Message) (ms : List Message) → me.host.core.down ≡ None → ReadsBack m frame → part.kept ≡ frame → part.dropped ≡ 0
-        → w.to_me ≡ m ∷ ms → HearsCame me (words_in part) (came_of (stamp_of me) part) new → Reached root_a root_b (world_of v w) → Tied me peer to_me to_them w
+        → w.to_me ≡ m ∷ ms → HearsCame me (words_in part) (came_of (stamp_of me) part) new → Reached letters root_a root_b (world_of v w) → Tied me peer to_me to_them w
         → Link ms peer.host.messages peer.host.core.down (more ++ peer.out.bytes) → Happens2 v w me.host new.host (Tied new peer more to_them)
     delivers me part frame to_me w m ms up r kept none there h reached t l =
         let x = r.says (stamp_of me) in
         let came : came_of (stamp_of me) part ≡ Ok (envelope (profile x.0)) = all_kept (stamp_of me) part frame kept none ∙ profile_came (stamp_of me) frame x.0 x.2 in
         let c : core (world_of v w) v ≡ me.host.core = mine_core v w ∙ t.mine in
         let well = subst (λ (s : State). Plainly s m) c
-        (oldest_well runs refuse understood root_a root_b (world_of v w) v m ms reached (ap (λ (s : State). s.down) c ∙ up) (ap (λ (s : State). s.level) c ∙ t.own.level) (mine_inbox v w ∙ there)) in
+        (oldest_well runs refuse understood letters root_a root_b (world_of v w) v m ms reached (ap (λ (s : State). s.down) c ∙ up) (ap (λ (s : State). s.level) c ∙ t.own.level) (mine_inbox v w ∙ there)) in
         let pl = heard_well me.host.core m x.0 x.1 well in
         let few = heard_few m x.0 x.1 (r.asks, r.names) in
         let k = took me new (words_in part) (came_of (stamp_of me) part) x.0 (adapter_up me up t.own.plainly) came pl (room_of me.host.core x.0 t.own.small few pl) h in
@@ -223,7 +223,7 @@ module _ (aside : StandAside) (alike : FittingNamesAreAlike) (runs : WiredRunsAr
 
     -- A frame is heard of which this is kept.
     comes_by : (me : Speaking) (part : Part) (frame : List ℕ) (w : View) → me.host.core.down ≡ None → IsKept frame part → HearsCame me (words_in part) (came_of (stamp_of me) part) new
-        → Reached root_a root_b (world_of v w) → Tied me peer (frame ++ more) to_them w → Link w.to_me peer.host.messages peer.host.core.down ((frame ++ more) ++ peer.out.bytes)
+        → Reached letters root_a root_b (world_of v w) → Tied me peer (frame ++ more) to_them w → Link w.to_me peer.host.messages peer.host.core.down ((frame ++ more) ++ peer.out.bytes)
         → Happens2 v w me.host new.host (Tied new peer more to_them)
     comes_by me part frame w up kept h reached t (Clean [] [] f i b) = absurd (not_empty frame (more ++ peer.out.bytes) part kept (sym (append_assoc frame more peer.out.bytes) ∙ b))
     comes_by me part frame w up kept h reached t (Clean (m ∷ ms) [] f i b) = absurd f
@@ -254,25 +254,25 @@ module _ (aside : StandAside) (alike : FittingNamesAreAlike) (runs : WiredRunsAr
         (inr (gone, subst AllAborts (sym said) (refl, tt))) (ap (λ (x : State). x.level) s.new_is ∙ t.own.level) (shut_keeps me.host.core want_of_room None effects new.host.core s t.own.small) (λ u. absurd (not_down new.host.core.down u gone)))
 
     hears_up : (me : Speaking) (part : Part) (frame : List ℕ) (w : View) → me.host.core.down ≡ None → me.host.messages ≡ [] → IsKept frame part → HearsUp me part new
-        → Reached root_a root_b (world_of v w) → Tied me peer (frame ++ more) to_them w → Happens2 v w me.host new.host (Tied new peer more to_them)
+        → Reached letters root_a root_b (world_of v w) → Tied me peer (frame ++ more) to_them w → Happens2 v w me.host new.host (Tied new peer more to_them)
     hears_up me part frame w up none kept (inl h) reached t = comes_by me part frame w up kept h reached t (t.link up)
     hears_up me part frame w up none kept (inr h) reached t = lacks me (frame ++ more) w h t up none
 
   -- ---- frames are heard in turn
 
   pub in_turn : (v : Vat) (l : Limits) (peer new : Speaking) (left : List Part) (r to_them : List ℕ) (s : Speaking) (parts : List Part) (w : View) (h : HearsInTurn l new left s parts)
-      (frames : List (List ℕ)) (kept : AreKept frames parts) → Reached root_a root_b (world_of v w) → Tied s peer (concat frames ++ r) to_them w
+      (frames : List (List ℕ)) (kept : AreKept frames parts) → Reached letters root_a root_b (world_of v w) → Tied s peer (concat frames ++ r) to_them w
       → Happens2 v w s.host new.host (Tied new peer (concat (left_of h frames kept).0 ++ r) to_them)
   in_turn v l peer new left r to_them _ _ w (All {s = s} is none) [] kept reached t =
       nothing2 v w s.host new.host (Tied new peer ([] ++ r) to_them) (ap (λ (x : Speaking). x.host.events) is) (subst (λ (x : Speaking). Tied x peer ([] ++ r) to_them w) (sym is) t)
   in_turn v l peer new left r to_them _ _ w (All {s = s} is none) (f ∷ fs) kept reached t = absurd kept
   in_turn v l peer new left r to_them _ _ w (Saying {s = s} {said = said} part parts up said_so more) frames kept reached t =
-      then2 root_a root_b v w s.host said.host new.host (Tied said peer (concat frames ++ r) to_them) (Tied new peer (concat (left_of more frames kept).0 ++ r) to_them) reached
-      (says aside runs refuse understood root_a root_b v said peer (concat frames ++ r) to_them w s said_so reached t)
+      then2 letters root_a root_b v w s.host said.host new.host (Tied said peer (concat frames ++ r) to_them) (Tied new peer (concat (left_of more frames kept).0 ++ r) to_them) reached
+      (says aside runs refuse understood letters root_a root_b v said peer (concat frames ++ r) to_them w s said_so reached t)
       (λ u reached_u k. in_turn v l peer new left r to_them said (part ∷ parts) u more frames kept reached_u k)
   in_turn v l peer new left r to_them _ _ w (OldestHeard {s = s} {mid = mid} part parts up none may whole heard more) [] kept reached t = absurd kept
   in_turn v l peer new left r to_them _ _ w (OldestHeard {s = s} {mid = mid} part parts up none may whole heard more) (f ∷ fs) kept reached t =
-      then2 root_a root_b v w s.host mid.host new.host (Tied mid peer (concat fs ++ r) to_them) (Tied new peer (concat (left_of more fs kept.1).0 ++ r) to_them) reached
+      then2 letters root_a root_b v w s.host mid.host new.host (Tied mid peer (concat fs ++ r) to_them) (Tied new peer (concat (left_of more fs kept.1).0 ++ r) to_them) reached
       (hears_up v peer mid (concat fs ++ r) to_them s part f w up none kept.0 heard reached (subst (λ (x : List ℕ). Tied s peer x to_them w) (append_assoc f (concat fs) r) t))
       (λ u reached_u k. in_turn v l peer new left r to_them mid parts u more fs kept.1 reached_u k)
   in_turn v l peer new left r to_them _ _ w (Above {s = s} part parts up none above is rest) frames kept reached t =

@@ -419,10 +419,10 @@ side_well y m ms one understood passes is =
     by x p e (inl (a, b)) = (plain.Abort a, b, record { first = tt; none = tt; asks = tt })
     by x p e (inr h) = (p, e, not_refused (state_at true y.core) one p (subst (λ (n : Message). MayFault (fault_of (state_at true y.core) n)) e h))
 
-module _ (runs : WiredRunsAreRuns) (refuse : RunsRefuseNothing) (understood : EveryRunIsUnderstood) (root_a root_b : Option ObjectId) where
-  pub on_way : (w : World) (v : Vat) → Reached root_a root_b w → AreUnderstood (inbox w v)
+module _ (runs : WiredRunsAreRuns) (refuse : RunsRefuseNothing) (understood : EveryRunIsUnderstood) (letters : Vat → Vat) (root_a root_b : Option ObjectId) where
+  pub on_way : (w : World) (v : Vat) → Reached letters root_a root_b w → AreUnderstood (inbox w v)
   on_way w v (xs, ran) =
-      let i = runs root_a root_b xs w ran in
+      let i = runs letters root_a root_b xs w ran in
       subst (λ (x : World). AreUnderstood (inbox x v)) (sym i.leads) (by v i.worlds ((understood root_a root_b (map (happening_at true) i.happened) (world_at true i.worlds) i.ran).on_way v))
     where
       by : (v : Vat) (z : TwoWorlds) → AllUnderstood (inbox (world_at true z) v) → AreUnderstood (inbox (world_at false z) v)
@@ -433,9 +433,9 @@ module _ (runs : WiredRunsAreRuns) (refuse : RunsRefuseNothing) (understood : Ev
   last_or w v n (inl (x, is, down)) = inl (x, is)
   last_or w v n (inr h) = inr h
 
-  pub oldest_well : (w : World) (v : Vat) (m : Message) (ms : List Message) → Reached root_a root_b w → (core w v).down ≡ None → (core w v).level ≡ One → inbox w v ≡ m ∷ ms → Plainly (core w v) m
+  pub oldest_well : (w : World) (v : Vat) (m : Message) (ms : List Message) → Reached letters root_a root_b w → (core w v).down ≡ None → (core w v).level ≡ One → inbox w v ≡ m ∷ ms → Plainly (core w v) m
   oldest_well w v m ms (xs, ran) up one is =
-      let i = runs root_a root_b xs w ran in
+      let i = runs letters root_a root_b xs w ran in
       let hs = map (happening_at true) i.happened in
       let z = i.worlds in
       let e = i.leads in

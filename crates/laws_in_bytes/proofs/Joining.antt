@@ -8,12 +8,12 @@ use Rattle.rpc_msg.specs.declared.ids.Vat.{Vat}
 use Rattle.rpc_msg.specs.declared.ids.Vat.TheVariants.{A, B}
 use Rattle.rpc_machine.specs.declared.command.Level.TheVariants.{One}
 use Rattle.rpc_machine.specs.Laws.{OfEachStep}
-use Rattle.rpc_machine.specs.World.{Happening, core, new_world}
+use Rattle.rpc_machine.specs.World.{Happening, core}
 use Rattle.laws_ends.specs.Names.{KeepsNames}
 use Rattle.laws_peers.specs.Alike.{FittingNamesAreAlike}
 use Rattle.laws_scenes.specs.Refused.{RunsRefuseNothing}
 use Rattle.laws_understood.specs.Understood.{EveryRunIsUnderstood}
-use Rattle.laws_wired.specs.Wires.{WiredRun, WiredRunsAreRuns}
+use Rattle.laws_wired.specs.Wires.{WiredRun, WiredRunsAreRuns, named_world}
 use Rattle.vat_host.specs.declared.event.Event.{Event}
 use Rattle.vat_host.specs.Hosting.{Hosted}
 use Rattle.vat_hosts.specs.Calls.{of_calls}
@@ -120,10 +120,10 @@ module _ (told : List Event) (h k : Hosted) (run : List Event) where
 flat_behind : {X Y : Type 0} (f : X → List Y) (xs : List X) (x : X) → flat_map f (xs ++ x ∷ []) ≡ flat_map f xs ++ f x
 flat_behind f xs x = flat_map-append f xs (x ∷ []) ∙ ap (λ l. flat_map f xs ++ l) (append-nil (f x))
 
-record So (root_a root_b : Option ObjectId) (xs : List Doing) (j : Joined) : Type 0 where
+record So (letters : Vat → Vat) (root_a root_b : Option ObjectId) (xs : List Doing) (j : Joined) : Type 0 where
   happened : List Happening
   view : View
-  ran : WiredRun (new_world root_a root_b) happened (world_of A view)
+  ran : WiredRun (named_world letters root_a root_b) happened (world_of A view)
   done : flat_map done_of happened ≡ flat_map done_by xs
   told : (v : Vat) → Telling (flat_map (told_by v) xs) (end j v).speaker.host (flat_map (told_in v) happened)
   gone_a : Unheard
@@ -132,7 +132,7 @@ record So (root_a root_b : Option ObjectId) (xs : List Doing) (j : Joined) : Typ
   waits_b : Waits j.b.inflow gone_b
   holds : Tied j.a.speaker j.b.speaker (coming gone_a j.to_a) (coming gone_b j.to_b) view
 
-module _ (root_a root_b : Option ObjectId) (xs : List Doing) (j : Joined) (so : So root_a root_b xs j) where
+module _ (letters : Vat → Vat) (root_a root_b : Option ObjectId) (xs : List Doing) (j : Joined) (so : So letters root_a root_b xs j) where
   -- ---- one act more, at a vat
 
   module _ (v : Vat) (act : Act) (new : Connected) (happened : List Happening) where
@@ -166,12 +166,12 @@ module _ (root_a root_b : Option ObjectId) (xs : List Doing) (j : Joined) (so : 
   both P a b A = a
   both P a b B = b
 
-  of_a : (act : Act) (new : Joined) (r : List ℕ) → new.to_a ≡ r → new.b ≡ j.b → Acted root_a root_b A so.view act j.a new.a j.b.speaker r (coming so.gone_b new.to_b)
-      → So root_a root_b (xs ++ record { vat = A; act = act } ∷ []) new
+  of_a : (act : Act) (new : Joined) (r : List ℕ) → new.to_a ≡ r → new.b ≡ j.b → Acted letters root_a root_b A so.view act j.a new.a j.b.speaker r (coming so.gone_b new.to_b)
+      → So letters root_a root_b (xs ++ record { vat = A; act = act } ∷ []) new
   of_a act new r stream other k = record {
     happened = so.happened ++ k.happened;
     view = k.view;
-    ran = runs_on so.happened k.happened (new_world root_a root_b) (world_of A so.view) (world_of A k.view) so.ran k.ran;
+    ran = runs_on so.happened k.happened (named_world letters root_a root_b) (world_of A so.view) (world_of A k.view) so.ran k.ran;
     done = done_more A act new.a k.happened k.done;
     told = both (λ v. Telling (flat_map (told_by v) (xs ++ record { vat = A; act = act } ∷ [])) (end new v).speaker.host (flat_map (told_in v) (so.happened ++ k.happened)))
         (here A act new.a k.happened k.stays k.tells) (there A act new.a k.happened k.elsewhere new.b.speaker.host (ap (λ (c : Connected). c.speaker.host) other));
@@ -183,12 +183,12 @@ module _ (root_a root_b : Option ObjectId) (xs : List Doing) (j : Joined) (so : 
         (subst (λ (x : List ℕ). Tied new.a.speaker j.b.speaker (coming k.gone x) (coming so.gone_b new.to_b) k.view) (sym stream) k.holds);
   }
 
-  of_b : (act : Act) (new : Joined) (r : List ℕ) → new.to_b ≡ r → new.a ≡ j.a → Acted root_a root_b B (swap so.view) act j.b new.b j.a.speaker r (coming so.gone_a new.to_a)
-      → So root_a root_b (xs ++ record { vat = B; act = act } ∷ []) new
+  of_b : (act : Act) (new : Joined) (r : List ℕ) → new.to_b ≡ r → new.a ≡ j.a → Acted letters root_a root_b B (swap so.view) act j.b new.b j.a.speaker r (coming so.gone_a new.to_a)
+      → So letters root_a root_b (xs ++ record { vat = B; act = act } ∷ []) new
   of_b act new r stream other k = record {
     happened = so.happened ++ k.happened;
     view = swap k.view;
-    ran = runs_on so.happened k.happened (new_world root_a root_b) (world_of A so.view) (world_of B k.view) so.ran k.ran;
+    ran = runs_on so.happened k.happened (named_world letters root_a root_b) (world_of A so.view) (world_of B k.view) so.ran k.ran;
     done = done_more B act new.b k.happened k.done;
     told = both (λ v. Telling (flat_map (told_by v) (xs ++ record { vat = B; act = act } ∷ [])) (end new v).speaker.host (flat_map (told_in v) (so.happened ++ k.happened)))
         (there B act new.b k.happened k.elsewhere new.a.speaker.host (ap (λ (c : Connected). c.speaker.host) other)) (here B act new.b k.happened k.stays k.tells);
@@ -203,15 +203,15 @@ module _ (root_a root_b : Option ObjectId) (xs : List Doing) (j : Joined) (so : 
 
 -- ---- all acts
 
-abbrev start : Option ObjectId → Option ObjectId → View
-start root_a root_b = record { mine = (new_joined root_a root_b).a.speaker.host.core; theirs = (new_joined root_a root_b).b.speaker.host.core; to_me = []; to_them = [] }
+abbrev start : (Vat → Vat) → Option ObjectId → Option ObjectId → View
+start letters root_a root_b = record { mine = (new_joined letters root_a root_b).a.speaker.host.core; theirs = (new_joined letters root_a root_b).b.speaker.host.core; to_me = []; to_them = [] }
 
-module _ (aside : StandAside) (alike : FittingNamesAreAlike) (runs : WiredRunsAreRuns) (refuse : RunsRefuseNothing) (understood : EveryRunIsUnderstood) (names : OfEachStep KeepsNames) (root_a root_b : Option ObjectId) where
-  module _ (xs : List Doing) (j new : Joined) (so : So root_a root_b xs j) where
-    reached_a : Reached root_a root_b (world_of A so.view)
+module _ (aside : StandAside) (alike : FittingNamesAreAlike) (runs : WiredRunsAreRuns) (refuse : RunsRefuseNothing) (understood : EveryRunIsUnderstood) (names : OfEachStep KeepsNames) (letters : Vat → Vat) (root_a root_b : Option ObjectId) where
+  module _ (xs : List Doing) (j new : Joined) (so : So letters root_a root_b xs j) where
+    reached_a : Reached letters root_a root_b (world_of A so.view)
     reached_a = (so.happened, so.ran)
 
-    reached_b : Reached root_a root_b (world_of B (swap so.view))
+    reached_b : Reached letters root_a root_b (world_of B (swap so.view))
     reached_b = (so.happened, so.ran)
 
     held_b : Tied j.b.speaker j.a.speaker (coming so.gone_b j.to_b) (coming so.gone_a j.to_a) (swap so.view)
@@ -222,94 +222,94 @@ module _ (aside : StandAside) (alike : FittingNamesAreAlike) (runs : WiredRunsAr
     behind gone s bytes = append_assoc (concat gone.frames) (gone.rest ++ s) bytes ∙ ap (λ (x : List ℕ). concat gone.frames ++ x) (append_assoc gone.rest s bytes)
 
     -- An act of which no byte goes or comes.
-    plain_a : (act : Act) (c : Connected) → new ≡ record j { a = c } → Acted root_a root_b A so.view act j.a c j.b.speaker j.to_a (coming so.gone_b j.to_b)
-        → So root_a root_b (xs ++ record { vat = A; act = act } ∷ []) new
-    plain_a act c is k = subst (λ (n : Joined). So root_a root_b (xs ++ record { vat = A; act = act } ∷ []) n) (sym is) (of_a root_a root_b xs j so act (record j { a = c }) j.to_a refl refl k)
+    plain_a : (act : Act) (c : Connected) → new ≡ record j { a = c } → Acted letters root_a root_b A so.view act j.a c j.b.speaker j.to_a (coming so.gone_b j.to_b)
+        → So letters root_a root_b (xs ++ record { vat = A; act = act } ∷ []) new
+    plain_a act c is k = subst (λ (n : Joined). So letters root_a root_b (xs ++ record { vat = A; act = act } ∷ []) n) (sym is) (of_a letters root_a root_b xs j so act (record j { a = c }) j.to_a refl refl k)
 
-    plain_b : (act : Act) (c : Connected) → new ≡ record j { b = c } → Acted root_a root_b B (swap so.view) act j.b c j.a.speaker j.to_b (coming so.gone_a j.to_a)
-        → So root_a root_b (xs ++ record { vat = B; act = act } ∷ []) new
-    plain_b act c is k = subst (λ (n : Joined). So root_a root_b (xs ++ record { vat = B; act = act } ∷ []) n) (sym is) (of_b root_a root_b xs j so act (record j { b = c }) j.to_b refl refl k)
+    plain_b : (act : Act) (c : Connected) → new ≡ record j { b = c } → Acted letters root_a root_b B (swap so.view) act j.b c j.a.speaker j.to_b (coming so.gone_a j.to_a)
+        → So letters root_a root_b (xs ++ record { vat = B; act = act } ∷ []) new
+    plain_b act c is k = subst (λ (n : Joined). So letters root_a root_b (xs ++ record { vat = B; act = act } ∷ []) n) (sym is) (of_b letters root_a root_b xs j so act (record j { b = c }) j.to_b refl refl k)
 
-    at_a : (act : Act) → Does j (record { vat = A; act = act }) new → FinishesAtOnce act → So root_a root_b (xs ++ record { vat = A; act = act } ∷ []) new
+    at_a : (act : Act) → Does j (record { vat = A; act = act }) new → FinishesAtOnce act → So letters root_a root_b (xs ++ record { vat = A; act = act } ∷ []) new
     at_a (Receives bytes) does at_once =
         let c = does.left in
         let m = does.moves in
-        subst (λ (n : Joined). So root_a root_b (xs ++ record { vat = A; act = Receives bytes } ∷ []) n) (sym m.2)
-        (of_a root_a root_b xs j so (Receives bytes) (record j { a = c; to_a = m.0 }) m.0 refl refl
-        (receives aside alike runs refuse understood names root_a root_b A so.view reached_a j.b.speaker m.0 (coming so.gone_b j.to_b) j.a c so.gone_a so.waits_a bytes does.acts
+        subst (λ (n : Joined). So letters root_a root_b (xs ++ record { vat = A; act = Receives bytes } ∷ []) n) (sym m.2)
+        (of_a letters root_a root_b xs j so (Receives bytes) (record j { a = c; to_a = m.0 }) m.0 refl refl
+        (receives aside alike runs refuse understood names letters root_a root_b A so.view reached_a j.b.speaker m.0 (coming so.gone_b j.to_b) j.a c so.gone_a so.waits_a bytes does.acts
         (subst (λ (s : List ℕ). Tied j.a.speaker j.b.speaker (coming so.gone_a s) (coming so.gone_b j.to_b) so.view) m.1 so.holds)))
     at_a (Gives bytes) does at_once =
         let c = does.left in
-        subst (λ (n : Joined). So root_a root_b (xs ++ record { vat = A; act = Gives bytes } ∷ []) n) (sym does.moves)
-        (of_a root_a root_b xs j so (Gives bytes) (record j { a = c; to_b = j.to_b ++ bytes }) j.to_a refl refl
-        (subst (λ (s : List ℕ). Acted root_a root_b A so.view (Gives bytes) j.a c j.b.speaker j.to_a s) (behind so.gone_b j.to_b bytes)
-        (gives_out aside alike runs refuse understood names root_a root_b A so.view reached_a j.b.speaker j.to_a (coming so.gone_b j.to_b) j.a c so.gone_a so.waits_a bytes does.acts so.holds)))
+        subst (λ (n : Joined). So letters root_a root_b (xs ++ record { vat = A; act = Gives bytes } ∷ []) n) (sym does.moves)
+        (of_a letters root_a root_b xs j so (Gives bytes) (record j { a = c; to_b = j.to_b ++ bytes }) j.to_a refl refl
+        (subst (λ (s : List ℕ). Acted letters root_a root_b A so.view (Gives bytes) j.a c j.b.speaker j.to_a s) (behind so.gone_b j.to_b bytes)
+        (gives_out aside alike runs refuse understood names letters root_a root_b A so.view reached_a j.b.speaker j.to_a (coming so.gone_b j.to_b) j.a c so.gone_a so.waits_a bytes does.acts so.holds)))
     at_a (Commands command answer) does at_once =
         plain_a (Commands command answer) does.left does.moves
-        (commands_it aside alike runs refuse understood names root_a root_b A so.view reached_a j.b.speaker j.to_a (coming so.gone_b j.to_b) j.a does.left so.gone_a so.waits_a command answer does.acts so.holds)
+        (commands_it aside alike runs refuse understood names letters root_a root_b A so.view reached_a j.b.speaker j.to_a (coming so.gone_b j.to_b) j.a does.left so.gone_a so.waits_a command answer does.acts so.holds)
     at_a Ends does at_once =
         plain_a Ends does.left does.moves
-        (ends_it aside alike runs refuse understood names root_a root_b A so.view reached_a j.b.speaker j.to_a (coming so.gone_b j.to_b) j.a does.left so.gone_a so.waits_a does.acts so.holds)
+        (ends_it aside alike runs refuse understood names letters root_a root_b A so.view reached_a j.b.speaker j.to_a (coming so.gone_b j.to_b) j.a does.left so.gone_a so.waits_a does.acts so.holds)
     at_a (Shuts n) does at_once =
         plain_a (Shuts n) does.left does.moves
-        (shuts_it aside alike runs refuse understood names root_a root_b A so.view reached_a j.b.speaker j.to_a (coming so.gone_b j.to_b) j.a does.left so.gone_a so.waits_a n does.acts so.holds)
+        (shuts_it aside alike runs refuse understood names letters root_a root_b A so.view reached_a j.b.speaker j.to_a (coming so.gone_b j.to_b) j.a does.left so.gone_a so.waits_a n does.acts so.holds)
     at_a (Asks event) does at_once =
         plain_a (Asks event) does.left does.moves
-        (asks_it aside alike runs refuse understood names root_a root_b A so.view reached_a j.b.speaker j.to_a (coming so.gone_b j.to_b) j.a does.left so.gone_a so.waits_a event does.acts so.holds)
+        (asks_it aside alike runs refuse understood names letters root_a root_b A so.view reached_a j.b.speaker j.to_a (coming so.gone_b j.to_b) j.a does.left so.gone_a so.waits_a event does.acts so.holds)
     at_a (SetsLimits limits) does at_once =
         plain_a (SetsLimits limits) does.left does.moves
-        (limits_it aside alike runs refuse understood names root_a root_b A so.view reached_a j.b.speaker j.to_a (coming so.gone_b j.to_b) j.a does.left so.gone_a so.waits_a limits does.acts so.holds)
+        (limits_it aside alike runs refuse understood names letters root_a root_b A so.view reached_a j.b.speaker j.to_a (coming so.gone_b j.to_b) j.a does.left so.gone_a so.waits_a limits does.acts so.holds)
     at_a (SetsFinishes finishes) does at_once =
         plain_a (SetsFinishes finishes) does.left does.moves
-        (finishes_it aside alike runs refuse understood names root_a root_b A so.view reached_a j.b.speaker j.to_a (coming so.gone_b j.to_b) j.a does.left so.gone_a so.waits_a finishes does.acts at_once so.holds)
+        (finishes_it aside alike runs refuse understood names letters root_a root_b A so.view reached_a j.b.speaker j.to_a (coming so.gone_b j.to_b) j.a does.left so.gone_a so.waits_a finishes does.acts at_once so.holds)
 
-    at_b : (act : Act) → Does j (record { vat = B; act = act }) new → FinishesAtOnce act → So root_a root_b (xs ++ record { vat = B; act = act } ∷ []) new
+    at_b : (act : Act) → Does j (record { vat = B; act = act }) new → FinishesAtOnce act → So letters root_a root_b (xs ++ record { vat = B; act = act } ∷ []) new
     at_b (Receives bytes) does at_once =
         let c = does.left in
         let m = does.moves in
-        subst (λ (n : Joined). So root_a root_b (xs ++ record { vat = B; act = Receives bytes } ∷ []) n) (sym m.2)
-        (of_b root_a root_b xs j so (Receives bytes) (record j { b = c; to_b = m.0 }) m.0 refl refl
-        (receives aside alike runs refuse understood names root_a root_b B (swap so.view) reached_b j.a.speaker m.0 (coming so.gone_a j.to_a) j.b c so.gone_b so.waits_b bytes does.acts
+        subst (λ (n : Joined). So letters root_a root_b (xs ++ record { vat = B; act = Receives bytes } ∷ []) n) (sym m.2)
+        (of_b letters root_a root_b xs j so (Receives bytes) (record j { b = c; to_b = m.0 }) m.0 refl refl
+        (receives aside alike runs refuse understood names letters root_a root_b B (swap so.view) reached_b j.a.speaker m.0 (coming so.gone_a j.to_a) j.b c so.gone_b so.waits_b bytes does.acts
         (subst (λ (s : List ℕ). Tied j.b.speaker j.a.speaker (coming so.gone_b s) (coming so.gone_a j.to_a) (swap so.view)) m.1 held_b)))
     at_b (Gives bytes) does at_once =
         let c = does.left in
-        subst (λ (n : Joined). So root_a root_b (xs ++ record { vat = B; act = Gives bytes } ∷ []) n) (sym does.moves)
-        (of_b root_a root_b xs j so (Gives bytes) (record j { b = c; to_a = j.to_a ++ bytes }) j.to_b refl refl
-        (subst (λ (s : List ℕ). Acted root_a root_b B (swap so.view) (Gives bytes) j.b c j.a.speaker j.to_b s) (behind so.gone_a j.to_a bytes)
-        (gives_out aside alike runs refuse understood names root_a root_b B (swap so.view) reached_b j.a.speaker j.to_b (coming so.gone_a j.to_a) j.b c so.gone_b so.waits_b bytes does.acts held_b)))
+        subst (λ (n : Joined). So letters root_a root_b (xs ++ record { vat = B; act = Gives bytes } ∷ []) n) (sym does.moves)
+        (of_b letters root_a root_b xs j so (Gives bytes) (record j { b = c; to_a = j.to_a ++ bytes }) j.to_b refl refl
+        (subst (λ (s : List ℕ). Acted letters root_a root_b B (swap so.view) (Gives bytes) j.b c j.a.speaker j.to_b s) (behind so.gone_a j.to_a bytes)
+        (gives_out aside alike runs refuse understood names letters root_a root_b B (swap so.view) reached_b j.a.speaker j.to_b (coming so.gone_a j.to_a) j.b c so.gone_b so.waits_b bytes does.acts held_b)))
     at_b (Commands command answer) does at_once =
         plain_b (Commands command answer) does.left does.moves
-        (commands_it aside alike runs refuse understood names root_a root_b B (swap so.view) reached_b j.a.speaker j.to_b (coming so.gone_a j.to_a) j.b does.left so.gone_b so.waits_b command answer does.acts held_b)
+        (commands_it aside alike runs refuse understood names letters root_a root_b B (swap so.view) reached_b j.a.speaker j.to_b (coming so.gone_a j.to_a) j.b does.left so.gone_b so.waits_b command answer does.acts held_b)
     at_b Ends does at_once =
         plain_b Ends does.left does.moves
-        (ends_it aside alike runs refuse understood names root_a root_b B (swap so.view) reached_b j.a.speaker j.to_b (coming so.gone_a j.to_a) j.b does.left so.gone_b so.waits_b does.acts held_b)
+        (ends_it aside alike runs refuse understood names letters root_a root_b B (swap so.view) reached_b j.a.speaker j.to_b (coming so.gone_a j.to_a) j.b does.left so.gone_b so.waits_b does.acts held_b)
     at_b (Shuts n) does at_once =
         plain_b (Shuts n) does.left does.moves
-        (shuts_it aside alike runs refuse understood names root_a root_b B (swap so.view) reached_b j.a.speaker j.to_b (coming so.gone_a j.to_a) j.b does.left so.gone_b so.waits_b n does.acts held_b)
+        (shuts_it aside alike runs refuse understood names letters root_a root_b B (swap so.view) reached_b j.a.speaker j.to_b (coming so.gone_a j.to_a) j.b does.left so.gone_b so.waits_b n does.acts held_b)
     at_b (Asks event) does at_once =
         plain_b (Asks event) does.left does.moves
-        (asks_it aside alike runs refuse understood names root_a root_b B (swap so.view) reached_b j.a.speaker j.to_b (coming so.gone_a j.to_a) j.b does.left so.gone_b so.waits_b event does.acts held_b)
+        (asks_it aside alike runs refuse understood names letters root_a root_b B (swap so.view) reached_b j.a.speaker j.to_b (coming so.gone_a j.to_a) j.b does.left so.gone_b so.waits_b event does.acts held_b)
     at_b (SetsLimits limits) does at_once =
         plain_b (SetsLimits limits) does.left does.moves
-        (limits_it aside alike runs refuse understood names root_a root_b B (swap so.view) reached_b j.a.speaker j.to_b (coming so.gone_a j.to_a) j.b does.left so.gone_b so.waits_b limits does.acts held_b)
+        (limits_it aside alike runs refuse understood names letters root_a root_b B (swap so.view) reached_b j.a.speaker j.to_b (coming so.gone_a j.to_a) j.b does.left so.gone_b so.waits_b limits does.acts held_b)
     at_b (SetsFinishes finishes) does at_once =
         plain_b (SetsFinishes finishes) does.left does.moves
-        (finishes_it aside alike runs refuse understood names root_a root_b B (swap so.view) reached_b j.a.speaker j.to_b (coming so.gone_a j.to_a) j.b does.left so.gone_b so.waits_b finishes does.acts at_once held_b)
+        (finishes_it aside alike runs refuse understood names letters root_a root_b B (swap so.view) reached_b j.a.speaker j.to_b (coming so.gone_a j.to_a) j.b does.left so.gone_b so.waits_b finishes does.acts at_once held_b)
 
-    one : (v : Vat) (act : Act) → Does j (record { vat = v; act = act }) new → FinishesAtOnce act → So root_a root_b (xs ++ record { vat = v; act = act } ∷ []) new
+    one : (v : Vat) (act : Act) → Does j (record { vat = v; act = act }) new → FinishesAtOnce act → So letters root_a root_b (xs ++ record { vat = v; act = act } ∷ []) new
     one A act does at_once = at_a act does at_once
     one B act does at_once = at_b act does at_once
 
-  so_all : (before xs : List Doing) (j new : Joined) → So root_a root_b before j → JoinedRun j xs new → FinishAtOnce xs → So root_a root_b (before ++ xs) new
-  so_all before [] j new so same at_once = subst (λ (l : List Doing). So root_a root_b l new) (sym (append-nil before)) (subst (λ (n : Joined). So root_a root_b before n) (sym same) so)
+  so_all : (before xs : List Doing) (j new : Joined) → So letters root_a root_b before j → JoinedRun j xs new → FinishAtOnce xs → So letters root_a root_b (before ++ xs) new
+  so_all before [] j new so same at_once = subst (λ (l : List Doing). So letters root_a root_b l new) (sym (append-nil before)) (subst (λ (n : Joined). So letters root_a root_b before n) (sym same) so)
   so_all before (x ∷ xs) j new so (mid, does, more) at_once =
-      subst (λ (l : List Doing). So root_a root_b l new) (append_assoc before (x ∷ []) xs)
+      subst (λ (l : List Doing). So letters root_a root_b l new) (append_assoc before (x ∷ []) xs)
       (so_all (before ++ x ∷ []) xs mid new (one before j mid so x.vat x.act does at_once.0) more at_once.1)
 
-  so_new : So root_a root_b [] (new_joined root_a root_b)
+  so_new : So letters root_a root_b [] (new_joined letters root_a root_b)
   so_new = record {
     happened = [];
-    view = start root_a root_b;
+    view = start letters root_a root_b;
     ran = refl;
     done = refl;
     told = both_new;
@@ -320,20 +320,20 @@ module _ (aside : StandAside) (alike : FittingNamesAreAlike) (runs : WiredRunsAr
     holds = record {
       mine = refl;
       theirs = refl;
-      own = record { echoes = refl; plainly = inl refl; level = refl; small = start_small A One root_a };
-      own_theirs = record { echoes = refl; plainly = inl refl; level = refl; small = start_small B One root_b };
+      own = record { echoes = refl; plainly = inl refl; level = refl; small = start_small (letters A) One root_a };
+      own_theirs = record { echoes = refl; plainly = inl refl; level = refl; small = start_small (letters B) One root_b };
       link = λ up. Clean [] [] tt refl refl;
       link_theirs = λ up. Clean [] [] tt refl refl;
     };
   }
     where
-      both_new : (v : Vat) → Telling [] (end (new_joined root_a root_b) v).speaker.host []
+      both_new : (v : Vat) → Telling [] (end (new_joined letters root_a root_b) v).speaker.host []
       both_new A = record { cut = []; cut_off = tt; is = refl; over = inl refl }
       both_new B = record { cut = []; cut_off = tt; is = refl; over = inl refl }
 
 pub joined_runs_are_wired : StandAside → FittingNamesAreAlike → WiredRunsAreRuns → RunsRefuseNothing → EveryRunIsUnderstood → OfEachStep KeepsNames → JoinedRunsAreWired
-joined_runs_are_wired aside alike runs refuse understood names root_a root_b xs j ran at_once =
-    let so = so_all aside alike runs refuse understood names root_a root_b [] xs (new_joined root_a root_b) j (so_new aside alike runs refuse understood names root_a root_b) ran at_once in
+joined_runs_are_wired aside alike runs refuse understood names letters root_a root_b xs j ran at_once =
+    let so = so_all aside alike runs refuse understood names letters root_a root_b [] xs (new_joined letters root_a root_b) j (so_new aside alike runs refuse understood names letters root_a root_b) ran at_once in
     record {
       happened = so.happened;
       world = world_of A so.view;
@@ -343,6 +343,6 @@ joined_runs_are_wired aside alike runs refuse understood names root_a root_b xs 
       cores = by so;
     }
   where
-    by : (so : So root_a root_b xs j) (v : Vat) → core (world_of A so.view) v ≡ (end j v).speaker.host.core
+    by : (so : So letters root_a root_b xs j) (v : Vat) → core (world_of A so.view) v ≡ (end j v).speaker.host.core
     by so A = so.holds.mine
     by so B = so.holds.theirs

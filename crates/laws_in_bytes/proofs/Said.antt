@@ -224,7 +224,7 @@ tied_said reads me peer mid to_me to_them w m ms e u laid k t =
     owns (inl f) = inl (k.adapter ∙ f)
     owns (inr a) = inr (subst (λ (x : State). IsSome x.down) (sym k.core) a.0, subst AllAborts (sym k.messages) (let b : AllAborts (m ∷ ms) = subst AllAborts e a.1 in b.1))
 
-module _ (aside : StandAside) (runs : WiredRunsAreRuns) (refuse : RunsRefuseNothing) (understood : EveryRunIsUnderstood) (root_a root_b : Option ObjectId) where
+module _ (aside : StandAside) (runs : WiredRunsAreRuns) (refuse : RunsRefuseNothing) (understood : EveryRunIsUnderstood) (letters : Vat → Vat) (root_a root_b : Option ObjectId) where
   stands : (s : Speaking) (m : Message) (ms : List Message) → s.host.messages ≡ m ∷ ms → IsPlainly s → goes s.adapter m ≡ aside_of s.adapter m
   stands s m ms e (inl f) = subst (λ (x : Sparing). goes x m ≡ aside_of x m) (sym f) (said_aside aside m)
   stands s m ms e (inr a) = abort_aside s.adapter m (let b : AllAborts (m ∷ ms) = subst AllAborts e a.1 in b.0)
@@ -244,12 +244,12 @@ module _ (aside : StandAside) (runs : WiredRunsAreRuns) (refuse : RunsRefuseNoth
             adapter = ap (λ (x : Speaking). x.adapter) is;
           }
 
-  to_them_understood : (v : Vat) (w : View) → Reached root_a root_b (world_of v w) → AreUnderstood w.to_them
-  to_them_understood A w r = on_way runs refuse understood root_a root_b (world_of A w) B r
-  to_them_understood B w r = on_way runs refuse understood root_a root_b (world_of B w) A r
+  to_them_understood : (v : Vat) (w : View) → Reached letters root_a root_b (world_of v w) → AreUnderstood w.to_them
+  to_them_understood A w r = on_way runs refuse understood letters root_a root_b (world_of A w) B r
+  to_them_understood B w r = on_way runs refuse understood letters root_a root_b (world_of B w) A r
 
   -- All goes out that it has to say.
-  pub says : (v : Vat) (new peer : Speaking) (to_me to_them : List ℕ) (w : View) (me : Speaking) → SaysTo new me → Reached root_a root_b (world_of v w) → Tied me peer to_me to_them w
+  pub says : (v : Vat) (new peer : Speaking) (to_me to_them : List ℕ) (w : View) (me : Speaking) → SaysTo new me → Reached letters root_a root_b (world_of v w) → Tied me peer to_me to_them w
       → Happens2 v w me.host new.host (Tied new peer to_me to_them)
   says v new peer to_me to_them w _ (Nothing {s = me} e f) r t = nothing2 v w me.host new.host (Tied new peer to_me to_them) (ap (λ (x : Speaking). x.host.events) f) (subst (λ (x : Speaking). Tied x peer to_me to_them w) (sym f) t)
   says v new peer to_me to_them w _ (Oldest {s = me} {mid = mid} m ms e laid h rest) r t =

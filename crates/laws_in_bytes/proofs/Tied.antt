@@ -118,11 +118,11 @@ nothing2 v w old new P e p =
 both_none : {X Y : Type 0} (f : X → List Y) (xs ys : List X) → flat_map f xs ≡ [] → flat_map f ys ≡ [] → flat_map f (xs ++ ys) ≡ []
 both_none f xs ys a b = flat_map-append f xs ys ∙ (λ i. a i ++ b i)
 
-module _ (root_a root_b : Option ObjectId) where
-  pub then2 : (v : Vat) (w : View) (old mid new : Hosted) (P Q : View → Type 0) → Reached root_a root_b (world_of v w) → Happens2 v w old mid P
-      → ((u : View) → Reached root_a root_b (world_of v u) → P u → Happens2 v u mid new Q) → Happens2 v w old new Q
+module _ (letters : Vat → Vat) (root_a root_b : Option ObjectId) where
+  pub then2 : (v : Vat) (w : View) (old mid new : Hosted) (P Q : View → Type 0) → Reached letters root_a root_b (world_of v w) → Happens2 v w old mid P
+      → ((u : View) → Reached letters root_a root_b (world_of v u) → P u → Happens2 v u mid new Q) → Happens2 v w old new Q
   then2 v w old mid new P Q r h f =
-      let k = f h.view (reached_on root_a root_b (world_of v w) (world_of v h.view) h.happened r h.ran) h.holds in
+      let k = f h.view (reached_on letters root_a root_b (world_of v w) (world_of v h.view) h.happened r h.ran) h.holds in
       record {
         happened = h.happened ++ k.happened;
         view = k.view;

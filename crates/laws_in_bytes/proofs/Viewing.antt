@@ -15,8 +15,8 @@ use Rattle.rpc_machine.specs.State.{State}
 use Rattle.rpc_machine.specs.Down.{ShutsFrom}
 use Rattle.rpc_machine.specs.Steps.{Obeys, Receives}
 use Rattle.rpc_machine.specs.Steps.Obeys.{Shuts}
-use Rattle.rpc_machine.specs.World.{World, Answered, Handled, Happening, CommandsAt, new_world}
-use Rattle.laws_wired.specs.Wires.{IsHeard, HearsAt, WiredBy, WiredRun}
+use Rattle.rpc_machine.specs.World.{World, Answered, Handled, Happening, CommandsAt}
+use Rattle.laws_wired.specs.Wires.{IsHeard, HearsAt, WiredBy, WiredRun, named_world}
 
 -- The state of a vat, that of the other, and the messages on their way to each.
 pub record View : Type 0 where
@@ -79,8 +79,8 @@ runs_on [] ys w mid new h k = subst (λ (x : World). WiredRun x ys new) h k
 runs_on (x ∷ xs) ys w mid new h k = (h.0, h.1, runs_on xs ys h.0 mid new h.2 k)
 
 -- A run of two new vats leads to the world.
-abbrev pub Reached : Option ObjectId → Option ObjectId → World → Type 0
-Reached root_a root_b w = (xs : List Happening) × WiredRun (new_world root_a root_b) xs w
+abbrev pub Reached : (Vat → Vat) → Option ObjectId → Option ObjectId → World → Type 0
+Reached letters root_a root_b w = (xs : List Happening) × WiredRun (named_world letters root_a root_b) xs w
 
-pub reached_on : (root_a root_b : Option ObjectId) (w new : World) (ys : List Happening) → Reached root_a root_b w → WiredRun w ys new → Reached root_a root_b new
-reached_on root_a root_b w new ys (xs, ran) more = (xs ++ ys, runs_on xs ys (new_world root_a root_b) w new ran more)
+pub reached_on : (letters : Vat → Vat) (root_a root_b : Option ObjectId) (w new : World) (ys : List Happening) → Reached letters root_a root_b w → WiredRun w ys new → Reached letters root_a root_b new
+reached_on letters root_a root_b w new ys (xs, ran) more = (xs ++ ys, runs_on xs ys (named_world letters root_a root_b) w new ran more)

@@ -17,9 +17,10 @@ pub record Joined : Type 0 where
   pub to_a : List ℕ
   pub to_b : List ℕ
 
--- Two new ones of level 1 with these bootstrap objects, and no byte on its way.
-abbrev pub new_joined : Option ObjectId → Option ObjectId → Joined
-new_joined root_a root_b = record { a = fresh A One root_a; b = fresh B One root_b; to_a = []; to_b = [] }
+-- Two new ones of level 1 with these letters and bootstrap objects, and no byte on its way. Letters are for stamps, and no stamp goes
+-- over a stream: any will do, and both may have the same.
+abbrev pub new_joined : (Vat → Vat) → Option ObjectId → Option ObjectId → Joined
+new_joined letters root_a root_b = record { a = fresh (letters A) One root_a; b = fresh (letters B) One root_b; to_a = []; to_b = [] }
 
 abbrev pub end : Joined → Vat → Connected
 end j A = j.a

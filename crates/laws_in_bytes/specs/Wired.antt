@@ -4,8 +4,8 @@ use Rattle.rpc_msg.specs.declared.ids.ObjectId.{ObjectId}
 use Rattle.rpc_msg.specs.declared.ids.Vat.{Vat}
 use Rattle.rpc_journal.specs.History.{same_vat}
 use Rattle.rpc_machine.specs.Refusals.{is_shut}
-use Rattle.rpc_machine.specs.World.{World, Happening, core, new_world}
-use Rattle.laws_wired.specs.Wires.{WiredRun}
+use Rattle.rpc_machine.specs.World.{World, Happening, core}
+use Rattle.laws_wired.specs.Wires.{WiredRun, named_world}
 use Rattle.vat_host.specs.declared.event.Event.{Event}
 use Rattle.vat_host.specs.declared.event.Event.TheVariants as event
 use Rattle.vat_hosts.specs.Calls.{of_calls}
@@ -63,15 +63,16 @@ pub record IsToldSo (told run : List Event) : Type 0 where
 
 -- There is a run over wires of the commands that were done, in order and with the same answers, that leads to where both vats are.
 -- What takes a vat down beside its machine, as the end of a stream, is a shut of the run.
-pub record AreOverWires (root_a root_b : Option ObjectId) (xs : List Doing) (j : Joined) : Type 0 where
+pub record AreOverWires (letters : Vat → Vat) (root_a root_b : Option ObjectId) (xs : List Doing) (j : Joined) : Type 0 where
   pub happened : List Happening
   pub world : World
-  pub ran : WiredRun (new_world root_a root_b) happened world
+  pub ran : WiredRun (named_world letters root_a root_b) happened world
   pub done : flat_map done_of happened ≡ flat_map done_by xs
   pub told : (v : Vat) → IsToldSo (told_to xs j v) (flat_map (told_in v) happened)
   pub cores : (v : Vat) → core world v ≡ (end j v).speaker.host.core
 
--- Whatever two new connections do that are joined by two streams, if Finishes go at once.
+-- Whatever two new connections do that are joined by two streams, with any letters, if Finishes go at once.
 abbrev pub JoinedRunsAreWired : Type 0
 JoinedRunsAreWired =
-    (root_a root_b : Option ObjectId) (xs : List Doing) (j : Joined) → JoinedRun (new_joined root_a root_b) xs j → FinishAtOnce xs → AreOverWires root_a root_b xs j
+    (letters : Vat → Vat) (root_a root_b : Option ObjectId) (xs : List Doing) (j : Joined) → JoinedRun (new_joined letters root_a root_b) xs j → FinishAtOnce xs
+    → AreOverWires letters root_a root_b xs j

@@ -85,9 +85,9 @@ done_same (x ∷ xs) =
 -- ---- both
 
 pub joined_runs_are_sound : JoinedRunsAreWired → WiredRunsAreSound → JoinedRunsAreSound
-joined_runs_are_sound wired sound root_a root_b xs j ran at_once =
-    let w = wired root_a root_b xs j ran at_once in
-    let s = sound root_a root_b w.happened w.world w.ran in
+joined_runs_are_sound wired sound letters root_a root_b xs j ran at_once =
+    let w = wired letters root_a root_b xs j ran at_once in
+    let s = sound letters root_a root_b w.happened w.world w.ran in
     let hs = s.there.happened in
     record {
       wires = w;

@@ -30,13 +30,14 @@ pub record AreToldAlike (over there : List Event) : Type 0 where
 -- There is a run of two vats in one world of which all holds that is promised. The commands that were done are those of the run, in
 -- order and with the same answers; and what each application is told of calls is alike to what the run tells of its vat. (How that is
 -- what it was told and is still to be told, `wires` says.)
-pub record AreSoundInBytes (root_a root_b : Option ObjectId) (xs : List Doing) (j : Joined) : Type 0 where
-  pub wires : AreOverWires root_a root_b xs j
+pub record AreSoundInBytes (letters : Vat → Vat) (root_a root_b : Option ObjectId) (xs : List Doing) (j : Joined) : Type 0 where
+  pub wires : AreOverWires letters root_a root_b xs j
   pub sound : IsSoundThere root_a root_b wires.happened wires.world
   pub done : flat_map done_of (map (happening_at true) sound.there.happened) ≡ flat_map done_by xs
   pub told : (v : Vat) → AreToldAlike (flat_map (told_in v) wires.happened) (flat_map (told_in v) (map (happening_at true) sound.there.happened))
 
--- Whatever two new connections do that are joined by two streams, if Finishes go at once.
+-- Whatever two new connections do that are joined by two streams, with any letters, if Finishes go at once.
 abbrev pub JoinedRunsAreSound : Type 0
 JoinedRunsAreSound =
-    (root_a root_b : Option ObjectId) (xs : List Doing) (j : Joined) → JoinedRun (new_joined root_a root_b) xs j → FinishAtOnce xs → AreSoundInBytes root_a root_b xs j
+    (letters : Vat → Vat) (root_a root_b : Option ObjectId) (xs : List Doing) (j : Joined) → JoinedRun (new_joined letters root_a root_b) xs j → FinishAtOnce xs
+    → AreSoundInBytes letters root_a root_b xs j

@@ -220,7 +220,7 @@ through d c r head (Some e) new h =
 -- An own call is the same in both.
 abbrev made2 : TwoStates → CallCommand → TwoReferences → TwoRequests
 made2 z c x = record {
-  stamp = λ b. record { vat = z.rest.vat; reference = c.reference; index = x.made };
+  stamp = λ b. record { vat = z.vat b; reference = c.reference; index = x.made };
   interface = c.interface;
   method = c.method;
   payload = whole_contents c.payload;

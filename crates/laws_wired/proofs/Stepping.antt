@@ -29,7 +29,7 @@ abbrev quiet2 : TwoEffects
 quiet2 = record { sends = []; deliveries = []; answers = []; down = None }
 
 abbrev pub fallen2 : TwoStates → ℕ → TwoStates
-fallen2 z k = record { rest = fallen z.rest k; questions = finite.empty; imports = finite.empty; refs = finite.empty; promises = finite.empty; outcomes = finite.empty; embargoes = finite.empty }
+fallen2 z k = record { rest = fallen z.rest k; vat = z.vat; questions = finite.empty; imports = finite.empty; refs = finite.empty; promises = finite.empty; outcomes = finite.empty; embargoes = finite.empty }
 
 pub falls_so : (b : Bool) (z : TwoStates) (k : ℕ) → state_at b (fallen2 z k) ≡ fallen (state_at b z) k
 falls_so b z k =
@@ -39,7 +39,7 @@ falls_so b z k =
     let p = map_values-empty (promise_at b) in
     let o = map_values-empty (kept_at b) in
     let e = map_values-empty (embargo_at b) in
-    λ i. record (fallen z.rest k) { questions = q i; imports = m i; refs = r i; promises = p i; outcomes = o i; embargoes = e i }
+    λ i. record (fallen z.rest k) { vat = z.vat b; questions = q i; imports = m i; refs = r i; promises = p i; outcomes = o i; embargoes = e i }
 
 abbrev pub falling2 : ℕ → TwoEffects
 falling2 k = record { sends = Same (message.Plain (plain.Abort (failed (codes "fault " ++ decimal k)))) ∷ []; deliveries = []; answers = []; down = Some k }

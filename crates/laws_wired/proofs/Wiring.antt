@@ -27,12 +27,12 @@ use Rattle.rpc_machine.specs.declared.event.Event.TheVariants as event
 use Rattle.rpc_machine.specs.Routing.{failed, reason_text}
 use Rattle.rpc_machine.specs.State.{State, start}
 use Rattle.rpc_machine.specs.Steps.{Obeys}
-use Rattle.rpc_machine.specs.World.{World, core, inbox, put_inbox, new_world, StepAnswer, Answered, Handled, Empty, Happening, overflow_effects, overflown, Tells, CommandTold, MessageTold, after, CommandsUp, CommandsDown, CommandsAt, ReceivesUp, ReceivesAt, HappensBy, Run}
+use Rattle.rpc_machine.specs.World.{World, core, inbox, put_inbox, StepAnswer, Answered, Handled, Empty, Happening, overflow_effects, overflown, Tells, CommandTold, MessageTold, after, CommandsUp, CommandsDown, CommandsAt, ReceivesUp, ReceivesAt, HappensBy, Run}
 use Rattle.rpc_machine.proofs.StaysDown.{command_down}
 use Rattle.laws_wired.specs.Contents.{SaysNone, IsHeardOf}
 use Rattle.laws_wired.specs.Steps.{ComesAlike}
 use Rattle.laws_wired.specs.Pairs.{TwoStates, TwoMessages, Same, Calls, Returns, ReturnsWhy, ResolvesWhy, SendsBack, import_at, reference_at, TwoEffects, question_at, promise_at, kept_at, embargo_at, state_at, message_at, effects_at, call_saying, return_saying}
-use Rattle.laws_wired.specs.Wires.{IsHeard, AsSaid, OfCall, OfResults, HearsAt, WiredBy, WiredRun, TwoAnswers, Obeyed, Took, NoneThere, answer_at, TwoHappenings, happening_at, TwoSides, TwoWorlds, world_at, WiredRunsAreRuns}
+use Rattle.laws_wired.specs.Wires.{IsHeard, AsSaid, OfCall, OfResults, HearsAt, WiredBy, WiredRun, named_world, TwoAnswers, Obeyed, Took, NoneThere, answer_at, TwoHappenings, happening_at, TwoSides, TwoWorlds, world_at, WiredRunsAreRuns}
 use Rattle.laws_wired.proofs.Contents.{heard_contents, lost_again}
 use Rattle.laws_wired.proofs.Settles.{map-append}
 use Rattle.laws_wired.proofs.Stepping.{falling2, fallen2, falls_so, obeys, receives}
@@ -270,33 +270,47 @@ run z (x ∷ xs) w h =
       ran = (world_at true k.0, k.4, r.ran);
     }
 
-abbrev new2 : Vat → Option ObjectId → TwoSides
-new2 v root = record { core = record { rest = start v One root; questions = finite.empty; imports = finite.empty; refs = finite.empty; promises = finite.empty; outcomes = finite.empty; embargoes = finite.empty }; inbox = [] }
+-- The first letter is that over wires, the second that in one world.
+abbrev new2 : Vat → Vat → Option ObjectId → TwoSides
+new2 letter v root =
+    let core : TwoStates = record {
+      rest = start v One root;
+      vat = λ b. cond b v letter;
+      questions = finite.empty;
+      imports = finite.empty;
+      refs = finite.empty;
+      promises = finite.empty;
+      outcomes = finite.empty;
+      embargoes = finite.empty;
+    } in
+    record { core = core; inbox = [] }
 
-new_state : (b : Bool) (v : Vat) (root : Option ObjectId) → state_at b (new2 v root).core ≡ start v One root
-new_state b v root =
+new_state : (b : Bool) (letter v : Vat) (root : Option ObjectId) → state_at b (new2 letter v root).core ≡ start (cond b v letter) One root
+new_state b letter v root =
     let q = map_values-empty (question_at b) in
     let m = map_values-empty (import_at b) in
     let r = map_values-empty (reference_at b) in
     let p = map_values-empty (promise_at b) in
     let o = map_values-empty (kept_at b) in
     let e = map_values-empty (embargo_at b) in
-    λ i. record (start v One root) { questions = q i; imports = m i; refs = r i; promises = p i; outcomes = o i; embargoes = e i }
+    λ i. record (start (cond b v letter) One root) { questions = q i; imports = m i; refs = r i; promises = p i; outcomes = o i; embargoes = e i }
 
-new_at : (b : Bool) (root_a root_b : Option ObjectId) → world_at b (record { a = new2 A root_a; b = new2 B root_b }) ≡ new_world root_a root_b
-new_at b root_a root_b =
-    let s = new_state b A root_a in
-    let t = new_state b B root_b in
+abbrev both_new : (Vat → Vat) → Option ObjectId → Option ObjectId → TwoWorlds
+both_new letters root_a root_b = record { a = new2 (letters A) A root_a; b = new2 (letters B) B root_b }
+
+new_at : (b : Bool) (letters : Vat → Vat) (root_a root_b : Option ObjectId) → world_at b (both_new letters root_a root_b) ≡ named_world (λ v. cond b v (letters v)) root_a root_b
+new_at b letters root_a root_b =
+    let s = new_state b (letters A) A root_a in
+    let t = new_state b (letters B) B root_b in
     λ i. record { a = record { core = s i; inbox = [] }; b = record { core = t i; inbox = [] } }
 
 pub wired_runs_are_runs : WiredRunsAreRuns
-wired_runs_are_runs root_a root_b xs w h =
-    let z : TwoWorlds = record { a = new2 A root_a; b = new2 B root_b } in
-    let r = run z xs w (subst (λ (y : World). WiredRun y xs w) (sym (new_at false root_a root_b)) h) in
+wired_runs_are_runs letters root_a root_b xs w h =
+    let r = run (both_new letters root_a root_b) xs w (subst (λ (y : World). WiredRun y xs w) (sym (new_at false letters root_a root_b)) h) in
     record {
       happened = r.happened;
       worlds = r.worlds;
       is = r.is;
       leads = r.leads;
-      ran = subst (λ (y : World). Run y (map (happening_at true) r.happened) (world_at true r.worlds)) (new_at true root_a root_b) r.ran;
+      ran = subst (λ (y : World). Run y (map (happening_at true) r.happened) (world_at true r.worlds)) (new_at true letters root_a root_b) r.ran;
     }

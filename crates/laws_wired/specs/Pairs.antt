@@ -1,5 +1,5 @@
--- What a vat holds, says and is told over a wire and in one world at once. The two differ in stamps, in contents, and in why nodes
--- are broken. Of each type `.._at false` is what it is over the wire, and `.._at true` what it is in one world. A field that is a
+-- What a vat holds, says and is told over a wire and in one world at once. The two differ in stamps, in contents, in why nodes
+-- are broken, and in the vat's letter. Of each type `.._at false` is what it is over the wire, and `.._at true` what it is in one world. A field that is a
 -- function of `Bool` has the two in the same way.
 use Rattle.std.specs.Prelude.{◌≡◌, ℕ, Bool, true, false, Option, List, map}
 use Rattle.finite_maps.specs.Tally.{Map, map_values, option_changed}
@@ -10,6 +10,7 @@ use Rattle.rpc_msg.specs.declared.ids.CallId.{CallId}
 use Rattle.rpc_msg.specs.declared.ids.ExportId.{ExportId}
 use Rattle.rpc_msg.specs.declared.ids.QuestionId.{QuestionId}
 use Rattle.rpc_msg.specs.declared.ids.Stamp.{Stamp}
+use Rattle.rpc_msg.specs.declared.ids.Vat.{Vat}
 use Rattle.rpc_msg.specs.declared.exception.Exception.{Exception}
 use Rattle.rpc_msg.specs.declared.ids.EmbargoId.{EmbargoId}
 use Rattle.rpc_msg.specs.declared.parts.Descriptor.{Descriptor}
@@ -201,9 +202,10 @@ pub record TwoImports : Type 0 where
 abbrev pub import_at : Bool → TwoImports → Import
 import_at b x = record { kind = x.kind; count = x.count; resolution = option_changed (resolution_at b) x.resolution }
 
--- A state: the tables that differ, and a state of which all others are taken.
+-- A state: the vat's letter and the tables that differ, and a state of which all others are taken.
 pub record TwoStates : Type 0 where
   pub rest : State
+  pub vat : Bool → Vat
   pub questions : Map TwoQuestions
   pub imports : Map TwoImports
   pub refs : Map TwoReferences
@@ -213,6 +215,7 @@ pub record TwoStates : Type 0 where
 
 abbrev pub state_at : Bool → TwoStates → State
 state_at b z = record (z.rest) {
+  vat = z.vat b;
   questions = map_values (question_at b) z.questions;
   imports = map_values (import_at b) z.imports;
   refs = map_values (reference_at b) z.refs;

@@ -7,14 +7,17 @@ use Rattle.rpc_msg.specs.declared.ids.ObjectId.{ObjectId}
 use Rattle.rpc_msg.specs.declared.ids.Stamp.{Stamp}
 use Rattle.rpc_msg.specs.declared.ids.QuestionId.{QuestionId}
 use Rattle.rpc_msg.specs.declared.ids.Vat.{Vat}
+use Rattle.rpc_msg.specs.declared.ids.Vat.TheVariants.{A, B}
 use Rattle.rpc_msg.specs.declared.parts.Descriptor.{Descriptor}
 use Rattle.rpc_msg.specs.declared.message.Call.{Call}
 use Rattle.rpc_msg.specs.declared.message.ReturnBody.TheVariants as body
 use Rattle.rpc_msg.specs.declared.message.Message.{Message}
 use Rattle.rpc_machine.specs.declared.command.Granted.{Granted}
 use Rattle.rpc_machine.specs.declared.command.Refusal.{Refusal}
+use Rattle.rpc_machine.specs.declared.command.Level.TheVariants.{One}
 use Rattle.rpc_machine.specs.declared.event.Event.{Event}
 use Rattle.rpc_machine.specs.declared.event.Event.TheVariants as event
+use Rattle.rpc_machine.specs.State.{start}
 use Rattle.rpc_machine.specs.World.{Side, World, core, inbox, put_inbox, new_world, StepAnswer, Answered, Handled, Empty, Happening, CommandsAt, ReceivesUp, Run}
 use Rattle.laws_wired.specs.Contents.{IsHeardOf}
 use Rattle.laws_wired.specs.Pairs.{TwoStates, TwoMessages, TwoEffects, call_saying, return_saying, state_at, message_at, effects_at}
@@ -39,6 +42,11 @@ HearsAt w v (m ∷ ms) None answer room new = (x : Message) × IsHeard m x × Re
 abbrev pub WiredBy : World → Event → StepAnswer → Bool → World → Type 0
 WiredBy w (event.Command v c) answer room new = CommandsAt w v c (core w v).down answer room new
 WiredBy w (event.Deliver v) answer room new = HearsAt w v (inbox w v) (core w v).down answer room new
+
+-- Two new vats of level 1 with these letters and bootstrap objects, and nothing on its way.
+abbrev pub named_world : (Vat → Vat) → Option ObjectId → Option ObjectId → World
+named_world letters root_a root_b =
+    record { a = record { core = start (letters A) One root_a; inbox = [] }; b = record { core = start (letters B) One root_b; inbox = [] } }
 
 -- A run of two vats over wires.
 abbrev pub WiredRun : World → List Happening → World → Type 0
@@ -84,7 +92,7 @@ abbrev pub world_at : Bool → TwoWorlds → World
 world_at b w = record { a = side_at b w.a; b = side_at b w.b }
 
 -- What happened over wires is what happened in a run of one world, and led to where that run led, but for stamps, for contents,
--- and for why nodes are broken.
+-- for why nodes are broken, and for the letters of the vats.
 pub record InOneWorld (root_a root_b : Option ObjectId) (over : List Happening) (led : World) : Type 0 where
   pub happened : List TwoHappenings
   pub worlds : TwoWorlds
@@ -92,6 +100,8 @@ pub record InOneWorld (root_a root_b : Option ObjectId) (over : List Happening) 
   pub leads : led ≡ world_at false worlds
   pub ran : Run (new_world root_a root_b) (map (happening_at true) happened) (world_at true worlds)
 
--- So it is of every run of two new vats over wires.
+-- So it is of every run of two new vats over wires, whatever their letters: both may have the same.
 abbrev pub WiredRunsAreRuns : Type 0
-WiredRunsAreRuns = (root_a root_b : Option ObjectId) (xs : List Happening) (w : World) → WiredRun (new_world root_a root_b) xs w → InOneWorld root_a root_b xs w
+WiredRunsAreRuns =
+    (letters : Vat → Vat) (root_a root_b : Option ObjectId) (xs : List Happening) (w : World)
+    → WiredRun (named_world letters root_a root_b) xs w → InOneWorld root_a root_b xs w

@@ -154,14 +154,14 @@ lead [] j a b ran_a ran_b comes = (j.to_a, j.to_b, both ran_a ran_b)
     both e f = λ i. record { a = e i; b = f i; to_a = j.to_a; to_b = j.to_b }
 lead (x ∷ xs) j a b ran_a ran_b comes = step x.vat x.act xs (lead xs) j a b ran_a ran_b comes
 
-at_first : (root_a root_b : Option ObjectId) (xs : List Doing) → NoneComesBefore xs → Comes (new_joined root_a root_b) xs
-at_first root_a root_b xs none A before behind e = none A before behind e
-at_first root_a root_b xs none B before behind e = none B before behind e
+at_first : (letters : Vat → Vat) (root_a root_b : Option ObjectId) (xs : List Doing) → NoneComesBefore xs → Comes (new_joined letters root_a root_b) xs
+at_first letters root_a root_b xs none A before behind e = none A before behind e
+at_first letters root_a root_b xs none B before behind e = none B before behind e
 
 pub logs_keep_promises : JoinedKeepPromises → LogsKeepPromises
-logs_keep_promises keep root_a root_b xs a b l =
-    let r = lead xs (new_joined root_a root_b) a b
-    (subst (λ (acts : List Act). ActsAll (new_joined root_a root_b).a acts a) (sym l.order.of_a) l.ran_a)
-    (subst (λ (acts : List Act). ActsAll (new_joined root_a root_b).b acts b) (sym l.order.of_b) l.ran_b)
-    (at_first root_a root_b xs l.none_before) in
-    (r.0, r.1, keep _ (record { root_a = root_a; root_b = root_b; done = xs; ran = r.2; at_once = l.at_once; noted = refl }))
+logs_keep_promises keep letters root_a root_b xs a b l =
+    let r = lead xs (new_joined letters root_a root_b) a b
+    (subst (λ (acts : List Act). ActsAll (new_joined letters root_a root_b).a acts a) (sym l.order.of_a) l.ran_a)
+    (subst (λ (acts : List Act). ActsAll (new_joined letters root_a root_b).b acts b) (sym l.order.of_b) l.ran_b)
+    (at_first letters root_a root_b xs l.none_before) in
+    (r.0, r.1, keep _ (record { letters = letters; root_a = root_a; root_b = root_b; done = xs; ran = r.2; at_once = l.at_once; noted = refl }))

@@ -90,7 +90,7 @@ all_told v (x ∷ xs) =
 
 pub one_world : JoinedRunsAreSound → (w : Recorded) → IsReached w → IsOneWorld w
 one_world sound w r =
-    let s = sound r.root_a r.root_b r.done w.joined r.ran r.at_once in
+    let s = sound r.letters r.root_a r.root_b r.done w.joined r.ran r.at_once in
     let there = s.sound.there in
     record {
       root_a = r.root_a;
@@ -103,7 +103,7 @@ one_world sound w r =
       cores = λ v. ap (λ (z : World). core z v) (sym there.leads) ∙ s.wires.cores v;
     }
   where
-    told_alike : (v : Vat) (s : AreSoundInBytes r.root_a r.root_b r.done w.joined) → IsToldAlike (told_to w v) (flat_map (told_in v) (map (happening_at true) s.sound.there.happened))
+    told_alike : (v : Vat) (s : AreSoundInBytes r.letters r.root_a r.root_b r.done w.joined) → IsToldAlike (told_to w v) (flat_map (told_in v) (map (happening_at true) s.sound.there.happened))
     told_alike v s =
         let so = s.wires.told v in
         let alike = s.told v in

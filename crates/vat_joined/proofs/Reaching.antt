@@ -16,13 +16,14 @@ once_more (y ∷ ys) x k h = (k.0, once_more ys x k.1 h)
 
 pub goes_on : {old new : Recorded} (x : Doing) → FinishAtOnce (x ∷ []) → IsReached old → DoesNoted old x new → IsReached new
 goes_on {old = old} {new = new} x once r d = record {
+  letters = r.letters;
   root_a = r.root_a;
   root_b = r.root_b;
   done = r.done ++ x ∷ [];
-  ran = run_more (new_joined r.root_a r.root_b) r.done old.joined x new.joined r.ran d.does;
+  ran = run_more (new_joined r.letters r.root_a r.root_b) r.done old.joined x new.joined r.ran d.does;
   at_once = once_more r.done x r.at_once once;
   noted = d.noted ∙ ap (λ (l : List JoinedEntry). l ++ entries_by x) r.noted ∙ sym (flat_more entries_by r.done x);
 }
 
 pub begins : (w : Recorded) (root_a root_b : Option ObjectId) → w ≡ new_recorded root_a root_b → IsReached w
-begins w root_a root_b e = subst IsReached (sym e) (record { root_a = root_a; root_b = root_b; done = []; ran = refl; at_once = tt; noted = refl })
+begins w root_a root_b e = subst IsReached (sym e) (record { letters = λ v. v; root_a = root_a; root_b = root_b; done = []; ran = refl; at_once = tt; noted = refl })

@@ -48,18 +48,19 @@ NoneComesBefore xs = (v : Vat) (before behind : List Doing) → xs ≡ before ++
 
 -- ---- the law
 
--- What two connections did by their logs, in such an order: they are where their logs lead, and Finishes go at once.
-pub record AreTwoLogs (root_a root_b : Option ObjectId) (xs : List Doing) (a b : Connected) : Type 0 where
+-- What two connections with these letters did by their logs, in such an order: they are where their logs lead, and Finishes go at once.
+pub record AreTwoLogs (letters : Vat → Vat) (root_a root_b : Option ObjectId) (xs : List Doing) (a b : Connected) : Type 0 where
   pub log_a : List Act
   pub log_b : List Act
-  pub ran_a : ActsAll (fresh A One root_a) log_a a
-  pub ran_b : ActsAll (fresh B One root_b) log_b b
+  pub ran_a : ActsAll (fresh (letters A) One root_a) log_a a
+  pub ran_b : ActsAll (fresh (letters B) One root_b) log_b b
   pub order : IsOrderOf log_a log_b xs
   pub none_before : NoneComesBefore xs
   pub at_once : FinishAtOnce xs
 
--- Then all is promised of what they did and told, as of two connections in one process, whatever is still on its way.
+-- Then all is promised of what they did and told, as of two connections in one process, whatever is still on its way, and whatever the
+-- two letters are: each process may call its vat A.
 abbrev pub LogsKeepPromises : Type 0
 LogsKeepPromises =
-    (root_a root_b : Option ObjectId) (xs : List Doing) (a b : Connected) → AreTwoLogs root_a root_b xs a b
+    (letters : Vat → Vat) (root_a root_b : Option ObjectId) (xs : List Doing) (a b : Connected) → AreTwoLogs letters root_a root_b xs a b
     → (to_a to_b : List ℕ) × KeepsPromises (record { joined = record { a = a; b = b; to_a = to_a; to_b = to_b }; journal = flat_map entries_by xs })

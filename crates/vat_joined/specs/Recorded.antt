@@ -35,9 +35,9 @@ recorded_code =
     (λ p. record { joined = p.0; journal = p.1 })
     (λ _. refl)
 
--- Two new connections of level 1 with these bootstrap objects: no byte is on its way, and nothing was done.
+-- Two new connections of level 1 with the letters A and B and these bootstrap objects: no byte is on its way, and nothing was done.
 abbrev pub new_recorded : Option ObjectId → Option ObjectId → Recorded
-new_recorded root_a root_b = record { joined = new_joined root_a root_b; journal = [] }
+new_recorded root_a root_b = record { joined = new_joined (λ v. v) root_a root_b; journal = [] }
 
 -- The bytes on their way: those that were gathered, and those that were put behind them.
 abbrev pub on_way : List ℕ × List ℕ → List ℕ
@@ -65,11 +65,12 @@ pub record DoesNoted (old : Recorded) (x : Doing) (new : Recorded) : Type 0 wher
   pub does : Does old.joined x new.joined
   pub noted : new.journal ≡ old.journal ++ entries_by x
 
--- Acts in order lead to this from two new connections, and the journal has what they note. Finishes go at once.
+-- Acts in order lead to this from two new connections with any letters, and the journal has what they note. Finishes go at once.
 pub record IsReached (w : Recorded) : Type 0 where
+  pub letters : Vat → Vat
   pub root_a : Option ObjectId
   pub root_b : Option ObjectId
   pub done : List Doing
-  pub ran : JoinedRun (new_joined root_a root_b) done w.joined
+  pub ran : JoinedRun (new_joined letters root_a root_b) done w.joined
   pub at_once : FinishAtOnce done
   pub noted : w.journal ≡ flat_map entries_by done
